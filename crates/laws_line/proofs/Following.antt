@@ -14,7 +14,7 @@ use Rattle.model_link.specs.declared.timers.LinkTimer.TheVariants as kind
 use Rattle.model_link.specs.Events as link
 use Rattle.model_link.specs.Link.{Link, fresh}
 use Rattle.model_link.specs.Machine as links
-use Rattle.model_link.specs.Timed.{is_same, obeyed}
+use Rattle.laws_link.specs.Timed.{is_same, obeyed}
 use Rattle.model_link.specs.Told.{runs, timer_at}
 use Rattle.lapd_tei.specs.Laws as tei_laws
 use Rattle.lapd_tei.specs.Laws.{Follows, Moves}

@@ -13,7 +13,7 @@ use Rattle.lapd_frame.specs.declared.services.Service.TheVariants.{Call, Packet}
 use Rattle.lapd_frame.specs.Services.{same_service}
 use Rattle.lapd_frame.specs.declared.timers.Timer.TheVariants.{T200, T203, T201}
 use Rattle.model_link.specs.Events as link
-use Rattle.model_link.specs.Known.{is_up, known}
+use Rattle.laws_link.specs.Known.{is_up, known}
 use Rattle.model_link.specs.Link.{Link, fresh}
 use Rattle.model_link.specs.Machine as links
 use Rattle.model_link.specs.Offers.{offer_among, may_send_information, is_awaiting_acknowledgement, with_one_sent}
@@ -22,7 +22,7 @@ use Rattle.model_link.specs.declared.frames.ControlFrame.{ControlFrame}
 use Rattle.model_link.specs.declared.terms.Terms.{Terms}
 use Rattle.model_link.specs.declared.timers.LinkTimer.{LinkTimer}
 use Rattle.model_link.specs.declared.timers.LinkTimer.TheVariants as kind
-use Rattle.model_link.proofs.KnownRows.{layer_3_knows}
+use Rattle.laws_link.proofs.KnownRows.{layer_3_knows}
 use Rattle.model_link.proofs.OwnNotes.{notes-own}
 use Rattle.lapd_tei.specs.Events as teis
 use Rattle.lapd_tei.specs.Laws as tei_laws

@@ -13,7 +13,7 @@ use Rattle.lapd_frame.specs.declared.services.Service.{Service}
 use Rattle.lapd_frame.specs.declared.services.Service.TheVariants.{Call, Packet}
 use Rattle.lapd_frame.specs.declared.timers.Timer.TheVariants.{T200, T203, T201}
 use Rattle.model_link.specs.Events as link
-use Rattle.model_link.specs.Known.{is_up}
+use Rattle.laws_link.specs.Known.{is_up}
 use Rattle.model_link.specs.Link.{Link, fresh}
 use Rattle.model_link.specs.Machine as links
 use Rattle.model_link.specs.declared.timers.LinkTimer.{LinkTimer}

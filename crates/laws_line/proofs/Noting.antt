@@ -6,7 +6,8 @@ use Rattle.lapd_frame.specs.declared.notes.Note.{Note}
 use Rattle.lapd_frame.specs.declared.notes.Note.TheVariants.{EstablishIndication, EstablishConfirm, ReleaseIndication, ReleaseConfirm, Data, Unit, Error, Assigned, Removed, Doubled, Xid}
 use Rattle.lapd_frame.specs.declared.services.Service.{Service}
 use Rattle.lapd_frame.specs.Services.{same_service}
-use Rattle.model_link.specs.Known.{IsOwn, seen, known}
+use Rattle.laws_link.specs.Known.{seen, known}
+use Rattle.model_link.specs.Notes.{IsOwn}
 use Rattle.model_link.specs.declared.terms.Terms.{Terms}
 use Rattle.laws_line.specs.Knowledge.{up_by_note, on_by_note}
 use Rattle.laws_line.proofs.Told.{its-own}

@@ -14,9 +14,9 @@ use Rattle.model_link.specs.declared.terms.Terms.{Terms}
 use Rattle.model_link.specs.Events as link
 use Rattle.model_link.specs.Link.{Link}
 use Rattle.model_link.specs.Machine as links
-use Rattle.model_link.specs.Timed.{is_same, obey, obeyed, IsTimed, ComesInStep}
+use Rattle.laws_link.specs.Timed.{is_same, obey, obeyed, IsTimed, ComesInStep}
 use Rattle.model_link.specs.Told.{runs, timer_at}
-use Rattle.model_link.proofs.Obeying.{stays-in-step, comes-in-step, leaves-others}
+use Rattle.laws_link.proofs.Obeying.{stays-in-step, comes-in-step, leaves-others}
 use Rattle.lapd_tei.specs.Laws.{Follows}
 
 pub obeyed-append : (timer : Timer) (b : Bool) (xs ys : List Order) → obeyed timer b (xs ++ ys) ≡ obeyed timer (obeyed timer b xs) ys

@@ -15,7 +15,7 @@ use Rattle.model_link.specs.Events as link
 use Rattle.model_link.specs.Link.{Link, fresh}
 use Rattle.model_link.specs.Machine as links
 use Rattle.model_link.specs.Steps.{Sent}
-use Rattle.model_link.specs.Timed.{is_same, obeyed, IsTimed}
+use Rattle.laws_link.specs.Timed.{is_same, obeyed, IsTimed}
 use Rattle.model_link.specs.Told.{Given, runs, timer_at}
 use Rattle.model_link.specs.declared.terms.Terms.{Terms}
 use Rattle.laws_two_links.specs.Needed.{HasItsTimer}

@@ -5,7 +5,7 @@ use Rattle.lapd_frame.specs.declared.notes.Note.{Note}
 use Rattle.lapd_frame.specs.declared.notes.Note.TheVariants.{EstablishIndication, EstablishConfirm, ReleaseIndication, ReleaseConfirm, Assigned, Removed, Doubled}
 use Rattle.lapd_frame.specs.declared.services.Service.{Service}
 use Rattle.lapd_frame.specs.Services.{same_service}
-use Rattle.model_link.specs.Known.{is_up}
+use Rattle.laws_link.specs.Known.{is_up}
 use Rattle.model_line.specs.Event.{Event, request, Answer}
 use Rattle.laws_line.specs.Heard.{notes_of}
 use Rattle.model_line.specs.Line.{Line, place_in, link_in}

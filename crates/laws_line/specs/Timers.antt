@@ -8,7 +8,7 @@ use Rattle.lapd_frame.specs.declared.timers.Timer.{Timer}
 use Rattle.lapd_frame.specs.declared.timers.Timer.TheVariants.{T200, T203, T201}
 use Rattle.model_link.specs.declared.timers.LinkTimer.{LinkTimer}
 use Rattle.model_link.specs.declared.timers.LinkTimer.TheVariants as link_timer
-use Rattle.model_link.specs.Timed.{is_same, obeyed}
+use Rattle.laws_link.specs.Timed.{is_same, obeyed}
 use Rattle.model_link.specs.Told.{runs}
 use Rattle.laws_link.specs.Starting.{StartsT200}
 use Rattle.laws_two_links.specs.Needed.{needed, HasItsTimer}

@@ -13,7 +13,7 @@ use Rattle.model_link.specs.Events
 use Rattle.model_link.specs.Steps.{Course, begun, ◌then◌}
 use Rattle.model_link.specs.Words
 use Rattle.model_link.specs.Machine
-use Rattle.model_link.proofs.Restarts.{establishes}
+use Rattle.laws_link.proofs.Restarts.{establishes}
 use Rattle.laws_link.specs.Beginning.{tells_beginning, IsSeen}
 
 abbrev Tells : Course → Type 0

@@ -7,7 +7,6 @@ pub mod Once
 pub mod Keeping
 pub mod Counted
 pub mod Offering
-pub mod Facing
 pub mod Alone
 pub mod MayGo
 pub mod GoingBack
@@ -26,3 +25,11 @@ pub mod RowsRecovering
 pub mod EachRow
 pub mod Placing
 pub mod Follows
+pub mod Knowing
+pub mod KnownRows
+pub mod InStep
+pub mod Obeying
+pub mod Timing
+pub mod TimedRows
+pub mod Losing
+pub mod Restarts

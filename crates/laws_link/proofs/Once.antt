@@ -26,7 +26,7 @@ use Rattle.model_link.specs.Sound.{IsSound}
 use Rattle.model_link.specs.Steps.{Course, begun, Step, ◌then◌}
 use Rattle.model_link.specs.Words
 use Rattle.model_link.proofs.Delivering.{delivery, event-delivers}
-use Rattle.model_link.proofs.Restarts.{establishes}
+use Rattle.laws_link.proofs.Restarts.{establishes}
 use Rattle.model_link.proofs.TellRows.{event-tells}
 use Rattle.laws_link.specs.Heard.{in_i_frame, in_ui_frame, contents_heard, unit_heard, within, in_sequence, data_due, IsNotedOnce}
 use Rattle.laws_link.proofs.Delivered.{delivered-was-heard}

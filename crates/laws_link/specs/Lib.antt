@@ -3,7 +3,6 @@ pub mod Accepted
 pub mod History
 pub mod Offered
 pub mod Heard
-pub mod Ends
 pub mod Sending
 pub mod Owing
 pub mod InOrder
@@ -19,7 +18,8 @@ pub mod Telling
 pub mod Following
 pub mod Worked
 pub mod WorkedSending
-pub mod WorkedEnds
 pub mod WorkedBeginning
 pub mod WorkedExpiries
 pub mod WorkedFollowing
+pub mod Timed
+pub mod Known

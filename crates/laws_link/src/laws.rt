@@ -1,6 +1,6 @@
 //! What a link does. Each law is the contract of a call that does nothing.
 
-ghost use Rattle.std.specs.Prelude.{◌≡◌, ◌⊎◌, ℕ, List, Some, IfSome};
+ghost use Rattle.std.specs.Prelude.{◌≡◌, ℕ, List, Some, IfSome};
 ghost use Rattle.model_link.specs.declared.terms.Terms.{Terms};
 ghost use Rattle.model_link.specs.Link.{Link, fresh};
 ghost use Rattle.model_link.specs.Events.{Event};
@@ -8,8 +8,6 @@ ghost use Rattle.model_link.specs.Machine.{after, after_all, told, given};
 ghost use Rattle.model_link.specs.Sound.{IsInRange, IsSound};
 ghost use Rattle.laws_link.specs.History.{History, nothing_yet, share, with_share, with_all, IsKept, IsCounted};
 ghost use Rattle.laws_link.specs.Offered.{IsOffered, GoesOn, i_frames};
-ghost use Rattle.model_link.specs.TwoEnds.{Ends, Doing, doing_all};
-ghost use Rattle.laws_link.specs.Ends.{begun, near_history, far_history};
 ghost use Rattle.laws_link.specs.Heard.{contents_heard, data_due, unit_due, IsNotedOnce};
 
 /// Nothing that was accepted is lost silently. What a link keeps after an event is what it kept before, without the
@@ -48,15 +46,4 @@ pub fn heard_is_delivered()
     ensures data { (t : Terms) (e : Event) (l : Link) → (told t e l).delivered ≡ data_due t e l }
     ensures unit { (t : Terms) (e : Event) (l : Link) → IsInRange t → IsSound t l → (told t e l).unit ≡ unit_due t e }
     ensures once { (t : Terms) (e : Event) (l : Link) → IsSound t l → IsNotedOnce (told t e l) }
-{}
-
-/// Two links that face each other hold what their layers 3 gave: whatever is asked on either side, whatever timers expire,
-/// and whatever frames are sent, received and lost, the contents of each are those of its history, which grows by the data
-/// requests that were not refused, and V(A) counts those that were acknowledged. So where `two_ends` says of two links that
-/// one has delivered the first contents of the other, these are contents that were accepted.
-pub fn ends_hold_what_was_accepted()
-    ensures near { (ds : List Doing) (e : Ends) → IsInRange e.near.terms → IsSound e.near.terms e.near.link
-        → IsCounted (near_history ds e (begun e.near)) (doing_all ds e).near.link }
-    ensures far { (ds : List Doing) (e : Ends) → IsInRange e.far.terms → IsSound e.far.terms e.far.link
-        → IsCounted (far_history ds e (begun e.far)) (doing_all ds e).far.link }
 {}

@@ -1,33 +1,31 @@
 //! Laws of the machine of a data link that say what it does: what becomes of contents that layer 3 gave, what is sent,
 //! and what is delivered.
 //!
-//! The machine itself, and the laws that say what a link never does, stand in `model_link`. `specs/` has the words of
-//! these laws: what an event accepts, acknowledges and empties (`Accepted`), what was accepted since the numbers began
+//! The machine itself, and the laws on which the product stands, are in `model_link`. `specs/` has the words of these
+//! laws: what an event accepts, acknowledges and empties (`Accepted`), what was accepted since the numbers began
 //! (`History`), what an offer gives (`Offered`) and which timers it starts (`Starting`), what a frame that is heard
-//! brings (`Heard`), what two links that face each other have accepted (`Ends`), when an I-frame goes and from where it
+//! brings (`Heard`), what layer 3 knows (`Known`), which timers run (`Timed`), when an I-frame goes and from where it
 //! goes again (`Sending`), what follows a delivery (`Owing`), what is told where the numbers begin anew (`Beginning`),
 //! to which state an event leads (`States`), which frames it puts behind those that wait (`Waiting`), what it leaves of
 //! the flags (`Flags`), what it tells (`Telling`), all of these together (`Following`), and worked values (`Worked`,
-//! `WorkedSending`, `WorkedEnds`, `WorkedBeginning`, `WorkedFollowing`, `WorkedExpiries`). Each law is the contract of
+//! `WorkedSending`, `WorkedBeginning`, `WorkedFollowing`, `WorkedExpiries`). Each law is the contract of
 //! a call that does nothing.
 //!
 //! - `laws`: what becomes of contents;
+//! - `knowing`: what layer 3 knows, which timers are kept, where numbers begin anew;
 //! - `sending`: when an I-frame goes, from where it is sent again, and what follows a delivery;
 //! - `following`: what an event leaves of a link, its state, its flags and what waits, and what it tells.
 //!
-//! # Open
-//!
-//! `ends_hold_what_was_accepted` speaks of two links that face each other; no law says it of a line or a card.
 #![tactic(auto)]
 
 mod following;
+mod knowing;
 mod laws;
 mod sending;
 
 pub use following::{flags_follow, frames_follow, notes_follow, states_follow};
-pub use laws::{
-    ends_hold_what_was_accepted, heard_is_delivered, nothing_is_lost, sent_is_accepted,
-};
+pub use knowing::{keeps_its_timers, layer_3_knows, loses_little, restarts_by_establishment};
+pub use laws::{heard_is_delivered, nothing_is_lost, sent_is_accepted};
 pub use sending::{
     beginnings_are_told, busy_is_left_alone, deliveries_are_acknowledged, expiries_take_effect,
     offers_leave_timers, rejected_is_sent_again, requests_take_effect, sent_in_order,

@@ -19,7 +19,7 @@ use Rattle.model_link.specs.Told.{runs}
 use Rattle.laws_link.specs.Following.{Leaves}
 use Rattle.laws_link.specs.States.{as_heard, by_frame, by_received, by_expiry, by_request, state_after, numbers_begin}
 use Rattle.laws_link.specs.Telling.{told_by}
-use Rattle.model_link.proofs.Restarts.{establishes}
+use Rattle.laws_link.proofs.Restarts.{establishes}
 use Rattle.laws_link.proofs.Follows.{event-follows}
 use Rattle.laws_trace.specs.Deliveries.{begins_by, is_end}
 

@@ -17,7 +17,7 @@ use Rattle.model_link.specs.Link.{Link, is_multiple_frame}
 use Rattle.model_link.specs.Machine.{after, given}
 use Rattle.model_link.specs.Sound.{IsSound, IsWaitingFrame, is_information}
 use Rattle.model_link.specs.Told.{Given}
-use Rattle.model_link.proofs.Restarts.{establishes}
+use Rattle.laws_link.proofs.Restarts.{establishes}
 use Rattle.laws_link.specs.Accepted.{accepted, acknowledged, empties}
 use Rattle.laws_link.specs.History.{History, with_share}
 use Rattle.laws_link.specs.InOrder.{IsInOrder, IsOldest, IsInformation, IsAcknowledgement}

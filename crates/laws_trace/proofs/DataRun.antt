@@ -15,7 +15,7 @@ use Rattle.model_link.specs.Machine as links
 use Rattle.model_link.specs.Requests as requests
 use Rattle.model_link.specs.Sound as link_sound
 use Rattle.model_link.specs.Told.{Given}
-use Rattle.model_link.proofs.Restarts.{establishes}
+use Rattle.laws_link.proofs.Restarts.{establishes}
 use Rattle.laws_link.specs.Accepted.{accepted}
 use Rattle.laws_link.specs.Offered.{i_frames}
 use Rattle.model_line.specs.declared.config.Config.{Config}

@@ -23,11 +23,11 @@ use Rattle.lapd_frame.proofs.Spelling.{fault-again}
 use Rattle.model_link.specs.declared.terms.Terms.{Terms}
 use Rattle.model_link.specs.Deliveries.{Arrived, restarts, eligible, eligible_of, is_eligible, information_of}
 use Rattle.model_link.specs.Events as link
-use Rattle.model_link.specs.Known.{IsOwn}
+use Rattle.model_link.specs.Notes.{IsOwn}
 use Rattle.model_link.specs.Link.{Link, is_multiple_frame}
 use Rattle.model_link.specs.Machine as links
 use Rattle.model_link.proofs.OwnNotes.{notes-own}
-use Rattle.model_link.proofs.Restarts.{establishes}
+use Rattle.laws_link.proofs.Restarts.{establishes}
 use Rattle.laws_link.specs.Heard.{unit_heard, in_ui_frame}
 use Rattle.model_line.specs.declared.config.Config.{Config}
 use Rattle.model_line.specs.Event.{Event, octet, expiry, request, pull, Answer}

@@ -23,7 +23,7 @@ use Rattle.model_link.specs.declared.terms.Terms.{Terms}
 use Rattle.model_link.specs.declared.timers.LinkTimer.{LinkTimer}
 use Rattle.model_link.specs.declared.timers.LinkTimer.TheVariants as kind
 use Rattle.model_link.specs.Events as link
-use Rattle.model_link.specs.Known.{IsOwn}
+use Rattle.model_link.specs.Notes.{IsOwn}
 use Rattle.model_link.specs.Link.{Link, fresh}
 use Rattle.model_link.specs.Machine as links
 use Rattle.model_link.proofs.OwnNotes.{notes-own}

@@ -16,7 +16,7 @@ use Rattle.model_link.specs.declared.states.State.{State}
 use Rattle.model_link.specs.declared.states.State.TheVariants.{TeiAssigned, AwaitingEstablishment, AwaitingRelease, Established, TimerRecovery}
 use Rattle.model_link.specs.declared.terms.Terms.{Terms}
 use Rattle.model_link.specs.Events.{Event, frame, overlong, Release, Data, received, requested}
-use Rattle.model_link.specs.Known.{IsOwn}
+use Rattle.model_link.specs.Notes.{IsOwn}
 use Rattle.model_link.specs.Link.{Link, state_number}
 use Rattle.laws_link.specs.Flags.{takes_contents}
 use Rattle.laws_link.specs.States.{as_heard, state_after, by_frame}

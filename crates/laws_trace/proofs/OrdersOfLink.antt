@@ -13,9 +13,9 @@ use Rattle.model_link.specs.declared.timers.LinkTimer.TheVariants.{T200, T203}
 use Rattle.model_link.specs.Events as link
 use Rattle.model_link.specs.Link.{Link}
 use Rattle.model_link.specs.Machine as links
-use Rattle.model_link.specs.Timed.{is_same, obeyed}
+use Rattle.laws_link.specs.Timed.{is_same, obeyed}
 use Rattle.model_link.specs.Told.{timer_at, orders_for}
-use Rattle.model_link.proofs.Obeying.{leaves-others}
+use Rattle.laws_link.proofs.Obeying.{leaves-others}
 use Rattle.laws_line.specs.Steady.{timer_of}
 use Rattle.laws_line.proofs.Obeyed.{obeyed-append, t201-leaves}
 

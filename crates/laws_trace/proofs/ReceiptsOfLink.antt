@@ -19,7 +19,7 @@ use Rattle.model_link.specs.Events.{Event, Received, frame, undefined, wrong_siz
 use Rattle.model_link.specs.Link.{Link, is_multiple_frame, may_repeat}
 use Rattle.model_link.specs.Machine as links
 use Rattle.model_link.specs.Told.{runs}
-use Rattle.model_link.proofs.Restarts.{establishes}
+use Rattle.laws_link.proofs.Restarts.{establishes}
 use Rattle.laws_link.specs.Flags.{busy_asked, takes_contents}
 use Rattle.laws_link.specs.States.{as_heard, is_overlong, moves, by_expiry, state_after}
 use Rattle.laws_link.specs.Waiting.{receipt_as, as_response, is_next, to_information, to_supervisory, to_sabme, to_disc, answers_to, answers, command_in, is_time, commands, put, room, behind, waiting_left}

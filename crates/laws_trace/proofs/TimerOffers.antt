@@ -22,7 +22,7 @@ use Rattle.model_link.specs.Offers
 use Rattle.model_link.specs.Offers.{is_established}
 use Rattle.model_link.specs.Sound.{IsSound, IsWaitingFrame}
 use Rattle.model_link.specs.Steps.{Course, begun}
-use Rattle.model_link.specs.Timed.{is_same, obeyed}
+use Rattle.laws_link.specs.Timed.{is_same, obeyed}
 use Rattle.model_link.specs.Told.{Given, runs, timer_at}
 use Rattle.model_link.specs.Words
 use Rattle.laws_trace.specs.DataGoesOut.{Sent, sent_by}

@@ -14,7 +14,7 @@ use Rattle.model_link.specs.declared.timers.LinkTimer.{LinkTimer}
 use Rattle.model_link.specs.declared.timers.LinkTimer.TheVariants.{T200, T203}
 use Rattle.model_link.specs.Link.{Link, fresh as fresh_link}
 use Rattle.model_link.specs.Sound as link_sound
-use Rattle.model_link.specs.Timed.{obeyed}
+use Rattle.laws_link.specs.Timed.{obeyed}
 use Rattle.model_link.specs.Told.{runs}
 use Rattle.model_line.specs.declared.config.Config.{Config}
 use Rattle.model_line.specs.Event as line_event

@@ -18,7 +18,7 @@ use Rattle.model_link.specs.Events as link
 use Rattle.model_link.specs.Link.{Link, fresh}
 use Rattle.model_link.specs.Machine as links
 use Rattle.model_link.specs.Sound as link_sound
-use Rattle.model_link.specs.Timed.{is_same}
+use Rattle.laws_link.specs.Timed.{is_same}
 use Rattle.model_link.specs.Told.{Given, runs, is_timer}
 use Rattle.model_line.specs.declared.config.Config.{Config}
 use Rattle.model_line.specs.Event.{Event, octet, expiry, request, pull, Answer}

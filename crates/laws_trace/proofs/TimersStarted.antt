@@ -15,7 +15,7 @@ use Rattle.model_link.specs.Events as link
 use Rattle.model_link.specs.Link.{Link}
 use Rattle.model_link.specs.Machine as links
 use Rattle.model_link.specs.Sound as link_sound
-use Rattle.model_link.specs.Timed.{is_same, obeyed}
+use Rattle.laws_link.specs.Timed.{is_same, obeyed}
 use Rattle.model_link.specs.Told.{runs, timer_at}
 use Rattle.model_line.specs.declared.config.Config.{Config}
 use Rattle.model_line.specs.Event.{Event, octet, expiry, request, pull, Answer}

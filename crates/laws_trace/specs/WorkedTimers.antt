@@ -9,7 +9,7 @@ use Rattle.lapd_seq.specs.Circle.{named, distance_of}
 use Rattle.lapd_seq.specs.Numbers.{seq}
 use Rattle.lapd_tei.specs.Events as teis
 use Rattle.model_link.specs.declared.timers.LinkTimer.TheVariants.{T200, T203}
-use Rattle.model_link.specs.Timed.{obeyed}
+use Rattle.laws_link.specs.Timed.{obeyed}
 use Rattle.model_line.specs.Laws.{orders_in}
 use Rattle.model_line.specs.Machine as lines
 use Rattle.model_line.specs.Request.{Assign, Data}

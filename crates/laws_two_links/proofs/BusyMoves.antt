@@ -14,7 +14,7 @@ use Rattle.model_link.specs.Words
 use Rattle.model_link.specs.MultipleFrame
 use Rattle.model_link.specs.Established
 use Rattle.model_link.specs.Offers
-use Rattle.model_link.specs.TwoEnds.{End, with_link, with_sent, with_first_of, with_first_lost}
+use Rattle.laws_two_links.specs.TwoEnds.{End, with_link, with_sent, with_first_of, with_first_lost}
 use Rattle.laws_two_links.specs.Rounds.{IsTaken}
 use Rattle.laws_two_links.specs.OwnBusy.{IsBusyItself, IsOpenItself, IsDropped}
 use Rattle.laws_two_links.proofs.Plain.{plain, plain_with, plain_end_with, with_information_with, with_acknowledgement_with, information_frame, acknowledgement_frame, gives-information, gives-acknowledgement, gives-nothing}
@@ -133,7 +133,7 @@ pub record OpenMoved (n m n' m' : End) : Type 0 where
 
 module _ (n m : End) (hn : IsBusyItself n) (hm : IsOpenItself m) (there : IsTaken n m) (back : IsDropped n m) where
   quiet : n.link.pending ≡ false
-  quiet = hn.sound.quiet hn.own_busy
+  quiet = hn.sound.owes_nothing hn.own_busy
 
   is-n : n ≡ plain_end_with true false n
   is-n = flags true false n (busy-flags n hn)

@@ -2,7 +2,7 @@
 use Rattle.std.proofs.Common.{◌≡◌, ℕ, suc, ◌+◌, ◌≤◌, Bool, true, false, [], ◌∷◌, length, Some, refl, sym, ap, subst, ◌∙◌, ◌⊎◌, inl, inr, arith}
 use Rattle.model_link.specs.declared.timers.LinkTimer.TheVariants.{T200, T203}
 use Rattle.model_link.specs.Events.{expired}
-use Rattle.model_link.specs.TwoEnds.{End, Ends}
+use Rattle.laws_two_links.specs.TwoEnds.{End, Ends}
 use Rattle.model_link.proofs.SoundEvents.{sound-after}
 use Rattle.laws_two_links.specs.Rounds.{rounds}
 use Rattle.laws_two_links.specs.CutOff.{IsCutOff, IsCutOffWith, HasMissing, with_t200_expired}
@@ -77,7 +77,7 @@ module _ (u : ℕ) (n m : End) (hn : IsCutOffWith true n m) (hm : IsCutOff m n) 
 
   -- no acknowledgement is owed while own busy is on
   rests-quiet : (n' : End) (x : Resting true n n') → n' ≡ in_7_with true false n [] n.link.a n.link.s false x.running n.delivered
-  rests-quiet n' x = x.is ∙ ap (λ p. in_7_with true false n [] n.link.a n.link.s p x.running n.delivered) (hn.sound.quiet hn.own_busy)
+  rests-quiet n' x = x.is ∙ ap (λ p. in_7_with true false n [] n.link.a n.link.s p x.running n.delivered) (hn.sound.owes_nothing hn.own_busy)
 
 -- The busy end is near.
 module _ (u : ℕ) (e : Ends) (hn : IsCutOffWith true e.near e.far) (hm : IsCutOff e.far e.near) (un : HasMissing u e.near e.far) where

@@ -8,7 +8,7 @@ use Rattle.model_link.specs.declared.timers.LinkTimer.{LinkTimer}
 use Rattle.model_link.specs.Events.{frame, received, offer}
 use Rattle.model_link.specs.Offers
 use Rattle.model_link.specs.Sound.{IsInRange, IsSound}
-use Rattle.model_link.specs.TwoEnds.{End, Ends, with_sent, with_first_of}
+use Rattle.laws_two_links.specs.TwoEnds.{End, Ends, with_sent, with_first_of}
 use Rattle.model_link.proofs.SoundEvents.{sound-after}
 use Rattle.laws_two_links.specs.Rounds.{IsTaken, HasUnsent, HasArrived, rounds}
 use Rattle.laws_two_links.specs.OwnBusy.{IsBusyItself, IsOpenItself, IsDropped, GetsThrough}
@@ -223,7 +223,7 @@ module _ (busy : Bool) (r : ℕ) (ds cn cm : List (List ℕ)) (n m : End) (h : D
         nothing = record {
           waiting = p.itself.waiting;
           information = and_right _ (nat_lt n.link.s (length n.link.contents)) (le-ltb n.link.s (length n.link.contents) h.all);
-          pending = p.itself.sound.quiet p.itself.own_busy;
+          pending = p.itself.sound.owes_nothing p.itself.own_busy;
         };
         way = p.itself.way;
       }

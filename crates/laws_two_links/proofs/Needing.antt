@@ -9,9 +9,9 @@ use Rattle.model_link.specs.Link.{Link, fresh}
 use Rattle.model_link.specs.Events.{Event}
 use Rattle.model_link.specs.Machine.{after}
 use Rattle.model_link.specs.Sound.{IsSound}
-use Rattle.model_link.specs.Timed.{IsTimedIn, IsTimed}
+use Rattle.laws_link.specs.Timed.{IsTimedIn, IsTimed}
 use Rattle.model_link.specs.Told.{runs}
-use Rattle.model_link.proofs.TimedRows.{timed-after}
+use Rattle.laws_link.proofs.TimedRows.{timed-after}
 use Rattle.laws_two_links.specs.Heeds.{HeedsIn}
 use Rattle.laws_two_links.specs.Needed.{needed_in, IsCalmIn, HasItsTimer}
 use Rattle.laws_two_links.proofs.Awaiting.{Awaits, event-awaits}

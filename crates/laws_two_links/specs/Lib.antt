@@ -19,3 +19,7 @@ pub mod WorkedUntimely
 pub mod Ahead
 pub mod Timely
 pub mod WorkedTimely
+pub mod Holding
+pub mod WorkedHolding
+pub mod TwoEnds
+pub mod WorkedEnds

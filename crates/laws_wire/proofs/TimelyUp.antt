@@ -21,12 +21,12 @@ use Rattle.model_link.specs.Machine
 use Rattle.model_link.specs.Machine.{course, given, is_running}
 use Rattle.model_link.specs.MultipleFrame
 use Rattle.model_link.specs.Steps.{begun, ◌then◌}
-use Rattle.model_link.specs.Timed.{IsTimedIn}
+use Rattle.laws_link.specs.Timed.{IsTimedIn}
 use Rattle.model_link.specs.Told.{runs}
-use Rattle.model_link.specs.TwoEnds.{End, Ends, with_link, with_sent}
-use Rattle.model_link.specs.TwoEnds as two_ends
+use Rattle.laws_two_links.specs.TwoEnds.{End, Ends, with_link, with_sent}
+use Rattle.laws_two_links.specs.TwoEnds as two_ends
 use Rattle.model_link.specs.Words
-use Rattle.model_link.proofs.Sending.{offer-gave}
+use Rattle.laws_two_links.proofs.Sending.{offer-gave}
 use Rattle.model_line.specs.declared.config.Config.{Config}
 use Rattle.model_line.specs.Event.{LineTold}
 use Rattle.model_line.specs.Request.{Data}

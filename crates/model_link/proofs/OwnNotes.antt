@@ -1,5 +1,5 @@
 -- The notes that an event tells are of its own link.
-pub use Rattle.model_link.specs.Known.{IsOwn}
+pub use Rattle.model_link.specs.Notes.{IsOwn}
 use Rattle.std.proofs.Common.{◌≡◌, ℕ, Bool, true, false, cond, List, [], ◌∷◌, Option, Some, None, refl}
 use Rattle.std.specs.Prelude.{All}
 use Rattle.std.proofs.lemmas.List.Elements.{All-nil, All-push}

@@ -14,7 +14,7 @@ use Rattle.model_link.specs.declared.terms.Terms.{Terms}
 use Rattle.model_link.specs.Link.{is_multiple_frame, is_peer_busy}
 use Rattle.model_link.specs.Rises.{window_back}
 use Rattle.model_link.specs.Sound.{IsInRange}
-use Rattle.model_link.specs.Steps.{Course, Step, ◌then◌, nothing}
+use Rattle.model_link.specs.Steps.{Course, Step, ◌then◌}
 use Rattle.model_link.specs.Words
 use Rattle.model_link.specs.TeiAssigned.{frame_in_4, establish_in_4}
 use Rattle.model_link.specs.AwaitingEstablishment.{frame_in_5, t200_in_5}

@@ -169,7 +169,7 @@ fitted t l h =
       settled = h.settled;
       queue = le_refl (length (queue_of l));
       ring = h.ring;
-      quiet = h.quiet;
+      owes_nothing = h.owes_nothing;
       sizes = h.sizes;
       frames = All-weaker (IsWaitingFrame t) (IsWaitingFrame (record t { queue = length (queue_of l) })) (λ f w. record { is_frame = w.is_frame; octets = w.octets; without_contents = w.without_contents }) l.waiting h.frames;
     }

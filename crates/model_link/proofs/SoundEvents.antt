@@ -88,7 +88,7 @@ sound-bound t c h q =
       settled = in-settled c.link.state c.link h.claim;
       queue = omega arith;
       ring = h.bounded.ring;
-      quiet = q.quiet;
+      owes_nothing = q.quiet;
       sizes = h.bounded.sizes;
       frames = h.bounded.frames;
     }
@@ -337,7 +337,7 @@ module _ (t : Terms) (r : t.tei ≤ 126) where
 -- A sound link stays sound.
 pub sound-step : (t : Terms) → t.tei ≤ 126 → (e : Events.Event) (l : Link) → IsSound t l → IsSound t (Machine.after t e l)
 sound-step t r e l h =
-    sound-bound t (Machine.course t e l) ((steps_lead t r e).leads (begun l) (bound-sound t l h)) (quiet-step t e (begun l) (record { quiet = h.quiet }))
+    sound-bound t (Machine.course t e l) ((steps_lead t r e).leads (begun l) (bound-sound t l h)) (quiet-step t e (begun l) (record { quiet = h.owes_nothing }))
 
 pub sound-after : (t : Terms) → IsInRange t → (e : Events.Event) (l : Link) → IsSound t l → IsSound t (Machine.after t e l)
 sound-after t r e l h = sound-step t r.tei e l h

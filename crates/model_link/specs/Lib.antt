@@ -4,8 +4,7 @@
 -- an N(R) in the middle of a row is read at that moment); the states, one equation a row: TeiAssigned,
 -- AwaitingEstablishment, AwaitingRelease, MultipleFrame, Established, TimerRecovery; Requests and Offers; Machine; and
 -- Room, which tells what a request for data will be refused for. A link keeps all contents since its numbers were
--- zero, and plain numbers that never wrap. Sound, Notes, Rises, Timed, Known, Deliveries, Numbered and TwoEnds are the
--- words of the laws.
+-- zero, and plain numbers that never wrap. Sound, Notes, Rises, Deliveries and Numbered are the words of the laws.
 pub mod Link
 pub mod Events
 pub mod Told
@@ -23,15 +22,11 @@ pub mod Machine
 pub mod Room
 pub mod Sound
 pub mod Rises
-pub mod Timed
 pub mod Deliveries
 pub mod Numbered
 pub mod Notes
-pub mod Known
-pub mod TwoEnds
 pub mod Samples
 pub mod WorkedRelease
 pub mod WorkedTransfer
 pub mod WorkedRuns
-pub mod WorkedEnds
 pub mod WorkedRoom

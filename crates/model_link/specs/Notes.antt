@@ -1,7 +1,8 @@
--- Notes of data.
-use Rattle.std.specs.Prelude.{Bool, true, false}
+-- Notes of data, and whose a note is.
+use Rattle.std.specs.Prelude.{◌≡◌, Bool, true, false}
 use Rattle.lapd_frame.specs.declared.notes.Note.{Note}
 use Rattle.lapd_frame.specs.declared.notes.Note.TheVariants.{EstablishIndication, EstablishConfirm, ReleaseIndication, ReleaseConfirm, Data, Unit, Error, Assigned, Removed, Doubled, Xid}
+use Rattle.model_link.specs.declared.terms.Terms.{Terms}
 
 -- Whether a note says that contents are delivered.
 abbrev pub is_data : Note → Bool
@@ -30,3 +31,17 @@ is_unit (Assigned tei) = false
 is_unit (Removed tei) = false
 is_unit (Doubled tei) = false
 is_unit (Xid service tei) = false
+
+-- A note of a link names its service and its TEI, and is none of TEI management.
+abbrev pub IsOwn : Terms → Note → Type 0
+IsOwn t (EstablishIndication service tei) = (service ≡ t.service) × (tei ≡ t.tei)
+IsOwn t (EstablishConfirm service tei) = (service ≡ t.service) × (tei ≡ t.tei)
+IsOwn t (ReleaseIndication service tei) = (service ≡ t.service) × (tei ≡ t.tei)
+IsOwn t (ReleaseConfirm service tei) = (service ≡ t.service) × (tei ≡ t.tei)
+IsOwn t (Data service tei) = (service ≡ t.service) × (tei ≡ t.tei)
+IsOwn t (Unit service tei) = (service ≡ t.service) × (tei ≡ t.tei)
+IsOwn t (Error service tei code) = (service ≡ t.service) × (tei ≡ t.tei)
+IsOwn t (Assigned tei) = ⊥
+IsOwn t (Removed tei) = ⊥
+IsOwn t (Doubled tei) = ⊥
+IsOwn t (Xid service tei) = (service ≡ t.service) × (tei ≡ t.tei)

@@ -62,7 +62,7 @@ pub record IsSound (t : Terms) (l : Link) : Type 0 where
   pub ring : length l.waiting ≤ t.control
   -- with own busy on no acknowledgement is owed, so that one that is owed is RR and never RNR (clauses 5.6.3.1 and
   -- 5.6.6)
-  pub quiet : IsTrue l.own_busy → l.pending ≡ false
+  pub owes_nothing : IsTrue l.own_busy → l.pending ≡ false
   -- contents have at most N201 octets
   pub sizes : All (λ octets. length octets ≤ t.n201) l.contents
   -- what waits are frames

@@ -1,25 +1,19 @@
 //! What holds of the machine itself. Each law is the contract of a call that does nothing.
 
-ghost use Rattle.std.specs.Prelude.{◌≡◌, ℕ, ◌+◌, ◌*◌, ◌%◌, ◌≤◌, ◌⊎◌, Bool, true, false, All, List, length, None, is_some, IfSome};
+ghost use Rattle.std.specs.Prelude.{◌≡◌, ℕ, ◌+◌, ◌*◌, ◌%◌, ◌≤◌, ◌⊎◌, true, List, length, None, is_some, IfSome};
 ghost use Rattle.std.specs.List.{list_any};
 ghost use Rattle.std.specs.Prelude.{Option};
 ghost use Rattle.model_link.specs.declared.terms.Terms.{Terms};
 ghost use Rattle.model_link.specs.Link.{Link, fresh, queue_of};
-ghost use Rattle.model_link.specs.Events.{Received, Event, received, offer, expired, cleared};
+ghost use Rattle.model_link.specs.Events.{Received, Event, received, offer, cleared};
 ghost use Rattle.model_link.specs.Machine.{after, after_all, told, given};
 ghost use Rattle.model_link.specs.Notes.{is_data, is_unit};
-ghost use Rattle.model_link.specs.Known.{is_up, known, IsOwn};
 ghost use Rattle.model_link.specs.Told.{orders_for, starts};
 ghost use Rattle.model_link.specs.declared.timers.LinkTimer.{LinkTimer};
-ghost use Rattle.model_link.specs.Deliveries.{Arrived, eligible, restarts, Establishes};
+ghost use Rattle.model_link.specs.Deliveries.{Arrived, eligible};
 ghost use Rattle.model_link.specs.Numbered.{History, nothing_yet, with_event, with_all, IsNumbered};
 ghost use Rattle.model_link.specs.Rises.{RisesByEvent, may_send, grows, sent, sent_in_all, price_of_all};
 ghost use Rattle.model_link.specs.Sound.{IsInRange, IsSound, IsGiven};
-ghost use Rattle.model_link.specs.Timed.{IsTimed, StaysInStep, ComesInStep, obeyed, is_same};
-ghost use Rattle.model_link.specs.declared.timers.LinkTimer.TheVariants.{T200, T203};
-ghost use Rattle.model_link.specs.Told.{timer_at, runs};
-ghost use Rattle.lapd_frame.specs.declared.timers.Timer.{Timer};
-ghost use Rattle.model_link.specs.TwoEnds.{Ends, Doing, doing_all, Begins, StayUp, Agree};
 
 /// A link is sound as it begins, and every event keeps it sound: its numbers are in order and
 /// within the window (Q.921 clause 5.6.1), nothing is queued where it must not be, no acknowledgement is
@@ -55,31 +49,25 @@ pub fn rises()
 /// one, no eligible frame has the next number. V(R) counts them (Q.921 clauses 3.5.2.4 to
 /// 3.5.2.6). An I-frame is eligible where it has at most N201 octets and meets state 7 or 8 with
 /// own busy off; an establishment is an event in which the numbers are set to zero, or the link is
-/// cleared. That is a SABME, or a UA with F=1, after which the link is in state 7 with V(S), V(A) and
-/// V(R) 0, or the end of its TEI, and no other event (`restarts`).
+/// cleared.
 pub fn numbered()
     ensures begins { IsNumbered nothing_yet fresh }
     ensures each { (t : Terms) (e : Event) (l : Link) (h : History) → IsNumbered h l → IsNumbered (with_event t e l h) (after t e l) }
     // Contents are delivered in the event that brings their frame.
     ensures at_once { (t : Terms) (e : Event) (l : Link) (contents : List ℕ) → (told t e l).delivered ≡ Some contents →
         (i : Arrived) × (eligible t e l ≡ Some i) × (i.contents ≡ contents) × (i.ns.value ≡ l.r % 128) }
-    // The numbers begin anew by nothing but an establishment, or the end of the TEI.
-    ensures restarts { (t : Terms) (e : Event) (l : Link) → restarts t e l ≡ true → Establishes e (after t e l) }
     ensures always { (t : Terms) (es : List Event) → IsNumbered (with_all t es fresh nothing_yet) (after_all t es fresh) }
 {}
 
-/// An event tells at most two notes, gives at most two orders, of which at most one starts a timer, and loses at most
-/// two control frames, and
-/// the clearing of a link gives at most one note and one order. There is a note of data exactly where
-/// contents are delivered, one of unit data exactly where that is told, and no event delivers both
-/// contents and unit data.
+/// An event tells at most two notes and gives at most two orders, of which at most one starts a timer, and the clearing
+/// of a link gives at most one note and one order. There is a note of data exactly where contents are delivered, one of
+/// unit data exactly where that is told, and no event delivers both contents and unit data.
 pub fn tells_little()
     ensures notes { (t : Terms) (e : Event) (l : Link) → length (told t e l).notes ≤ 2 }
     ensures data { (t : Terms) (e : Event) (l : Link) → list_any is_data (told t e l).notes ≡ is_some (told t e l).delivered }
     ensures unit_data { (t : Terms) (e : Event) (l : Link) → list_any is_unit (told t e l).notes ≡ is_some (told t e l).unit }
     ensures unit { (t : Terms) (e : Event) (l : Link) → ((told t e l).delivered ≡ None) ⊎ ((told t e l).unit ≡ None) }
     ensures orders { (t : Terms) (before started after : Option LinkTimer) → length (orders_for t before started after) ≤ 2 }
-    ensures lost { (t : Terms) (e : Event) (l : Link) → (told t e l).lost ≤ 2 }
     ensures starts { (t : Terms) (before started after : Option LinkTimer) → starts (orders_for t before started after) ≤ 1 }
     ensures clearing { (t : Terms) (l : Link) → (length (told t cleared l).notes ≤ 1) × (length (told t cleared l).orders ≤ 1) }
 {}
@@ -87,44 +75,4 @@ pub fn tells_little()
 /// What comes from the terminal and is not served changes nothing.
 pub fn unserved_stays()
     ensures { (t : Terms) (what : Received) (l : Link) → (told t (received what) l).unserved ≡ true → after t (received what) l ≡ l }
-{}
-
-/// Layer 3 knows by the notes alone whether a link is up: an indication or a confirm of an establishment
-/// says that it is, one of a release that it is not, and no event changes it without such a note. Every note
-/// names the link's own service and TEI (`own`). Up is a link in states 7 and 8, in state 5 where it
-/// establishes itself anew (Q.921 clause 5.7.1), and in state 6 until its release is confirmed; down is one in
-/// state 4, and in state 5 while layer 3 awaits the establishment that it asked for.
-pub fn layer_3_knows()
-    ensures begins { is_up fresh ≡ false }
-    ensures each { (t : Terms) (e : Event) (l : Link) → known (is_up l) (told t e l).notes ≡ is_up (after t e l) }
-    ensures own { (t : Terms) (e : Event) (l : Link) → All (IsOwn t) (told t e l).notes }
-{}
-
-/// A link that awaits something has its timer: in states 5, 6 and 8 T200 runs; in state 7 T200 runs, or
-/// T203 where no I-frame is outstanding; in state 4 none does. And orders keep a caller's timers in step
-/// with the link's: where it obeys them, each of its timers of this link runs exactly where the link
-/// runs it, after every event, also after the timer's own expiry. No order is for a timer that is not
-/// this link's (Q.921 clauses 5.5.1 to 5.6.7 and 5.10.3).
-pub fn keeps_its_timers()
-    ensures begins { IsTimed fresh }
-    ensures each { (t : Terms) (e : Event) (l : Link) → IsTimed l → IsTimed (after t e l) }
-    ensures always { (t : Terms) (es : List Event) → IsTimed (after_all t es fresh) }
-    ensures in_step { (t : Terms) (e : Event) (l : Link) (timer : LinkTimer) → StaysInStep t e l timer }
-    ensures expired { (t : Terms) (l : Link) (timer : LinkTimer) → IsTimed l → runs timer l.running ≡ true → ComesInStep t (expired timer) l timer }
-    ensures own { (t : Terms) (e : Event) (l : Link) (timer : Timer) (running : Bool) →
-        is_same (timer_at t T200) timer ≡ false → is_same (timer_at t T203) timer ≡ false →
-        obeyed timer running (told t e l).orders ≡ running }
-{}
-
-/// Two links that face each other, each in state 7 with its numbers zero and its flags off, and
-/// with nothing on the way between them. Whatever layer 3 asks for on either side, whatever timers
-/// expire, and whatever frames are lost, as long as those that are not keep their order: while both
-/// links stay in states 7 and 8, each has delivered exactly the first contents that the other
-/// accepted, in order, as many as its V(R) counts; and the other takes no more of them for
-/// acknowledged (Q.921 clauses 5.6 and 5.8.1). The ends may have different terms.
-pub fn two_ends()
-    ensures near { (ds : List Doing) (e : Ends) → Begins e.near → Begins e.far → StayUp ds e →
-        Agree (doing_all ds e).near (doing_all ds e).far }
-    ensures far { (ds : List Doing) (e : Ends) → Begins e.near → Begins e.far → StayUp ds e →
-        Agree (doing_all ds e).far (doing_all ds e).near }
 {}

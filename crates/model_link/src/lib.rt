@@ -18,10 +18,6 @@
 //! - `rooms`: `Room`, how much room a link has.
 //!
 //! - `laws`: what holds of the machine itself.
-//!
-//! # Open
-//!
-//! What two links agree on across a new establishment.
 #![tactic(auto)]
 
 mod frames;
@@ -33,8 +29,7 @@ mod timers;
 
 pub use frames::ControlFrame;
 pub use laws::{
-    keeps_its_timers, layer_3_knows, numbered, rises, stays_sound, tells_little, two_ends,
-    unserved_stays,
+    numbered, rises, stays_sound, tells_little, unserved_stays,
 };
 pub use rooms::Room;
 pub use states::State;

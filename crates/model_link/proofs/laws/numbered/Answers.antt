@@ -1,5 +1,4 @@
 -- Hand-written answers for `numbered`.
-use Rattle.model_link.proofs.Restarts.{establishes}
 use Rattle.model_link.specs.Link.{fresh}
 use Rattle.model_link.specs.Numbered.{nothing_yet}
 use Rattle.model_link.proofs.Numbering.{numbered-after, numbered-fresh, numbered-all, delivered-at_once}
@@ -16,6 +15,3 @@ returns-clause-at_once c = λ t e l contents d. delivered-at_once t e l contents
 
 pub returns-clause-always : goal.returns-clause-always
 returns-clause-always c = λ t es. numbered-all t es fresh nothing_yet numbered-fresh
-
-pub returns-clause-restarts : goal.returns-clause-restarts
-returns-clause-restarts c = λ t e l is. establishes t l e is

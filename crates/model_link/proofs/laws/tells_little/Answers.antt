@@ -1,6 +1,5 @@
 -- Hand-written answers for `tells_little`.
 use Rattle.model_link.proofs.TellRows.{event-tells, cleared-tells, two-orders, one-start, cleared-orders}
-use Rattle.model_link.proofs.Losing.{event-loses}
 use Rattle.model_link.proofs.laws.tells_little.Goals as goal
 
 pub returns-clause-notes : goal.returns-clause-notes
@@ -17,9 +16,6 @@ returns-clause-unit_data c = λ t e l. (event-tells t e l).3
 
 pub returns-clause-orders : goal.returns-clause-orders
 returns-clause-orders c = λ t before started after. two-orders t before started after
-
-pub returns-clause-lost : goal.returns-clause-lost
-returns-clause-lost c = λ t e l. event-loses t e l
 
 pub returns-clause-clearing : goal.returns-clause-clearing
 returns-clause-clearing c = λ t l. (cleared-tells t l, cleared-orders t l)

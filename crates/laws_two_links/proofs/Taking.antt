@@ -20,9 +20,9 @@ use Rattle.model_link.specs.Machine
 use Rattle.model_link.proofs.Counting.{On, done, words, acknowledge_counts}
 use Rattle.model_link.proofs.CountRows.{frames_in_7, frames_in_8}
 use Rattle.model_link.proofs.Delivering.{begins}
-use Rattle.model_link.proofs.Lines.{Means}
-use Rattle.model_link.proofs.Facing.{UpBy, information_7_up, acknowledge_up, rr_7, rnr_7, rej_7, rr_8, rnr_8, rej_8}
-use Rattle.model_link.proofs.FacingInformation.{Took, at-first, information_took}
+use Rattle.laws_two_links.proofs.Lines.{Means}
+use Rattle.laws_two_links.proofs.Facing.{UpBy, information_7_up, acknowledge_up, rr_7, rnr_7, rej_7, rr_8, rnr_8, rej_8}
+use Rattle.laws_two_links.proofs.FacingInformation.{Took, at-first, information_took}
 
 -- what `named` finds has the remainder that names it
 found : (b : Bool) (x n : ℕ) → cond b (Some x) None ≡ Some n → x ≡ n

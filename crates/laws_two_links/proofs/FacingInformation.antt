@@ -10,7 +10,7 @@ use Rattle.model_link.specs.Words
 use Rattle.model_link.specs.MultipleFrame
 use Rattle.model_link.proofs.Leads.{Leads}
 use Rattle.model_link.proofs.Counting.{Count, On, number_counts}
-use Rattle.model_link.proofs.Facing.{Stays, Up, UpBy, still, no-reports, number_up, words}
+use Rattle.laws_two_links.proofs.Facing.{Stays, Up, UpBy, still, no-reports, number_up, words}
 
 -- what is delivered
 abbrev brought : Option (List ℕ) → Count

@@ -25,9 +25,9 @@ use Rattle.model_link.specs.TimerRecovery
 use Rattle.model_link.specs.Requests
 use Rattle.model_link.specs.Offers
 use Rattle.model_link.specs.Machine
-use Rattle.model_link.specs.Timed.{IsTimed, IsTimedIn}
+use Rattle.laws_link.specs.Timed.{IsTimed, IsTimedIn}
 use Rattle.model_link.proofs.Leads.{Leads}
-use Rattle.model_link.proofs.Timing.{TimedBy, At, Ends, at_ends, transfer_timed, failed_timed, acknowledge_start_7, send_again_7, to_named, acknowledged_7, acknowledged_by_information_7, acknowledge_8, ends, information_timed, supervisory_7, supervisory_8}
+use Rattle.laws_link.proofs.Timing.{TimedBy, At, Ends, at_ends, transfer_timed, failed_timed, acknowledge_start_7, send_again_7, to_named, acknowledged_7, acknowledged_by_information_7, acknowledge_8, ends, information_timed, supervisory_7, supervisory_8}
 
 module _ (t : Terms) where
   -- the rows

@@ -27,8 +27,8 @@ use Rattle.model_link.specs.Requests
 use Rattle.model_link.specs.Offers
 use Rattle.model_link.specs.Machine
 use Rattle.model_link.proofs.Leads.{Leads, then_leads, keeping_then, nothing_leads, depending_leads, bit_leads}
-use Rattle.model_link.specs.Known.{known, is_up_in, is_up}
-use Rattle.model_link.proofs.Knowing.{up_by, is-up-by, At, Ends, at_ends, acknowledge_knows, transfer_knows, own_busy_knows, report_knows, send_knows, flags_knows, zero_knows, discard_knows, repeats_knows, indication_7, indication_8, indicates_release, enters_7_from_7, enters_6_from_7, enters_6_from_8, answer_knows, count_knows, rejecting_knows, deliver_knows, pending_knows, reject_knows, peer_busy_knows, note_knows, send_again_knows, start_knows, enters_7_from_8, confirms_in_4, established_up, zero_enters, ends, failed_7, failed_8, number_7, number_8}
+use Rattle.laws_link.specs.Known.{known, is_up_in, is_up}
+use Rattle.laws_link.proofs.Knowing.{up_by, is-up-by, At, Ends, at_ends, acknowledge_knows, transfer_knows, own_busy_knows, report_knows, send_knows, flags_knows, zero_knows, discard_knows, repeats_knows, indication_7, indication_8, indicates_release, enters_7_from_7, enters_6_from_7, enters_6_from_8, answer_knows, count_knows, rejecting_knows, deliver_knows, pending_knows, reject_knows, peer_busy_knows, note_knows, send_again_knows, start_knows, enters_7_from_8, confirms_in_4, established_up, zero_enters, ends, failed_7, failed_8, number_7, number_8}
 
 module _ (up : Bool) (t : Terms) where
   frames_in_4 : (octets : List ℕ) (control : Control) → Leads (At up TeiAssigned) (frame_in_4 t octets control) (Ends up)

@@ -18,7 +18,7 @@ use Rattle.model_link.specs.MultipleFrame
 use Rattle.model_link.specs.Offers
 use Rattle.model_link.proofs.Leads.{Leads, then_leads, keeping_then, nothing_leads, depending_leads, bit_leads, tested_leads, Passed, from_more, to_less}
 use Rattle.lapd_frame.specs.declared.notes.Note.TheVariants as notes
-use Rattle.model_link.specs.Known.{seen, known, is_up_in}
+use Rattle.laws_link.specs.Known.{seen, known, is_up_in}
 
 -- the same as `is_up_in`, of what it speaks of
 abbrev pub up_by : State → Bool → Bool

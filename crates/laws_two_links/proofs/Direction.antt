@@ -11,9 +11,9 @@ use Rattle.lapd_frame.specs.Grammar.{Parts}
 use Rattle.model_link.specs.declared.frames.ControlFrame.{ControlFrame}
 use Rattle.model_link.specs.declared.terms.Terms.{Terms}
 use Rattle.model_link.specs.Link.{Link, frame_of}
-use Rattle.model_link.specs.TwoEnds.{End}
-use Rattle.model_link.proofs.Lines.{Carries, Piece, Carried, Means, Rising, carried-more, carried-lower, carried-push, rising-lower, rising-push}
-use Rattle.model_link.proofs.Facing.{IsReport, AreReports, Reports}
+use Rattle.laws_two_links.specs.TwoEnds.{End}
+use Rattle.laws_two_links.proofs.Lines.{Carries, Piece, Carried, Means, Rising, carried-more, carried-lower, carried-push, rising-lower, rising-push}
+use Rattle.laws_two_links.proofs.Facing.{IsReport, AreReports, Reports}
 
 -- The frames that wait, as they will go.
 abbrev pub frames_of : Terms → List ControlFrame → List Parts

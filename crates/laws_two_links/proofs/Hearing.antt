@@ -9,12 +9,12 @@ use Rattle.lapd_frame.specs.declared.controls.Control.TheVariants.{Information, 
 use Rattle.lapd_frame.specs.Grammar.{Parts}
 use Rattle.model_link.specs.Link.{Link}
 use Rattle.model_link.specs.Sound.{IsInRange, IsSound}
-use Rattle.model_link.specs.TwoEnds.{End}
+use Rattle.laws_two_links.specs.TwoEnds.{End}
 use Rattle.model_link.proofs.SoundRows.{named-within}
-use Rattle.model_link.proofs.Lines.{Piece, Carried, Means, Rising, carried-higher, carried-lower, carried-high, rising-higher, rising-low}
-use Rattle.model_link.proofs.Facing.{Number, Stay, Reports}
-use Rattle.model_link.proofs.Direction.{Direction, line_of, frames_of, carried-reports, rising-reports, line-grows, named-means, carries-next}
-use Rattle.model_link.proofs.Taking.{named-is_seq, HasNumber, Advance}
+use Rattle.laws_two_links.proofs.Lines.{Piece, Carried, Means, Rising, carried-higher, carried-lower, carried-high, rising-higher, rising-low}
+use Rattle.laws_two_links.proofs.Facing.{Number, Stay, Reports}
+use Rattle.laws_two_links.proofs.Direction.{Direction, line_of, frames_of, carried-reports, rising-reports, line-grows, named-means, carries-next}
+use Rattle.laws_two_links.proofs.Taking.{named-is_seq, HasNumber, Advance}
 
 -- What the end that receives learns of its own contents: its V(A) becomes what the N(R) means.
 pub sender-hears : (n m : End) (f : Parts) (fs : List Parts) (l : Link) (ds : List (List ℕ)) (S : Number)

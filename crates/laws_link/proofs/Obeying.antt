@@ -20,8 +20,8 @@ use Rattle.lapd_frame.specs.declared.timers.Order.{Order}
 use Rattle.lapd_frame.specs.declared.timers.Order.TheVariants as orders
 use Rattle.lapd_frame.specs.declared.timers.Timer.{Timer}
 use Rattle.model_link.specs.Told.{runs, timer_at, orders_for}
-use Rattle.model_link.specs.Timed.{is_same, obeyed, IsTimed, IsTimedIn, StaysInStep, ComesInStep}
-use Rattle.model_link.proofs.InStep.{comes-step}
+use Rattle.laws_link.specs.Timed.{is_same, obeyed, IsTimed, IsTimedIn, StaysInStep, ComesInStep}
+use Rattle.laws_link.proofs.InStep.{comes-step}
 
 -- What obeying an event's orders comes to: orders for one timer, before or after those for the other.
 module _ (own other : Timer) (r : Bool) (same : is_same own own ≡ true) (differs : is_same other own ≡ false) where

@@ -14,9 +14,9 @@ use Rattle.model_link.specs.Words
 use Rattle.model_link.specs.Offers
 use Rattle.model_link.specs.Machine.{given_of}
 use Rattle.model_link.specs.Sound.{IsInRange, IsSound}
-use Rattle.model_link.specs.TwoEnds.{End, frame_given}
-use Rattle.model_link.proofs.Lines.{Carries, Carried, Rising, carried-push, rising-push}
-use Rattle.model_link.proofs.Direction.{Direction, frames_of}
+use Rattle.laws_two_links.specs.TwoEnds.{End, frame_given}
+use Rattle.laws_two_links.proofs.Lines.{Carries, Carried, Rising, carried-push, rising-push}
+use Rattle.laws_two_links.proofs.Direction.{Direction, frames_of}
 
 -- A link keeps its contents, V(A) and V(R); its line has these frames more.
 pub record Gave (t : Terms) (l : Link) (c : Course) : Type 0 where

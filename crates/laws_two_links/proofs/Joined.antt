@@ -14,16 +14,16 @@ use Rattle.model_link.specs.Steps.{Course, begun}
 use Rattle.model_link.specs.Requests
 use Rattle.model_link.specs.Machine
 use Rattle.model_link.specs.Sound.{IsInRange, IsSound}
-use Rattle.model_link.specs.TwoEnds.{End, Ends, Act, asks, expires, sends, receives, loses, Doing, at_near, at_far, with_link, with_sent, with_first_lost, with_first_of, acting, turned, doing, doing_all, Begins, IsUp, StayUp, Agree}
+use Rattle.laws_two_links.specs.TwoEnds.{End, Ends, Act, asks, expires, sends, receives, loses, Doing, at_near, at_far, with_link, with_sent, with_first_lost, with_first_of, acting, turned, doing, doing_all, Begins, IsUp, StayUp, Agree}
 use Rattle.model_link.proofs.SoundEvents.{sound-after}
 use Rattle.model_link.proofs.Delivering.{event-delivers}
-use Rattle.model_link.proofs.Lines.{Carried, Rising, rising-low}
-use Rattle.model_link.proofs.Facing.{Reports, no-reports, Up, still, any_number, timer_7_up, t200_8_up, set_busy_up, clear_busy_up}
-use Rattle.model_link.proofs.FacingInformation.{at-first}
-use Rattle.model_link.proofs.Direction.{Direction, frames_of, line_of, sender-goes, receiver-goes, sender-loses, receiver-loses}
-use Rattle.model_link.proofs.Taking.{frame-taken, none-delivered}
-use Rattle.model_link.proofs.Hearing.{sender-hears, receiver-hears}
-use Rattle.model_link.proofs.Sending.{offer-gave, sender-gives, receiver-gives}
+use Rattle.laws_two_links.proofs.Lines.{Carried, Rising, rising-low}
+use Rattle.laws_two_links.proofs.Facing.{Reports, no-reports, Up, still, any_number, timer_7_up, t200_8_up, set_busy_up, clear_busy_up}
+use Rattle.laws_two_links.proofs.FacingInformation.{at-first}
+use Rattle.laws_two_links.proofs.Direction.{Direction, frames_of, line_of, sender-goes, receiver-goes, sender-loses, receiver-loses}
+use Rattle.laws_two_links.proofs.Taking.{frame-taken, none-delivered}
+use Rattle.laws_two_links.proofs.Hearing.{sender-hears, receiver-hears}
+use Rattle.laws_two_links.proofs.Sending.{offer-gave, sender-gives, receiver-gives}
 
 -- A link goes on by itself: more contents may be accepted, and reports may wait.
 record Goes (l l' : Link) : Type 0 where

@@ -4,7 +4,6 @@ use Rattle.lapd_frame.specs.declared.notes.Note.{Note}
 use Rattle.lapd_frame.specs.declared.notes.Note.TheVariants.{EstablishIndication, EstablishConfirm, ReleaseIndication, ReleaseConfirm, Data, Unit, Error, Assigned, Removed, Doubled, Xid}
 use Rattle.model_link.specs.declared.states.State.{State}
 use Rattle.model_link.specs.declared.states.State.TheVariants.{TeiAssigned, AwaitingEstablishment, AwaitingRelease, Established, TimerRecovery}
-use Rattle.model_link.specs.declared.terms.Terms.{Terms}
 use Rattle.model_link.specs.Link.{Link}
 
 -- By a note layer 3 takes the link for up, or for down; other notes leave that as it was.
@@ -37,17 +36,3 @@ is_up_in TimerRecovery l = true
 
 abbrev pub is_up : Link → Bool
 is_up l = is_up_in l.state l
-
--- A note of a link names its service and its TEI, and is none of TEI management.
-abbrev pub IsOwn : Terms → Note → Type 0
-IsOwn t (EstablishIndication service tei) = (service ≡ t.service) × (tei ≡ t.tei)
-IsOwn t (EstablishConfirm service tei) = (service ≡ t.service) × (tei ≡ t.tei)
-IsOwn t (ReleaseIndication service tei) = (service ≡ t.service) × (tei ≡ t.tei)
-IsOwn t (ReleaseConfirm service tei) = (service ≡ t.service) × (tei ≡ t.tei)
-IsOwn t (Data service tei) = (service ≡ t.service) × (tei ≡ t.tei)
-IsOwn t (Unit service tei) = (service ≡ t.service) × (tei ≡ t.tei)
-IsOwn t (Error service tei code) = (service ≡ t.service) × (tei ≡ t.tei)
-IsOwn t (Assigned tei) = ⊥
-IsOwn t (Removed tei) = ⊥
-IsOwn t (Doubled tei) = ⊥
-IsOwn t (Xid service tei) = (service ≡ t.service) × (tei ≡ t.tei)

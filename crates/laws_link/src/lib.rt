@@ -12,19 +12,19 @@
 //! a call that does nothing.
 //!
 //! - `laws`: what becomes of contents;
-//! - `knowing`: what layer 3 knows, which timers are kept, where numbers begin anew;
+//! - `known`: what layer 3 knows, which timers are kept, where numbers begin anew;
 //! - `sending`: when an I-frame goes, from where it is sent again, and what follows a delivery;
 //! - `following`: what an event leaves of a link, its state, its flags and what waits, and what it tells.
 //!
 #![tactic(auto)]
 
 mod following;
-mod knowing;
+mod known;
 mod laws;
 mod sending;
 
 pub use following::{flags_follow, frames_follow, notes_follow, states_follow};
-pub use knowing::{keeps_its_timers, layer_3_knows, loses_little, restarts_by_establishment};
+pub use known::{keeps_its_timers, layer_3_knows, loses_little, restarts_by_establishment};
 pub use laws::{heard_is_delivered, nothing_is_lost, sent_is_accepted};
 pub use sending::{
     beginnings_are_told, busy_is_left_alone, deliveries_are_acknowledged, expiries_take_effect,

@@ -9,7 +9,7 @@
 //! (`WorkedPolls`, `WorkedGaps`, `WorkedRounds`, `WorkedAnyOrder`, `WorkedOwnBusy`, `WorkedTimely`, and
 //! `WorkedUntimely`, a run in which T200 is too short). `docs/PROGRESS.md` says it in words.
 //!
-//! - `two_ends`: what two links that face each other agree on, whatever is lost, and hold;
+//! - `agreeing`: what two links that face each other agree on, whatever is lost, and hold;
 //! - `laws`: what waits, polls, and two links that face each other;
 //! - `gaps`: what a link does where I-frames are missing;
 //! - `any_order`: two links whose turns come in any order;
@@ -28,7 +28,7 @@ mod gaps;
 mod laws;
 mod own_busy;
 mod timers;
-mod two_ends;
+mod agreeing;
 
 pub use any_order::arrives_in_any_order;
 pub use gaps::gaps_are_rejected;
@@ -38,4 +38,4 @@ pub use laws::{
 };
 pub use own_busy::{busy_ends_are_heard, busy_ends_recover, kept_contents_arrive};
 pub use timers::runs_what_it_needs;
-pub use two_ends::{ends_hold_what_was_accepted, two_ends};
+pub use agreeing::{ends_hold_what_was_accepted, two_ends};

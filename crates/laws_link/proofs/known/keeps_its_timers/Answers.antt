@@ -2,7 +2,7 @@
 use Rattle.model_link.specs.Link.{fresh}
 use Rattle.laws_link.proofs.Obeying.{stays-in-step, comes-in-step, leaves-others}
 use Rattle.laws_link.proofs.TimedRows.{timed-after, timed-all, timed-fresh}
-use Rattle.laws_link.proofs.knowing.keeps_its_timers.Goals as goal
+use Rattle.laws_link.proofs.known.keeps_its_timers.Goals as goal
 
 pub returns-clause-each : goal.returns-clause-each
 returns-clause-each c = λ t e l h. timed-after t e l h

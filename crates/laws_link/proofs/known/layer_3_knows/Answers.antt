@@ -1,7 +1,7 @@
 -- Hand-written answers for `layer_3_knows`.
 use Rattle.laws_link.proofs.KnownRows
 use Rattle.model_link.proofs.OwnNotes.{notes-own}
-use Rattle.laws_link.proofs.knowing.layer_3_knows.Goals as goal
+use Rattle.laws_link.proofs.known.layer_3_knows.Goals as goal
 
 pub returns-clause-each : goal.returns-clause-each
 returns-clause-each c = λ t e l. KnownRows.layer_3_knows t e l

@@ -1,19 +1,6 @@
 -- How a deframer's fields follow the bits of an open gap: octets are put together and kept.
-use Rattle.std.proofs.Common.{◌≡◌, ◌≢◌, ℕ, ◌+◌, ◌-◌, ◌*◌, ◌/◌, ◌%◌, ◌^◌, ◌<◌, ◌≤◌, Bool, true, false, List, [], ◌∷◌, ◌++◌, length, take, set, Option, Some, None, IfSome, is_some, nat_eq, nat_lt, refl, ap, sym, ◌∙◌, subst, arith, length-append, append_assoc}
-use Rattle.std.proofs.lemmas.Bool.{lt-ltb, le-ltb, ltb-true, ltb-false, ne_eqb, false_from_ne_true}
-use Rattle.std.proofs.lemmas.List.{take-append-le, take-take, take_more_set, append-nil}
-use Rattle.std.proofs.lemmas.List.Elements.{All-nil, All-cons, All-append}
-use Rattle.std.proofs.lemmas.Nat.{pow_pos, pow_below}
-use Rattle.std.proofs.Math.ListN.{length-set}
-use Rattle.std.proofs.Math.Seq.{take-length}
-use Rattle.std.proofs.Math.Nat.{add-mul-mod_self_left, add-mul-div_left, mod-eq_of_lt, div-eq_of_lt, mul-one, one-mul, zero-add}
-use Rattle.lapd_bits.specs.Bits.{bits, low_bits, same_bits}
-use Rattle.lapd_bits.specs.Check.{is_good}
-use Rattle.lapd_bits.specs.Register.{HoldsDivision}
-use Rattle.lapd_bits.specs.Stream.{frame, overlong, dropped, is_short, judged}
-use Rattle.lapd_bits.specs.Heard.{flag_front, closing_event}
-use Rattle.lapd_bits.specs.Deframer.{Keeps, Assembles}
-use Rattle.lapd_bits.specs.declared.heard.Cause.TheVariants.{Ragged, Short, Fcs}
+use Rattle.lapd_bits.proofs.Vocabulary.{◌≡◌, ◌≢◌, ℕ, ◌+◌, ◌-◌, ◌*◌, ◌/◌, ◌%◌, ◌^◌, ◌<◌, ◌≤◌, Bool, true, false, List, [], ◌∷◌, ◌++◌, length, take, set, Option, Some, None, IfSome, is_some, nat_eq, nat_lt, refl, ap, sym, ◌∙◌, subst, arith, length-append, append_assoc, lt-ltb, le-ltb, ltb-true, ltb-false, ne_eqb, false_from_ne_true, take-append-le, take-take, take_more_set, All-nil, All-cons, All-append, pow_pos, pow_below, length-set, take-length, add-mul-mod_self_left, add-mul-div_left, mod-eq_of_lt, div-eq_of_lt, mul-one, one-mul, zero-add, bits, low_bits, same_bits, is_good, HoldsDivision, frame, overlong, dropped, is_short, judged, flag_front, closing_event, Keeps, Assembles, Ragged, Short, Fcs}
+use Rattle.std.proofs.lemmas.List.{append-nil}
 use Rattle.lapd_bits.proofs.BitLemmas.{low_bits-add, low_bits-mod, length-low_bits, bits-push, same_from_low_bits}
 use Rattle.lapd_bits.proofs.BitLemmas.{same_from_test}
 

@@ -1,14 +1,5 @@
 -- Bits in which no six 1s in a row come end nothing, and go on the open gap all at once.
-use Rattle.std.proofs.Common.{◌≡◌, ◌≢◌, ℕ, suc, zero, ◌+◌, ◌<◌, ◌≤◌, Bool, true, false, List, [], ◌∷◌, ◌++◌, reverse, replicate, Option, Some, None, option_map, option_to_list, refl, ap, sym, ◌∙◌, subst, arith, append_assoc, append-nil}
-use Rattle.std.proofs.lemmas.Bool.{false≢true}
-use Rattle.std.proofs.lemmas.List.{reverse-append, append_cancel_left, reverse-reverse}
-use Rattle.lapd_bits.specs.Bits.{low_bits}
-use Rattle.lapd_bits.specs.Stuffing.{unstuffed}
-use Rattle.lapd_bits.specs.Stream.{heard_until, heard_at}
-use Rattle.lapd_bits.specs.Deframer.{run_of, open_gap, HoldsGap, HoldsPast}
-use Rattle.lapd_bits.specs.Steps.{one_more, with_bits}
-use Rattle.lapd_bits.specs.Unstuffer.{has_six, IsContent, IsJoined}
-use Rattle.lapd_bits.specs.declared.gap.Gap.{Gap}
+use Rattle.lapd_bits.proofs.Vocabulary.{◌≡◌, ◌≢◌, ℕ, suc, zero, ◌+◌, ◌<◌, ◌≤◌, Bool, true, false, List, [], ◌∷◌, ◌++◌, reverse, replicate, Option, Some, None, option_map, option_to_list, refl, ap, sym, ◌∙◌, subst, arith, append_assoc, append-nil, false≢true, reverse-append, append_cancel_left, reverse-reverse, low_bits, unstuffed, heard_until, heard_at, run_of, open_gap, HoldsGap, HoldsPast, one_more, with_bits, has_six, IsContent, IsJoined, Gap}
 use Rattle.lapd_bits.proofs.BitSteps.{open_run, for_open}
 use Rattle.lapd_bits.proofs.Places.{reverse-cons, ones_after-reverse}
 use Rattle.lapd_bits.proofs.Hearing.{heard_at-one, heard_at-zero, open_gap-one, open_gap-zero}

@@ -1,9 +1,5 @@
 -- Numbers as bits, the lowest first, and back.
-use Rattle.std.proofs.Common.{◌≡◌, ℕ, suc, zero, ◌+◌, ◌*◌, ◌/◌, ◌%◌, ◌^◌, ◌<◌, Bool, true, false, List, [], ◌∷◌, ◌++◌, length, take, nat_eq, refl, sym, ap, subst, ◌∙◌, add-one, append_assoc, append-nil, length-append, arith}
-use Rattle.std.proofs.Math.Nat.{pow-suc, pow-succ', pow-zero, suc-add, zero-add, div-div-eq-div-mul, div-one, mod-eq_of_lt}
-use Rattle.std.proofs.lemmas.Bool.{eqb-true, eqb-false}
-use Rattle.std.proofs.lemmas.Nat.{mod-pow-add}
-use Rattle.lapd_bits.specs.Bits.{low_bits, bits, bit_value, number_of, same_bits}
+use Rattle.lapd_bits.proofs.Vocabulary.{◌≡◌, ℕ, suc, zero, ◌+◌, ◌*◌, ◌/◌, ◌%◌, ◌^◌, ◌<◌, Bool, true, false, List, [], ◌∷◌, ◌++◌, length, take, nat_eq, refl, sym, ap, subst, ◌∙◌, add-one, append_assoc, append-nil, length-append, arith, pow-suc, pow-succ', pow-zero, suc-add, zero-add, div-div-eq-div-mul, div-one, mod-eq_of_lt, eqb-true, eqb-false, mod-pow-add, low_bits, bits, bit_value, number_of, same_bits}
 
 -- ---- the lowest bit
 

@@ -1,18 +1,7 @@
 -- One bit more of a line: what a deframer's fields then stand for, and what the bit ends.
-use Rattle.std.proofs.Common.{◌≡◌, ◌≢◌, ℕ, ◌+◌, ◌*◌, ◌/◌, ◌^◌, ◌<◌, ◌≤◌, Bool, true, false, List, [], ◌∷◌, ◌++◌, length, drop, reverse, Option, Some, None, option_and_then, IfSome, option_to_list, nat_lt, nat_eq, cond, refl, ap, sym, ◌∙◌, subst, arith, length-append, ◌⊎◌, inl, inr, bit_and}
-use Rattle.std.specs.Option.{option_map_or}
-use Rattle.std.proofs.lemmas.Bool.{le-ltb}
-use Rattle.std.proofs.lemmas.List.{reverse-append, append-nil}
-use Rattle.lapd_bits.specs.Bits.{bits, low_bits, same_bits}
-use Rattle.lapd_bits.specs.Stuffing.{unstuffed, octets_sent}
-use Rattle.lapd_bits.specs.Stream.{Event, dropped, judged, since_flag, has_abort, text_event, gap_event, room_for, heard_at, heard_until}
-use Rattle.lapd_bits.specs.Heard.{flag_front, closing_event, event_in}
-use Rattle.lapd_bits.specs.Steps.{one_more, IsKept, IsStuffed, closed_event, IsYoung, with_bits}
-use Rattle.lapd_bits.specs.Deframer.{run_of, open_gap, kept_count, KeepsIn, HoldsGap, HoldsPast, octets_held}
-use Rattle.lapd_bits.specs.declared.gap.Gap.{Gap}
-use Rattle.lapd_bits.specs.declared.heard.Ended.{Ended}
+use Rattle.lapd_bits.proofs.Vocabulary.{◌≡◌, ◌≢◌, ℕ, ◌+◌, ◌*◌, ◌/◌, ◌^◌, ◌<◌, ◌≤◌, Bool, true, false, List, [], ◌∷◌, ◌++◌, length, drop, reverse, Option, Some, None, option_and_then, IfSome, option_to_list, nat_lt, nat_eq, cond, refl, ap, sym, ◌∙◌, subst, arith, length-append, ◌⊎◌, inl, inr, bit_and, option_map_or, le-ltb, reverse-append, bits, low_bits, same_bits, unstuffed, octets_sent, Event, dropped, judged, since_flag, has_abort, text_event, gap_event, room_for, heard_at, heard_until, flag_front, closing_event, event_in, one_more, IsKept, IsStuffed, closed_event, IsYoung, with_bits, run_of, open_gap, kept_count, KeepsIn, HoldsGap, HoldsPast, octets_held, Gap, Ended, Ragged}
+use Rattle.std.proofs.lemmas.List.{append-nil}
 use Rattle.lapd_bits.specs.declared.heard.Ended.TheVariants as ended
-use Rattle.lapd_bits.specs.declared.heard.Cause.TheVariants.{Ragged}
 use Rattle.lapd_bits.proofs.BitLemmas.{length-bits, length-low_bits, bits-push}
 use Rattle.lapd_bits.proofs.Division.Holds.{low_bits-next}
 use Rattle.lapd_bits.proofs.Places.{reverse-cons, latest_ones, latest_ones-below, ones_after-reverse, run_of-gap, gap_has_no_flag, NoFlag, NoSix-reverse, front_of_flag}

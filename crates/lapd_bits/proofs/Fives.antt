@@ -1,13 +1,6 @@
 -- Where five 1s come together in a number's bits: they go as they are up to there, and then goes a 0.
-use Rattle.std.proofs.Common.{◌≡◌, ℕ, suc, zero, ◌+◌, ◌/◌, ◌%◌, ◌^◌, ◌<◌, ◌≤◌, min, Bool, true, false, if◌then◌else◌, nat_eq, bit_and, List, [], ◌∷◌, ◌++◌, refl, ap, sym, ◌∙◌, arith}
-use Rattle.std.proofs.lemmas.Bool.{eqb-true, lt-ltb}
-use Rattle.std.proofs.lemmas.Nat.{and_shr, and_le_r, shr-shr}
-use Rattle.std.proofs.lemmas.Nat.Bits.{bit_at-suc, bit_at_lowest}
-use Rattle.std.proofs.Math.Nat.{div-one}
-use Rattle.std.specs.Int.{bit_at}
+use Rattle.lapd_bits.proofs.Vocabulary.{◌≡◌, ℕ, suc, zero, ◌+◌, ◌/◌, ◌%◌, ◌^◌, ◌<◌, ◌≤◌, min, Bool, true, false, if◌then◌else◌, nat_eq, bit_and, List, [], ◌∷◌, ◌++◌, refl, ap, sym, ◌∙◌, arith, eqb-true, lt-ltb, and_shr, and_le_r, shr-shr, bit_at-suc, bit_at_lowest, div-one, bit_at, low_bits, first_ones, last_ones, fives}
 use lib.Bits.{and_step}
-use Rattle.lapd_bits.specs.Bits.{low_bits}
-use Rattle.lapd_bits.specs.Stuffer.{first_ones, last_ones, fives}
 use Rattle.lapd_bits.proofs.StuffingCounted.{stuffed_after, stuffed_after_fifth}
 use Rattle.lapd_bits.proofs.StuffingAtOnce.{ones_sent, last_ones-few}
 

@@ -1,16 +1,6 @@
 -- An octet in which a flag ends: its first 1s go on the open gap, which the flag closes; the bits behind begin the next.
-use Rattle.std.proofs.Common.{◌≡◌, ℕ, suc, zero, ◌+◌, ◌-◌, ◌/◌, ◌^◌, ◌<◌, ◌≤◌, Bool, true, false, not, ◌&&◌, List, [], ◌∷◌, ◌++◌, length, reverse, replicate, Option, Some, None, option_map, option_to_list, nat_eq, nat_lt, refl, ap, sym, ◌∙◌, subst, arith, append-nil, length-append}
-use Rattle.std.proofs.lemmas.Bool.{eqb-true, and_parts, ltb-true, lt-ltb, eq-eqb, false≢true}
-use Rattle.std.proofs.lemmas.List.{reverse-append, reverse-reverse, length-replicate, append_cancel_left}
-use Rattle.lapd_bits.specs.Bits.{bits, low_bits, same_bits}
-use Rattle.lapd_bits.specs.Stuffing.{unstuffed}
-use Rattle.lapd_bits.specs.Stream.{Event, heard_until, heard_at}
-use Rattle.lapd_bits.specs.Deframer.{run_of, open_gap, KeepsIn, Assembles, AssemblesIn, HoldsGap, HoldsPast}
-use Rattle.lapd_bits.specs.Heard.{closing_event}
-use Rattle.lapd_bits.specs.Steps.{closed_event, with_bits}
-use Rattle.lapd_bits.specs.FlagEnd.{behind_zero, ends_nothing, IsFlagEnd, IsFlagBegun}
-use Rattle.lapd_bits.specs.Unstuffer.{IsJoined}
-use Rattle.lapd_bits.specs.declared.gap.Gap.{Gap}
+use Rattle.lapd_bits.proofs.Vocabulary.{◌≡◌, ℕ, suc, zero, ◌+◌, ◌-◌, ◌/◌, ◌^◌, ◌<◌, ◌≤◌, Bool, true, false, not, ◌&&◌, List, [], ◌∷◌, ◌++◌, length, reverse, replicate, Option, Some, None, option_map, option_to_list, nat_eq, nat_lt, refl, ap, sym, ◌∙◌, subst, arith, append-nil, length-append, eqb-true, and_parts, ltb-true, lt-ltb, eq-eqb, false≢true, reverse-append, reverse-reverse, append_cancel_left, bits, low_bits, same_bits, unstuffed, Event, heard_until, heard_at, run_of, open_gap, KeepsIn, Assembles, AssemblesIn, HoldsGap, HoldsPast, closing_event, closed_event, with_bits, behind_zero, ends_nothing, IsFlagEnd, IsFlagBegun, IsJoined, Gap}
+use Rattle.std.proofs.lemmas.List.{length-replicate}
 use Rattle.lapd_bits.proofs.BitLemmas.{length-low_bits, same_from_test}
 use Rattle.lapd_bits.proofs.BitSteps.{closed_told}
 use Rattle.lapd_bits.proofs.AtOnce.{joined_after, same_map, run_of-ones, unstuffed-ones, onto, onto-reverse, onto-append, with_bits-onto, IsQuiet, ones_after-ones, unstuffed_after-ones}

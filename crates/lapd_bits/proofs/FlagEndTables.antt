@@ -1,15 +1,5 @@
 -- The tables hold what each octet brings in which a flag ends.
-use Rattle.std.proofs.Common.{◌≡◌, ℕ, ◌+◌, ◌^◌, ◌<◌, ◌≤◌, Bool, true, false, ◌&&◌, ◌||◌, List, [], ◌∷◌, ◌++◌, get_or, map, replicate, reverse, nat_eq, nat_le, nat_lt, if◌then◌else◌, refl, sym, ap, ◌∙◌, arith}
-use Rattle.std.specs.List.{range_with_len}
-use Rattle.std.proofs.Math.Bool.{and-true, and-false}
-use Rattle.std.proofs.lemmas.Bool.{leb-true, ltb-true, eqb-true, and_parts, le-ltb, ne_eqb, false≢true}
-use Rattle.std.proofs.lemmas.List.{get_or-replicate}
-use Rattle.std.proofs.lemmas.List.FromFn.{get_or-map-range_with_len}
-use Rattle.lapd_bits.specs.Bits.{low_bits, same_bits}
-use Rattle.lapd_bits.specs.Stuffing.{unstuffed}
-use Rattle.lapd_bits.specs.Deframer.{run_of}
-use Rattle.lapd_bits.specs.FlagEnd.{ones_before, behind_zero, ends_nothing, only_flag_ends, IsFlagEnd}
-use Rattle.lapd_bits.specs.declared.flag_end.TheConstants.{ONES_BEFORE, BITS_BEHIND, COUNTS_BEHIND, RUNS_BEHIND}
+use Rattle.lapd_bits.proofs.Vocabulary.{◌≡◌, ℕ, ◌+◌, ◌^◌, ◌<◌, ◌≤◌, Bool, true, false, ◌&&◌, ◌||◌, List, [], ◌∷◌, ◌++◌, get_or, map, replicate, reverse, nat_eq, nat_le, nat_lt, if◌then◌else◌, refl, sym, ap, ◌∙◌, arith, range_with_len, and-true, and-false, leb-true, ltb-true, eqb-true, and_parts, le-ltb, ne_eqb, false≢true, get_or-replicate, get_or-map-range_with_len, low_bits, same_bits, unstuffed, run_of, ones_before, behind_zero, ends_nothing, only_flag_ends, IsFlagEnd, ONES_BEFORE, BITS_BEHIND, COUNTS_BEHIND, RUNS_BEHIND}
 use Rattle.lapd_bits.proofs.BitLemmas.{same_from_test}
 
 -- the bits of an octet behind its first 0

@@ -1,12 +1,6 @@
 -- What a flag and an abort bring, by the flag before.
-use Rattle.std.proofs.Common.{◌≡◌, ℕ, Bool, true, false, List, [], ◌∷◌, ◌++◌, length, drop, reverse, Some, None, refl, ap, ◌∙◌, arith}
+use Rattle.lapd_bits.proofs.Vocabulary.{◌≡◌, ℕ, Bool, true, false, List, [], ◌∷◌, ◌++◌, length, drop, reverse, Some, None, refl, ap, ◌∙◌, arith, lt-ltb, le-ltb, length-reverse, reverse-reverse, flag, dropped, since_flag, has_abort, gap_event, closed_by_flag, given_up, HasNoFlag, gap_brings, abort_brings, seven_ones, GapBetweenFlags, FlagsThatShare, FirstAbortAfterFlag, Abort}
 use Rattle.std.specs.Prelude.{option_map, option_and_then, not, nat_lt, ◌&&◌, ◌||◌, if◌then◌else◌}
-use Rattle.std.proofs.lemmas.Bool.{lt-ltb, le-ltb}
-use Rattle.std.proofs.lemmas.List.{length-reverse, reverse-reverse}
-use Rattle.lapd_bits.specs.Bits.{flag}
-use Rattle.lapd_bits.specs.Stream.{dropped, since_flag, has_abort, gap_event, closed_by_flag, given_up}
-use Rattle.lapd_bits.specs.FlagLaws.{HasNoFlag, gap_brings, abort_brings, seven_ones, GapBetweenFlags, FlagsThatShare, FirstAbortAfterFlag}
-use Rattle.lapd_bits.specs.declared.heard.Cause.TheVariants.{Abort}
 
 -- where no flag ends, the bits since the latest grow
 since-grows : (new past : List Bool) → since_flag past ≡ Some [] → HasNoFlag past new → since_flag (new ++ past) ≡ Some new

@@ -1,11 +1,5 @@
 -- What a framer has to give, as octets and bits go.
-use Rattle.std.proofs.Common.{◌≡◌, ℕ, suc, ◌+◌, ◌-◌, ◌*◌, ◌≤◌, ◌<◌, ◌↔◌, IsTrue, Bool, nat_lt, List, ◌++◌, length, take, drop, drop-cons, get_or, refl, ap, sym, ◌∙◌, arith, ⊎_elim, append_assoc, length-append}
-use Rattle.std.proofs.lemmas.Bool.{lt-ltb, le-ltb, cases_lt, false≢true}
-use Rattle.std.proofs.lemmas.List.{drop_all, length-drop, length-take, get_or-take}
-use Rattle.lapd_bits.specs.Bits.{low_bits, bits, flag}
-use Rattle.lapd_bits.specs.Framer.{refilled, still_held}
-use Rattle.lapd_bits.specs.FramerText.{to_give}
-use Rattle.lapd_bits.specs.declared.waiting.Waiting.{Waiting}
+use Rattle.lapd_bits.proofs.Vocabulary.{◌≡◌, ℕ, suc, ◌+◌, ◌-◌, ◌*◌, ◌≤◌, ◌<◌, ◌↔◌, IsTrue, Bool, nat_lt, List, ◌++◌, length, take, drop, drop-cons, get_or, refl, ap, sym, ◌∙◌, arith, ⊎_elim, append_assoc, length-append, lt-ltb, le-ltb, cases_lt, false≢true, drop_all, length-drop, length-take, get_or-take, low_bits, bits, flag, refilled, still_held, to_give, Waiting}
 use Rattle.lapd_bits.proofs.BitLemmas.{length-low_bits, length-bits}
 
 -- ---- how much it is

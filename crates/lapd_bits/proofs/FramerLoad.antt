@@ -1,11 +1,5 @@
 -- What is left where a frame has been loaded.
-use Rattle.std.proofs.Common.{◌≡◌, ℕ, Bool, List, ◌++◌, length, take, drop, ap, sym, ◌∙◌, append-nil, append_assoc, arith}
-use Rattle.std.proofs.lemmas.List.{take_all, drop_all}
-use Rattle.lapd_bits.specs.Bits.{bits, low_bits, flag}
-use Rattle.lapd_bits.specs.Stuffing.{stuffed}
-use Rattle.lapd_bits.specs.Stuffer.{text_after, Goes}
-use Rattle.lapd_bits.specs.Check.{check}
-use Rattle.lapd_bits.specs.Sent.{frame_text}
+use Rattle.lapd_bits.proofs.Vocabulary.{◌≡◌, ℕ, Bool, List, ◌++◌, length, take, drop, ap, sym, ◌∙◌, append-nil, append_assoc, arith, take_all, drop_all, bits, low_bits, flag, stuffed, text_after, Goes, check, frame_text}
 use Rattle.lapd_bits.proofs.BitLemmas.{bits-append}
 
 -- a text that has gone on with a frame's first octets, and ends with its others, its check and a flag

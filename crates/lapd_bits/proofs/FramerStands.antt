@@ -1,13 +1,6 @@
 -- What a framer stands for, one item or one octet more.
-use Rattle.std.proofs.Common.{◌≡◌, ℕ, ◌<◌, ◌≤◌, List, [], ◌∷◌, ◌++◌, length, Some, refl, ap, sym, ◌∙◌, arith, ⊎_elim, append_assoc, length-append}
-use Rattle.std.proofs.lemmas.Bool.{lt-ltb, le-ltb, cases_lt}
-use Rattle.std.proofs.lemmas.List.{flat_map_more}
-use Rattle.std.proofs.lemmas.List.Sums.{fold-append}
-use Rattle.lapd_bits.specs.Bits.{bits, flag, low_bits}
-use Rattle.lapd_bits.specs.Sent.{Item, idle, frame, frame_text, item_text, line_text}
-use Rattle.lapd_bits.specs.Heads.{or_later, latest_frame, first_four, head_of}
-use Rattle.lapd_bits.specs.Framer.{Framing, Stands, refilled, with_idle, still_held, item_octets, last_octets}
-use Rattle.lapd_bits.specs.FramerFields.{begun_of}
+use Rattle.lapd_bits.proofs.Vocabulary.{◌≡◌, ℕ, ◌<◌, ◌≤◌, List, [], ◌∷◌, ◌++◌, length, Some, refl, ap, sym, ◌∙◌, arith, ⊎_elim, append_assoc, length-append, lt-ltb, le-ltb, cases_lt, flat_map_more, fold-append, bits, flag, low_bits, Item, idle, frame_text, item_text, line_text, or_later, latest_frame, first_four, head_of, Framing, Stands, refilled, with_idle, still_held, item_octets, last_octets, begun_of}
+use Rattle.lapd_bits.specs.Sent.{frame}
 use Rattle.lapd_bits.proofs.BitLemmas.{length-low_bits, bits-push}
 
 pub line_text-push : (items : List Item) (item : Item) → line_text (items ++ item ∷ []) ≡ line_text items ++ item_text item

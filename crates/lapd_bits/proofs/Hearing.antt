@@ -1,9 +1,5 @@
 -- What the latest bit of a stream brings, and what it makes of the open gap, by the run of 1s before it.
-use Rattle.std.proofs.Common.{◌≡◌, ◌≢◌, ℕ, ◌<◌, ◌≤◌, Bool, true, false, ◌||◌, List, [], ◌∷◌, length, reverse, drop, Option, Some, None, nat_lt, refl, ap, sym, ◌∙◌, arith, ⊎_elim}
-use Rattle.std.proofs.lemmas.Bool.{cases_Bool, or_left, or_right, or_from, ne_eqb, eq-eqb}
-use Rattle.lapd_bits.specs.Stream.{ends_flag, ends_abort, since_flag, has_abort, gap_event, heard_at}
-use Rattle.lapd_bits.specs.Deframer.{run_of, open_gap}
-use Rattle.lapd_bits.specs.Steps.{one_more, given_up_event, closed_event}
+use Rattle.lapd_bits.proofs.Vocabulary.{◌≡◌, ◌≢◌, ℕ, ◌<◌, ◌≤◌, Bool, true, false, ◌||◌, List, [], ◌∷◌, length, reverse, drop, Option, Some, None, nat_lt, refl, ap, sym, ◌∙◌, arith, ⊎_elim, cases_Bool, or_left, or_right, or_from, ne_eqb, eq-eqb, ends_flag, ends_abort, since_flag, has_abort, gap_event, heard_at, run_of, open_gap, one_more, given_up_event, closed_event}
 use Rattle.lapd_bits.proofs.Places.{no_abort_at, abort_at, ends_flag-run, run_of-gap}
 
 -- a gap with an abort is not open, and one without is

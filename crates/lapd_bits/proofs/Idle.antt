@@ -1,14 +1,6 @@
 -- An octet of a line of flags brings nothing, and leaves the open gap as it was.
-use Rattle.std.proofs.Common.{◌≡◌, ◌≢◌, ℕ, suc, zero, ◌+◌, ◌-◌, ◌<◌, ◌≤◌, Bool, true, false, List, [], ◌∷◌, ◌++◌, length, replicate, get_or, Option, Some, None, option_map, option_to_list, nat_lt, refl, ap, sym, ◌∙◌, subst, arith, append-nil}
-use Rattle.std.proofs.lemmas.Bool.{lt-ltb}
+use Rattle.lapd_bits.proofs.Vocabulary.{◌≡◌, ◌≢◌, ℕ, suc, zero, ◌+◌, ◌-◌, ◌<◌, ◌≤◌, Bool, true, false, List, [], ◌∷◌, ◌++◌, length, replicate, get_or, Option, Some, None, option_map, option_to_list, nat_lt, refl, ap, sym, ◌∙◌, subst, arith, append-nil, lt-ltb, low_bits, heard_until, heard_at, run_of, open_gap, HoldsGap, HoldsPast, closed_event, given_up_event, with_bits, StaysIdle, Gap, IDLE}
 use Rattle.std.proofs.lemmas.List.{length-replicate}
-use Rattle.lapd_bits.specs.Bits.{low_bits}
-use Rattle.lapd_bits.specs.Stream.{heard_until, heard_at}
-use Rattle.lapd_bits.specs.Deframer.{run_of, open_gap, HoldsGap, HoldsPast}
-use Rattle.lapd_bits.specs.Steps.{closed_event, given_up_event, with_bits}
-use Rattle.lapd_bits.specs.Unstuffer.{StaysIdle}
-use Rattle.lapd_bits.specs.declared.gap.Gap.{Gap}
-use Rattle.lapd_bits.specs.declared.deframer.TheConstants.{IDLE}
 use Rattle.lapd_bits.proofs.AtOnce.{onto, onto-append, with_bits-onto, IsQuiet, quiet-more, option_map-none, ones_after-ones}
 use Rattle.lapd_bits.proofs.BitSteps.{open_run}
 use Rattle.lapd_bits.proofs.Hearing.{heard_at-one, heard_at-zero, heard_at-abort, heard_at-flag, open_gap-one, open_gap-zero, open_gap-abort, open_gap-flag}

@@ -1,14 +1,5 @@
 -- Many bits go on an open gap at once.
-use Rattle.std.proofs.Common.{◌≡◌, ℕ, ◌+◌, ◌-◌, ◌*◌, ◌/◌, ◌%◌, ◌^◌, ◌<◌, ◌≤◌, Bool, List, [], ◌∷◌, ◌++◌, reverse, Option, Some, None, option_map, ap, sym, ◌∙◌, subst, arith, append_assoc, length-append}
-use Rattle.std.proofs.lemmas.List.{length-reverse}
-use Rattle.std.proofs.lemmas.List.Elements.{All-nil, All-cons, All-append}
-use Rattle.std.proofs.lemmas.Nat.{mul-add-lt, mod-mul-add, div-mul-add, pow-add, pow_below}
-use Rattle.std.proofs.Math.Nat.{mod-eq_of_lt}
-use Rattle.lapd_bits.specs.Bits.{bits, low_bits}
-use Rattle.lapd_bits.specs.Deframer.{Keeps, Assembles, AssemblesIn, HoldsGap}
-use Rattle.lapd_bits.specs.Steps.{with_bits}
-use Rattle.lapd_bits.specs.Unstuffer.{IsJoined}
-use Rattle.lapd_bits.specs.declared.gap.Gap.{Gap}
+use Rattle.lapd_bits.proofs.Vocabulary.{◌≡◌, ℕ, ◌+◌, ◌-◌, ◌*◌, ◌/◌, ◌%◌, ◌^◌, ◌<◌, ◌≤◌, Bool, List, [], ◌∷◌, ◌++◌, reverse, Option, Some, None, option_map, ap, sym, ◌∙◌, subst, arith, append_assoc, length-append, length-reverse, All-nil, All-cons, All-append, mul-add-lt, mod-mul-add, div-mul-add, pow-add, pow_below, mod-eq_of_lt, bits, low_bits, Keeps, Assembles, AssemblesIn, HoldsGap, with_bits, IsJoined, Gap}
 use Rattle.lapd_bits.proofs.BitLemmas.{low_bits-add, low_bits-mod, length-low_bits, bits-push}
 
 -- ---- a number above another

@@ -1,12 +1,5 @@
 -- What a deframer lends until its next octet.
-use Rattle.std.proofs.Common.{◌≡◌, ℕ, List, [], ◌∷◌, ◌++◌, Option, length, reverse, option_to_list, refl, sym, ap, subst, ◌∙◌}
-use Rattle.std.proofs.lemmas.List.{same_from_push, length-take-le}
-use Rattle.lapd_bits.specs.Bits.{bits}
-use Rattle.lapd_bits.specs.Stream.{Event, heard_until, heard_in, room_for}
-use Rattle.lapd_bits.specs.Ended.{FitsIn}
-use Rattle.lapd_bits.specs.Heard.{event_in, without_octets}
-use Rattle.lapd_bits.specs.Steps.{with_bits}
-use Rattle.lapd_bits.specs.declared.heard.Ended.{Ended}
+use Rattle.lapd_bits.proofs.Vocabulary.{◌≡◌, ℕ, List, [], ◌∷◌, ◌++◌, Option, length, reverse, option_to_list, refl, sym, ap, subst, ◌∙◌, same_from_push, length-take-le, bits, Event, heard_until, heard_in, room_for, FitsIn, event_in, without_octets, with_bits, Ended}
 use Rattle.lapd_bits.specs.declared.heard.Ended.TheVariants as ended
 use Rattle.lapd_bits.proofs.BitSteps.{with_bits-octet}
 

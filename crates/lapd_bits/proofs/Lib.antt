@@ -1,4 +1,5 @@
 -- Lemmas: bits and stuffing; a deframer, bit by bit and octets at once; a framer; the round trip.
+pub mod Vocabulary
 pub mod BitLemmas
 pub mod Division
 pub mod StuffingCounted

@@ -1,18 +1,8 @@
 -- What a sender's frame is heard as, and what a line of items is.
-use Rattle.std.proofs.Common.{◌≡◌, ℕ, ◌+◌, ◌-◌, ◌/◌, ◌%◌, ◌^◌, ◌<◌, Bool, true, false, not, ◌&&◌, List, [], ◌∷◌, ◌++◌, length, take, Some, None, cond, nat_eq, nat_lt, slice_index, flat_map, refl, ap, sym, ◌∙◌, subst, arith, ⊎_elim, append_assoc, length-append}
-use Rattle.std.proofs.lemmas.List.{take_at, get_or_append_left}
-use Rattle.std.proofs.lemmas.Bool.{le-ltb, ne_eqb, eq-eqb, or_from, and_left, and_right}
-use Rattle.std.proofs.lemmas.List.Elements.{All-nil, All-cons, All-append}
+use Rattle.lapd_bits.proofs.Vocabulary.{◌≡◌, ℕ, ◌+◌, ◌-◌, ◌/◌, ◌%◌, ◌^◌, ◌<◌, Bool, true, false, not, ◌&&◌, List, [], ◌∷◌, ◌++◌, length, take, Some, None, cond, nat_eq, nat_lt, slice_index, flat_map, refl, ap, sym, ◌∙◌, subst, arith, ⊎_elim, append_assoc, length-append, take_at, get_or_append_left, le-ltb, ne_eqb, eq-eqb, or_from, and_left, and_right, All-nil, All-cons, All-append, bits, flag, number_of, stuffed, octets_sent, AreOctets, check, is_good, Event, dropped, overlong, is_short, judged, gap_event, heard_until, heard_in, room_for, Ragged, Short, Fcs, Item, idle, frame_text, item_text, line_text, IsHeardWhole, AreHeardWhole, frames_of, FramesRoundTrip}
 use mathlib.Core.List.{reverse_aux}
-use Rattle.lapd_bits.specs.Bits.{bits, flag, number_of}
-use Rattle.lapd_bits.specs.Stuffing.{stuffed, octets_sent}
-use Rattle.lapd_bits.specs.StuffingLaws.{AreOctets}
-use Rattle.lapd_bits.specs.Check.{check, is_good}
 use Rattle.lapd_bits.specs.Stream as stream
-use Rattle.lapd_bits.specs.Stream.{Event, dropped, overlong, is_short, judged, gap_event, heard_until, heard_in, room_for}
-use Rattle.lapd_bits.specs.declared.heard.Cause.TheVariants.{Ragged, Short, Fcs}
-use Rattle.lapd_bits.specs.Sent.{Item, idle, frame, frame_text, item_text, line_text}
-use Rattle.lapd_bits.specs.RoundTrip.{IsHeardWhole, AreHeardWhole, frames_of, FramesRoundTrip}
+use Rattle.lapd_bits.specs.Sent.{frame}
 use Rattle.lapd_bits.proofs.BitLemmas.{bits-append, bits-two_octets, low_bits-number_of_n, number_of-lt}
 use Rattle.lapd_bits.proofs.StuffingCounted.{stuffed-counted}
 use Rattle.lapd_bits.proofs.StuffingShape.{NoSix-stuffed}

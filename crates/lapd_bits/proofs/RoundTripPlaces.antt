@@ -1,10 +1,7 @@
 -- What is heard over bits that come after a place, and over the bits between two flags.
-use Rattle.std.proofs.Common.{◌≡◌, ℕ, zero, suc, ◌<◌, Bool, true, false, ◌||◌, List, [], ◌∷◌, ◌++◌, length, take, reverse, Some, None, option_to_list, option_map, option_and_then, cond, ltb, refl, ap, sym, ◌∙◌, arith, append_assoc}
-use Rattle.std.proofs.lemmas.List.{append-nil, length-reverse, reverse-reverse}
-use Rattle.std.proofs.lemmas.Bool.{le-ltb, or_from}
+use Rattle.lapd_bits.proofs.Vocabulary.{◌≡◌, ℕ, zero, suc, ◌<◌, Bool, true, false, ◌||◌, List, [], ◌∷◌, ◌++◌, length, take, reverse, Some, None, option_to_list, option_map, option_and_then, cond, ltb, refl, ap, sym, ◌∙◌, arith, append_assoc, length-reverse, reverse-reverse, le-ltb, or_from, flag, Event, ends_flag, ends_abort, since_flag, has_abort, closed_by_flag, gap_event, given_up, heard_at, heard_until}
+use Rattle.std.proofs.lemmas.List.{append-nil}
 use mathlib.Core.List.{reverse_aux}
-use Rattle.lapd_bits.specs.Bits.{flag}
-use Rattle.lapd_bits.specs.Stream.{Event, ends_flag, ends_abort, since_flag, has_abort, closed_by_flag, gap_event, given_up, heard_at, heard_until}
 use Rattle.lapd_bits.proofs.StuffingCounted.{NoSix}
 use Rattle.lapd_bits.proofs.StuffingClosed.{flag_front}
 

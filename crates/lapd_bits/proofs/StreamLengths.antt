@@ -1,17 +1,6 @@
 -- What is heard takes room in the stream: each frame its octets, its check and one flag.
-use Rattle.std.proofs.Common.{◌≡◌, ℕ, suc, ◌+◌, ◌*◌, ◌≤◌, ◌<◌, Bool, true, false, not, ◌||◌, ◌&&◌, ◌-◌, List, [], ◌∷◌, length, reverse, drop, take, Option, Some, None, option_map, option_to_list, option_and_then, nat_lt, refl, ap, sym, subst, arith, cond, length-drop}
-use Rattle.std.specs.Prelude.{sum_by, All}
-use Rattle.std.proofs.lemmas.Bool.{ltb-false, ltb-true, false≢true, or_parts}
-use Rattle.std.proofs.lemmas.List.{length-reverse, length-take-le}
-use Rattle.std.proofs.lemmas.List.Elements.{All-nil, All-cons, All-append}
-use Rattle.std.proofs.lemmas.List.Sums.{sum_by-append}
-use Rattle.lapd_bits.specs.Bits.{bits}
-use Rattle.lapd_bits.specs.Check.{is_good}
-use Rattle.lapd_bits.specs.Stuffing.{stuffed, octets_sent}
-use Rattle.lapd_bits.specs.Stream.{Event, frame, overlong, dropped, ends_flag, ends_abort, has_abort, since_flag, is_short, judged, text_event, gap_event, closed_by_flag, given_up, heard_at, heard_until, heard_in, room_for}
-use Rattle.lapd_bits.specs.StreamLaws.{octets_taken, IsWhole, HeardWithinStream}
-use Rattle.lapd_bits.specs.declared.heard.Cause.{Cause}
-use Rattle.lapd_bits.specs.declared.heard.Cause.TheVariants.{Abort, Ragged, Short, Fcs}
+use Rattle.lapd_bits.proofs.Vocabulary.{◌≡◌, ℕ, suc, ◌+◌, ◌*◌, ◌≤◌, ◌<◌, Bool, true, false, not, ◌||◌, ◌&&◌, ◌-◌, List, [], ◌∷◌, length, reverse, drop, take, Option, Some, None, option_map, option_to_list, option_and_then, nat_lt, refl, ap, sym, subst, arith, cond, sum_by, All, ltb-false, ltb-true, false≢true, or_parts, length-reverse, length-take-le, All-nil, All-cons, All-append, sum_by-append, bits, is_good, stuffed, octets_sent, Event, frame, overlong, dropped, ends_flag, ends_abort, has_abort, since_flag, is_short, judged, text_event, gap_event, closed_by_flag, given_up, heard_at, heard_until, heard_in, room_for, octets_taken, IsWhole, HeardWithinStream, Cause, Abort, Ragged, Short, Fcs}
+use Rattle.std.proofs.Common.{length-drop}
 use Rattle.lapd_bits.proofs.BitLemmas.{length-bits}
 use Rattle.lapd_bits.proofs.StuffingOctets.{octets_are_those_sent}
 

@@ -1,14 +1,6 @@
 -- A stuffed text as it is made: bits are put after it, and its octets go into the buffer.
-use Rattle.std.proofs.Common.{◌≡◌, ℕ, zero, suc, ◌+◌, ◌*◌, ◌^◌, ◌<◌, Bool, List, [], ◌∷◌, ◌++◌, ◌≤◌, length, length-take, length-drop, take, take-add, drop, drop-cons, get_or, get_or-take, get_or-drop, refl, ap, sym, subst, ◌∙◌, arith, append_assoc, append-nil}
-use Rattle.std.proofs.lemmas.Grind.{take-set_at}
-use Rattle.std.proofs.lemmas.List.{drop_all, drop-drop, take-append-drop}
-use Rattle.std.specs.Simd.{first_chunks}
-use Rattle.std.specs.Prelude.{slice_set}
-use Rattle.std.specs.Int.{from_le_bytes, w32}
-use Rattle.lapd_bits.specs.Bits.{low_bits, bits}
-use Rattle.lapd_bits.specs.Stuffer.{last_ones, text_after, Goes}
-use Rattle.lapd_bits.specs.FramerText.{waits, made}
-use Rattle.lapd_bits.specs.declared.stuffed_text.StuffedText.{StuffedText}
+use Rattle.lapd_bits.proofs.Vocabulary.{◌≡◌, ℕ, zero, suc, ◌+◌, ◌*◌, ◌^◌, ◌<◌, Bool, List, [], ◌∷◌, ◌++◌, ◌≤◌, length, take, drop, drop-cons, get_or, get_or-drop, refl, ap, sym, subst, ◌∙◌, arith, append_assoc, append-nil, take-set_at, drop_all, drop-drop, take-append-drop, first_chunks, slice_set, from_le_bytes, w32, low_bits, bits, last_ones, text_after, Goes, waits, made, StuffedText}
+use Rattle.std.proofs.Common.{length-take, length-drop, take-add, get_or-take}
 use Rattle.lapd_bits.proofs.BitLemmas.{bits-append, bits-push}
 use Rattle.lapd_bits.proofs.Joining.{above_bits}
 use Rattle.lapd_bits.proofs.StuffingAtOnce.{text_after-none, last_ones-few}

@@ -1,9 +1,5 @@
 -- Bits are stuffed all at once, the 0 after a fifth 1 with it.
-use Rattle.std.proofs.Common.{◌≡◌, ℕ, suc, zero, ◌+◌, ◌*◌, ◌≤◌, Bool, true, false, List, [], ◌∷◌, ◌++◌, length, drop, replicate, refl, ap, sym, ◌∙◌, arith, ⊎_elim, append_assoc, length-append}
-use Rattle.std.proofs.lemmas.Bool.{lt-ltb, le-ltb, cases_lt}
-use Rattle.lapd_bits.specs.Bits.{low_bits}
-use Rattle.lapd_bits.specs.Stuffing.{stuffed}
-use Rattle.lapd_bits.specs.Stuffer.{first_ones, last_ones, text_after, Goes}
+use Rattle.lapd_bits.proofs.Vocabulary.{◌≡◌, ℕ, suc, zero, ◌+◌, ◌*◌, ◌≤◌, Bool, true, false, List, [], ◌∷◌, ◌++◌, length, drop, replicate, refl, ap, sym, ◌∙◌, arith, ⊎_elim, append_assoc, length-append, lt-ltb, le-ltb, cases_lt, low_bits, stuffed, first_ones, last_ones, text_after, Goes}
 use Rattle.lapd_bits.proofs.StuffingCounted.{stuffed_after, stuffed_zero, ones_left, stuffed-counted, stuffed_after_fifth}
 
 -- the end of a stuffed text, by the count of 1s

@@ -1,11 +1,7 @@
 -- Unstuffing that runs on into a closing flag: a receiver takes the flag's first seven bits in before its
 -- last bit tells that they are a flag.
-use Rattle.std.proofs.Common.{◌≡◌, refl, ◌+◌, ◌↔◌, ℕ, ◌<◌, ◌≤◌, Bool, true, false, List, [], ◌∷◌, ◌++◌, Some, ap, sym, ◌∙◌, subst, arith, ⊎_elim, append_assoc, length, ◌*◌, drop, None, cond, length-append}
-use Rattle.std.proofs.lemmas.Bool.{cases_Bool, false≢true, lt-ltb, le-ltb, cases_lt}
-use Rattle.std.proofs.lemmas.List.{drop_at, append_cancel_right, append-nil}
-use Rattle.lapd_bits.specs.Bits.{bits, same_bits}
-use Rattle.lapd_bits.specs.Stuffing.{stuffed, unstuffed, octets_sent}
-use Rattle.lapd_bits.specs.StuffingLaws.{AreOctets}
+use Rattle.lapd_bits.proofs.Vocabulary.{◌≡◌, refl, ◌+◌, ◌↔◌, ℕ, ◌<◌, ◌≤◌, Bool, true, false, List, [], ◌∷◌, ◌++◌, Some, ap, sym, ◌∙◌, subst, arith, ⊎_elim, append_assoc, length, ◌*◌, drop, None, cond, length-append, cases_Bool, false≢true, lt-ltb, le-ltb, cases_lt, drop_at, append_cancel_right, bits, same_bits, stuffed, unstuffed, octets_sent, AreOctets}
+use Rattle.std.proofs.lemmas.List.{append-nil}
 use Rattle.lapd_bits.proofs.StuffingCounted.{ones_after, unstuffed_after, NoSix, unstuffed-counted, ones_after-append, unstuffed_after-append, ones_after-unstuffed_after}
 use Rattle.lapd_bits.proofs.StuffingShape.{ones_after-stuffed, stuffed-unstuffed, unstuffed-stuffed}
 use Rattle.lapd_bits.proofs.StuffingOctets.{octets_are_those_sent, none_where_none_sent}

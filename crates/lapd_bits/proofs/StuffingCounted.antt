@@ -1,8 +1,6 @@
 -- Stuffing and its inverse with the contiguous 1s counted: the same as by patterns of five 1s, and how
 -- they go over lists that are appended.
-use Rattle.std.proofs.Common.{◌≡◌, ℕ, suc, ◌<◌, ◌≤◌, Bool, true, false, List, [], ◌∷◌, ◌++◌, if◌then◌else◌, nat_lt, refl, ap, sym, ◌∙◌, arith, ⊎_elim, append_assoc}
-use Rattle.std.proofs.lemmas.Bool.{lt-ltb, le-ltb, cases_lt}
-use Rattle.lapd_bits.specs.Stuffing.{stuffed, unstuffed}
+use Rattle.lapd_bits.proofs.Vocabulary.{◌≡◌, ℕ, suc, ◌<◌, ◌≤◌, Bool, true, false, List, [], ◌∷◌, ◌++◌, if◌then◌else◌, nat_lt, refl, ap, sym, ◌∙◌, arith, ⊎_elim, append_assoc, lt-ltb, le-ltb, cases_lt, stuffed, unstuffed}
 
 -- the contiguous 1s at the end of a text, where `ones` of them stand before it
 abbrev pub ones_after : ℕ → List Bool → ℕ

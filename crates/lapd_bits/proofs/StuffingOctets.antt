@@ -1,9 +1,5 @@
 -- Octets in a text: bits and numbers give each other back, and the octets found are those sent.
-use Rattle.std.proofs.Common.{◌≡◌, ℕ, ◌<◌, Bool, true, false, List, [], ◌∷◌, Some, None, refl, ap, sym, ◌∙◌, subst, cond}
-use Rattle.std.proofs.lemmas.List.Elements.{All-nil, All-cons, All-head, All-tail}
-use Rattle.lapd_bits.specs.Bits.{bits, low_bits, octets_of, same_bits}
-use Rattle.lapd_bits.specs.Stuffing.{stuffed, unstuffed, octets_sent}
-use Rattle.lapd_bits.specs.StuffingLaws.{AreOctets, OctetsAreThoseSent, NoneWhereNoneSent}
+use Rattle.lapd_bits.proofs.Vocabulary.{◌≡◌, ℕ, ◌<◌, Bool, true, false, List, [], ◌∷◌, Some, None, refl, ap, sym, ◌∙◌, subst, cond, All-nil, All-cons, All-head, All-tail, bits, low_bits, octets_of, same_bits, stuffed, unstuffed, octets_sent, AreOctets, OctetsAreThoseSent, NoneWhereNoneSent}
 use Rattle.lapd_bits.proofs.BitLemmas.{number_of-lt, number_of-low_bits, same_from_test, same_bits_self}
 use Rattle.lapd_bits.proofs.StuffingShape.{unstuffed-stuffed}
 

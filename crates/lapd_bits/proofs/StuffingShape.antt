@@ -1,9 +1,6 @@
 -- The texts that a sender makes: no six contiguous 1s, and no five at the end.
-use Rattle.std.proofs.Common.{◌≡◌, ℕ, zero, suc, ◌+◌, ◌-◌, ◌<◌, ◌≤◌, ◌⊎◌, Bool, true, false, List, [], ◌∷◌, ◌++◌, replicate, refl, ap, sym, ◌∙◌, subst, arith, inl, inr, ⊎_elim, append_assoc}
-use Rattle.std.proofs.lemmas.Bool.{cases_lt}
-use Rattle.std.proofs.lemmas.List.{append-nil, replicate-append-replicate}
-use Rattle.lapd_bits.specs.Stuffing.{stuffed, unstuffed}
-use Rattle.lapd_bits.specs.StuffingLaws.{HasSixOnes, EndsInFiveOnes, StuffedBitsComeBack, OneTextEach, StuffedTexts}
+use Rattle.lapd_bits.proofs.Vocabulary.{◌≡◌, ℕ, zero, suc, ◌+◌, ◌-◌, ◌<◌, ◌≤◌, ◌⊎◌, Bool, true, false, List, [], ◌∷◌, ◌++◌, replicate, refl, ap, sym, ◌∙◌, subst, arith, inl, inr, ⊎_elim, append_assoc, cases_lt, replicate-append-replicate, stuffed, unstuffed, HasSixOnes, EndsInFiveOnes, StuffedBitsComeBack, OneTextEach, StuffedTexts}
+use Rattle.std.proofs.lemmas.List.{append-nil}
 use Rattle.lapd_bits.proofs.StuffingCounted.{ones_after, unstuffed_after, NoSix, NoSix_back, stuffed-counted, unstuffed-counted, ones_after-append, unstuffed_after-stuffed_after, NoSix-stuffed_after, ones_after-stuffed_after, stuffed_after-unstuffed_after}
 
 pub unstuffed-stuffed : StuffedBitsComeBack

@@ -1,15 +1,6 @@
 -- The tables hold what stays of each octet after each number of 1s.
-use Rattle.std.proofs.Common.{◌≡◌, ℕ, ◌+◌, ◌*◌, ◌/◌, ◌%◌, ◌^◌, ◌<◌, ◌≤◌, Bool, true, false, List, [], ◌∷◌, ◌++◌, length, drop, get_or, map, replicate, nat_eq, nat_le, if◌then◌else◌, refl, sym, ap, subst, ◌∙◌, arith}
-use Rattle.std.specs.List.{range_with_len}
-use Rattle.std.proofs.lemmas.Bool.{leb-true}
-use Rattle.std.proofs.lemmas.List.{drop_at, length-replicate, get_or-map, get_or-replicate}
-use Rattle.std.proofs.lemmas.List.FromFn.{get_or-map-range_with_len}
-use Rattle.lapd_bits.specs.Bits.{low_bits, number_of}
-use Rattle.lapd_bits.specs.Stuffing.{unstuffed}
-use Rattle.lapd_bits.specs.Deframer.{run_of}
-use Rattle.lapd_bits.specs.Steps.{with_bits}
-use Rattle.lapd_bits.specs.Unstuffer.{has_six, IsContent}
-use Rattle.lapd_bits.specs.declared.unstuffer.TheConstants.{TABLES}
+use Rattle.lapd_bits.proofs.Vocabulary.{◌≡◌, ℕ, ◌+◌, ◌*◌, ◌/◌, ◌%◌, ◌^◌, ◌<◌, ◌≤◌, Bool, true, false, List, [], ◌∷◌, ◌++◌, length, drop, get_or, map, replicate, nat_eq, nat_le, if◌then◌else◌, refl, sym, ap, subst, ◌∙◌, arith, range_with_len, leb-true, drop_at, get_or-map, get_or-replicate, get_or-map-range_with_len, low_bits, number_of, unstuffed, run_of, with_bits, has_six, IsContent, TABLES}
+use Rattle.std.proofs.lemmas.List.{length-replicate}
 use Rattle.lapd_bits.proofs.BitLemmas.{low_bits-number_of, number_of-lt}
 use Rattle.lapd_bits.proofs.StuffingCounted.{unstuffed_after}
 use Rattle.lapd_bits.proofs.AtOnce.{unstuffed-ones}

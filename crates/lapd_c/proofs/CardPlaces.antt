@@ -1,8 +1,7 @@
 -- What stands in the machine for a card's place: a word, and what it owns.
-use Rattle.std.proofs.Common.{◌≡◌, ℕ, List, [], ◌∷◌, ◌++◌, IsSome, refl, subst}
+use Rattle.lapd_c.proofs.Vocabulary.{◌≡◌, ℕ, List, [], ◌∷◌, ◌++◌, IsSome, refl, subst, false≢true, None, Some, ghosts, box_owns, AnyCard, HeldCard, card_owns, card_row, heap}
 use mir.Raw.{raw as bare}
 use mir.Val.{Val, vptr, vstruct, of_list}
-use Rattle.std.proofs.lemmas.Bool.{false≢true}
 use seplogic.Ra.Ura.{Ura}
 use base.Logic.{never, fst∗}
 use types.Logic.{Logic, sem}
@@ -14,12 +13,6 @@ use denote.RawPtr.{Ptr, block_ptr, null_ptr, ptr_val, in_a_block}
 use denote.Steps.{nothing}
 use denote.Struct.Struct.{within}
 use denote.Struct.Owning.{shape}
-use Rattle.std.specs.declared.option.Option.TheVariants.{None, Some}
-use Rattle.std.specs.contracts.impls.GlobalAllocator.TheImpl.{ghosts}
-use Rattle.std_alloc.specs.Box.Ownership.{box_owns}
-use Rattle.lapd_c.specs.declared.kinds.AnyCard.{AnyCard}
-use Rattle.lapd_c.specs.CardSlots.{HeldCard, card_owns, card_row}
-use Rattle.lapd_c.specs.ClockSlots.{heap}
 use Rattle.lapd_c.specs.contracts.card_slot.CardSlot as slot
 use Rattle.lapd_c.proofs.ClockPlaces.{word}
 

@@ -1,8 +1,7 @@
 -- What stands in the machine for a clock's place: a word, and what it owns.
-use Rattle.std.proofs.Common.{◌≡◌, ℕ, List, [], ◌∷◌, ◌++◌, IsSome, refl, subst}
+use Rattle.lapd_c.proofs.Vocabulary.{◌≡◌, ℕ, List, [], ◌∷◌, ◌++◌, IsSome, refl, subst, false≢true, None, Some, ghosts, box_owns, Timers, HeldClock, clock_owns, heap}
 use mir.Raw.{raw as bare}
 use mir.Val.{Val, vptr, vstruct, vcons, vnil, of_list}
-use Rattle.std.proofs.lemmas.Bool.{false≢true}
 use seplogic.Ra.Ura.{Ura}
 use base.Logic.{never, fst∗}
 use types.Logic.{Logic, sem}
@@ -14,12 +13,7 @@ use denote.RawPtr.{Ptr, block_ptr, null_ptr, ptr_val, in_a_block}
 use denote.Steps.{nothing}
 use denote.Struct.Struct.{within}
 use denote.Struct.Owning.{shape}
-use Rattle.std.specs.declared.option.Option.TheVariants.{None, Some}
-use Rattle.std.specs.contracts.impls.GlobalAllocator.TheImpl.{ghosts}
-use Rattle.std_alloc.specs.Box.Ownership.{box_owns}
-use Rattle.lapd_clock.specs.Timers.{Timers}
 use Rattle.lapd_clock.specs.contracts.clock.Clock as clock
-use Rattle.lapd_c.specs.ClockSlots.{HeldClock, clock_owns, heap}
 use Rattle.lapd_c.specs.contracts.clock_slot.ClockSlot as slot
 
 -- a struct of one word

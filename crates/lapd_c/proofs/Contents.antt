@@ -1,52 +1,16 @@
 -- Contents that an answer delivers have at most N201 octets.
-use Rattle.std.proofs.Common.{◌≡◌, ℕ, ◌≤◌, Bool, true, false, cond, List, [], length, Option, Some, None, nat_lt, refl, sym, ap, ◌∙◌, subst, arith}
-use Rattle.std.proofs.lemmas.Bool.{leb-true, ltb-false, and_parts, false≢true}
-use Rattle.std.specs.Option.{option_or, option_map_or}
+use Rattle.lapd_c.proofs.Vocabulary.{◌≡◌, ℕ, ◌≤◌, Bool, true, false, cond, List, [], length, Option, nat_lt, refl, sym, ap, ◌∙◌, subst, arith, leb-true, ltb-false, and_parts, false≢true, option_or, option_map_or, Control, Information, ReceiveReady, ReceiveNotReady, Reject, Sabme, Disc, Ui, Ua, Dm, Frmr, Xid, Refusal, Service, Timer, T200, T203, T201, State, TeiAssigned, AwaitingEstablishment, AwaitingRelease, Established, TimerRecovery, Terms, LinkTimer, Arrived, is_eligible, eligible_of, eligible, information_in, Link, Course, Step, begun, by_bit, leave_unserved, deliver_unit, Leads, delivered-at_once, no_more, another, how_many, Telling, HasTold, frames_in_4, frames_in_5, frames_in_6, frames_in_7, frames_in_8, expired_tells, malformed_tells, granted_tells, cleared_tells, Change, Gained, Left, Config, octet, expiry, request, pull, Answer, LineTold, told, refused, pulled, nothing, at_none, told_of_management, of_link, of_change, of_management, of_aim, at_timer, aim_of_expiry, Line, link_in, terms, place_in, unless_refused, unless_refused_told, gained, aim_of_heard, with_received, refusal, of_heard, Request, Establish, Release, Data, Unit, Assign, Remove, Check, SetBusy, ClearBusy, at_requested, aim_of_request, heard_aims, PoolFull, line_at, wants_room, contents_of, contents_in, ContentsFit}
+use Rattle.std.proofs.Common.{Some, None}
 use Rattle.lapd_bits.specs.Stream as stream
-use Rattle.lapd_frame.specs.declared.controls.Control.{Control}
-use Rattle.lapd_frame.specs.declared.controls.Control.TheVariants.{Information, ReceiveReady, ReceiveNotReady, Reject, Sabme, Disc, Ui, Ua, Dm, Frmr, Xid}
 use Rattle.lapd_frame.specs.declared.notes.ErrorCode.TheVariants as code
-use Rattle.lapd_frame.specs.declared.refusals.Refusal.{Refusal}
-use Rattle.lapd_frame.specs.declared.services.Service.{Service}
-use Rattle.lapd_frame.specs.declared.timers.Timer.{Timer}
-use Rattle.lapd_frame.specs.declared.timers.Timer.TheVariants.{T200, T203, T201}
-use Rattle.model_link.specs.declared.states.State.{State}
-use Rattle.model_link.specs.declared.states.State.TheVariants.{TeiAssigned, AwaitingEstablishment, AwaitingRelease, Established, TimerRecovery}
-use Rattle.model_link.specs.declared.terms.Terms.{Terms}
-use Rattle.model_link.specs.declared.timers.LinkTimer.{LinkTimer}
 use Rattle.model_link.specs.declared.timers.LinkTimer.TheVariants as link_timer
-use Rattle.model_link.specs.Deliveries.{Arrived, is_eligible, eligible_of, eligible, information_in}
 use Rattle.model_link.specs.Events as link
-use Rattle.model_link.specs.Link.{Link}
 use Rattle.model_link.specs.Machine as links
 use Rattle.model_link.specs.Requests
-use Rattle.model_link.specs.Steps.{Course, Step, begun, by_bit}
-use Rattle.model_link.specs.Words.{leave_unserved, deliver_unit}
-use Rattle.model_link.proofs.Leads.{Leads}
-use Rattle.model_link.proofs.Numbering.{delivered-at_once}
-use Rattle.model_link.proofs.Telling.{no_more, another, how_many, Telling, HasTold}
-use Rattle.model_link.proofs.TellRows.{frames_in_4, frames_in_5, frames_in_6, frames_in_7, frames_in_8, expired_tells, malformed_tells, granted_tells, cleared_tells}
 use Rattle.lapd_tei.specs.Events as teis
-use Rattle.lapd_tei.specs.declared.outcome.Change.{Change}
-use Rattle.lapd_tei.specs.declared.outcome.Change.TheVariants.{Gained, Left}
 use Rattle.lapd_tei.specs.Machine as tei
-use Rattle.model_line.specs.declared.config.Config.{Config}
-use Rattle.model_line.specs.Event.{Event, octet, expiry, request, pull, Answer, LineTold, told, refused, pulled, nothing}
-use Rattle.model_line.specs.Effect.{at_none, told_of_management, of_link, of_change, of_management, of_aim}
-use Rattle.model_line.specs.Expiry.{at_timer, aim_of_expiry}
-use Rattle.model_line.specs.Line.{Line, link_in, terms, place_in}
-use Rattle.model_line.specs.Machine.{answer, unless_refused, unless_refused_told}
-use Rattle.model_line.specs.Octet.{gained, aim_of_heard, with_received}
-use Rattle.model_line.specs.Refusal.{refusal}
-use Rattle.model_line.specs.WholeAtLine.{of_heard}
-use Rattle.model_line.specs.Request.{Request, Establish, Release, Data, Unit, Assign, Remove, Check, SetBusy, ClearBusy}
-use Rattle.model_line.specs.Requested.{at_requested, aim_of_request}
-use Rattle.model_line.proofs.ProperAims.{heard_aims}
-use Rattle.lapd_frame.specs.declared.refusals.Refusal.TheVariants.{PoolFull}
-use Rattle.model_card.specs.Card.{line_at}
-use Rattle.model_card.specs.Machine.{wants_room}
-use Rattle.lapd_plain.specs.Reports.{contents_of}
-use Rattle.lapd_c.specs.Laws.{contents_in, ContentsFit}
+use Rattle.model_line.specs.Event.{Event}
+use Rattle.model_line.specs.Machine.{answer}
 
 abbrev IsSmall : ℕ → Option (List ℕ) → Type 0
 IsSmall most o = length (contents_of o) ≤ most

@@ -1,23 +1,6 @@
 -- One step more of an exchange.
-use Rattle.std.proofs.Common.{◌≡◌, ◌⊎◌, inl, inr, ℕ, suc, ◌+◌, ◌-◌, ◌*◌, ◌%◌, ◌/◌, ◌==◌, Bool, true, false, not, cond, List, [], ◌∷◌, ◌++◌, length, get_or, refl, sym, ap, ◌∙◌, subst, arith}
-use Rattle.std.proofs.lemmas.List.Sums.{fold-append}
-use Rattle.model_line.specs.Event.{Answer, octet, pull, told, nothing}
-use Rattle.model_card.specs.Card.{Card}
-use Rattle.model_card.specs.Event.{Event, at}
-use Rattle.model_card.specs.Machine.{after, answer}
-use Rattle.model_card.specs.Counted.{moment_counted, moment_of, all_counted}
-use Rattle.model_card.specs.Run.{Run, run, one_more, moments, after_all}
-use Rattle.model_card.proofs.Fold.{run_is_moments}
-use Rattle.lapd_count.specs.declared.counters.Counters.{Counters}
-use Rattle.lapd_store.specs.Store.{Store}
-use Rattle.lapd_card.specs.Card.{Held}
-use Rattle.lapd_card.specs.Counted.{counters_in}
-use Rattle.lapd_card.proofs.Counting.{moments-more}
+use Rattle.lapd_c.proofs.Vocabulary.{◌≡◌, ◌⊎◌, inl, inr, ℕ, suc, ◌+◌, ◌-◌, ◌*◌, ◌%◌, ◌/◌, ◌==◌, Bool, true, false, not, cond, List, [], ◌∷◌, ◌++◌, length, get_or, refl, sym, ap, ◌∙◌, subst, arith, fold-append, Answer, octet, pull, told, nothing, Card, Event, at, after, answer, moment_counted, moment_of, all_counted, Run, run, one_more, moments, after_all, run_is_moments, Counters, Store, Held, counters_in, moments-more, PlainReport, ShowsAnswer, CardStands, shelf_of, is_quiet, step_event, steps_made, card_after, answer_after, with_step, given_after, AllQuiet, Exchanged, IsThrough, IsTold}
 use Rattle.lapd_card.specs.Stands.{Leads}
-use Rattle.lapd_plain.specs.declared.reports.PlainReport.{PlainReport}
-use Rattle.lapd_c.specs.Cards.{ShowsAnswer}
-use Rattle.lapd_c.specs.Kinds.{CardStands, shelf_of}
-use Rattle.lapd_c.specs.Exchange.{is_quiet, step_event, steps_made, card_after, answer_after, with_step, given_after, AllQuiet, Exchanged, IsThrough, IsTold}
 
 run-more : (m : Card) (es : List Event) (e : Event) → run m (es ++ e ∷ []) ≡ one_more (run m es) e
 run-more m es e = fold-append one_more (record { card = m; replies = [] }) es (e ∷ [])

@@ -1,31 +1,9 @@
 -- A card of either kind.
-use Rattle.std.proofs.Common.{◌≡◌, ℕ, List, [], ◌∷◌, drop, get_or, map, replicate, set, Option, None, Some, is_some, if◌then◌else◌, sym, ap, refl, subst, ◌∙◌}
-use Rattle.std.specs.Option.{option_map_or}
-use Rattle.std.proofs.lemmas.List.{set-get_or}
-use Rattle.model_line.specs.declared.config.Config.{Config}
-use Rattle.lapd_line.specs.declared.frame_line.NextFrame.{NextFrame}
-use Rattle.lapd_line.specs.FrameStands.{IsNext, written}
-use Rattle.model_line.specs.Event.{pull}
-use Rattle.model_line.specs.Pull.{Taken}
-use Rattle.model_line.specs.WholeAtLine.{pulls_to_begin}
+use Rattle.lapd_c.proofs.Vocabulary.{◌≡◌, ℕ, List, [], ◌∷◌, drop, get_or, map, replicate, set, Option, is_some, if◌then◌else◌, sym, ap, refl, subst, ◌∙◌, option_map_or, set-get_or, Config, NextFrame, IsNext, written, pull, Taken, pulls_to_begin, Event, at, Happening, goes, events_of, IsReached, after_all, moment_counted, moment_of, happening_counted, Counters, none_counted, with_all, taken_shown, Store, frame_counters_in, AnyCard, Octets, Frames, after_happening, next_at, AnyStands, AnyLeads, FrameCardStands, line_count, shelf_of}
+use Rattle.std.proofs.Common.{None, Some}
 use Rattle.model_card.specs.Card as machine
-use Rattle.model_card.specs.Event.{Event, at}
-use Rattle.model_card.specs.Happening.{Happening, goes, events_of}
-use Rattle.model_card.specs.Reached.{IsReached}
-use Rattle.model_card.specs.Run.{after_all}
-use Rattle.model_card.specs.Counted.{moment_counted, moment_of}
-use Rattle.model_card.specs.HappeningsCounted.{happening_counted}
-use Rattle.lapd_count.specs.declared.counters.Counters.{Counters}
-use Rattle.lapd_count.specs.Counters.{none_counted, with_all}
-use Rattle.model_line.specs.Counted.{taken_shown}
-use Rattle.lapd_store.specs.Store.{Store}
-use Rattle.lapd_card.specs.Counted.{frame_counters_in}
 use Rattle.lapd_card.specs.FrameCard.{Held}
 use Rattle.lapd_card.specs.FrameStands.{Leads}
-use Rattle.lapd_c.specs.declared.kinds.AnyCard.{AnyCard}
-use Rattle.lapd_c.specs.declared.kinds.AnyCard.TheVariants.{Octets, Frames}
-use Rattle.lapd_c.specs.Frames.{after_happening, next_at}
-use Rattle.lapd_c.specs.Kinds.{AnyStands, AnyLeads, FrameCardStands, line_count, shelf_of}
 
 -- it was reached from a beginning
 pub reached_of : (card : AnyCard) (m : machine.Card) → AnyStands card m → IsReached m

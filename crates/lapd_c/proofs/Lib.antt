@@ -1,4 +1,5 @@
 -- Lemmas: where cards and clocks lie; what is served at them; two cards that exchange frames.
+pub mod Vocabulary
 pub mod Places
 pub mod ClockPlaces
 pub mod CardPlaces

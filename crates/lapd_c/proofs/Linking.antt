@@ -1,10 +1,7 @@
 -- Looking for the first link of a line.
-use Rattle.std.proofs.Common.{◌≡◌, ◌+◌, ℕ, inl, inr, Option, None, sym, ◌∙◌, subst, arith}
-use Rattle.std.proofs.lemmas.Bool.{cases_lt}
-use Rattle.lapd_frame.specs.declared.services.Service.{Service}
+use Rattle.lapd_c.proofs.Vocabulary.{◌≡◌, ◌+◌, ℕ, inl, inr, Option, sym, ◌∙◌, subst, arith, cases_lt, Service, service_at, tei_at, AreFree, state_at}
+use Rattle.std.proofs.Common.{None}
 use Rattle.model_card.specs.Card as machine
-use Rattle.lapd_plain.specs.Links.{service_at, tei_at}
-use Rattle.lapd_c.specs.Links.{AreFree, state_at}
 
 -- what a link of the place's service is said to be in, its link is in
 pub state_told : (line place : ℕ) (m : machine.Card) (service : Service) (told seen : Option ℕ) → service ≡ service_at place

@@ -1,24 +1,7 @@
 -- What a report shows is what the machine answers.
-use Rattle.std.proofs.Common.{◌≡◌, ℕ, ◌≤◌, ◌<◌, List, length, Option, Some, IfSome, Result, Ok, Err, IfOk, sym, subst, arith}
-use Rattle.std.specs.Option.{option_copied}
+use Rattle.lapd_c.proofs.Vocabulary.{◌≡◌, ℕ, ◌≤◌, ◌<◌, List, length, Option, IfSome, Result, Ok, Err, IfOk, sym, subst, arith, option_copied, Note, Order, Report, report_told, LineTold, told, Line, of_heard, ranges_of, Card, Event, answer, IsReached, says, PlainReport, Shows, told_by, contents_of, ShowsAnswer, contents_in}
+use Rattle.std.proofs.Common.{Some}
 use Rattle.lapd_bits.specs.Stream as stream
-use Rattle.lapd_frame.specs.declared.notes.Note.{Note}
-use Rattle.lapd_frame.specs.declared.timers.Order.{Order}
-use Rattle.lapd_line.specs.declared.reports.Report.{Report}
-use Rattle.lapd_line.specs.Reports.{report_told}
-use Rattle.model_line.specs.Event.{LineTold, told}
-use Rattle.model_line.specs.Line.{Line}
-use Rattle.model_line.specs.WholeAtLine.{of_heard}
-use Rattle.model_line.proofs.Ranges.{ranges_of}
-use Rattle.model_card.specs.Card.{Card}
-use Rattle.model_card.specs.Event.{Event}
-use Rattle.model_card.specs.Machine.{answer}
-use Rattle.model_card.specs.Reached.{IsReached}
-use Rattle.model_card.specs.Said.{says}
-use Rattle.lapd_plain.specs.declared.reports.PlainReport.{PlainReport}
-use Rattle.lapd_plain.specs.Reports.{Shows, told_by, contents_of}
-use Rattle.lapd_c.specs.Cards.{ShowsAnswer}
-use Rattle.lapd_c.specs.Laws.{contents_in}
 use Rattle.lapd_c.proofs.Contents.{contents_fit, heard_fits}
 
 -- a result that is known

@@ -1,23 +1,6 @@
 -- How many octets a card stores, line by line.
-use Rattle.std.proofs.Common.{◌≡◌, ℕ, ◌+◌, ◌*◌, ◌≤◌, ◌<◌, suc, List, [], ◌∷◌, length, take, refl, sym, ap, ◌∙◌, arith, Fits, w32, w64}
-use Rattle.std.proofs.Math.Nat.{mul-le-mul_left}
-use Rattle.std.proofs.Math.Seq.{take-suc}
-use Rattle.std.proofs.lemmas.List.Sums.{sum_by-append, sum_by-cons}
-use Rattle.std.specs.List.{sum_by}
-use Rattle.model_line.specs.declared.config.Config.{Config}
+use Rattle.lapd_card.proofs.Vocabulary.{◌≡◌, ℕ, ◌+◌, ◌*◌, ◌≤◌, ◌<◌, suc, List, [], ◌∷◌, length, take, refl, sym, ap, ◌∙◌, arith, Fits, w32, w64, mul-le-mul_left, take-suc, sum_by-append, sum_by-cons, sum_by, Config, IsInRange, held_in, octets_of, stored_in, ranges_of, Card, IsReached, stored, limit, reached-sound, stored_within_limit, Store, stored_octets, Held, Stand, line_in, Stands}
 use Rattle.model_line.specs.Line as line
-use Rattle.model_line.specs.Sound.{IsInRange}
-use Rattle.model_line.specs.Stored.{held_in, octets_of, stored_in}
-use Rattle.model_line.proofs.Ranges.{ranges_of}
-use Rattle.model_card.specs.Card.{Card}
-use Rattle.model_card.specs.Reached.{IsReached}
-use Rattle.model_card.specs.Stored.{stored, limit}
-use Rattle.model_card.proofs.Reaching.{reached-sound}
-use Rattle.model_card.proofs.Stored.{stored_within_limit}
-use Rattle.lapd_store.specs.Store.{Store, stored_octets}
-use Rattle.lapd_card.specs.Card.{Held}
-use Rattle.lapd_card.specs.Lines.{Stand, line_in}
-use Rattle.lapd_card.specs.Stands.{Stands}
 use Rattle.lapd_card.proofs.OneEvent.{octets_is}
 
 -- one line more

@@ -1,19 +1,7 @@
 -- What the laws of a card's machine say of an answer that is the machine's.
-use Rattle.std.proofs.Common.{◌≡◌, ℕ, ◌≤◌, ◌<◌, IsSome, sym, subst}
-use Rattle.lapd_frame.specs.declared.timers.Timer.{Timer}
-use Rattle.model_line.specs.Event.{LineTold, told, octet, expiry}
-use Rattle.model_line.specs.Laws.{orders_in, cause_in}
-use Rattle.model_link.specs.Told.{starts}
+use Rattle.lapd_card.proofs.Vocabulary.{◌≡◌, ℕ, ◌≤◌, ◌<◌, IsSome, sym, subst, Timer, LineTold, told, octet, expiry, orders_in, cause_in, starts, may_send, at, after, drop_costs_nothing, reached-sound, expiry_starts, Store, Held, line_count, Stands, HasPast}
 use Rattle.model_card.specs.Card as machine
-use Rattle.model_card.specs.Counts.{may_send}
-use Rattle.model_card.specs.Event.{at}
-use Rattle.model_card.specs.Machine.{after, answer}
-use Rattle.model_card.proofs.Drops.{drop_costs_nothing}
-use Rattle.model_card.proofs.Reaching.{reached-sound}
-use Rattle.model_card.proofs.Starts.{expiry_starts}
-use Rattle.lapd_store.specs.Store.{Store}
-use Rattle.lapd_card.specs.Card.{Held, line_count}
-use Rattle.lapd_card.specs.Stands.{Stands, HasPast}
+use Rattle.model_card.specs.Machine.{answer}
 
 -- an expiry starts one timer at most
 pub starts_one : {S : Type 0} (store : S → Store) (card : Held S) (line : ℕ) (timer : Timer) (t : LineTold)

@@ -1,25 +1,5 @@
 -- A card as it begins.
-use Rattle.std.proofs.Common.{◌≡◌, ◌≤◌, List, [], ◌∷◌, ◌++◌, length, replicate, refl, sym, ap, subst, ◌∙◌, arith, None, false, nat_lt, ◌||◌}
-use Rattle.std.proofs.lemmas.Bool.{or_parts, ltb-false}
-use Rattle.std.proofs.lemmas.List.{length-replicate, append-nil}
-use Rattle.std.proofs.lemmas.List.Elements.{All-nil, All-cons}
-use Rattle.std.specs.List.{All, AllByRecursion, flat_map, zip}
-use Rattle.lapd_line.specs.declared.line.Line.{Line}
-use Rattle.lapd_line.specs.Stands.{pairs_of}
-use Rattle.lapd_line.proofs.Stood.{held_of}
-use Rattle.model_line.specs.declared.config.Config.{Config}
-use Rattle.model_line.specs.Config.{first_fault}
-use Rattle.model_line.specs.Line.{fresh_line}
-use Rattle.model_card.specs.Card.{fresh}
-use Rattle.model_card.proofs.Reaching.{reached-fresh}
-use Rattle.lapd_store.specs.Ownership.{Holds}
-use Rattle.lapd_store.specs.Store.{Store, used_slots}
-use Rattle.lapd_store.proofs.Ownership.{Holds-unused, used_slots-held}
-use Rattle.lapd_count.specs.Counters.{none_counted}
-use Rattle.lapd_card.specs.Counted.{counters_in}
-use Rattle.lapd_card.specs.Lines.{IsFit, owned, IsFresh, AreFresh}
-use Rattle.lapd_card.specs.Stands.{Stands}
-use Rattle.lapd_card.specs.Start.{is_too_small}
+use Rattle.lapd_card.proofs.Vocabulary.{◌≡◌, ◌≤◌, List, [], ◌∷◌, ◌++◌, length, replicate, refl, sym, ap, subst, ◌∙◌, arith, None, false, nat_lt, ◌||◌, or_parts, ltb-false, length-replicate, append-nil, All-nil, All-cons, All, AllByRecursion, flat_map, zip, Line, pairs_of, held_of, Config, first_fault, fresh_line, fresh, reached-fresh, Holds, Store, used_slots, Holds-unused, used_slots-held, none_counted, counters_in, IsFit, owned, IsFresh, AreFresh, Stands, is_too_small}
 
 pub empty_list : {X : Type 0} (xs : List X) → length xs ≡ 0 → xs ≡ []
 empty_list [] none = refl

@@ -1,24 +1,7 @@
 -- What is counted over a run.
-use Rattle.std.proofs.Common.{◌≡◌, ℕ, ◌+◌, ◌<◌, ◌==◌, Bool, true, false, cond, List, [], ◌∷◌, ◌++◌, length, length-set, get_or, set, take, slice_get, Some, refl, sym, ap, subst, ◌∙◌}
-use Rattle.std.proofs.lemmas.Bool.{eqb-true, eqb-false}
-use Rattle.std.proofs.lemmas.List.{get_or-set_same, get_or-set_other}
-use Rattle.std.proofs.lemmas.List.Sums.{fold-append}
-use Rattle.lapd_count.specs.declared.counters.Counters.{Counters}
-use Rattle.lapd_count.specs.Counters.{none_counted, value_in, with_more, with_all}
-use Rattle.lapd_count.proofs.Numbers.{counters_are_numbers}
-use Rattle.model_line.specs.Counted.{shown}
+use Rattle.lapd_card.proofs.Vocabulary.{◌≡◌, ℕ, ◌+◌, ◌<◌, ◌==◌, Bool, true, false, cond, List, [], ◌∷◌, ◌++◌, length, length-set, get_or, set, take, slice_get, Some, refl, sym, ap, subst, ◌∙◌, eqb-true, eqb-false, get_or-set_same, get_or-set_other, fold-append, Counters, none_counted, value_in, with_more, with_all, counters_are_numbers, shown, Card, line_at, Event, event_of, after, Moment, moments, after_all, run, run_is_moments, Store, Held, counters_in, moment_counted, all_counted, moment_of, shown_at, all_shown, CountersAreNumbers, Stands, Leads}
 use Rattle.model_card.specs.declared.events.Event as rust
-use Rattle.model_card.specs.Card.{Card, line_at}
-use Rattle.model_card.specs.Event.{Event, event_of}
-use Rattle.model_card.specs.Machine.{after}
-use Rattle.model_card.specs.Run.{Moment, moments, after_all, run}
-use Rattle.model_card.proofs.Fold.{run_is_moments}
-use Rattle.lapd_store.specs.Store.{Store}
-use Rattle.lapd_card.specs.Card.{Held}
-use Rattle.lapd_card.specs.Counted.{counters_in}
-use Rattle.model_card.specs.Counted.{moment_counted, all_counted, moment_of, shown_at, all_shown, CountersAreNumbers}
 use Rattle.lapd_card.specs.Drive.{events_of}
-use Rattle.lapd_card.specs.Stands.{Stands, Leads}
 use Rattle.lapd_card.proofs.Taken.{events-more}
 
 -- a moment at a line is counted there, and no other is

@@ -1,28 +1,12 @@
 -- How many octets a card for frames stores, line by line: those of a card of octets but for what that holds of frames on
 -- their way.
-use Rattle.std.proofs.Common.{◌≡◌, ℕ, suc, ◌+◌, ◌*◌, ◌/◌, ◌≤◌, ◌<◌, List, [], ◌∷◌, length, take, reverse, get_or, All, sym, ap, subst, ◌∙◌, arith}
-use Rattle.std.proofs.Math.Nat.{mul-le-mul_left, mul-le-mul_right}
-use Rattle.std.proofs.lemmas.List.Elements.{All-head, All-tail}
-use Rattle.std.proofs.lemmas.List.Sums.{sum_by_more, sum_by-cons}
-use Rattle.std.specs.Option.{option_map_or}
-use Rattle.lapd_bits.specs.Deframer.{kept_count}
-use Rattle.lapd_bits.specs.Stream.{room_for}
-use Rattle.lapd_bits.specs.Stuffing.{unstuffed}
-use Rattle.std.specs.List.{sum_by}
-use Rattle.model_line.specs.declared.config.Config.{Config}
+use Rattle.lapd_card.proofs.Vocabulary.{◌≡◌, ℕ, suc, ◌+◌, ◌*◌, ◌/◌, ◌≤◌, ◌<◌, List, [], ◌∷◌, length, take, reverse, get_or, sym, ap, subst, ◌∙◌, arith, mul-le-mul_left, mul-le-mul_right, All-head, All-tail, sum_by_more, sum_by-cons, option_map_or, kept_count, room_for, unstuffed, sum_by, Config, IsInRange, held_received, held_in, held_sent, octets_of, slots_of, stored_in, IsIdle, waiting_few, octets_few, Card, used, stored, limit_in, reached-sound, Store, stored_octets, frame_limit_in, frame_limit, line_in}
+use Rattle.std.proofs.Common.{All}
 use Rattle.model_line.specs.Line as line
-use Rattle.model_line.specs.Sound.{IsInRange, IsSound}
-use Rattle.model_line.specs.Stored.{held_received, held_in, held_sent, octets_of, slots_of, stored_in}
-use Rattle.model_line.specs.Whole.{IsIdle}
-use Rattle.model_line.proofs.StoredBounds.{waiting_few, octets_few}
-use Rattle.model_card.specs.Card.{Card, used}
-use Rattle.model_card.specs.Stored.{stored, limit_in}
-use Rattle.model_card.proofs.Reaching.{reached-sound}
-use Rattle.lapd_store.specs.Store.{Store, stored_octets}
-use Rattle.lapd_card.specs.FrameCard.{Held, frame_limit_in, frame_limit}
+use Rattle.model_line.specs.Sound.{IsSound}
+use Rattle.lapd_card.specs.FrameCard.{Held}
 use Rattle.lapd_card.specs.FrameLines.{Stand}
 use Rattle.lapd_card.specs.FrameStands.{Stands}
-use Rattle.lapd_card.specs.Lines.{line_in}
 use Rattle.lapd_card.proofs.Amounts.{sums, limit_small, stored_small}
 use Rattle.lapd_card.proofs.FrameHeadline.{all-idle}
 use Rattle.lapd_card.proofs.OneHappening.{octets_is}

@@ -1,26 +1,10 @@
 -- A card for frames as it begins.
-use Rattle.std.proofs.Common.{◌≡◌, ◌≤◌, List, [], ◌∷◌, ◌++◌, length, replicate, refl, sym, ap, subst, ◌∙◌, arith, None, false, nat_lt, ◌||◌}
-use Rattle.std.proofs.lemmas.Bool.{or_parts, ltb-false}
-use Rattle.std.proofs.lemmas.List.{length-replicate, append-nil}
-use Rattle.std.proofs.lemmas.List.Elements.{All-nil, All-cons}
-use Rattle.std.specs.List.{All, AllByRecursion, flat_map, zip}
-use Rattle.lapd_line.specs.declared.frame_line.FrameLine.{FrameLine}
+use Rattle.lapd_card.proofs.Vocabulary.{◌≡◌, ◌≤◌, List, [], ◌∷◌, ◌++◌, length, replicate, refl, sym, ap, subst, ◌∙◌, arith, None, false, nat_lt, ◌||◌, or_parts, ltb-false, length-replicate, append-nil, All-nil, All-cons, All, AllByRecursion, flat_map, zip, FrameLine, Config, first_fault, fresh_line, fresh, reached-fresh, Holds, Store, used_slots, Holds-unused, used_slots-held, none_counted, frame_counters_in, is_too_small}
 use Rattle.lapd_line.specs.FrameStands.{pairs_of}
 use Rattle.lapd_line.proofs.FrameStood.{held_of}
-use Rattle.model_line.specs.declared.config.Config.{Config}
-use Rattle.model_line.specs.Config.{first_fault}
-use Rattle.model_line.specs.Line.{fresh_line}
-use Rattle.model_card.specs.Card.{fresh}
-use Rattle.model_card.proofs.Reaching.{reached-fresh}
-use Rattle.lapd_store.specs.Ownership.{Holds}
-use Rattle.lapd_store.specs.Store.{Store, used_slots}
-use Rattle.lapd_store.proofs.Ownership.{Holds-unused, used_slots-held}
-use Rattle.lapd_count.specs.Counters.{none_counted}
-use Rattle.lapd_card.specs.Counted.{frame_counters_in}
 use Rattle.lapd_card.specs.FrameLines.{IsFit, owned, IsFresh, AreFresh}
 use Rattle.lapd_card.specs.FrameStands.{Stands}
 use Rattle.lapd_card.proofs.Begins.{empty_list}
-use Rattle.lapd_card.specs.Start.{is_too_small}
 
 -- a line as it begins owns nothing
 owns_nothing : (c : Config) (l : FrameLine) (s : Store) → c.n201 ≤ s.width → Holds s [] → IsFresh c l → pairs_of l (fresh_line c) ≡ []

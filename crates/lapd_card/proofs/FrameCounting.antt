@@ -1,15 +1,5 @@
 -- What is counted over a list of happenings.
-use Rattle.std.proofs.Common.{◌≡◌, ℕ, ◌<◌, ◌==◌, Bool, true, false, cond, List, [], ◌∷◌, length, length-set, get_or, set, refl, sym, ap, subst, ◌∙◌}
-use Rattle.std.proofs.lemmas.Bool.{eqb-true, eqb-false}
-use Rattle.std.proofs.lemmas.List.{get_or-set_same, get_or-set_other}
-use Rattle.std.proofs.lemmas.List.Sums.{fold-append}
-use Rattle.lapd_count.specs.declared.counters.Counters.{Counters}
-use Rattle.lapd_count.specs.Counters.{none_counted, value_in, with_more, with_all}
-use Rattle.lapd_count.proofs.Numbers.{counters_are_numbers}
-use Rattle.model_card.specs.Card.{Card}
-use Rattle.model_card.specs.Happening.{Happening, line_of, events_of}
-use Rattle.model_card.specs.Run.{after_all}
-use Rattle.model_card.specs.HappeningsCounted.{happening_shown, happening_counted, happenings_counted, shown_of, happenings_shown, FrameCountersAreNumbers}
+use Rattle.lapd_card.proofs.Vocabulary.{◌≡◌, ℕ, ◌<◌, ◌==◌, Bool, true, false, cond, List, [], ◌∷◌, length, length-set, get_or, set, refl, sym, ap, subst, ◌∙◌, eqb-true, eqb-false, get_or-set_same, get_or-set_other, fold-append, Counters, none_counted, value_in, with_more, with_all, counters_are_numbers, Card, Happening, line_of, events_of, after_all, happening_shown, happening_counted, happenings_counted, shown_of, happenings_shown, FrameCountersAreNumbers}
 
 -- a happening at a line is counted there, and no other is
 at_place : (all : List Counters) (m : Card) (h : Happening) (number : ℕ) → number < length all

@@ -1,24 +1,10 @@
 -- A law of the machine holds of the events that a list of happenings at a card for frames means, and of every front of it.
-use Rattle.std.proofs.Common.{refl, ℕ, ◌<◌, List, [], ◌∷◌, take, sym, subst}
-use Rattle.std.proofs.lemmas.List.Elements.{All-nil, All-head, All-tail, All-append, All-map, All-take, All-weaker}
-use Rattle.std.specs.List.{All}
-use Rattle.model_line.specs.declared.config.Config.{Config}
-use Rattle.model_line.specs.Sound.{IsInRange}
-use Rattle.model_card.specs.Card.{Card, fresh}
-use Rattle.model_card.specs.Event.{Event}
-use Rattle.model_card.specs.Run.{IsAtLine, AreAtLines, after_all}
-use Rattle.model_card.specs.Sound.{IsSound}
-use Rattle.model_card.proofs.Reaching.{reached-sound}
+use Rattle.lapd_card.proofs.Vocabulary.{refl, ℕ, ◌<◌, List, [], ◌∷◌, take, sym, subst, All-nil, All-head, All-tail, All-append, All-map, All-take, All-weaker, All, Config, IsInRange, Card, fresh, Event, IsAtLine, AreAtLines, after_all, IsSound, reached-sound, Happening, events_at, events_of, spelled, AreIdle, IsIdle, all_at, config_stays, Store, happening_of, all_of, line_in}
 use Rattle.model_card.specs.Happening as happenings
-use Rattle.model_card.specs.Happening.{Happening, events_at, events_of, spelled, AreIdle}
-use Rattle.model_line.specs.Whole.{IsIdle}
-use Rattle.model_card.proofs.Happening.{all_at, config_stays}
-use Rattle.lapd_store.specs.Store.{Store}
 use Rattle.lapd_card.specs.declared.happenings.Happening as rust
 use Rattle.lapd_card.specs.FrameCard.{Held, line_count}
-use Rattle.lapd_card.specs.FrameDrive.{happening_of, line_of, all_of}
+use Rattle.lapd_card.specs.FrameDrive.{line_of}
 use Rattle.lapd_card.specs.FrameStands.{Stands, HasPast}
-use Rattle.lapd_card.specs.Lines.{line_in}
 use Rattle.lapd_card.proofs.OneFrameLine.{IsAt, focused_at}
 use Rattle.lapd_card.proofs.OneHappening.{line-there, line-of}
 

@@ -1,25 +1,10 @@
 -- A list of happenings, one by one, and what a sink has taken of it.
-use Rattle.std.proofs.Common.{◌≡◌, ℕ, ◌+◌, zero, suc, List, [], ◌∷◌, ◌++◌, take, refl, sym, ap, subst, ◌∙◌, Option, Some, None, option_map, slice_get, arith}
-use Rattle.std.proofs.lemmas.List.{append-nil}
-use Rattle.std.proofs.lemmas.Option.{none-some, same_Some}
-use Rattle.lapd_line.specs.declared.frame_line.NextFrame.{NextFrame}
-use Rattle.lapd_line.specs.FrameStands.{IsNext}
+use Rattle.lapd_card.proofs.Vocabulary.{◌≡◌, ℕ, ◌+◌, zero, suc, List, [], ◌∷◌, ◌++◌, take, refl, sym, ap, subst, ◌∙◌, Option, Some, None, option_map, slice_get, arith, append-nil, none-some, same_Some, NextFrame, IsNext, Card, after_all, Happening, events_of, spelled, Said, gives, next_of, said, replies, after_all-append, Counters, frame_counters_in, happening_counted, happenings_counted, happening_of, all_of, after_happenings, Taken, MissesReply, MissesAt, next_in, Store}
 use Rattle.model_line.specs.Pull.{Taken as Pull}
-use Rattle.model_card.specs.Card.{Card}
-use Rattle.model_card.specs.Run.{after_all}
 use Rattle.model_card.specs.Happening as happenings
-use Rattle.model_card.specs.Happening.{Happening, events_of, spelled}
-use Rattle.model_card.specs.Said.{Said, gives, next_of, said, replies}
-use Rattle.model_card.proofs.Happening.{after_all-append}
 use Rattle.lapd_card.specs.declared.happenings.Happening as rust
 use Rattle.lapd_card.specs.FrameCard.{Held}
-use Rattle.lapd_count.specs.declared.counters.Counters.{Counters}
-use Rattle.lapd_card.specs.Counted.{frame_counters_in}
-use Rattle.model_card.specs.HappeningsCounted.{happening_counted, happenings_counted}
-use Rattle.lapd_card.specs.FrameDrive.{happening_of, all_of, after_happenings, Taken, MissesReply, MissesAt}
-use Rattle.lapd_card.specs.FrameReply.{next_in}
 use Rattle.lapd_card.specs.FrameStands.{Stands, Leads}
-use Rattle.lapd_store.specs.Store.{Store}
 
 -- one reply more
 Taken-more : {K : Type 0} (takes : K → ℕ → Said → K → Type 0) (old mid new : K) (replies : List (ℕ × Said)) (line : ℕ) (reply : Said) → Taken takes old replies mid → takes mid line reply new → Taken takes old (replies ++ (line, reply) ∷ []) new

@@ -1,19 +1,7 @@
 -- A law of the machine holds of the events of a card's list, and of every front of it.
-use Rattle.std.proofs.Common.{ℕ, ◌<◌, List, take, sym, subst}
-use Rattle.std.proofs.lemmas.List.Elements.{All-map, All-take, All-weaker}
-use Rattle.std.specs.List.{All}
-use Rattle.model_line.specs.declared.config.Config.{Config}
-use Rattle.model_line.specs.Sound.{IsInRange}
+use Rattle.lapd_card.proofs.Vocabulary.{ℕ, ◌<◌, List, take, sym, subst, All-map, All-take, All-weaker, All, Config, IsInRange, Card, fresh, Event, event_of, IsAtLine, AreAtLines, IsSound, reached-sound, Store, Held, line_count, Stands}
 use Rattle.model_card.specs.declared.events.Event as rust
-use Rattle.model_card.specs.Card.{Card, fresh}
-use Rattle.model_card.specs.Event.{Event, event_of}
-use Rattle.model_card.specs.Run.{IsAtLine, AreAtLines}
-use Rattle.model_card.specs.Sound.{IsSound}
-use Rattle.model_card.proofs.Reaching.{reached-sound}
-use Rattle.lapd_store.specs.Store.{Store}
-use Rattle.lapd_card.specs.Card.{Held, line_count}
 use Rattle.lapd_card.specs.Drive.{line_of, events_of}
-use Rattle.lapd_card.specs.Stands.{Stands}
 
 -- the events are at lines of the machine
 pub events_at_lines : {S : Type 0} (store : S → Store) (card : Held S) (events : List rust.Event) → All (λ e. line_of e < line_count card) events → (m : Card) → Stands store card m → AreAtLines m (events_of events)

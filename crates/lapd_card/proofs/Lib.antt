@@ -1,4 +1,5 @@
 -- Lemmas: one line of a card in a call; what drive and frames_drive have done and counted; rooms.
+pub mod Vocabulary
 pub mod OneLine
 pub mod OneFrameLine
 pub mod OneHappening

@@ -1,41 +1,9 @@
 -- An event at a card is one at one of its lines.
-use Rattle.std.proofs.Common.{if◌then◌else◌, ◌≡◌, ℕ, ◌≤◌, ◌<◌, Bool, true, false, ◌&&◌, List, [], ◌++◌, length, nat_le, refl, sym, ap, subst, ◌∙◌, Some, None, IsSome, Option, arith, Ok, Err, Result, IfOk, IfErr, OnErr}
-use Rattle.std.proofs.lemmas.Bool.{lt-ltb}
-use Rattle.std.proofs.lemmas.List.{append-nil, set-get_or}
-use Rattle.std.proofs.lemmas.Option.{none-some}
-use Rattle.std.specs.List.{flat_map, sum_by, zip}
-use Rattle.lapd_frame.specs.declared.refusals.Refusal.{Refusal}
-use Rattle.lapd_frame.specs.declared.refusals.Refusal.TheVariants.{PoolFull}
-use Rattle.lapd_frame.specs.declared.services.Service.{Service}
-use Rattle.lapd_count.specs.Counters.{none_counted}
-use Rattle.lapd_line.specs.declared.line.Line.{Line}
-use Rattle.lapd_line.specs.declared.reports.Report.{Report}
-use Rattle.lapd_line.specs.Reports.{report_told}
-use Rattle.lapd_line.proofs.Stood.{slots-pairs, octets-pairs}
-use Rattle.model_line.specs.declared.config.Config.{Config}
+use Rattle.lapd_card.proofs.Vocabulary.{if◌then◌else◌, ◌≡◌, ℕ, ◌≤◌, ◌<◌, Bool, true, false, ◌&&◌, List, [], ◌++◌, length, nat_le, refl, sym, ap, subst, ◌∙◌, Some, None, IsSome, Option, arith, Ok, Err, Result, IfOk, IfErr, OnErr, lt-ltb, append-nil, set-get_or, none-some, flat_map, sum_by, zip, Refusal, PoolFull, Service, none_counted, Line, Report, report_told, slots-pairs, octets-pairs, Config, refusal, Request, slots_of, octets_of, ranges_of, Card, line_at, used, is_full, state, Event, at, wants_room, after, IsReached, reached-after, reached-sound, refused_by_the_table, owned_octets, Store, used_slots, stored_octets, used_slots-held, stored_octets-held, slots-machines, octets-machines, Held, line_count, counters_in, one_counted, IsFit, owned, Stand, Lead, line_in, after_event, answer_of_result, Stands, Leads, HasPast}
 use Rattle.model_line.specs.Event as line_event
 use Rattle.model_line.specs.Line as line
 use Rattle.model_line.specs.Machine as lines
-use Rattle.model_line.specs.Refusal.{refusal}
-use Rattle.model_line.specs.Request.{Request}
-use Rattle.model_line.specs.Stored.{slots_of, octets_of}
-use Rattle.model_line.proofs.Ranges.{ranges_of}
-use Rattle.model_card.specs.Card.{Card, line_at, used, is_full, state}
-use Rattle.model_card.specs.Event.{Event, at}
-use Rattle.model_card.specs.Machine.{wants_room, after, answer}
-use Rattle.model_card.specs.Reached.{IsReached}
-use Rattle.model_card.proofs.Reaching.{reached-after, reached-sound}
-use Rattle.model_card.proofs.Refusals.{refused_by_the_table}
-use Rattle.lapd_store.specs.Ownership.{owned_octets}
-use Rattle.lapd_store.specs.Store.{Store, used_slots, stored_octets}
-use Rattle.lapd_store.proofs.Ownership.{used_slots-held, stored_octets-held}
-use Rattle.lapd_store.proofs.Focus.{slots-machines, octets-machines}
-use Rattle.lapd_card.specs.Card.{Held, line_count}
-use Rattle.lapd_card.specs.Counted.{counters_in}
-use Rattle.model_card.specs.Counted.{one_counted}
-use Rattle.lapd_card.specs.Lines.{IsFit, owned, Stand, Lead, line_in, after_event}
-use Rattle.lapd_card.specs.Reply.{answer_of_result}
-use Rattle.lapd_card.specs.Stands.{Stands, Leads, HasPast}
+use Rattle.model_card.specs.Machine.{answer}
 
 -- an event that finds room is one of its line
 pub after_served : (e : Event) (m : Card) → wants_room e m ≡ false → after e m ≡ record m { lines = after_event m.config e.line e.what m.lines }

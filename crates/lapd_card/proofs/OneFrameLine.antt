@@ -1,21 +1,10 @@
 -- One line of a card for frames, taken out of its lines and put back.
-use Rattle.std.proofs.Common.{◌≡◌, ℕ, ◌≤◌, ◌<◌, List, [], length, sym, ap, subst, ◌∙◌, arith, get_or, set, length-set}
-use Rattle.std.proofs.lemmas.List.{get_or_default, set-get_or, get_or-map, map-set}
-use Rattle.lapd_line.specs.declared.frame_line.FrameLine.{FrameLine}
+use Rattle.lapd_card.proofs.Vocabulary.{◌≡◌, ℕ, ◌≤◌, ◌<◌, List, [], length, sym, ap, subst, ◌∙◌, arith, get_or, set, length-set, get_or_default, set-get_or, get_or-map, map-set, FrameLine, config_of, stands_on, Config, after_events, Owned, Store, SameLimits, FocusPair, focus_pair, line_in, More, none_counted, with_all, frame_counters_of, frame_counters_in, Serve, CountsAt}
 use Rattle.lapd_line.specs.FrameStands as line
-use Rattle.lapd_line.specs.FrameStands.{config_of}
-use Rattle.lapd_line.proofs.FrameStood.{held_of, stands_on}
-use Rattle.model_line.specs.declared.config.Config.{Config}
+use Rattle.lapd_line.proofs.FrameStood.{held_of}
 use Rattle.model_line.specs.Event.{Event}
 use Rattle.model_line.specs.Line as machine
-use Rattle.model_line.specs.WholeAtLine.{after_events}
-use Rattle.lapd_store.specs.Ownership.{Owned}
-use Rattle.lapd_store.specs.Store.{Store, SameLimits}
-use Rattle.lapd_store.proofs.Focus.{FocusPair, focus_pair}
-use Rattle.lapd_card.specs.Lines.{line_in}
-use Rattle.lapd_count.specs.Counters.{More, none_counted, with_all}
-use Rattle.lapd_card.specs.Counted.{frame_counters_of, frame_counters_in}
-use Rattle.lapd_card.specs.FrameLines.{IsFit, owned, Stand, Serve, Lead, CountsAt}
+use Rattle.lapd_card.specs.FrameLines.{IsFit, owned, Stand, Lead}
 
 -- A line stands for its part of the machine, beside what the other lines own; and whatever it and the shelf are
 -- afterwards, if it stands for another line of the machine, the lines stand with that in its place.

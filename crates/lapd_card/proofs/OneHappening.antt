@@ -1,53 +1,13 @@
 -- A happening at a card for frames is one at one of its lines.
-use Rattle.std.proofs.Common.{if◌then◌else◌, false, ◌≡◌, ℕ, zero, suc, ◌+◌, get_or, ◌≤◌, ◌<◌, List, [], ◌∷◌, ◌++◌, length, map, nat_le, refl, sym, ap, subst, ◌∙◌, Some, None, IsSome, Option, arith, Ok, Err, Result, IfOk, IfErr, OnErr}
-use Rattle.std.proofs.lemmas.Bool.{lt-ltb}
-use Rattle.std.proofs.lemmas.List.{append-nil, set-get_or}
-use Rattle.std.proofs.lemmas.List.Elements.{All-head, All-tail}
-use Rattle.std.specs.List.{flat_map, sum_by, zip}
-use Rattle.lapd_frame.specs.declared.refusals.Refusal.{Refusal}
-use Rattle.lapd_frame.specs.declared.services.Service.{Service}
-use Rattle.lapd_frame.specs.declared.timers.Timer.{Timer}
-use Rattle.lapd_line.specs.declared.frame_line.FrameLine.{FrameLine}
-use Rattle.lapd_line.specs.declared.reports.Report.{Report}
-use Rattle.lapd_line.specs.Reports.{report_told}
+use Rattle.lapd_card.proofs.Vocabulary.{if◌then◌else◌, false, ◌≡◌, ℕ, zero, suc, ◌+◌, get_or, ◌≤◌, ◌<◌, List, [], ◌∷◌, ◌++◌, length, map, nat_le, refl, sym, ap, subst, ◌∙◌, Some, None, IsSome, Option, arith, Ok, Err, Result, IfOk, IfErr, OnErr, lt-ltb, append-nil, set-get_or, All-head, All-tail, flat_map, sum_by, zip, Refusal, Service, Timer, FrameLine, Report, report_told, Config, refusal, Request, slots_of, octets_of, ranges_of, Card, line_at, used, is_full, state, Event, at, wants_room, after, IsReached, after_all, AreAtLines, IsAtLine, orders_in, starts, expiry_starts, reached-after, reached-sound, refused_by_the_table, Fault, Happening, comes, failed, goes, expires, asks, line_of, events_at, events_of, with_line, after_events, pulls_for, line_octets, fault_octets, says, said, all_at, config_stays, frames_are_of_lines, owned_octets, Store, used_slots, stored_octets, used_slots-held, stored_octets-held, slots-machines, octets-machines, room_for_frames, More, none_counted, told_in_answer, frame_counters_in, counted_at, happening_shown, CountsAt, line_in, answer_of_result}
 use Rattle.lapd_line.proofs.FrameStood.{slots-pairs, octets-pairs}
-use Rattle.model_line.specs.declared.config.Config.{Config}
 use Rattle.model_line.specs.Event as line_event
 use Rattle.model_line.specs.Line as line
 use Rattle.model_line.specs.Machine as lines
-use Rattle.model_line.specs.Refusal.{refusal}
-use Rattle.model_line.specs.Request.{Request}
-use Rattle.model_line.specs.Stored.{slots_of, octets_of}
-use Rattle.model_line.proofs.Ranges.{ranges_of}
-use Rattle.model_card.specs.Card.{Card, line_at, used, is_full, state}
-use Rattle.model_card.specs.Event.{Event, at}
-use Rattle.model_card.specs.Machine.{wants_room, after, answer}
-use Rattle.model_card.specs.Reached.{IsReached}
-use Rattle.model_card.specs.Run.{after_all, AreAtLines, IsAtLine}
-use Rattle.model_line.specs.Laws.{orders_in}
-use Rattle.model_link.specs.Told.{starts}
-use Rattle.model_card.proofs.Starts.{expiry_starts}
-use Rattle.model_card.proofs.Reaching.{reached-after, reached-sound}
-use Rattle.model_card.proofs.Refusals.{refused_by_the_table}
-use Rattle.model_line.specs.declared.faults.Fault.{Fault}
-use Rattle.model_card.specs.Happening.{Happening, comes, failed, goes, expires, asks, line_of, events_at, events_of, with_line}
-use Rattle.model_line.specs.WholeAtLine.{after_events, pulls_for}
-use Rattle.model_line.specs.Whole.{line_octets, fault_octets}
-use Rattle.model_card.specs.Said.{says, said}
-use Rattle.model_card.proofs.Happening.{all_at, config_stays, frames_are_of_lines}
-use Rattle.lapd_store.specs.Ownership.{owned_octets}
-use Rattle.lapd_store.specs.Store.{Store, used_slots, stored_octets}
-use Rattle.lapd_store.proofs.Ownership.{used_slots-held, stored_octets-held}
-use Rattle.lapd_store.proofs.Focus.{slots-machines, octets-machines}
-use Rattle.lapd_card.specs.FrameCard.{Held, line_count, room_for_frames}
-use Rattle.lapd_count.specs.Counters.{More, none_counted}
-use Rattle.model_line.specs.Counted.{told_in_answer}
-use Rattle.lapd_card.specs.Counted.{frame_counters_in}
-use Rattle.model_card.specs.HappeningsCounted.{counted_at, happening_shown}
-use Rattle.lapd_card.specs.FrameLines.{IsFit, owned, Stand, Lead, CountsAt}
+use Rattle.model_card.specs.Machine.{answer}
+use Rattle.lapd_card.specs.FrameCard.{Held, line_count}
+use Rattle.lapd_card.specs.FrameLines.{IsFit, owned, Stand, Lead}
 use Rattle.lapd_card.specs.FrameStands.{Stands, Leads, HasPast}
-use Rattle.lapd_card.specs.Lines.{line_in}
-use Rattle.lapd_card.specs.Reply.{answer_of_result}
 use Rattle.lapd_card.proofs.OneFrameLine.{IsAt, focused_at}
 use Rattle.lapd_card.proofs.OneEvent.{after_served, answer_served, has_room, expiry_takes, accepted_has_room}
 

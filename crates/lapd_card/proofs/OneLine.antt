@@ -1,25 +1,12 @@
 -- One line of a card, taken out of its lines and put back.
-use Rattle.std.proofs.Common.{Option, None, Some, ◌≡◌, ℕ, ◌≤◌, ◌<◌, List, [], length, sym, ap, subst, ◌∙◌, arith, get_or, set, length-set, refl}
-use Rattle.std.proofs.lemmas.List.{get_or_default, get_or-set_same, get_or-map, map-set}
-use Rattle.std.proofs.lemmas.Option.{slice_get-get_or}
-use Rattle.std.specs.Option.{option_map_or}
-use Rattle.lapd_count.specs.Counters.{none_counted, with_all}
-use Rattle.model_line.specs.Counted.{shown}
-use Rattle.lapd_line.specs.declared.reports.BareReport.{BareReport}
-use Rattle.lapd_line.specs.declared.line.Line.{Line}
+use Rattle.lapd_card.proofs.Vocabulary.{Option, None, Some, ◌≡◌, ℕ, ◌≤◌, ◌<◌, List, [], length, sym, ap, subst, ◌∙◌, arith, get_or, set, length-set, refl, get_or_default, get_or-set_same, get_or-map, map-set, slice_get-get_or, option_map_or, none_counted, with_all, shown, BareReport, Line, told_if, latest_frame, held_of, Config, nothing, answer, Owned, Store, SameLimits, FocusPair, focus_pair, counters_of, counters_in, IsFit, owned, Stand, Lead, line_in, told_of, told_at, told_if_at}
 use Rattle.lapd_line.specs.Stands as line
-use Rattle.lapd_line.specs.Reports.{told_if}
-use Rattle.lapd_line.specs.Stands.{config_of, latest_frame}
-use Rattle.lapd_line.proofs.Stood.{held_of, stands_on}
-use Rattle.model_line.specs.declared.config.Config.{Config}
-use Rattle.model_line.specs.Event.{Event, nothing}
+use Rattle.lapd_line.specs.Stands.{config_of}
+use Rattle.lapd_line.proofs.Stood.{stands_on}
+use Rattle.model_line.specs.Event.{Event}
 use Rattle.model_line.specs.Line as machine
-use Rattle.model_line.specs.Machine.{after, answer}
-use Rattle.lapd_store.specs.Ownership.{Owned}
-use Rattle.lapd_store.specs.Store.{Store, SameLimits}
-use Rattle.lapd_store.proofs.Focus.{FocusPair, focus_pair}
-use Rattle.lapd_card.specs.Counted.{counters_of, counters_in}
-use Rattle.lapd_card.specs.Lines.{IsFit, owned, Stand, Serve, Lead, line_in, told_of, told_at, told_if_at}
+use Rattle.model_line.specs.Machine.{after}
+use Rattle.lapd_card.specs.Lines.{Serve}
 
 -- A line stands for its part of the machine, beside what the other lines own; and whatever it and the shelf are
 -- afterwards, if it stands for another line of the machine, the lines stand with that in its place.

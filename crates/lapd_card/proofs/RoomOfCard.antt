@@ -1,18 +1,6 @@
 -- The room of a link of a card.
-use Rattle.std.proofs.Common.{◌≡◌, ℕ, ◌-◌, List, Result, Ok, Err, IfOk, sym, ap, ◌∙◌}
-use Rattle.lapd_frame.specs.declared.refusals.Refusal.{Refusal}
-use Rattle.lapd_frame.specs.declared.services.Service.{Service}
-use Rattle.lapd_store.specs.Store.{Store, used_slots}
-use Rattle.model_link.specs.declared.rooms.Room.{Room}
-use Rattle.model_line.specs.declared.config.Config.{Config}
+use Rattle.lapd_card.proofs.Vocabulary.{◌≡◌, ℕ, ◌-◌, List, Result, Ok, Err, IfOk, sym, ap, ◌∙◌, Refusal, Service, Store, used_slots, Room, Config, room_in, Card, line_at, room, RefusesBy, refuses_by, Held, Stand, line_in, Stands}
 use Rattle.model_line.specs.Line as line
-use Rattle.model_line.specs.Room.{room_in}
-use Rattle.model_card.specs.Card.{Card, line_at}
-use Rattle.model_card.specs.Room.{room, RefusesBy}
-use Rattle.model_card.proofs.Rooms.{refuses_by}
-use Rattle.lapd_card.specs.Card.{Held}
-use Rattle.lapd_card.specs.Lines.{Stand, line_in}
-use Rattle.lapd_card.specs.Stands.{Stands}
 use Rattle.lapd_card.proofs.OneEvent.{used_is}
 
 -- what a line has, of what the card leaves free

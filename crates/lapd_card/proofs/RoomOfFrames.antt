@@ -1,17 +1,8 @@
 -- The room of a link of a card for frames.
-use Rattle.std.proofs.Common.{◌≡◌, ℕ, ◌-◌, List, Result, sym, ap, ◌∙◌}
-use Rattle.lapd_frame.specs.declared.refusals.Refusal.{Refusal}
-use Rattle.lapd_frame.specs.declared.services.Service.{Service}
-use Rattle.lapd_store.specs.Store.{Store, used_slots}
-use Rattle.model_link.specs.declared.rooms.Room.{Room}
-use Rattle.model_line.specs.declared.config.Config.{Config}
+use Rattle.lapd_card.proofs.Vocabulary.{◌≡◌, ℕ, ◌-◌, List, Result, sym, ap, ◌∙◌, Refusal, Service, Store, used_slots, Room, Config, room_in, Card, line_at, room, line_in}
 use Rattle.model_line.specs.Line as line
-use Rattle.model_line.specs.Room.{room_in}
-use Rattle.model_card.specs.Card.{Card, line_at}
-use Rattle.model_card.specs.Room.{room}
 use Rattle.lapd_card.specs.FrameCard.{Held}
 use Rattle.lapd_card.specs.FrameLines.{Stand}
-use Rattle.lapd_card.specs.Lines.{line_in}
 use Rattle.lapd_card.specs.FrameStands.{Stands}
 use Rattle.lapd_card.proofs.OneHappening.{used_is}
 

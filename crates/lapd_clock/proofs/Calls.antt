@@ -1,15 +1,5 @@
 -- What the calls of a clock do to the set that its lines stand for.
-use Rattle.std.proofs.Common.{◌≡◌, ℕ, zero, suc, ◌+◌, ◌<◌, ◌≤◌, Bool, true, false, cond, not, ◌==◌, nat_le, List, [], ◌∷◌, length, drop, get_or, set, Some, None, All, Contains, refl, sym, ap, ◌∙◌, subst, arith, length-set}
-use Rattle.std.specs.List.{AllByRecursion}
-use Rattle.std.proofs.lemmas.Bool.Decides.{nat_tests}
-use Rattle.std.proofs.lemmas.List.Elements.{All-from_recursion}
-use Rattle.std.proofs.lemmas.List.Sums.{length-filter, count_by-le-length}
-use Rattle.lapd_clock.specs.InOrder.{put_in_order, IsInOrder}
-use Rattle.lapd_clock.specs.Timer.{Timer, Lengths, Start, Stop, duration, is_same}
-use Rattle.lapd_clock.specs.Timers.{Expiry, Timers, is_before, without, finds_place, with_order, after_first_due, first_due}
-use Rattle.lapd_clock.specs.Sound.{IsSound, IsLeastDue}
-use Rattle.lapd_clock.specs.declared.line.Held.{Held}
-use Rattle.lapd_clock.specs.Places.{Line, held_before, all_but, from_line, in_order, timers_in, IsLineKept, IsKept}
+use Rattle.lapd_clock.proofs.Vocabulary.{◌≡◌, ℕ, zero, suc, ◌+◌, ◌<◌, ◌≤◌, Bool, true, false, cond, not, ◌==◌, nat_le, List, [], ◌∷◌, length, drop, get_or, set, Some, None, All, Contains, refl, sym, ap, ◌∙◌, subst, arith, length-set, AllByRecursion, nat_tests, All-from_recursion, length-filter, count_by-le-length, put_in_order, IsInOrder, Timer, Lengths, Start, Stop, duration, is_same, Expiry, Timers, is_before, without, finds_place, with_order, after_first_due, first_due, IsSound, IsLeastDue, Held, Line, held_before, all_but, from_line, in_order, timers_in, IsLineKept, IsKept}
 use Rattle.lapd_clock.proofs.Ordered.{IsInOrder-put_in_order, IsInOrder-filter}
 use Rattle.lapd_clock.proofs.TimerOrder.{held_order}
 use Rattle.lapd_clock.proofs.StandsFor.{in_order-stopped, in_order-restarted, count_on-stopped}

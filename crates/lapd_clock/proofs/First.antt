@@ -1,18 +1,5 @@
 -- The first timer of all lines.
-use Rattle.std.proofs.Common.{◌≡◌, ℕ, zero, suc, ◌+◌, ◌==◌, ◌<◌, ◌≤◌, true, false, cond, List, [], ◌∷◌, ◌++◌, length, take, get_or, set, drop, Option, Some, None, nat_lt, refl, sym, ap, ◌∙◌, subst, arith, length-append, length-take}
-use Rattle.std.specs.declared.cmp.Ordering.{Ordering}
-use Rattle.std.specs.declared.cmp.Ordering.TheVariants.{Less, Equal, Greater}
-use Rattle.std.proofs.lemmas.List.{take_more}
-use Rattle.std.specs.List.{AllByRecursion}
-use Rattle.std.specs.Ordering.{nat_cmp, ordering_then, is_lt}
-use Rattle.std.proofs.lemmas.Bool.{false≢true}
-use Rattle.std.proofs.lemmas.Bool.Decides.{nat_tests}
-use Rattle.std.proofs.lemmas.Cmp.{tied_itself}
-use Rattle.lapd_clock.specs.InOrder.{put_in_order, IsInOrder}
-use Rattle.lapd_clock.specs.Timer.{timer_cmp}
-use Rattle.lapd_clock.specs.Timers.{Expiry, is_before}
-use Rattle.lapd_clock.specs.declared.line.Held.{Held}
-use Rattle.lapd_clock.specs.Places.{Line, held_before, expiry_on, on_line, from_line, in_order, earlier_of, IsFirst, IsFirstLine, IsFirstAfter, AreFirstAfter, IsLineKept}
+use Rattle.lapd_clock.proofs.Vocabulary.{◌≡◌, ℕ, zero, suc, ◌+◌, ◌==◌, ◌<◌, ◌≤◌, true, false, cond, List, [], ◌∷◌, ◌++◌, length, take, get_or, set, drop, Option, Some, None, nat_lt, refl, sym, ap, ◌∙◌, subst, arith, length-append, length-take, Ordering, Less, Equal, Greater, take_more, AllByRecursion, nat_cmp, ordering_then, is_lt, false≢true, nat_tests, tied_itself, put_in_order, IsInOrder, timer_cmp, Expiry, is_before, Held, Line, held_before, expiry_on, on_line, from_line, in_order, earlier_of, IsFirst, IsFirstLine, IsFirstAfter, AreFirstAfter, IsLineKept}
 use Rattle.lapd_clock.proofs.Ordered.{All-put_in_order, All-from_put_in_order, put_in_order-first}
 use Rattle.lapd_clock.proofs.TimerOrder.{before_order, expiry_total}
 use Rattle.lapd_clock.proofs.StandsFor.{same_line, behind}

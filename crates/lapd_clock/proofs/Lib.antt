@@ -1,4 +1,5 @@
 -- Lemmas: timers in order of time, what runs, which is first, and how long until then.
+pub mod Vocabulary
 pub mod Ordered
 pub mod TimerOrder
 pub mod StandsFor

@@ -1,12 +1,5 @@
 -- What an order does to the map from timers to moments.
-use Rattle.std.proofs.Common.{◌≡◌, ℕ, ◌+◌, Bool, true, false, cond, not, ◌&&◌, ◌==◌, List, [], ◌∷◌, None, Some, refl, sym, ap, ◌∙◌}
-use Rattle.std.specs.List.{AllByRecursion}
-use Rattle.std.proofs.lemmas.Bool.{false≢true}
-use Rattle.std.proofs.lemmas.Cmp.{nat_eq_equiv, eq_by_cmp_equiv}
-use Rattle.lapd_clock.specs.InOrder.{put_in_order}
-use Rattle.lapd_clock.specs.Timer.{Timer, Start, Stop, duration, is_same}
-use Rattle.lapd_clock.specs.Timers.{Expiry, Timers, is_before, is_of, without, with_expiry, finds_place, with_order}
-use Rattle.lapd_clock.specs.Moments.{moment_of, MovesOne}
+use Rattle.lapd_clock.proofs.Vocabulary.{◌≡◌, ℕ, ◌+◌, Bool, true, false, cond, not, ◌&&◌, ◌==◌, List, [], ◌∷◌, None, Some, refl, sym, ap, ◌∙◌, AllByRecursion, false≢true, nat_eq_equiv, eq_by_cmp_equiv, put_in_order, Timer, Start, Stop, duration, is_same, Expiry, Timers, is_before, is_of, without, with_expiry, finds_place, with_order, moment_of, MovesOne}
 use Rattle.lapd_clock.proofs.Ordered.{by_place}
 use Rattle.lapd_clock.proofs.TimerOrder.{timer_total}
 use Rattle.lapd_clock.proofs.Running.{none_of-without}

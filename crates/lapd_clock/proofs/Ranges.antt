@@ -1,6 +1,5 @@
 -- Lengths that were given are in range.
-use Rattle.lapd_clock.specs.Timer.{AreInRange}
-use Rattle.lapd_clock.specs.Given.{lengths_of}
+use Rattle.lapd_clock.proofs.Vocabulary.{AreInRange, lengths_of}
 use Rattle.lapd_clock.specs.declared.lengths.Lengths as rust
 
 pub range_of : (l : rust.Lengths) → AreInRange (lengths_of l)

@@ -1,16 +1,5 @@
 -- The set that the lines stand for, when the timers of one line change.
-use Rattle.std.proofs.Common.{◌≡◌, ◌≢◌, ℕ, zero, suc, ◌+◌, ◌<◌, Bool, true, false, cond, not, ◌&&◌, ◌==◌, List, [], ◌∷◌, ◌++◌, length, drop, filter, count_by, Some, slice_get, get_or, set, refl, sym, ap, ◌∙◌, arith}
-use Rattle.std.specs.List.{HoldsAt}
-use Rattle.std.specs.Ordering.{nat_cmp, ordering_then, is_lt}
-use Rattle.std.proofs.lemmas.Bool.Decides.{nat_tests}
-use Rattle.std.proofs.lemmas.Cmp.{nat_cmp_total, tied_itself}
-use Rattle.std.proofs.lemmas.List.Elements.{filter-append}
-use Rattle.std.proofs.lemmas.List.Sums.{sum_by-append}
-use Rattle.lapd_clock.specs.InOrder.{put_in_order, IsInOrder}
-use Rattle.lapd_clock.specs.Timer.{Timer, timer_cmp, is_same}
-use Rattle.lapd_clock.specs.Timers.{Expiry, is_before, is_of, without, count_on}
-use Rattle.lapd_clock.specs.declared.line.Held.{Held}
-use Rattle.lapd_clock.specs.Places.{Line, held_before, all_but, expiry_on, on_line, from_line, in_order}
+use Rattle.lapd_clock.proofs.Vocabulary.{◌≡◌, ◌≢◌, ℕ, zero, suc, ◌+◌, ◌<◌, Bool, true, false, cond, not, ◌&&◌, ◌==◌, List, [], ◌∷◌, ◌++◌, length, drop, filter, count_by, Some, slice_get, get_or, set, refl, sym, ap, ◌∙◌, arith, HoldsAt, nat_cmp, ordering_then, is_lt, nat_tests, nat_cmp_total, tied_itself, filter-append, sum_by-append, put_in_order, IsInOrder, Timer, timer_cmp, is_same, Expiry, is_before, is_of, without, count_on, Held, Line, held_before, all_but, expiry_on, on_line, from_line, in_order}
 use Rattle.lapd_clock.proofs.Ordered.{put_in_order-after, put_in_order-here, by_place, put_in_order-swap, filter-put_in_order, IsInOrder-put_in_order, count_by-put_in_order, count_by-cons}
 use Rattle.lapd_clock.proofs.TimerOrder.{before_order, same_expiry}
 

@@ -1,17 +1,5 @@
 -- The order in which timers fall due is total, and only equal ones tie.
-use Rattle.std.proofs.Common.{◌≡◌, false, refl, sym, ap, ◌∙◌, arith}
-use Rattle.std.specs.declared.cmp.Ordering.{Ordering}
-use Rattle.std.specs.declared.cmp.Ordering.TheVariants.{Less, Equal, Greater}
-use Rattle.std.specs.Cmp.{IsTotalOrder, IsStrictWeakOrder}
-use Rattle.std.specs.Ordering.{nat_cmp, ordering_then, ordering_reverse, is_lt}
-use Rattle.std.proofs.lemmas.Bool.{false≢true}
-use Rattle.std.proofs.lemmas.Cmp.{nat_cmp_total, on_total, then_total, eq_by_cmp_equiv}
-use Rattle.std.proofs.lemmas.List.Sorted.{ranks_by}
-use Rattle.std.proofs.lemmas.Map.Lookups.{exact_unsigned}
-use Rattle.lapd_clock.specs.Timer.{Timer, T200, T203, T201, Service, Call, Packet, kind_rank, tei_rank, service_rank, rank_of_service, timer_cmp, is_same}
-use Rattle.lapd_clock.specs.Timers.{Expiry, expiry_cmp, is_before}
-use Rattle.lapd_clock.specs.declared.line.Held.{Held}
-use Rattle.lapd_clock.specs.Places.{held_before}
+use Rattle.lapd_clock.proofs.Vocabulary.{◌≡◌, false, refl, sym, ap, ◌∙◌, arith, Ordering, Less, Equal, Greater, IsTotalOrder, IsStrictWeakOrder, nat_cmp, ordering_then, ordering_reverse, is_lt, false≢true, nat_cmp_total, on_total, then_total, eq_by_cmp_equiv, ranks_by, exact_unsigned, Timer, T200, T203, T201, Service, Call, Packet, kind_rank, tei_rank, service_rank, rank_of_service, timer_cmp, is_same, Expiry, expiry_cmp, is_before, Held, held_before}
 
 -- the orders are total,
 pub timer_total : IsTotalOrder timer_cmp

@@ -1,10 +1,5 @@
 -- The table of kinds has the kind of each octet.
-use Rattle.std.proofs.Common.{◌≡◌, ℕ, ◌<◌, get_or, map, refl, ap, ◌∙◌, arith}
-use Rattle.std.specs.List.{range_with_len}
-use Rattle.std.proofs.lemmas.List.FromFn.{get_or-map-range_with_len}
-use Rattle.lapd_count.specs.Kinds.{kind_of}
-use Rattle.lapd_count.specs.declared.kinds.Kind.{Kind}
-use Rattle.lapd_count.specs.declared.kinds.TheConstants.{KINDS}
+use Rattle.lapd_count.proofs.Vocabulary.{◌≡◌, ℕ, ◌<◌, get_or, map, refl, ap, ◌∙◌, arith, range_with_len, get_or-map-range_with_len, kind_of, Kind, KINDS}
 
 table_is : KINDS ≡ map kind_of (range_with_len 0 256)
 table_is = refl

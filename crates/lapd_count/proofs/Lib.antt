@@ -1,4 +1,5 @@
 -- Lemmas: kinds of counters and their places.
+pub mod Vocabulary
 pub mod KindTable
 pub mod Numbers
 pub mod Places

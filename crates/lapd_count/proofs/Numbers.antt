@@ -1,21 +1,7 @@
 -- A counter is a number.
-use Rattle.std.proofs.Common.{◌≡◌, ℕ, ◌+◌, ◌≤◌, ◌<◌, ◌==◌, Bool, true, false, cond, [], ◌∷◌, length, length-set, get_or, set, min, refl, sym, ap, subst, ◌∙◌, arith}
-use Rattle.std.proofs.lemmas.Bool.{eqb-true, eqb-false}
-use Rattle.std.proofs.lemmas.List.{get_or-set_same, get_or-set_other}
-use Rattle.std.proofs.lemmas.List.Sums.{sum_by-cons}
-use Rattle.lapd_bits.specs.declared.heard.Cause.{Cause}
-use Rattle.lapd_bits.specs.declared.heard.Cause.TheVariants.{Abort, Ragged, Short, Fcs, Extension, Sapi, Tei, Unserved}
-use Rattle.lapd_frame.specs.declared.notes.ErrorCode.{ErrorCode}
+use Rattle.lapd_count.proofs.Vocabulary.{◌≡◌, ℕ, ◌+◌, ◌≤◌, ◌<◌, ◌==◌, Bool, true, false, cond, [], ◌∷◌, length, length-set, get_or, set, min, refl, sym, ap, subst, ◌∙◌, arith, eqb-true, eqb-false, get_or-set_same, get_or-set_other, sum_by-cons, Cause, Abort, Ragged, Short, Fcs, Extension, Sapi, Tei, Unserved, ErrorCode, Counter, Frames, Octets, Polls, Overlong, Dropped, Errors, EstablishIndications, EstablishConfirms, ReleaseIndications, ReleaseConfirms, Data, Units, Xids, Assigned, Removed, Doubled, Lost, Heard, Begun, Counters, Kind, kind_place, count, most, place, cause_place, error_place, value_in, with_more, amount_of, amount_in, CountersAreNumbers}
 use Rattle.lapd_frame.specs.declared.notes.ErrorCode.TheVariants as code
-use Rattle.lapd_count.specs.declared.counter.Counter.{Counter}
-use Rattle.lapd_count.specs.declared.counter.Counter.TheVariants.{Frames, Octets, Polls, Overlong, Dropped, Errors, EstablishIndications, EstablishConfirms, ReleaseIndications, ReleaseConfirms, Data, Units, Xids, Assigned, Removed, Doubled, Lost}
-use Rattle.lapd_count.specs.declared.counter.Way.TheVariants.{Heard, Begun}
-use Rattle.lapd_count.specs.declared.counters.Counters.{Counters}
-use Rattle.lapd_count.specs.declared.kinds.Kind.{Kind}
 use Rattle.lapd_count.specs.declared.kinds.Kind.TheVariants as kind
-use Rattle.lapd_count.specs.Kinds.{kind_place}
-use Rattle.lapd_count.specs.Counters.{count, most, place, cause_place, error_place, value_in, with_more, amount_of, amount_in}
-use Rattle.lapd_count.specs.Laws.{CountersAreNumbers}
 
 kind_within : (k : Kind) → kind_place k < 12
 kind_within kind.Information = omega arith

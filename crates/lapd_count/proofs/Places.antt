@@ -1,13 +1,7 @@
 -- No two counters stand at one place.
-use Rattle.std.proofs.Common.{◌≡◌, List, [], ◌∷◌, get_or, refl, sym, ap, ◌∙◌}
-use Rattle.lapd_bits.specs.declared.heard.Cause.TheVariants.{Abort, Ragged, Short, Fcs, Extension, Sapi, Tei, Unserved}
+use Rattle.lapd_count.proofs.Vocabulary.{◌≡◌, List, [], ◌∷◌, get_or, refl, sym, ap, ◌∙◌, Abort, Ragged, Short, Fcs, Extension, Sapi, Tei, Unserved, Counter, Frames, Octets, Polls, Overlong, Dropped, Errors, EstablishIndications, EstablishConfirms, ReleaseIndications, ReleaseConfirms, Data, Units, Xids, Assigned, Removed, Doubled, Lost, Heard, Begun, place, PlacesAreNames}
 use Rattle.lapd_frame.specs.declared.notes.ErrorCode.TheVariants as code
-use Rattle.lapd_count.specs.declared.counter.Counter.{Counter}
-use Rattle.lapd_count.specs.declared.counter.Counter.TheVariants.{Frames, Octets, Polls, Overlong, Dropped, Errors, EstablishIndications, EstablishConfirms, ReleaseIndications, ReleaseConfirms, Data, Units, Xids, Assigned, Removed, Doubled, Lost}
-use Rattle.lapd_count.specs.declared.counter.Way.TheVariants.{Heard, Begun}
 use Rattle.lapd_count.specs.declared.kinds.Kind.TheVariants as kind
-use Rattle.lapd_count.specs.Counters.{place}
-use Rattle.lapd_count.specs.Laws.{PlacesAreNames}
 
 -- all of them, each at its place
 abbrev names : List Counter

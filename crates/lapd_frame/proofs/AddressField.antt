@@ -1,13 +1,5 @@
 -- Addresses: what two octets are is what they spell, and is read again.
-use Rattle.std.proofs.Common.{◌≡◌, ◌≢◌, ℕ, ◌+◌, ◌*◌, ◌/◌, ◌%◌, ◌≤◌, inl, inr, Bool, true, false, ◌==◌, refl, ap, ◌∙◌, [], ◌∷◌, arith}
-use Rattle.std.proofs.lemmas.Bool.{eq-eqb, ne_eqb}
-use Rattle.std.proofs.lemmas.Bool.Decides.{eqb_tells}
-use Rattle.lapd_frame.specs.declared.addresses.Side.{Side}
-use Rattle.lapd_frame.specs.declared.addresses.Side.TheVariants.{User, Network}
-use Rattle.lapd_frame.specs.declared.addresses.Address.{Address}
-use Rattle.lapd_frame.specs.Faults.{has_bad_extension}
-use Rattle.lapd_frame.specs.Grammar.{cr_bit, address_field}
-use Rattle.lapd_frame.specs.Reading.{address_of}
+use Rattle.lapd_frame.proofs.Vocabulary.{◌≡◌, ◌≢◌, ℕ, ◌+◌, ◌*◌, ◌/◌, ◌%◌, ◌≤◌, inl, inr, Bool, true, false, ◌==◌, refl, ap, ◌∙◌, [], ◌∷◌, arith, eq-eqb, ne_eqb, eqb_tells, Side, User, Network, Address, has_bad_extension, cr_bit, address_field, address_of}
 
 -- both extension bits are right
 pub good-extension : (first second : ℕ) → has_bad_extension first second ≡ false → (first % 2 ≡ 0) × (second % 2 ≡ 1)

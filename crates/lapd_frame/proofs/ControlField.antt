@@ -1,14 +1,5 @@
 -- Control fields: what `control_of` finds has that field, and the field of a row is found again.
-use Rattle.std.proofs.Common.{◌≡◌, ◌≢◌, ℕ, ◌*◌, ◌/◌, ◌%◌, ◌<◌, inl, inr, Bool, true, false, cond, ◌==◌, refl, ap, sym, ◌∙◌, subst, List, [], ◌∷◌, ◌++◌, slice_index, Option, Some, None, arith}
-use Rattle.std.proofs.lemmas.Bool.{eq-eqb, ne_eqb}
-use Rattle.std.proofs.lemmas.Bool.Decides.{eqb_tells}
-use Rattle.lapd_seq.specs.declared.numbers.Seq.{Seq}
-use Rattle.lapd_seq.specs.Numbers.{seq}
-use Rattle.lapd_seq.proofs.Callers.{is_seq}
-use Rattle.lapd_frame.specs.declared.controls.Control.{Control}
-use Rattle.lapd_frame.specs.declared.controls.Control.TheVariants.{Information, ReceiveReady, ReceiveNotReady, Reject, Sabme, Disc, Ui, Ua, Dm, Frmr, Xid}
-use Rattle.lapd_frame.specs.Grammar.{row, second_octet}
-use Rattle.lapd_frame.specs.Reading.{supervisory_of, unnumbered_of, control_of}
+use Rattle.lapd_frame.proofs.Vocabulary.{◌≡◌, ◌≢◌, ℕ, ◌*◌, ◌/◌, ◌%◌, ◌<◌, inl, inr, Bool, true, false, cond, ◌==◌, refl, ap, sym, ◌∙◌, subst, List, [], ◌∷◌, ◌++◌, slice_index, Option, Some, None, arith, eq-eqb, ne_eqb, eqb_tells, Seq, seq, is_seq, Control, Information, ReceiveReady, ReceiveNotReady, Reject, Sabme, Disc, Ui, Ua, Dm, Frmr, Xid, row, second_octet, supervisory_of, unnumbered_of, control_of}
 
 -- what holds of each outcome of a chain of tests holds of the outcome
 step : (P : Control → Type 0) (octet k : ℕ) (x c : Control) (others : Option Control) → (octet ≡ k → P x) → (others ≡ Some c → P c)

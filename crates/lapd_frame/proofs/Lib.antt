@@ -1,4 +1,5 @@
 -- Lemmas.
+pub mod Vocabulary
 pub mod AddressField
 pub mod ControlField
 pub mod Spelling

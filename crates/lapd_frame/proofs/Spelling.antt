@@ -1,20 +1,5 @@
 -- The grammar read backwards: `reading` finds what the octets spell, and the first fault where they spell nothing.
-use Rattle.std.proofs.Common.{◌≡◌, ℕ, ◌+◌, ◌*◌, ◌/◌, ◌%◌, ◌<◌, ◌≤◌, ◌⊎◌, inl, inr, Bool, true, false, IsTrue, cond, ◌==◌, refl, ap, sym, ◌∙◌, subst, List, [], ◌∷◌, ◌++◌, length, drop, slice_index, Option, Some, None, Result, Ok, Err, IfOk, IsOkAnd, ◌↔◌, length-append, lit<, zero, suc, arith}
-use Rattle.std.proofs.lemmas.Bool.{eqb-true}
-use Rattle.std.proofs.lemmas.Bool.Decides.{eqb_tells}
-use Rattle.std.proofs.lemmas.List.Elements.{All-nil, All-cons, All-head, All-tail}
-use Rattle.lapd_frame.specs.declared.addresses.Side.{Side}
-use Rattle.lapd_frame.specs.declared.addresses.Address.{Address}
-use Rattle.lapd_frame.specs.declared.controls.Control.{Control}
-use Rattle.lapd_frame.specs.declared.controls.Control.TheVariants.{Information, ReceiveReady, ReceiveNotReady, Reject, Sabme, Disc, Ui, Ua, Dm, Frmr, Xid}
-use Rattle.lapd_frame.specs.declared.faults.ReadFault.{ReadFault}
-use Rattle.lapd_frame.specs.declared.faults.ReadFault.TheVariants.{BadExtension, Undefined, WrongSize, Short}
-use Rattle.lapd_frame.specs.declared.overlong.Long.{Long}
-use Rattle.lapd_frame.specs.declared.frames.Frame.{Frame}
-use Rattle.lapd_frame.specs.Faults.{is_short, has_bad_extension, HasAddress, HasControl, IsFault}
-use Rattle.lapd_frame.specs.Grammar.{Parts, parts_of, cr_bit, address_field, allows, takes, row, one_of, IsFrame, spelling, Spells, AreOctets, exactly}
-use Rattle.lapd_frame.specs.Overlong.{IsLong}
-use Rattle.lapd_frame.specs.Reading.{address_of, control_of, checked, header_of, start_of, sized, completed, reading, outcome_of, long_kind, long_of}
+use Rattle.lapd_frame.proofs.Vocabulary.{◌≡◌, ℕ, ◌+◌, ◌*◌, ◌/◌, ◌%◌, ◌<◌, ◌≤◌, ◌⊎◌, inl, inr, Bool, true, false, IsTrue, cond, ◌==◌, refl, ap, sym, ◌∙◌, subst, List, [], ◌∷◌, ◌++◌, length, drop, slice_index, Option, Some, None, Result, Ok, Err, IfOk, IsOkAnd, ◌↔◌, length-append, lit<, zero, suc, arith, eqb-true, eqb_tells, All-nil, All-cons, All-head, All-tail, Side, Address, Control, Information, ReceiveReady, ReceiveNotReady, Reject, Sabme, Disc, Ui, Ua, Dm, Frmr, Xid, ReadFault, BadExtension, Undefined, WrongSize, Short, Long, Frame, is_short, has_bad_extension, HasAddress, HasControl, IsFault, Parts, parts_of, cr_bit, address_field, allows, takes, row, one_of, IsFrame, spelling, Spells, AreOctets, exactly, IsLong, address_of, control_of, checked, header_of, start_of, sized, completed, reading, outcome_of, long_kind, long_of}
 use Rattle.lapd_frame.proofs.AddressField.{address-found, extension-again, address-again}
 use Rattle.lapd_frame.proofs.ControlField.{HasField, two_octets, one_octet, control-found, control-again}
 

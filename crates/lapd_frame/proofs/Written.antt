@@ -1,7 +1,5 @@
 -- Octets that are written one part after the other.
-use Rattle.std.proofs.Common.{◌≡◌, ℕ, ◌+◌, ◌≤◌, List, ◌++◌, length, take, drop, ap, sym, ◌∙◌, arith}
-use Rattle.std.proofs.Math.Seq.{take-append_seam}
-use Rattle.std.proofs.lemmas.Slice.{drop-append-drop}
+use Rattle.lapd_frame.proofs.Vocabulary.{◌≡◌, ℕ, ◌+◌, ◌≤◌, List, ◌++◌, length, take, drop, ap, sym, ◌∙◌, arith, take-append_seam, drop-append-drop}
 
 -- a head of s octets, then the information
 pub written : (s : ℕ) (head info old middle new front : List ℕ) → take s head ≡ front → length front ≡ s

@@ -1,42 +1,11 @@
 -- What is heard, by whom it is for.
-use Rattle.std.proofs.Common.{◌≡◌, ℕ, Bool, true, false, not, ◌&&◌, nat_le, ◌==◌, ◌≤◌, List, [], ◌∷◌, Option, Some, None, Err, length, drop, refl, sym, ap, ◌∙◌, cond, subst, eqb-true}
-use Rattle.std.proofs.Math.ListN.{drop_of_length-le}
-use Rattle.lapd_frame.specs.declared.addresses.Address.{Address}
-use Rattle.lapd_frame.specs.declared.addresses.Side.{Side}
-use Rattle.lapd_frame.specs.declared.addresses.Side.TheVariants.{User, Network}
-use Rattle.lapd_frame.specs.declared.notes.Note.{Note}
+use Rattle.lapd_line.proofs.Vocabulary.{◌≡◌, ℕ, Bool, true, false, not, ◌&&◌, nat_le, ◌==◌, ◌≤◌, List, [], ◌∷◌, Option, Some, None, Err, length, drop, refl, sym, ap, ◌∙◌, cond, subst, eqb-true, drop_of_length-le, Address, Side, User, Network, Note, Service, ShortList, Parts, service_of, listed, Tei, Unserved, Control, ReadFault, BadExtension, Undefined, WrongSize, Short, Management, place_of, false≢true, Owned, Store, Config, LineTold, nothing, dropped, Line, place_in, addressed, at_place, to_service, management_sapi, group_tei, drop_for, message_of, aim_of_long, aim_of_reading, Aim, at_none, at_management, of_aim, group_told, told_of_ui, told_of_group, told_at, managed_at, at_side, has_management, Addressee, LinkLayer, BareReport, addressee, of_service, aim_at, is_ui, message_at, group_service, Stands, Serves, always, told_in}
 use Rattle.lapd_frame.specs.declared.notes.Note.TheVariants as notes
-use Rattle.lapd_frame.specs.declared.services.Service.{Service}
-use Rattle.lapd_frame.specs.declared.short_lists.ShortList.{ShortList}
-use Rattle.lapd_frame.specs.Grammar.{Parts}
-use Rattle.lapd_frame.specs.Services.{service_of}
-use Rattle.lapd_frame.specs.ShortLists.{listed}
-use Rattle.lapd_bits.specs.declared.heard.Cause.TheVariants.{Tei, Unserved}
-use Rattle.lapd_frame.specs.declared.controls.Control.{Control}
 use Rattle.lapd_frame.specs.declared.controls.Control.TheVariants as control
-use Rattle.lapd_frame.specs.declared.faults.ReadFault.{ReadFault}
-use Rattle.lapd_frame.specs.declared.faults.ReadFault.TheVariants.{BadExtension, Undefined, WrongSize, Short}
 use Rattle.model_link.specs.Events as link
 use Rattle.lapd_tei.specs.Events as teis
-use Rattle.lapd_tei.specs.Machine.{Management}
-use Rattle.lapd_tei.specs.Table.{place_of}
-use Rattle.std.proofs.lemmas.Bool.{false≢true}
-use Rattle.lapd_store.specs.Ownership.{Owned}
-use Rattle.lapd_store.specs.Store.{Store}
-use Rattle.model_line.specs.declared.config.Config.{Config}
-use Rattle.model_line.specs.Event.{LineTold, nothing, dropped}
-use Rattle.model_line.specs.Line.{Line, place_in}
-use Rattle.model_line.specs.Octet.{addressed, at_place, to_service, management_sapi, group_tei, drop_for, message_of, aim_of_long, aim_of_reading}
-use Rattle.model_line.specs.Effect.{Aim, at_none, at_management, of_aim}
-use Rattle.model_line.specs.Sides.{group_told, told_of_ui, told_of_group, told_at, managed_at, at_side, has_management}
-use Rattle.lapd_line.specs.declared.addressing.Addressee.{Addressee}
 use Rattle.lapd_line.specs.declared.addressing.Addressee.TheVariants as to
-use Rattle.lapd_line.specs.declared.link_layer.LinkLayer.{LinkLayer}
-use Rattle.lapd_line.specs.declared.reports.BareReport.{BareReport}
 use Rattle.lapd_line.specs.Addressing as aims
-use Rattle.lapd_line.specs.Addressing.{addressee, of_service, aim_at, is_ui, message_at, group_service}
-use Rattle.lapd_line.specs.LinkLayer.{Stands, Serves, always}
-use Rattle.lapd_line.specs.Reports.{told_in}
 
 -- one aim is the other, for every past that stands
 pub serves_as : {aim' aim : Line → Aim} {octets : List ℕ} {e new : LinkLayer} {s t : Store} {o : BareReport} → ((others : List Owned) (m : Line) → Stands e s others m → aim m ≡ aim' m)

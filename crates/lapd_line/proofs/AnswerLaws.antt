@@ -1,15 +1,5 @@
 -- What the laws of a line's machine say of an answer that is the machine's.
-use Rattle.std.proofs.Common.{◌≡◌, ℕ, ◌≤◌, IsSome, sym, subst}
-use Rattle.lapd_frame.specs.declared.timers.Timer.{Timer}
-use Rattle.model_line.specs.declared.config.Config.{Config}
-use Rattle.model_line.specs.Event.{LineTold, told, octet, expiry}
-use Rattle.model_line.specs.Counts.{may_send}
-use Rattle.model_line.specs.Laws.{orders_in, cause_in}
-use Rattle.model_link.specs.Told.{starts}
-use Rattle.model_line.specs.Line.{Line}
-use Rattle.model_line.specs.Machine.{after, answer}
-use Rattle.model_line.proofs.Drops.{drop_costs_nothing}
-use Rattle.model_line.proofs.Starts.{expiry_starts}
+use Rattle.lapd_line.proofs.Vocabulary.{◌≡◌, ℕ, ◌≤◌, IsSome, sym, subst, Timer, Config, LineTold, told, octet, expiry, may_send, orders_in, cause_in, starts, Line, after, answer, drop_costs_nothing, expiry_starts}
 
 -- an expiry starts one timer at most
 pub starts_one : (c : Config) (timer : Timer) (m : Line) (t : LineTold) → told t ≡ answer c (expiry timer) m → starts t.orders ≤ 1

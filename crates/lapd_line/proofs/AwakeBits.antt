@@ -1,10 +1,6 @@
 -- The bits of the links that are awake.
-use Rattle.std.proofs.Common.{◌≡◌, ◌≢◌, ℕ, ◌+◌, ◌-◌, ◌/◌, ◌%◌, ◌^◌, ◌≤◌, ◌<◌, ap, sym, ◌∙◌, arith}
-use Rattle.std.proofs.lemmas.Nat.{shr-shr}
-use Rattle.std.proofs.Math.Nat.{div-le_self}
-use Rattle.std.proofs.lemmas.Nat.Bits.{bit_at-zero, bit_at-trailing_zeros}
-use Rattle.std.specs.Int.{bit_at, trailing_zeros, w32}
-use Rattle.lapd_line.specs.Awake.{NoneFrom, IsLowestFrom}
+use Rattle.lapd_line.proofs.Vocabulary.{◌≡◌, ◌≢◌, ℕ, ◌+◌, ◌-◌, ◌/◌, ◌%◌, ◌^◌, ◌≤◌, ◌<◌, ap, sym, ◌∙◌, arith, shr-shr, div-le_self, bit_at-zero, bit_at-trailing_zeros, bit_at, trailing_zeros, NoneFrom, IsLowestFrom}
+use Rattle.std.specs.Int.{w32}
 
 -- a bit of what is left from one bit on
 shifted_bit : (n from number : ℕ) → from ≤ number → bit_at n number ≡ bit_at (n / 2 ^ from) (number - from)

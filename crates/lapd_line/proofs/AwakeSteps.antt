@@ -1,15 +1,6 @@
 -- Which links are awake, as one wakes, falls asleep or begins anew.
-use Rattle.std.proofs.Common.{◌≡◌, ◌≢◌, ℕ, zero, suc, List, [], ◌∷◌, replicate, set, slice_get, Some, None, refl, ap, sym, subst, ◌∙◌, arith, ⊎_elim}
-use Rattle.std.proofs.lemmas.Bool.{cases_eq}
-use Rattle.std.proofs.lemmas.List.{get_or-set_other}
-use Rattle.lapd_link.specs.declared.link.Link.{Link}
-use Rattle.model_link.specs.declared.terms.Terms.{Terms}
+use Rattle.lapd_line.proofs.Vocabulary.{◌≡◌, ◌≢◌, ℕ, zero, suc, List, [], ◌∷◌, replicate, set, slice_get, Some, None, refl, ap, sym, subst, ◌∙◌, arith, ⊎_elim, cases_eq, get_or-set_other, Link, Terms, given, fresh_gives_nothing, Awake, IsAwake, IsAsleep, Wakes, FallsAsleep, NoneMissed, HasTerms, machine_at, terms_in}
 use Rattle.model_link.specs.Link as machine
-use Rattle.model_link.specs.Machine.{given}
-use Rattle.model_line.proofs.Offered.{fresh_gives_nothing}
-use Rattle.lapd_line.specs.declared.awake.Awake.{Awake}
-use Rattle.lapd_line.specs.Awake.{IsAwake, IsAsleep, Wakes, FallsAsleep, NoneMissed}
-use Rattle.lapd_line.specs.Links.{HasTerms, machine_at, terms_in}
 
 -- a link that is awake is not asleep
 awake_not_asleep : {A : Type 0} (a : Awake) (number : ℕ) → IsAwake a number → IsAsleep a number → A

@@ -1,29 +1,11 @@
 -- What a line counts of an event.
-use Rattle.std.proofs.Common.{◌≡◌, ℕ, Bool, true, false, List, [], ◌++◌, Option, Some, None, is_some, refl, sym, ap, subst, ◌∙◌}
-use Rattle.std.proofs.lemmas.Bool.{false≢true}
-use Rattle.std.proofs.lemmas.List.Sums.{fold-append}
-use Rattle.std.specs.Option.{option_map_or}
-use Rattle.lapd_bits.specs.Heads.{latest_frame, head_of}
+use Rattle.lapd_line.proofs.Vocabulary.{◌≡◌, ℕ, Bool, true, false, List, [], ◌++◌, Option, Some, None, is_some, refl, sym, ap, subst, ◌∙◌, false≢true, fold-append, option_map_or, head_of, Head, Counters, More, with_more, with_all, head_shown, heard_shown, Owned, Store, frame_taken, Config, Event, octet, pull, LineTold, told, pulled, after, answer, gained, Taken, begun, latest_is_begun, Order, told_in_report, told_in_answer, taken_shown, shown, with_counted, Moves, config_of}
+use Rattle.lapd_bits.specs.Heads.{latest_frame}
 use Rattle.lapd_bits.specs.Stream as stream
-use Rattle.lapd_bits.specs.declared.heads.Head.{Head}
-use Rattle.lapd_count.specs.declared.counters.Counters.{Counters}
-use Rattle.lapd_count.specs.Counters.{More, with_more, with_all}
-use Rattle.lapd_count.specs.Shown.{head_shown, heard_shown}
-use Rattle.lapd_store.specs.Ownership.{Owned}
-use Rattle.lapd_store.specs.Store.{Store}
-use Rattle.model_line.specs.Begun.{frame_taken}
-use Rattle.model_line.specs.declared.config.Config.{Config}
-use Rattle.model_line.specs.Event.{Event, octet, pull, LineTold, Answer, told, pulled}
+use Rattle.model_line.specs.Event.{Answer}
 use Rattle.model_line.specs.Line as machine
-use Rattle.model_line.specs.Machine.{after, answer}
-use Rattle.model_line.specs.Octet.{gained}
-use Rattle.model_line.specs.Pull.{Taken, begun}
-use Rattle.model_line.proofs.Begun.{latest_is_begun}
-use Rattle.lapd_frame.specs.declared.timers.Order.{Order}
-use Rattle.model_line.specs.Counted.{told_in_report, told_in_answer, taken_shown, shown}
-use Rattle.lapd_line.specs.Counted.{with_counted}
 use Rattle.lapd_line.specs.declared.line.Line.{Line}
-use Rattle.lapd_line.specs.Stands.{Stands, Moves, Leads, config_of}
+use Rattle.lapd_line.specs.Stands.{Stands, Leads}
 
 -- what was counted is no matter for what a line stands for
 recounted : (l : Line) (k : Counters) (s : Store) (others : List Owned) (m : machine.Line) → Stands l s others m → Stands (record l { counters = k }) s others m

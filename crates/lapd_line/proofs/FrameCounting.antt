@@ -1,15 +1,7 @@
 -- What a line for whole frames counts.
-use Rattle.std.proofs.Common.{◌≡◌, List, sym, ap, subst, ◌∙◌}
-use Rattle.lapd_count.specs.declared.counters.Counters.{Counters}
-use Rattle.lapd_count.specs.Counters.{More, with_all}
-use Rattle.lapd_store.specs.Ownership.{Owned}
-use Rattle.lapd_store.specs.Store.{Store}
-use Rattle.model_line.specs.declared.config.Config.{Config}
-use Rattle.model_line.specs.Event.{Event}
+use Rattle.lapd_line.proofs.Vocabulary.{◌≡◌, List, sym, ap, subst, ◌∙◌, Counters, More, with_all, Owned, Store, Config, Event, after_events, FrameLine, Leads, Counts, with_frames_counted}
 use Rattle.model_line.specs.Line as machine
-use Rattle.model_line.specs.WholeAtLine.{after_events}
-use Rattle.lapd_line.specs.declared.frame_line.FrameLine.{FrameLine}
-use Rattle.lapd_line.specs.FrameStands.{Stands, Leads, Counts, config_of, with_frames_counted}
+use Rattle.lapd_line.specs.FrameStands.{Stands, config_of}
 
 -- what was counted is no matter for what a line stands for
 recounted : (l : FrameLine) (k : Counters) (s : Store) (others : List Owned) (m : machine.Line) → Stands l s others m → Stands (record l { counters = k }) s others m

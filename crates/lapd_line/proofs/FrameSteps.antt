@@ -1,50 +1,10 @@
 -- What happens at a line for whole frames leads it on as the events do that it means.
-use Rattle.std.proofs.Common.{◌≡◌, ℕ, ◌+◌, ◌/◌, ◌≤◌, Bool, List, [], ◌∷◌, ◌++◌, length, map, replicate, reverse, take, Option, Some, None, IfSome, is_some, if◌then◌else◌, refl, ap, sym, ◌∙◌, subst, arith}
-use Rattle.std.specs.Option.{option_map_or}
-use Rattle.lapd_bits.specs.Deframer.{kept_count, octets_held}
+use Rattle.lapd_line.proofs.Vocabulary.{◌≡◌, ℕ, ◌+◌, ◌/◌, ◌≤◌, Bool, List, [], ◌∷◌, ◌++◌, length, map, replicate, reverse, take, Option, Some, None, IfSome, is_some, if◌then◌else◌, refl, ap, sym, ◌∙◌, subst, arith, option_map_or, kept_count, octets_held, room_for, unstuffed, AreOctets, frame, listed, ShortList, Order, Timer, Owned, Store, Config, Event, told, after, answer, unless_refused, unless_refused_told, Taken, taken, of_aim, aim_of_expiry, refusal, Request, aim_of_request, IsInRange, IsSound, after_sound, ranges_of, TakesSoundly, taken_sound, Fault, IsIdle, line_octets, came, fault_octets, after_events, receiving, of_heard, AreOneEvent, pulls_to_begin, pulls_for, frames_are_heard, frames_come_whole, frames_go_whole, nothing_else_is_received, FrameLine, LinkLayer, BareReport, Report, Leads, IsNext, Serves, aim_of_event, in_octets, Took, Takes, report_told, told_in}
 use Rattle.lapd_bits.specs.Stream as stream
-use Rattle.lapd_bits.specs.Stream.{room_for}
-use Rattle.lapd_bits.specs.Stuffing.{unstuffed}
-use Rattle.lapd_bits.specs.StuffingLaws.{AreOctets}
-use Rattle.lapd_bits.specs.Sent.{frame}
-use Rattle.lapd_frame.specs.ShortLists.{listed}
-use Rattle.lapd_frame.specs.declared.short_lists.ShortList.{ShortList}
-use Rattle.lapd_frame.specs.declared.timers.Order.{Order}
-use Rattle.lapd_frame.specs.declared.timers.Timer.{Timer}
-use Rattle.lapd_store.specs.Ownership.{Owned}
-use Rattle.lapd_store.specs.Store.{Store}
-use Rattle.model_line.specs.declared.config.Config.{Config}
 use Rattle.model_line.specs.Event as line_event
-use Rattle.model_line.specs.Event.{Event, told}
 use Rattle.model_line.specs.Line as machine
-use Rattle.model_line.specs.Machine.{after, answer, unless_refused, unless_refused_told}
-use Rattle.model_line.specs.Pull.{Taken, taken}
-use Rattle.model_line.specs.Effect.{of_aim}
-use Rattle.model_line.specs.Expiry.{aim_of_expiry}
-use Rattle.model_line.specs.Refusal.{refusal}
-use Rattle.model_line.specs.Request.{Request}
-use Rattle.model_line.specs.Requested.{aim_of_request}
-use Rattle.model_line.specs.Sound.{IsInRange, IsSound}
-use Rattle.model_line.proofs.LineSound.{after_sound}
-use Rattle.model_line.proofs.Ranges.{ranges_of}
-use Rattle.model_line.proofs.PullSound.{TakesSoundly, taken_sound}
-use Rattle.model_line.specs.declared.faults.Fault.{Fault}
-use Rattle.model_line.specs.Whole.{IsIdle, line_octets, came, fault_octets}
-use Rattle.model_line.specs.WholeAtLine.{after_events, receiving, of_heard, AreOneEvent, pulls_to_begin, pulls_for}
-use Rattle.model_line.proofs.FramesHeard.{frames_are_heard}
-use Rattle.model_line.proofs.FramesCome.{frames_come_whole}
-use Rattle.model_line.proofs.FramesGo.{frames_go_whole}
-use Rattle.model_line.proofs.FramesReceived.{nothing_else_is_received}
-use Rattle.lapd_line.specs.declared.frame_line.FrameLine.{FrameLine}
-use Rattle.lapd_line.specs.declared.link_layer.LinkLayer.{LinkLayer}
-use Rattle.lapd_line.specs.declared.reports.BareReport.{BareReport}
-use Rattle.lapd_line.specs.declared.reports.Report.{Report}
-use Rattle.lapd_line.specs.FrameStands.{Stands, Leads, IsNext, config_of}
+use Rattle.lapd_line.specs.FrameStands.{Stands, config_of}
 use Rattle.lapd_line.specs.LinkLayer as layer
-use Rattle.lapd_line.specs.LinkLayer.{Serves, aim_of_event}
-use Rattle.lapd_line.specs.Loading.{in_octets}
-use Rattle.lapd_line.specs.Pulls.{Took, Takes}
-use Rattle.lapd_line.specs.Reports.{report_told, told_in}
 use Rattle.lapd_line.proofs.PullSteps.{with_bits}
 use Rattle.lapd_line.proofs.RequestSteps.{with_room}
 

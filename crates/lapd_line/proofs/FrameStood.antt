@@ -1,14 +1,7 @@
 -- What a line for whole frames owns on the shelf, as `Stood` has it of a line of octets.
-use Rattle.std.proofs.Common.{◌≡◌, ◌≤◌, List, ◌++◌, length, arith, length-append}
-use Rattle.lapd_store.specs.Ownership.{Owned, Holds, owned_octets}
-use Rattle.lapd_store.specs.Store.{Store}
-use Rattle.lapd_store.proofs.Ownership.{owned_octets-append}
+use Rattle.lapd_line.proofs.Vocabulary.{◌≡◌, ◌≤◌, List, ◌++◌, length, arith, length-append, Owned, Holds, owned_octets, Store, owned_octets-append, slots_of, octets_of, FrameLine, links_pairs, unit_pairs}
 use Rattle.model_line.specs.Line as machine
-use Rattle.model_line.specs.Stored.{slots_of, octets_of}
-use Rattle.lapd_line.specs.declared.frame_line.FrameLine.{FrameLine}
 use Rattle.lapd_line.specs.FrameStands.{Stands, config_of, pairs_of}
-use Rattle.lapd_line.specs.Links.{links_pairs}
-use Rattle.lapd_line.specs.Units.{unit_pairs}
 use Rattle.lapd_line.proofs.Stood.{slots_of_links, octets_of_links, slots_of_units, octets_of_units}
 
 -- what a line owns is held beside what others own

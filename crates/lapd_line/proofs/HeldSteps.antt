@@ -1,35 +1,7 @@
 -- The octets that a line holds: their sums, and that there are few.
-use Rattle.std.proofs.Common.{◌≡◌, ℕ, ◌+◌, ◌*◌, ◌/◌, ◌<◌, ◌≤◌, Bool, true, false, List, [], ◌∷◌, length, reverse, nat_lt, cond, Option, Some, None, refl, sym, ap, zero, suc, ◌∙◌, arith}
-use Rattle.std.proofs.lemmas.Bool.{ltb-false}
-use Rattle.std.proofs.lemmas.List.Elements.{All-head, All-tail}
-use Rattle.std.proofs.lemmas.List.Sums.{sum_by-cons}
-use Rattle.std.proofs.lemmas.Option.{same_Some}
-use Rattle.std.specs.List.{All, sum_by, range_with_len}
-use Rattle.std.specs.Option.{option_map_or, unwrap_or}
-use Rattle.lapd_bits.specs.Bits.{bits}
-use Rattle.lapd_bits.specs.Deframer.{octets_held, kept_count, open_gap}
-use Rattle.lapd_bits.specs.Stuffing.{unstuffed}
-use Rattle.lapd_bits.specs.Stream.{room_for}
-use Rattle.lapd_frame.specs.declared.addresses.Side.TheVariants.{Network}
-use Rattle.lapd_frame.specs.Grammar.{spelling}
-use Rattle.lapd_store.specs.Ownership.{Owned}
-use Rattle.lapd_store.specs.Store.{Store}
-use Rattle.lapd_link.specs.declared.link.Link.{Link}
-use Rattle.lapd_link.specs.Stands.{Fits, terms_of}
-use Rattle.model_link.specs.declared.terms.Terms.{Terms}
+use Rattle.lapd_line.proofs.Vocabulary.{◌≡◌, ℕ, ◌+◌, ◌*◌, ◌/◌, ◌<◌, ◌≤◌, Bool, true, false, List, [], ◌∷◌, length, reverse, nat_lt, cond, Option, Some, None, refl, sym, ap, zero, suc, ◌∙◌, arith, ltb-false, All-head, All-tail, sum_by-cons, same_Some, All, sum_by, range_with_len, option_map_or, unwrap_or, bits, octets_held, kept_count, open_gap, unstuffed, room_for, Network, spelling, Owned, Store, Link, Fits, terms_of, Terms, frame_of, held, IsWaitingFrame, Config, Line, link_count, service_at, place_at, tei_at, terms, link_at, IsSoundAt, held_by_link, ranges_of, LinkLayer, Stands, Standing, HasTerms, LinksStand, machine_at}
 use Rattle.model_link.specs.Link as machine
-use Rattle.model_link.specs.Link.{frame_of}
-use Rattle.model_link.specs.Rises.{held}
-use Rattle.model_link.specs.Sound.{IsWaitingFrame}
-use Rattle.model_line.specs.declared.config.Config.{Config}
-use Rattle.model_line.specs.Line.{Line, link_count, service_at, place_at, tei_at, terms, link_at}
-use Rattle.model_line.specs.Sound.{IsSoundAt}
-use Rattle.model_line.specs.Stored.{held_by_link}
-use Rattle.model_line.proofs.Ranges.{ranges_of}
-use Rattle.lapd_line.specs.declared.link_layer.LinkLayer.{LinkLayer}
-use Rattle.lapd_line.specs.LinkLayer.{Stands, Standing}
 use Rattle.lapd_line.proofs.LayerSteps.{beside_links, links_part}
-use Rattle.lapd_line.specs.Links.{HasTerms, LinksStand, machine_at}
 
 -- a sum of so many, each of them small
 sum_few : {X : Type 0} (f : X → ℕ) (P : X → Type 0) (most : ℕ) → ((x : X) → P x → f x ≤ most) → (xs : List X) → All P xs → sum_by f xs ≤ most * length xs

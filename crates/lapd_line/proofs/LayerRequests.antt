@@ -1,48 +1,15 @@
 -- Requests, and why they are refused.
-use Rattle.std.proofs.Common.{◌≡◌, ℕ, ◌+◌, ◌||◌, Bool, true, false, not, ◌≤◌, nat_lt, List, [], ◌∷◌, length, Option, Some, None, refl, sym, ap, subst, ◌∙◌, cond, arith}
-use Rattle.std.specs.Option.{option_map_or}
-use Rattle.std.proofs.lemmas.Bool.{ltb-false}
-use Rattle.std.proofs.lemmas.Option.{none-some}
-use Rattle.std.specs.List.{prefix_len, list_any}
-use Rattle.lapd_frame.specs.declared.refusals.Refusal.{Refusal}
-use Rattle.lapd_frame.specs.declared.refusals.Refusal.TheVariants.{BadTei, NoLink, WrongState, TooLong, QueueFull, PoolFull, WrongSide}
-use Rattle.lapd_frame.specs.declared.services.Service.{Service}
+use Rattle.lapd_line.proofs.Vocabulary.{◌≡◌, ℕ, ◌+◌, ◌||◌, Bool, true, false, not, ◌≤◌, nat_lt, List, [], ◌∷◌, length, Option, Some, None, refl, sym, ap, subst, ◌∙◌, cond, arith, option_map_or, ltb-false, none-some, prefix_len, list_any, Refusal, BadTei, NoLink, WrongState, TooLong, QueueFull, PoolFull, WrongSide, Service, serves, refusal_for_room, Terms, Places, has, is_on, place_of, IsAt, is_on-at, place_of-is, Config, Line, has_tei, link_of, link_in, place_in, terms, refusal, Establish, Release, Data, SetBusy, ClearBusy, Assign, Remove, Check, Owned, Store, Link, Answer, told_with, link_number, with_link, at_link, of_aim, told_of_link, at_requested, Awake, LinkLayer, BareReport, Stands, Standing, Serves, Wakes, HasTerms, Refuses, machine_at, told_in, TeiRequest, event_of, link_refusal, management_refusal, may_ask}
 use Rattle.model_link.specs.Events as link
 use Rattle.model_link.specs.Link as machine
 use Rattle.model_link.specs.Machine as answers
-use Rattle.model_link.specs.Requests.{serves, refusal_for_room}
 use Rattle.model_link.specs.Requests as links
-use Rattle.model_link.specs.declared.terms.Terms.{Terms}
 use Rattle.lapd_tei.specs.Events as teis
-use Rattle.lapd_tei.specs.Table.{Places, has, is_on, place_of}
-use Rattle.lapd_tei.specs.Sound.{IsAt}
-use Rattle.lapd_tei.proofs.Tables.{is_on-at, place_of-is}
-use Rattle.model_line.specs.declared.config.Config.{Config}
-use Rattle.model_line.specs.Line.{Line, has_tei, link_of, link_in, place_in, terms}
-use Rattle.model_line.specs.Refusal.{refusal}
-use Rattle.model_line.specs.Request.{Establish, Release, Data, SetBusy, ClearBusy, Assign, Remove, Check}
-use Rattle.lapd_store.specs.Ownership.{Owned}
-use Rattle.lapd_store.specs.Store.{Store}
-use Rattle.lapd_link.specs.declared.link.Link.{Link}
-use Rattle.lapd_link.specs.declared.outcome.Answer.{Answer}
-use Rattle.lapd_link.specs.Outcome.{told_with}
 use Rattle.model_link.specs.Steps.{begun}
-use Rattle.model_line.specs.Line.{link_number, with_link}
-use Rattle.model_line.specs.Effect.{at_link, of_aim, told_of_link}
-use Rattle.model_line.specs.Requested.{at_requested}
-use Rattle.lapd_line.specs.declared.awake.Awake.{Awake}
-use Rattle.lapd_line.specs.declared.link_layer.LinkLayer.{LinkLayer}
-use Rattle.lapd_line.specs.declared.reports.BareReport.{BareReport}
 use Rattle.lapd_line.specs.LinkLayer as layer
-use Rattle.lapd_line.specs.LinkLayer.{Stands, Standing, Serves}
-use Rattle.lapd_line.specs.Awake.{Wakes}
 use Rattle.lapd_line.specs.Links as all
-use Rattle.lapd_line.specs.Links.{HasTerms, Refuses, machine_at}
-use Rattle.lapd_line.specs.Reports.{told_in}
 use Rattle.lapd_line.proofs.LayerSteps.{beside_links, links_part, named, numbered, at_link_serves}
-use Rattle.lapd_line.specs.declared.requests.TeiRequest.{TeiRequest}
 use Rattle.lapd_line.specs.declared.requests.TeiRequest.TheVariants as tei_request
-use Rattle.lapd_line.specs.Requests.{event_of, link_refusal, management_refusal, may_ask}
 
 -- a test that refuses, and its opposite
 turned : {X : Type 0} (b : Bool) (x y : X) → cond (not b) x y ≡ cond b y x

@@ -1,35 +1,9 @@
 -- What a call on the links does to the entities of a line.
-use Rattle.std.proofs.Common.{◌≡◌, ℕ, ◌<◌, ◌≤◌, List, ◌++◌, length, drop, slice_get, Option, Some, refl, sym, ap, subst, ◌∙◌, arith, append_assoc}
-use Rattle.std.proofs.lemmas.List.{length-map}
+use Rattle.lapd_line.proofs.Vocabulary.{◌≡◌, ℕ, ◌<◌, ◌≤◌, List, ◌++◌, length, drop, slice_get, Option, Some, refl, sym, ap, subst, ◌∙◌, arith, append_assoc, length-map, Owned, Holds, Store, SameLimits, Service, Link, Answer, told_with, terms_of, state_number, IsAt, place_of, at-within, place_of-is, Line, link_number, link_count, service_at, place_at, tei_at, terms, state_in, state_of, at_link, told_of_link, IsSound, place_at-number, service_at-number, number_within, aim_sound, ranges_of, LinkLayer, BareReport, told_in, unit_pairs, Awake, Wakes, NoneMissed, LinksStand, HasTerms, links_pairs, terms_in, machine_at, Stands, Standing, Serves, always}
 use Rattle.std.specs.Option.{option_map}
-use Rattle.lapd_store.specs.Ownership.{Owned, Holds}
-use Rattle.lapd_store.specs.Store.{Store, SameLimits}
-use Rattle.lapd_frame.specs.declared.services.Service.{Service}
-use Rattle.lapd_link.specs.declared.link.Link.{Link}
-use Rattle.lapd_link.specs.declared.outcome.Answer.{Answer}
-use Rattle.lapd_link.specs.Outcome.{told_with}
-use Rattle.lapd_link.specs.Stands.{terms_of}
 use Rattle.model_link.specs.Events as event
 use Rattle.model_link.specs.Link as machine
-use Rattle.model_link.specs.Link.{state_number}
-use Rattle.lapd_tei.specs.Sound.{IsAt}
-use Rattle.lapd_tei.specs.Table.{place_of}
-use Rattle.lapd_tei.proofs.Tables.{at-within, place_of-is}
-use Rattle.model_line.specs.Line.{Line, link_number, link_count, service_at, place_at, tei_at, terms, state_in, state_of}
-use Rattle.model_line.specs.Effect.{at_link, told_of_link}
-use Rattle.model_line.specs.Sound.{IsSound}
-use Rattle.model_line.proofs.Numbers.{place_at-number, service_at-number, number_within}
-use Rattle.model_line.proofs.AimsSound.{aim_sound}
-use Rattle.model_line.proofs.Ranges.{ranges_of}
-use Rattle.lapd_line.specs.declared.link_layer.LinkLayer.{LinkLayer}
-use Rattle.lapd_line.specs.declared.reports.BareReport.{BareReport}
-use Rattle.lapd_line.specs.Reports.{told_in}
-use Rattle.lapd_line.specs.Units.{unit_pairs}
-use Rattle.lapd_line.specs.declared.awake.Awake.{Awake}
-use Rattle.lapd_line.specs.Awake.{Wakes, NoneMissed}
 use Rattle.lapd_line.specs.Links as links
-use Rattle.lapd_line.specs.Links.{LinksStand, HasTerms, links_pairs, terms_in, machine_at}
-use Rattle.lapd_line.specs.LinkLayer.{Stands, Standing, Serves, always}
 use Rattle.lapd_line.proofs.AwakeSteps.{none_missed_woken}
 
 -- the links of a line stand beside its units and what others own

@@ -1,4 +1,5 @@
 -- Lemmas: steps of a line, of its links and of its TEI management; pulls; whole frames; rooms.
+pub mod Vocabulary
 pub mod LinkSteps
 pub mod AwakeBits
 pub mod AwakeSteps

@@ -1,37 +1,15 @@
 -- What a call on the parts of a line does to the line.
-use Rattle.std.proofs.Common.{◌≡◌, ℕ, true, false, List, [], ◌∷◌, ◌++◌, length, slice_get, Option, Some, None, refl, sym, ap, ◌∙◌, subst, option_to_list}
-use Rattle.std.proofs.lemmas.Bool.{false≢true}
+use Rattle.lapd_line.proofs.Vocabulary.{◌≡◌, ℕ, true, false, List, [], ◌∷◌, ◌++◌, length, slice_get, Option, Some, None, refl, sym, ap, ◌∙◌, subst, option_to_list, false≢true, without_octets, Cause, heard_in, Timer, Owned, Store, Change, Gained, Left, Config, LineTold, told, nothing, dropped, aim_of_expiry, after, answer, gained, aim_of_octet, with_received, Aim, at_none, at_link, at_management, at_units, of_aim, of_change, taken, IsSound, LinkLayer, BareReport, Report, Serves, aim_of_event, report_told, told_in, Moves, config_of, latest_frame}
 use Rattle.lapd_bits.specs.Deframer as deframer
-use Rattle.lapd_bits.specs.Heard.{without_octets}
-use Rattle.lapd_bits.specs.declared.heard.Cause.{Cause}
 use Rattle.lapd_bits.specs.declared.heard.Ended.TheVariants as ended
 use Rattle.lapd_bits.specs.Framer as framer
 use Rattle.lapd_bits.specs.Stream as stream
-use Rattle.lapd_bits.specs.Stream.{heard_in}
 use Rattle.lapd_frame.specs.declared.short_lists.ShortList.TheVariants as short
-use Rattle.lapd_frame.specs.declared.timers.Timer.{Timer}
-use Rattle.lapd_store.specs.Ownership.{Owned}
-use Rattle.lapd_store.specs.Store.{Store}
-use Rattle.lapd_tei.specs.declared.outcome.Change.{Change}
-use Rattle.lapd_tei.specs.declared.outcome.Change.TheVariants.{Gained, Left}
-use Rattle.model_line.specs.declared.config.Config.{Config}
 use Rattle.model_line.specs.Event as line_event
-use Rattle.model_line.specs.Event.{LineTold, told, nothing, dropped}
-use Rattle.model_line.specs.Expiry.{aim_of_expiry}
 use Rattle.model_line.specs.Line as machine
-use Rattle.model_line.specs.Machine.{after, answer}
-use Rattle.model_line.specs.Octet.{gained, aim_of_octet, with_received}
-use Rattle.model_line.specs.Effect.{Aim, at_none, at_link, at_management, at_units, of_aim, of_change}
-use Rattle.model_line.specs.Pull.{taken}
-use Rattle.model_line.specs.Sound.{IsSound}
 use Rattle.lapd_line.specs.declared.line.Line.{Line}
-use Rattle.lapd_line.specs.declared.link_layer.LinkLayer.{LinkLayer}
-use Rattle.lapd_line.specs.declared.reports.BareReport.{BareReport}
-use Rattle.lapd_line.specs.declared.reports.Report.{Report}
 use Rattle.lapd_line.specs.LinkLayer as layer
-use Rattle.lapd_line.specs.LinkLayer.{Serves, aim_of_event}
-use Rattle.lapd_line.specs.Reports.{report_told, told_in}
-use Rattle.lapd_line.specs.Stands.{Stands, Moves, config_of, latest_frame}
+use Rattle.lapd_line.specs.Stands.{Stands}
 use Rattle.lapd_line.proofs.Quiet.{none_taken}
 
 -- what is heard with one octet more is what that octet brought

@@ -1,24 +1,10 @@
 -- What a call on one link does to all of them: it is taken out of the list, and put back.
-use Rattle.std.proofs.Common.{◌≡◌, ℕ, ◌<◌, ◌≤◌, List, length, get_or, set, option_map, Result, Ok, Err, IfErr, IfOk, OnErr, OnOk, refl, sym, ap, subst, ◌∙◌, arith, Option}
-use Rattle.std.proofs.lemmas.List.{length-set, get_or_default, set-get_or}
-use Rattle.std.proofs.Math.Seq.{map-set_same}
-use Rattle.std.proofs.lemmas.Option.{slice_get-map, slice_get-get_or, same_Some}
-use Rattle.lapd_store.specs.Ownership.{Owned}
-use Rattle.lapd_store.specs.Store.{Store, SameLimits}
-use Rattle.lapd_store.proofs.Focus.{FocusPair, focus_pair}
-use Rattle.lapd_link.specs.declared.link.Link.{Link}
-use Rattle.lapd_link.specs.declared.offers.Offer.{Offer}
-use Rattle.lapd_link.specs.declared.outcome.Answer.{Answer}
-use Rattle.lapd_link.specs.Stands.{Stands, terms_of}
-use Rattle.lapd_link.specs.Outcome.{told_with}
-use Rattle.model_link.specs.declared.terms.Terms.{Terms}
-use Rattle.model_link.specs.Events.{Event, offer}
+use Rattle.lapd_line.proofs.Vocabulary.{◌≡◌, ℕ, ◌<◌, ◌≤◌, List, length, get_or, set, option_map, Result, Ok, Err, IfErr, IfOk, OnErr, OnOk, refl, sym, ap, subst, ◌∙◌, arith, Option, length-set, get_or_default, set-get_or, map-set_same, slice_get-map, slice_get-get_or, same_Some, Owned, Store, SameLimits, FocusPair, focus_pair, Link, Offer, Answer, terms_of, told_with, Terms, offer, Service, Config, terms, window, LinkFits, LinksStand, HasTerms, machine_at, link_pairs, terms_in, IsGiven, Offers}
+use Rattle.lapd_link.specs.Stands.{Stands}
+use Rattle.model_link.specs.Events.{Event}
 use Rattle.model_link.specs.Link as machine
 use Rattle.model_link.specs.Machine.{after, told}
-use Rattle.lapd_frame.specs.declared.services.Service.{Service}
-use Rattle.model_line.specs.declared.config.Config.{Config}
-use Rattle.model_line.specs.Line.{terms, window}
-use Rattle.lapd_line.specs.Links.{LinkFits, LinksStand, HasTerms, machine_at, link_pairs, terms_in, Serves, IsGiven, Offers}
+use Rattle.lapd_line.specs.Links.{Serves}
 
 -- the link at a place, the machine for it, and what the shelf holds beside what it owns; and the way back
 pub record Taken (c : Config) (links : List Link) (s : Store) (others : List Owned) (ms : List machine.Link) (number : ℕ) (x : Link) : Type 0 where

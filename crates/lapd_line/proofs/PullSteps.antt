@@ -1,37 +1,13 @@
 -- What a pull does to a line: a frame that is due is begun, and the next octet is given.
-use Rattle.std.proofs.Common.{◌≡◌, ℕ, ◌≤◌, ◌<◌, Bool, true, false, cond, List, [], ◌∷◌, ◌++◌, length, take, Option, Some, None, IfSome, is_some, option_map, refl, ap, sym, ◌∙◌, subst, append_assoc}
-use Rattle.std.proofs.lemmas.Bool.{lt-ltb, le-ltb}
-use Rattle.std.proofs.lemmas.Option.{same_Some}
-use Rattle.std.specs.Option.{option_map_or, unwrap_or}
-use Rattle.lapd_bits.specs.Bits.{bits, low_bits, number_of}
+use Rattle.lapd_line.proofs.Vocabulary.{◌≡◌, ℕ, ◌≤◌, ◌<◌, Bool, true, false, cond, List, [], ◌∷◌, ◌++◌, length, take, Option, Some, None, IfSome, is_some, option_map, refl, ap, sym, ◌∙◌, subst, append_assoc, lt-ltb, le-ltb, same_Some, option_map_or, unwrap_or, bits, low_bits, number_of, Framing, runs_low, refilled, with_idle, Item, idle, frame, line_text, bits-push, listed, ShortList, Order, Owned, Store, Config, pulled, after, answer, Taken, taken, begun, is_due, next_octet, with_item, with_due, with_octet, orders_of, IsSound, IsTextOf, after_sound, with_due_given, TakesSoundly, taken_sound, left_is, one_item, LinkLayer, Begins, with_frame, Loading, in_bits, in_octets, Moves, config_of, Took, Takes, orders_taken}
 use Rattle.lapd_bits.specs.Framer as framer
-use Rattle.lapd_bits.specs.Framer.{Framing, runs_low, refilled, with_idle}
-use Rattle.lapd_bits.specs.Sent.{Item, idle, frame, line_text}
-use Rattle.lapd_bits.proofs.BitLemmas.{bits-push}
 use Rattle.lapd_bits.specs.Deframer as deframer
-use Rattle.lapd_frame.specs.ShortLists.{listed}
-use Rattle.lapd_frame.specs.declared.short_lists.ShortList.{ShortList}
-use Rattle.lapd_frame.specs.declared.timers.Order.{Order}
-use Rattle.lapd_store.specs.Ownership.{Owned}
-use Rattle.lapd_store.specs.Store.{Store}
-use Rattle.model_line.specs.declared.config.Config.{Config}
 use Rattle.model_line.specs.Event as line_event
-use Rattle.model_line.specs.Event.{pulled}
 use Rattle.model_line.specs.Line as machine
-use Rattle.model_line.specs.Machine.{after, answer}
 use Rattle.model_line.specs.Pull as pull
-use Rattle.model_line.specs.Pull.{Taken, taken, begun, is_due, next_octet, with_item, with_due, with_octet, orders_of}
-use Rattle.model_line.specs.Sound.{IsSound, IsTextOf}
-use Rattle.model_line.proofs.LineSound.{after_sound, with_due_given}
-use Rattle.model_line.proofs.PullSound.{TakesSoundly, taken_sound}
-use Rattle.model_line.proofs.TextGoesOn.{left_is, one_item}
 use Rattle.lapd_line.specs.declared.line.Line.{Line}
-use Rattle.lapd_line.specs.declared.link_layer.LinkLayer.{LinkLayer}
-use Rattle.lapd_line.specs.Begins.{Begins, with_frame}
 use Rattle.lapd_line.specs.LinkLayer as layer
-use Rattle.lapd_line.specs.Loading.{Loading, in_bits, in_octets}
-use Rattle.lapd_line.specs.Stands.{Stands, Moves, config_of}
-use Rattle.lapd_line.specs.Pulls.{Took, Takes, orders_taken}
+use Rattle.lapd_line.specs.Stands.{Stands}
 use Rattle.lapd_line.proofs.Quiet.{none_taken}
 
 -- an item is due exactly where the framer's bits run low

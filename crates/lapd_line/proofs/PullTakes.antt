@@ -1,24 +1,6 @@
 -- What a pull takes: the entities and the line without it.
-use Rattle.std.proofs.Common.{◌≡◌, ℕ, List, [], ◌∷◌, ◌++◌, take, drop, slice_get, Option, Some, None, option_map, refl, ap, sym, ◌∙◌, subst}
-use Rattle.std.proofs.lemmas.Option.{same_Some}
-use Rattle.std.specs.Option.{option_or}
-use Rattle.lapd_frame.specs.declared.addresses.Side.{Side}
-use Rattle.lapd_frame.specs.declared.timers.Order.{Order}
-use Rattle.lapd_store.specs.Ownership.{Owned}
-use Rattle.lapd_store.specs.Store.{Store}
-use Rattle.lapd_tei.specs.Events.{offered, after_offer}
-use Rattle.lapd_tei.specs.Machine.{Management}
+use Rattle.lapd_line.proofs.Vocabulary.{◌≡◌, ℕ, List, [], ◌∷◌, ◌++◌, take, drop, slice_get, Option, Some, None, option_map, refl, ap, sym, ◌∙◌, subst, same_Some, option_or, Side, Order, Owned, Store, offered, after_offer, Management, Message, IdentityAssigned, IdentityDenied, IdentityCheckRequest, IdentityRemove, sound-after_offer, Config, Line, Taken, with_message, message_taken, LinkLayer, Stands, Loading, Loads, room_in, HasTaken, Took, Takes}
 use Rattle.lapd_tei.specs.Messages.{frame_of}
-use Rattle.lapd_tei.specs.declared.messages.Message.{Message}
-use Rattle.lapd_tei.specs.declared.messages.Message.TheVariants.{IdentityAssigned, IdentityDenied, IdentityCheckRequest, IdentityRemove}
-use Rattle.lapd_tei.proofs.LawLemmas.{sound-after_offer}
-use Rattle.model_line.specs.declared.config.Config.{Config}
-use Rattle.model_line.specs.Line.{Line}
-use Rattle.model_line.specs.Pull.{Taken, with_message, message_taken}
-use Rattle.lapd_line.specs.declared.link_layer.LinkLayer.{LinkLayer}
-use Rattle.lapd_line.specs.LinkLayer.{Stands}
-use Rattle.lapd_line.specs.Loading.{Loading, Loads, room_in}
-use Rattle.lapd_line.specs.Pulls.{HasTaken, Took, Takes}
 
 pub append_none : {A : Type 0} (xs : List A) → xs ++ [] ≡ xs
 append_none [] = refl

@@ -1,45 +1,8 @@
 -- What a pull takes of the links.
-use Rattle.std.proofs.Common.{◌≡◌, ◌⊎◌, inl, inr, Bool, true, false, cond, ℕ, zero, suc, ◌+◌, ◌-◌, ◌≤◌, ◌<◌, List, [], ◌∷◌, ◌++◌, length, take, drop, get_or, set, slice_get, Option, Some, None, option_map, IfSome, refl, ap, sym, ◌∙◌, subst, arith, append_assoc}
-use Rattle.std.proofs.lemmas.List.{set-get_or, length-map}
-use Rattle.std.proofs.lemmas.Option.{none-some, slice_get_cases, slice_get-map}
-use Rattle.std.specs.List.{range_with_len}
-use Rattle.std.specs.Option.{option_or, unwrap_or}
-use Rattle.lapd_frame.specs.declared.addresses.Address.{Address}
-use Rattle.lapd_frame.specs.declared.timers.Order.{Order}
-use Rattle.lapd_frame.specs.Grammar.{IsFrame, spelling}
-use Rattle.lapd_frame.specs.ShortLists.{listed}
-use Rattle.lapd_store.specs.Ownership.{Owned, Holds}
-use Rattle.lapd_store.specs.Store.{Store, IsUsed}
-use Rattle.lapd_link.specs.declared.link.Link.{Link}
-use Rattle.lapd_link.specs.declared.offers.Offer.{Offer}
-use Rattle.lapd_link.specs.Outcome.{contents_in, HasMessage}
-use Rattle.lapd_link.specs.Stands.{terms_of}
-use Rattle.model_link.specs.declared.frames.ControlFrame.{ControlFrame}
-use Rattle.model_link.specs.declared.terms.Terms.{Terms}
+use Rattle.lapd_line.proofs.Vocabulary.{◌≡◌, ◌⊎◌, inl, inr, Bool, true, false, cond, ℕ, zero, suc, ◌+◌, ◌-◌, ◌≤◌, ◌<◌, List, [], ◌∷◌, ◌++◌, length, take, drop, get_or, set, slice_get, Option, Some, None, option_map, IfSome, refl, ap, sym, ◌∙◌, subst, arith, append_assoc, set-get_or, length-map, none-some, slice_get_cases, slice_get-map, range_with_len, option_or, unwrap_or, Address, Order, IsFrame, spelling, listed, Owned, Holds, Store, IsUsed, Link, Offer, contents_in, HasMessage, terms_of, ControlFrame, Terms, address_at, given, given_of, course, offer, Given, may_send_information, offer_among, send_information, send_acknowledgement, give_information, with_one_sent, next_information, first_unsent, is_awaiting_acknowledgement, Course, Sent, ◌then◌, changed, pending_is, start, T200, Config, Line, link_at, link_count, place_at, service_at, tei_at, terms, terms_at, Taken, with_given_frame, link_taken, first_taken, round, IsSound, IsSoundAt, fresh_gives_nothing, TakesSoundly, link_sound, ranges_of, Awake, LinkLayer, Stands, Standing, IsAwake, IsAsleep, FallsAsleep, NoneMissed, LinksStand, HasTerms, IsGiven, Offers, links_pairs, terms_in, unit_pairs, Loading, Loads, room_in, HasTaken, Took, Takes}
 use Rattle.model_link.specs.Link as machine
-use Rattle.model_link.specs.Link.{address_at}
-use Rattle.model_link.specs.Machine.{after, given, given_of, course}
-use Rattle.model_link.specs.Events.{offer}
-use Rattle.model_link.specs.Told.{Given}
-use Rattle.model_link.specs.Offers.{may_send_information, offer_among, send_information, send_acknowledgement, give_information, with_one_sent, next_information, first_unsent, is_awaiting_acknowledgement}
-use Rattle.model_link.specs.Steps.{Course, Sent, begun, ◌then◌, changed}
-use Rattle.model_link.specs.Words.{pending_is, start}
-use Rattle.model_link.specs.declared.timers.LinkTimer.TheVariants.{T200}
-use Rattle.model_line.specs.declared.config.Config.{Config}
-use Rattle.model_line.specs.Line.{Line, link_at, link_count, place_at, service_at, tei_at, terms, terms_at}
-use Rattle.model_line.specs.Pull.{Taken, with_given_frame, link_taken, first_taken, round}
-use Rattle.model_line.specs.Sound.{IsSound, IsSoundAt}
-use Rattle.model_line.proofs.Offered.{fresh_gives_nothing}
-use Rattle.model_line.proofs.PullSound.{TakesSoundly, link_sound}
-use Rattle.model_line.proofs.Ranges.{ranges_of}
-use Rattle.lapd_line.specs.declared.awake.Awake.{Awake}
-use Rattle.lapd_line.specs.declared.link_layer.LinkLayer.{LinkLayer}
-use Rattle.lapd_line.specs.LinkLayer.{Stands, Standing}
-use Rattle.lapd_line.specs.Awake.{IsAwake, IsAsleep, FallsAsleep, NoneMissed}
-use Rattle.lapd_line.specs.Links.{LinksStand, HasTerms, IsGiven, Offers, links_pairs, terms_in}
-use Rattle.lapd_line.specs.Units.{unit_pairs}
-use Rattle.lapd_line.specs.Loading.{Loading, Loads, room_in}
-use Rattle.lapd_line.specs.Pulls.{HasTaken, Took, Takes}
+use Rattle.model_link.specs.Machine.{after}
+use Rattle.model_link.specs.Steps.{begun}
 use Rattle.lapd_line.proofs.AwakeSteps.{none_missed_at, none_missed_asleep}
 use Rattle.lapd_line.proofs.LayerSteps.{beside_links, links_part, links_back}
 use Rattle.lapd_line.proofs.PullTakes.{takes_or, takes_first, takes_as}

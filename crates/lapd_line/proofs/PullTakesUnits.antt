@@ -1,28 +1,8 @@
 -- What a pull takes of the unit data that waits.
-use Rattle.std.proofs.Common.{◌≡◌, ℕ, ◌≤◌, ◌<◌, List, [], ◌∷◌, ◌++◌, length, drop, slice_get, Some, None, option_map, true, false, refl, ap, sym, ◌∙◌, subst, arith, length-drop}
+use Rattle.lapd_line.proofs.Vocabulary.{◌≡◌, ℕ, ◌≤◌, ◌<◌, List, [], ◌∷◌, ◌++◌, length, drop, slice_get, Some, None, option_map, true, false, refl, ap, sym, ◌∙◌, subst, arith, length-drop, All-head, All-drop, none-some, same_Some, Ui, Service, Call, Packet, IsFrame, spelling, sapi_of, Owned, Holds, Keeps, Store, SameLimits, IsUsed, without, Part, second_part, Keeps-used, Keeps-at, Keeps-release, Config, Line, UnitData, with_unit, unit_taken, IsUnitData, LinkLayer, QueuedUnit, Stands, links_pairs, AreFor, messages_of, unit_pairs, without_oldest, Loading, Loads, room_in, HasTaken, Took, Takes}
 use Rattle.std.specs.Prelude.{All}
-use Rattle.std.proofs.lemmas.List.Elements.{All-head, All-drop}
-use Rattle.std.proofs.lemmas.Option.{none-some, same_Some}
-use Rattle.lapd_frame.specs.declared.controls.Control.TheVariants.{Ui}
-use Rattle.lapd_frame.specs.declared.services.Service.{Service}
-use Rattle.lapd_frame.specs.declared.services.Service.TheVariants.{Call, Packet}
-use Rattle.lapd_frame.specs.Grammar.{IsFrame, spelling}
-use Rattle.lapd_frame.specs.Services.{sapi_of}
-use Rattle.lapd_store.specs.Ownership.{Owned, Holds, Keeps}
-use Rattle.lapd_store.specs.Store.{Store, SameLimits, IsUsed, contents_of, without}
-use Rattle.lapd_store.proofs.Focus.{Part, second_part}
-use Rattle.lapd_store.proofs.Queues.{Keeps-used, Keeps-at, Keeps-release}
-use Rattle.model_line.specs.declared.config.Config.{Config}
-use Rattle.model_line.specs.Line.{Line, UnitData}
-use Rattle.model_line.specs.Pull.{with_unit, unit_taken}
-use Rattle.model_line.specs.Sound.{IsUnitData}
-use Rattle.lapd_line.specs.declared.link_layer.LinkLayer.{LinkLayer}
-use Rattle.lapd_line.specs.declared.units.QueuedUnit.{QueuedUnit}
-use Rattle.lapd_line.specs.LinkLayer.{Stands}
-use Rattle.lapd_line.specs.Links.{links_pairs}
-use Rattle.lapd_line.specs.Units.{AreFor, slots_of, messages_of, unit_pairs, without_oldest}
-use Rattle.lapd_line.specs.Loading.{Loading, Loads, room_in}
-use Rattle.lapd_line.specs.Pulls.{HasTaken, Took, Takes}
+use Rattle.lapd_store.specs.Store.{contents_of}
+use Rattle.lapd_line.specs.Units.{slots_of}
 
 -- as many wait as the machine has
 pub as_many : (us : List QueuedUnit) (ds : List UnitData) → AreFor us ds → length (slots_of us) ≡ length (messages_of ds)

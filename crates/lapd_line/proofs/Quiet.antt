@@ -1,12 +1,7 @@
 -- What a line has to send does not hang on the bits that it has received or given.
-use Rattle.std.proofs.Common.{◌≡◌, ℕ, List, [], ◌∷◌, Option, Some, None, option_map, slice_get, refl}
-use Rattle.std.specs.Option.{option_or}
-use Rattle.lapd_bits.specs.Sent.{Item}
+use Rattle.lapd_line.proofs.Vocabulary.{◌≡◌, ℕ, List, [], ◌∷◌, Option, Some, None, option_map, slice_get, refl, option_or, Item, Config, Line, terms_at, link_at, Taken, message_taken, unit_taken, with_message, with_unit, link_taken, first_taken, taken, round, with_given_frame}
 use Rattle.model_link.specs.Machine as links
 use Rattle.lapd_tei.specs.Events as teis
-use Rattle.model_line.specs.declared.config.Config.{Config}
-use Rattle.model_line.specs.Line.{Line, terms_at, link_at}
-use Rattle.model_line.specs.Pull.{Taken, message_taken, unit_taken, with_message, with_unit, link_taken, first_taken, taken, round, with_given_frame}
 
 none_or : (a b : Option Taken) → option_or a b ≡ None → (a ≡ None) × (b ≡ None)
 none_or None b e = (refl, e)

@@ -1,32 +1,14 @@
 -- A request of a line: what its arms say as one refusal, and what the line makes of it.
-use Rattle.std.proofs.Common.{◌≡◌, ℕ, Bool, true, false, List, [], ◌∷◌, ◌++◌, Option, Some, None, Result, IfOk, IfErr, OnOk, refl, sym, ap, subst, ◌∙◌, cond}
-use Rattle.lapd_frame.specs.declared.refusals.Refusal.{Refusal}
-use Rattle.lapd_frame.specs.declared.services.Service.{Service}
-use Rattle.lapd_store.specs.Ownership.{Owned}
-use Rattle.lapd_store.specs.Store.{Store}
-use Rattle.model_line.specs.declared.config.Config.{Config}
+use Rattle.lapd_line.proofs.Vocabulary.{◌≡◌, ℕ, Bool, true, false, List, [], ◌∷◌, ◌++◌, Option, Some, None, Result, IfOk, IfErr, OnOk, refl, sym, ap, subst, ◌∙◌, cond, Refusal, Service, Owned, Store, Config, told, after, answer, unless_refused, unless_refused_told, Aim, of_aim, Row, first_that_holds, bad_tei, bad_tei_or_group, no_link, no_link_nor_group, wrong_state, too_long, queue_full, unit_queue_full, pool_full, refusal, Request, request_of, Establish, Release, Data, Unit, Assign, Remove, Check, SetBusy, ClearBusy, aim_of_request, at_requested, LinkRequest, link_refusal, LinkLayer, BareReport, Report, Serves, report_told, told_in, Moves, config_of}
 use Rattle.model_line.specs.Event as line_event
-use Rattle.model_line.specs.Event.{told}
 use Rattle.model_line.specs.Line as machine
-use Rattle.model_line.specs.Machine.{after, answer, unless_refused, unless_refused_told}
-use Rattle.model_line.specs.Effect.{Aim, of_aim}
-use Rattle.model_line.specs.Refusal.{Row, first_that_holds, bad_tei, bad_tei_or_group, no_link, no_link_nor_group, wrong_state, too_long, queue_full, unit_queue_full, pool_full, refusal}
 use Rattle.model_line.specs.declared.requests.Request as asking
-use Rattle.model_line.specs.Request.{Request, request_of, Establish, Release, Data, Unit, Assign, Remove, Check, SetBusy, ClearBusy}
-use Rattle.model_line.specs.Requested.{aim_of_request, at_requested}
 use Rattle.model_link.specs.Events as link
 use Rattle.lapd_link.specs.declared.requests.LinkRequest as links
-use Rattle.lapd_link.specs.declared.requests.LinkRequest.{LinkRequest}
 use Rattle.lapd_link.specs.Events.{request_of as link_request_of}
-use Rattle.lapd_line.specs.Requests.{link_refusal}
-use Rattle.lapd_line.specs.declared.link_layer.LinkLayer.{LinkLayer}
 use Rattle.lapd_line.specs.declared.line.Line.{Line}
-use Rattle.lapd_line.specs.declared.reports.BareReport.{BareReport}
-use Rattle.lapd_line.specs.declared.reports.Report.{Report}
 use Rattle.lapd_line.specs.LinkLayer as layer
-use Rattle.lapd_line.specs.LinkLayer.{Serves}
-use Rattle.lapd_line.specs.Reports.{report_told, told_in}
-use Rattle.lapd_line.specs.Stands.{Stands, Moves, config_of}
+use Rattle.lapd_line.specs.Stands.{Stands}
 use Rattle.lapd_line.proofs.LayerRequests.{establish_rows, release_rows, data_rows, set_busy_rows, clear_busy_rows}
 use Rattle.lapd_line.proofs.LinkSteps.{if_err, on_ok}
 use Rattle.lapd_line.proofs.LineSteps.{with_layer}

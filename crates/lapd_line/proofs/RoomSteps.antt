@@ -1,23 +1,7 @@
 -- The room of a link of a line.
-use Rattle.std.proofs.Common.{◌≡◌, ℕ, ◌<◌, ◌≤◌, Bool, true, false, not, nat_lt, List, length, Option, Some, None, Result, Err, sym, ap, subst, ◌∙◌, cond}
-use Rattle.std.specs.Option.{option_map_or, ok_or}
-use Rattle.lapd_frame.specs.declared.refusals.Refusal.{Refusal}
-use Rattle.lapd_frame.specs.declared.refusals.Refusal.TheVariants.{BadTei, NoLink}
-use Rattle.lapd_frame.specs.declared.services.Service.{Service}
-use Rattle.lapd_store.specs.Ownership.{Owned}
-use Rattle.lapd_store.specs.Store.{Store}
-use Rattle.lapd_tei.specs.Table.{is_on, place_of}
-use Rattle.lapd_tei.proofs.Tables.{is_on-at, place_of-is}
-use Rattle.model_link.specs.declared.rooms.Room.{Room}
-use Rattle.model_link.specs.declared.terms.Terms.{Terms}
+use Rattle.lapd_line.proofs.Vocabulary.{◌≡◌, ℕ, ◌<◌, ◌≤◌, Bool, true, false, not, nat_lt, List, length, Option, Some, None, Result, Err, sym, ap, subst, ◌∙◌, cond, option_map_or, ok_or, Refusal, BadTei, NoLink, Service, Owned, Store, is_on, place_of, is_on-at, place_of-is, Room, Terms, room_of, Config, Line, has_tei, link_in, link_number, link_of, terms, unless, LinkLayer, Stands, HasTerms, LinksStand, machine_at}
 use Rattle.model_link.specs.Link as machine
-use Rattle.model_link.specs.Room.{room_of}
-use Rattle.model_line.specs.declared.config.Config.{Config}
-use Rattle.model_line.specs.Line.{Line, has_tei, link_in, link_number, link_of, terms}
-use Rattle.model_line.specs.Room.{unless, room_in}
-use Rattle.lapd_line.specs.declared.link_layer.LinkLayer.{LinkLayer}
-use Rattle.lapd_line.specs.LinkLayer.{Stands}
-use Rattle.lapd_line.specs.Links.{HasTerms, LinksStand, machine_at}
+use Rattle.model_line.specs.Room.{room_in}
 use Rattle.lapd_line.proofs.LayerRequests.{off_line}
 use Rattle.lapd_line.proofs.LayerSteps.{beside_links, links_part, named, numbered}
 

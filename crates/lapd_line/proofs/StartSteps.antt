@@ -1,27 +1,7 @@
 -- A line begins: what its parts are, and that they stand for an empty past.
-use Rattle.std.proofs.Common.{◌≡◌, ℕ, ◌≤◌, List, [], ◌∷◌, ◌++◌, length, replicate, Some, None, refl, sym, ap, subst, ◌∙◌, arith}
-use Rattle.std.proofs.lemmas.List.{get_or-replicate}
-use Rattle.std.proofs.lemmas.List.Elements.{All-nil, All-cons, All-head, All-tail}
-use Rattle.std.specs.List.{All, zip}
-use Rattle.lapd_store.specs.Ownership.{Owned, Holds, pairs_of}
-use Rattle.lapd_store.specs.Store.{Store, empty_store}
-use Rattle.lapd_store.proofs.Ownership.{Holds-empty}
-use Rattle.lapd_tei.specs.Machine.{Management, empty}
-use Rattle.lapd_link.specs.declared.link.Link.{Link}
+use Rattle.lapd_line.proofs.Vocabulary.{◌≡◌, ℕ, ◌≤◌, List, [], ◌∷◌, ◌++◌, length, replicate, Some, None, refl, sym, ap, subst, ◌∙◌, arith, get_or-replicate, All-nil, All-cons, All-head, All-tail, All, zip, Owned, Holds, pairs_of, Store, empty_store, Holds-empty, Management, empty, Link, terms_of, fresh, queue_of, Config, place_at, link_count, fresh_line, IsInRange, fresh_sound, place_within, ranges_of, Awake, Stands, LinkFits, links_pairs, IsBegun, AreBegun, UnitRing, AreFor, empty_ring, unit_pairs}
 use Rattle.lapd_link.specs.Stands as link
-use Rattle.lapd_link.specs.Stands.{slots_of, terms_of}
-use Rattle.model_link.specs.Link.{fresh, queue_of}
-use Rattle.model_line.specs.declared.config.Config.{Config}
-use Rattle.model_line.specs.Line.{place_at, link_count, fresh_line}
-use Rattle.model_line.specs.Sound.{IsInRange}
-use Rattle.model_line.proofs.LineSound.{fresh_sound}
-use Rattle.model_line.proofs.Numbers.{place_within}
-use Rattle.model_line.proofs.Ranges.{ranges_of}
-use Rattle.lapd_line.specs.declared.awake.Awake.{Awake}
-use Rattle.lapd_line.specs.LinkLayer.{Stands}
-use Rattle.lapd_line.specs.Links.{LinkFits, links_pairs}
-use Rattle.lapd_line.specs.Starts.{IsBegun, AreBegun}
-use Rattle.lapd_line.specs.Units.{UnitRing, AreFor, empty_ring, unit_pairs}
+use Rattle.lapd_link.specs.Stands.{slots_of}
 use Rattle.lapd_line.proofs.AwakeSteps.{none_missed_first}
 
 -- a link that was just started

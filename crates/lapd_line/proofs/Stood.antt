@@ -1,31 +1,13 @@
 -- What a line owns on the shelf: that it is held there, that the line may stand on another shelf that holds it, and how
 -- many slots and octets it is.
-use Rattle.std.proofs.Common.{◌≡◌, ℕ, ◌+◌, ◌≤◌, zero, suc, List, ◌++◌, length, take, get_or, refl, sym, ap, ◌∙◌, arith, length-append}
-use Rattle.std.proofs.lemmas.List.{length-map, take_all}
-use Rattle.std.proofs.lemmas.List.Folds.{fold-map}
-use Rattle.std.proofs.lemmas.List.Sums.{sum_by_more}
-use Rattle.std.specs.List.{sum_by, range_with_len}
-use Rattle.lapd_store.specs.Ownership.{Owned, Holds, owned_octets}
-use Rattle.lapd_store.specs.Store.{Store}
-use Rattle.lapd_store.proofs.Focus.{slots-machines, octets-machines}
-use Rattle.lapd_store.proofs.Ownership.{owned_octets-append}
-use Rattle.lapd_store.proofs.Queues.{length-pairs_of, owned_octets-pairs_of}
-use Rattle.lapd_link.specs.declared.link.Link.{Link}
+use Rattle.lapd_line.proofs.Vocabulary.{◌≡◌, ℕ, ◌+◌, ◌≤◌, zero, suc, List, ◌++◌, length, take, get_or, refl, sym, ap, ◌∙◌, arith, length-append, length-map, take_all, fold-map, sum_by_more, sum_by, range_with_len, Owned, Holds, owned_octets, Store, slots-machines, octets-machines, owned_octets-append, length-pairs_of, owned_octets-pairs_of, Link, queue_of, Config, UnitData, slots_of, octets_of, sum_of_links, slots_by_link, octets_by_link, total_length, contents_of, unit_length, LinkLayer, QueuedUnit, LinkFits, link_pairs, links_pairs, config_of, AreFor, unit_pairs, messages_of}
 use Rattle.lapd_link.specs.Stands as link
 use Rattle.model_link.specs.Link as machine
-use Rattle.model_link.specs.Link.{queue_of}
-use Rattle.model_line.specs.declared.config.Config.{Config}
 use Rattle.model_line.specs.Line as machine_line
-use Rattle.model_line.specs.Line.{UnitData}
-use Rattle.model_line.specs.Stored.{slots_of, octets_of, sum_of_links, slots_by_link, octets_by_link, total_length, contents_of, unit_length}
-use Rattle.lapd_line.specs.declared.link_layer.LinkLayer.{LinkLayer}
 use Rattle.lapd_line.specs.declared.line.Line.{Line}
-use Rattle.lapd_line.specs.declared.units.QueuedUnit.{QueuedUnit}
 use Rattle.lapd_line.specs.LinkLayer as layer
-use Rattle.lapd_line.specs.Links.{LinkFits, link_pairs, links_pairs}
-use Rattle.lapd_line.specs.Stands.{Stands, config_of, pairs_of}
+use Rattle.lapd_line.specs.Stands.{Stands, pairs_of}
 use Rattle.lapd_line.specs.Units as units
-use Rattle.lapd_line.specs.Units.{AreFor, unit_pairs, messages_of}
 use Rattle.lapd_line.proofs.HeldSteps.{sum_next}
 use Rattle.lapd_line.proofs.PullTakesUnits.{as_many}
 

@@ -1,40 +1,12 @@
 -- Changes of the table, and the links that follow them.
-use Rattle.std.proofs.Common.{◌≡◌, ◌≢◌, ℕ, ◌<◌, ◌≤◌, List, [], ◌++◌, length, get_or, set, slice_get, Some, None, refl, sym, ap, subst, ◌∙◌, arith, append_assoc, ⊎_elim}
-use Rattle.std.proofs.lemmas.Bool.{cases_eq}
-use Rattle.std.proofs.lemmas.List.{length-map, length-set, get_or-set_same, get_or-set_other}
-use Rattle.std.proofs.lemmas.Option.{none-some, same_Some}
-use Rattle.circular_buffer.proofs.Places.{slice_get-set_same, slice_get-set_other}
-use Rattle.lapd_store.specs.Ownership.{Owned, Holds}
-use Rattle.lapd_store.specs.Store.{Store}
-use Rattle.lapd_frame.specs.declared.services.Service.{Service}
-use Rattle.lapd_frame.specs.declared.services.Service.TheVariants.{Call, Packet}
-use Rattle.lapd_link.specs.declared.link.Link.{Link}
-use Rattle.lapd_link.specs.declared.outcome.Answer.{Answer}
-use Rattle.lapd_link.specs.Outcome.{told_with}
-use Rattle.lapd_link.specs.Stands.{terms_of}
+use Rattle.lapd_line.proofs.Vocabulary.{◌≡◌, ◌≢◌, ℕ, ◌<◌, ◌≤◌, List, [], ◌++◌, length, get_or, set, slice_get, Some, None, refl, sym, ap, subst, ◌∙◌, arith, append_assoc, ⊎_elim, cases_eq, length-map, length-set, get_or-set_same, get_or-set_other, none-some, same_Some, slice_get-set_same, slice_get-set_other, Owned, Holds, Store, Service, Call, Packet, Link, Answer, told_with, terms_of, Gained, Left, TeiOutcome, HasJoined, HasLeft, Management, told_of, changes_are_told, Line, link_number, link_count, service_at, place_at, tei_at, terms, link_at, at_management, of_change, of_management, told_of_link, told_of_management, with_cleared, with_opened, IsSound, IsSoundAt, management_event_sound, place_at-number, service_at-number, number_within, other_place, LinkLayer, told_in, unit_pairs, NoneMissed, LinksStand, HasTerms, links_pairs, terms_in, machine_at, Stands, Serves, always, IsAnswerTo, with_management}
 use Rattle.model_link.specs.Events as event
 use Rattle.model_link.specs.Link as machine
 use Rattle.model_link.specs.Machine as answers
-use Rattle.lapd_tei.specs.declared.outcome.Change.TheVariants.{Gained, Left}
-use Rattle.lapd_tei.specs.declared.outcome.TeiOutcome.{TeiOutcome}
 use Rattle.lapd_tei.specs.Events as teis
-use Rattle.lapd_tei.specs.Laws.{Moves, HasJoined, HasLeft}
-use Rattle.lapd_tei.specs.Machine.{Management}
-use Rattle.lapd_tei.specs.Outcome.{told_of}
-use Rattle.lapd_tei.proofs.LawLemmas.{changes_are_told}
-use Rattle.model_line.specs.Line.{Line, link_number, link_count, service_at, place_at, tei_at, terms, link_at}
-use Rattle.model_line.specs.Effect.{at_management, of_change, of_management, told_of_link, told_of_management, with_cleared, with_opened}
-use Rattle.model_line.specs.Sound.{IsSound, IsSoundAt}
-use Rattle.model_line.proofs.AimsSound.{management_event_sound}
-use Rattle.model_line.proofs.Numbers.{place_at-number, service_at-number, number_within, other_place, at_place}
-use Rattle.lapd_line.specs.declared.link_layer.LinkLayer.{LinkLayer}
+use Rattle.lapd_tei.specs.Laws.{Moves}
+use Rattle.model_line.proofs.Numbers.{at_place}
 use Rattle.lapd_line.specs.declared.reports.BareReport as reports
-use Rattle.lapd_line.specs.Reports.{told_in}
-use Rattle.lapd_line.specs.Units.{unit_pairs}
-use Rattle.lapd_line.specs.Awake.{NoneMissed}
-use Rattle.lapd_line.specs.Links.{LinksStand, HasTerms, links_pairs, terms_in, machine_at}
-use Rattle.lapd_line.specs.LinkLayer.{Stands, Serves, always}
-use Rattle.lapd_line.specs.TeiChanges.{IsAnswerTo, with_management}
 use Rattle.lapd_line.specs.Links as links
 use Rattle.lapd_line.proofs.AwakeSteps.{none_missed_fresh}
 use Rattle.lapd_line.proofs.LayerSteps.{links_part, named, few_places}

@@ -1,32 +1,9 @@
 -- Unit data that is asked to be sent: why it is refused, and where it waits.
-use Rattle.std.proofs.Common.{◌≡◌, ℕ, ◌≤◌, ◌<◌, ◌==◌, ◌&&◌, ◌||◌, Bool, true, false, not, nat_lt, nat_le, cond, List, [], ◌∷◌, ◌++◌, length, Option, Some, None, refl, sym, ap, subst, ◌∙◌, arith}
-use Rattle.std.proofs.lemmas.Bool.{ltb-false, leb-false}
-use Rattle.std.proofs.lemmas.List.{map-append, length-map}
+use Rattle.lapd_line.proofs.Vocabulary.{◌≡◌, ℕ, ◌≤◌, ◌<◌, ◌==◌, ◌&&◌, ◌||◌, Bool, true, false, not, nat_lt, nat_le, cond, List, [], ◌∷◌, ◌++◌, length, Option, Some, None, refl, sym, ap, subst, ◌∙◌, arith, ltb-false, leb-false, map-append, length-map, Refusal, BadTei, NoLink, TooLong, QueueFull, PoolFull, Service, Owned, Holds, pairs_of, Store, SameLimits, with_contents, used_slots, Keeps-put, Places, is_on, place_of, place_of-is, is_on-at, Config, nothing, Line, UnitData, at_units, of_aim, refusal, contents_of, last_unit_tei, IsProper, aim_sound, unit_tei, LinkLayer, BareReport, QueuedUnit, Stands, Standing, Serves, always, told_in, UnitRing, AreFor, messages_of, unit_pairs, slot_of, with_newest}
 use Rattle.std.specs.Option.{is_some}
-use Rattle.lapd_frame.specs.declared.refusals.Refusal.{Refusal}
-use Rattle.lapd_frame.specs.declared.refusals.Refusal.TheVariants.{BadTei, NoLink, TooLong, QueueFull, PoolFull}
-use Rattle.lapd_frame.specs.declared.services.Service.{Service}
-use Rattle.lapd_store.specs.Ownership.{Owned, Holds, pairs_of}
-use Rattle.lapd_store.specs.Store.{Store, SameLimits, IsFree, with_contents, used_slots}
-use Rattle.lapd_store.proofs.Queues.{Keeps-put}
-use Rattle.lapd_tei.specs.Table.{Places, is_on, place_of}
-use Rattle.lapd_tei.proofs.Tables.{place_of-is, is_on-at}
-use Rattle.model_line.specs.declared.config.Config.{Config}
-use Rattle.model_line.specs.Event.{nothing}
-use Rattle.model_line.specs.Line.{Line, UnitData}
-use Rattle.model_line.specs.Effect.{at_units, of_aim}
-use Rattle.model_line.specs.Refusal.{refusal}
+use Rattle.lapd_store.specs.Store.{IsFree}
 use Rattle.model_line.specs.Request as asked
-use Rattle.model_line.specs.Stored.{contents_of}
-use Rattle.model_line.specs.Sides.{last_unit_tei}
-use Rattle.model_line.proofs.AimsSound.{IsProper, aim_sound}
-use Rattle.model_line.proofs.Sides.{unit_tei}
-use Rattle.lapd_line.specs.declared.link_layer.LinkLayer.{LinkLayer}
-use Rattle.lapd_line.specs.declared.reports.BareReport.{BareReport}
-use Rattle.lapd_line.specs.declared.units.QueuedUnit.{QueuedUnit}
-use Rattle.lapd_line.specs.LinkLayer.{Stands, Standing, Serves, always}
-use Rattle.lapd_line.specs.Reports.{told_in}
-use Rattle.lapd_line.specs.Units.{UnitRing, AreFor, slots_of, messages_of, unit_pairs, slot_of, with_newest}
+use Rattle.lapd_line.specs.Units.{slots_of}
 use Rattle.lapd_line.proofs.LayerRequests.{off_line}
 use Rattle.lapd_line.proofs.PullTakesUnits.{as_many, beside_units}
 

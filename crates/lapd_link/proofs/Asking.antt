@@ -1,28 +1,6 @@
 -- Requests of layer 3.
-use Rattle.std.proofs.Common.{◌≡◌, ℕ, ◌<◌, Bool, Bor, true, List, [], ◌∷◌, ◌++◌, length, drop, Option, Some, None, sym, ap, subst, ◌∙◌, arith, length-append}
-use Rattle.std.specs.Prelude.{if◌then◌else◌}
-use Rattle.std.proofs.lemmas.List.{drop-append-le}
-use Rattle.lapd_store.specs.Store.{Store}
-use Rattle.lapd_store.specs.Ownership.{Owned, Keeps}
-use Rattle.lapd_frame.specs.declared.refusals.Refusal.{Refusal}
-use Rattle.lapd_frame.specs.declared.refusals.Refusal.TheVariants.{WrongState}
-use Rattle.model_link.specs.declared.terms.Terms.{Terms}
+use Rattle.lapd_link.proofs.Vocabulary.{◌≡◌, ℕ, ◌<◌, Bool, Bor, true, List, [], ◌∷◌, ◌++◌, length, drop, Option, Some, None, sym, ap, subst, ◌∙◌, arith, length-append, if◌then◌else◌, drop-append-le, Store, Owned, Keeps, Refusal, WrongState, Terms, Request, requested, Course, begun, data_in_7_8, serves, refusal, refusal_for_room, granted, course, Entity, Told, Agrees, IsNothing, Took, begun-resting, Link, LinkRequest, Data, request_of, Stands, Stays, terms_of}
 use Rattle.model_link.specs.Link as machine
-use Rattle.model_link.specs.Events.{Request, requested}
-use Rattle.model_link.specs.Steps.{Course, begun}
-use Rattle.model_link.specs.MultipleFrame.{data_in_7_8}
-use Rattle.model_link.specs.Requests.{serves, refusal, refusal_for_room, granted}
-use Rattle.model_link.specs.Machine.{course}
-use Rattle.lapd_link_steps.specs.declared.entity.Entity.{Entity}
-use Rattle.lapd_link_steps.specs.declared.told.Told.{Told}
-use Rattle.lapd_link_steps.specs.Does.{Agrees}
-use Rattle.lapd_link_steps.specs.Done.{IsNothing, Took}
-use Rattle.lapd_link_steps.proofs.Resting.{begun-resting}
-use Rattle.lapd_link.specs.declared.link.Link.{Link}
-use Rattle.lapd_link.specs.declared.requests.LinkRequest.{LinkRequest}
-use Rattle.lapd_link.specs.declared.requests.LinkRequest.TheVariants.{Data}
-use Rattle.lapd_link.specs.Events.{request_of}
-use Rattle.lapd_link.specs.Stands.{Stands, Stays, terms_of}
 use Rattle.lapd_link.proofs.Ending.{reached}
 
 -- a request that the state serves

@@ -1,23 +1,6 @@
 -- How an event ends.
-use Rattle.std.proofs.Common.{◌≡◌, ℕ, ◌≤◌, List, length, sym, ap, subst, ◌∙◌, arith}
-use Rattle.lapd_store.specs.Store.{Store, SameLimits}
-use Rattle.lapd_store.specs.Ownership.{Owned}
-use Rattle.model_link.specs.declared.terms.Terms.{Terms}
+use Rattle.lapd_link.proofs.Vocabulary.{◌≡◌, ℕ, ◌≤◌, List, length, sym, ap, subst, ◌∙◌, arith, Store, SameLimits, Owned, Terms, Event, begun, Step, course, after, told, told_of, IsInRange, IsSound, sound-after, Entity, Told, Agrees, Rests, Took, took-course, Link, Answer, told_with, Stands, Reaches, Stays, terms_of}
 use Rattle.model_link.specs.Link as machine
-use Rattle.model_link.specs.Events.{Event}
-use Rattle.model_link.specs.Steps.{begun, Step}
-use Rattle.model_link.specs.Machine.{course, after, told, told_of}
-use Rattle.model_link.specs.Sound.{IsInRange, IsSound}
-use Rattle.model_link.proofs.SoundEvents.{sound-after}
-use Rattle.lapd_link_steps.specs.declared.entity.Entity.{Entity}
-use Rattle.lapd_link_steps.specs.declared.told.Told.{Told}
-use Rattle.lapd_link_steps.specs.Does.{Agrees}
-use Rattle.lapd_link_steps.specs.Done.{Rests, Took}
-use Rattle.lapd_link_steps.proofs.Resting.{took-course}
-use Rattle.lapd_link.specs.declared.link.Link.{Link}
-use Rattle.lapd_link.specs.declared.outcome.Answer.{Answer}
-use Rattle.lapd_link.specs.Outcome.{told_with}
-use Rattle.lapd_link.specs.Stands.{Stands, Reaches, Stays, terms_of}
 
 -- the timer that runs is the machine's
 pub running-at : {terms : Terms} {e : Entity} {m : machine.Link} → Rests terms e m → e.running ≡ m.running

@@ -1,4 +1,5 @@
 -- Lemmas of this crate.
+pub mod Vocabulary
 pub mod Ending
 pub mod Asking
 pub mod Offering

@@ -1,41 +1,10 @@
 -- Offers.
-use Rattle.std.proofs.Common.{◌≡◌, ℕ, suc, zero, ◌+◌, ◌<◌, ◌≤◌, Bool, true, false, IsTrue, cond, List, [], ◌∷◌, length, drop, get_or, Option, Some, None, MatchOption, refl, sym, ap, subst, ◌∙◌, arith, length-drop}
-use Rattle.std.specs.Prelude.{IfSome, IsSome, All}
-use Rattle.std.specs.List.{slice_get}
-use Rattle.std.proofs.lemmas.List.{get_or-drop}
-use Rattle.std.proofs.lemmas.Option.{slice_get_within, get_or_from_slice_get}
-use Rattle.lapd_seq.specs.Numbers.{seq}
-use Rattle.lapd_frame.specs.declared.controls.Control.TheVariants.{ReceiveReady}
-use Rattle.lapd_frame.specs.Grammar.{IsFrame, allows, takes, row}
-use Rattle.lapd_frame.specs.Services.{sapi_of}
-use Rattle.lapd_frame.specs.declared.services.Service.{Service}
-use Rattle.lapd_frame.specs.declared.services.Service.TheVariants.{Call, Packet}
-use Rattle.model_link.specs.Link.{frame_of}
-use Rattle.model_link.specs.Sound.{IsInRange, IsWaitingFrame}
-use Rattle.lapd_store.specs.Store.{Store, IsUsed, contents_of}
-use Rattle.lapd_store.specs.Ownership.{Owned, Keeps}
-use Rattle.lapd_store.proofs.Queues.{Keeps-at, Keeps-used}
-use Rattle.lapd_frame.specs.declared.timers.Order.{Order}
-use Rattle.model_link.specs.declared.frames.ControlFrame.{ControlFrame}
-use Rattle.model_link.specs.declared.timers.LinkTimer.TheVariants.{T200}
-use Rattle.model_link.specs.declared.terms.Terms.{Terms}
+use Rattle.lapd_link.proofs.Vocabulary.{◌≡◌, ℕ, suc, zero, ◌+◌, ◌<◌, ◌≤◌, Bool, true, false, IsTrue, cond, List, [], ◌∷◌, length, drop, get_or, Option, Some, None, MatchOption, refl, sym, ap, subst, ◌∙◌, arith, length-drop, IfSome, IsSome, All, slice_get, get_or-drop, slice_get_within, get_or_from_slice_get, seq, ReceiveReady, IsFrame, allows, takes, row, sapi_of, Service, Call, Packet, frame_of, IsInRange, IsWaitingFrame, Store, IsUsed, contents_of, Owned, Keeps, Keeps-at, Keeps-used, Order, ControlFrame, T200, Terms, orders_for, Sent, Course, begun, ◌then◌, changed, pending_is, response, start, course, after, given, given_of, sound-after, Entity, Told, Agrees, fits-resting, begun-resting, rests-after, Link, contents_in, HasMessage, Stands, terms_of}
 use Rattle.model_link.specs.Link as machine
 use Rattle.model_link.specs.Events as event
-use Rattle.model_link.specs.Told.{orders_for}
-use Rattle.model_link.specs.Steps.{Sent, Course, begun, ◌then◌, changed}
-use Rattle.model_link.specs.Words.{pending_is, response, start}
 use Rattle.model_link.specs.Offers as offers
-use Rattle.model_link.specs.Machine.{course, after, given, given_of}
-use Rattle.model_link.proofs.SoundEvents.{sound-after}
-use Rattle.lapd_link_steps.specs.declared.entity.Entity.{Entity}
 use Rattle.lapd_link_steps.specs.declared.offers.Given as rows
-use Rattle.lapd_link_steps.specs.declared.told.Told.{Told}
-use Rattle.lapd_link_steps.specs.Does.{Agrees}
 use Rattle.lapd_link_steps.specs.Done as done
-use Rattle.lapd_link_steps.proofs.Resting.{fits-resting, begun-resting, rests-after}
-use Rattle.lapd_link.specs.declared.link.Link.{Link}
-use Rattle.lapd_link.specs.Outcome.{contents_in, HasMessage}
-use Rattle.lapd_link.specs.Stands.{Stands, terms_of}
 use Rattle.lapd_link.proofs.Ending.{few}
 
 -- An offer releases nothing.

@@ -1,15 +1,6 @@
 -- The room of a link.
-use Rattle.std.proofs.Common.{◌≡◌, ℕ, ◌-◌, ◌%◌, List, length, ap, ◌∙◌}
-use Rattle.lapd_seq.specs.declared.numbers.Seq.{Seq}
-use Rattle.lapd_seq.specs.Numbers.{seq}
-use Rattle.lapd_seq.specs.Windows.{va_of}
-use Rattle.lapd_store.specs.Ownership.{Owned}
-use Rattle.lapd_store.specs.Store.{Store}
-use Rattle.model_link.specs.declared.rooms.Room.{Room}
+use Rattle.lapd_link.proofs.Vocabulary.{◌≡◌, ℕ, ◌-◌, ◌%◌, List, length, ap, ◌∙◌, Seq, seq, va_of, Owned, Store, Room, room_of, Link, Stands, slots_of, terms_of}
 use Rattle.model_link.specs.Link as machine
-use Rattle.model_link.specs.Room.{room_of}
-use Rattle.lapd_link.specs.declared.link.Link.{Link}
-use Rattle.lapd_link.specs.Stands.{Stands, slots_of, terms_of}
 
 number : (va : Seq) (a : ℕ) → va ≡ seq a → va.value ≡ a % 128
 unfolding seq

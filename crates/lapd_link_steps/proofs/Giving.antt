@@ -1,17 +1,5 @@
 -- How the steps of an offer are put together.
-use Rattle.std.proofs.Common.{◌≡◌, ℕ, Bool, true, cond, List, [], length, drop, Option, sym, ap, subst, ◌∙◌}
-use Rattle.circular_buffer.specs.Buffer.{Buffer, buffer}
-use Rattle.model_link.specs.declared.frames.ControlFrame.{ControlFrame}
-use Rattle.model_link.specs.declared.terms.Terms.{Terms}
-use Rattle.model_link.specs.Link.{Link}
-use Rattle.model_link.specs.Steps.{Course, Step, depending_on}
-use Rattle.model_link.specs.Offers.{offer_among, offer_step}
-use Rattle.lapd_link_steps.specs.declared.entity.Entity.{Entity}
-use Rattle.lapd_link_steps.specs.declared.offers.Given.{Given}
-use Rattle.lapd_link_steps.specs.declared.told.Told.{Told}
-use Rattle.lapd_link_steps.specs.Past.{Past, link_of, course_of, Fits}
-use Rattle.lapd_link_steps.specs.Does.{Agrees}
-use Rattle.lapd_link_steps.specs.Done.{Gives}
+use Rattle.lapd_link_steps.proofs.Vocabulary.{◌≡◌, ℕ, Bool, true, cond, List, [], length, drop, Option, sym, ap, subst, ◌∙◌, Buffer, buffer, ControlFrame, Terms, Link, Course, Step, depending_on, offer_among, offer_step, Entity, Given, Told, Past, link_of, course_of, Fits, Agrees, Gives}
 
 -- the test of an offer, known before
 pub gives_where : {terms : Terms} {f : Step} {queued : ℕ} {e e' : Entity} {t t' : Told} {given : Option Given} (test : Link → Bool) (g : Step) → ((messages : List (List ℕ)) (p : Past) → length messages ≡ queued → t.released ≡ 0 → Fits terms messages e t p → test (link_of e p) ≡ true) → Gives terms f queued e t e' t' given → Gives terms (depending_on test f g) queued e t e' t' given

@@ -1,4 +1,5 @@
 -- Lemmas of this crate.
+pub mod Vocabulary
 pub mod Steps
 pub mod Giving
 pub mod Queue

@@ -1,9 +1,5 @@
 -- What is left of the messages of a queue when some of the oldest are to go.
-use Rattle.std.proofs.Common.{◌≡◌, ℕ, zero, suc, ◌+◌, ◌≤◌, List, [], ◌∷◌, length, drop, take, min, None, inl, inr, refl, sym, ap, ◌∙◌, arith, zero-add}
-use Rattle.std.specs.List.{slice_get}
-use Rattle.std.proofs.lemmas.Bool.{cases_lt}
-use Rattle.std.proofs.lemmas.List.{drop-drop, drop_all, length-take}
-use Rattle.std.proofs.Math.Nat.{min-eq_left, min-eq_right}
+use Rattle.lapd_link_steps.proofs.Vocabulary.{◌≡◌, ℕ, zero, suc, ◌+◌, ◌≤◌, List, [], ◌∷◌, length, drop, take, min, None, inl, inr, refl, sym, ap, ◌∙◌, arith, zero-add, slice_get, cases_lt, drop-drop, drop_all, length-take, min-eq_left, min-eq_right}
 
 -- all of them go
 pub discarded : (messages contents : List (List ℕ)) (a : ℕ) → length messages ≤ 127 → drop 127 messages ≡ drop a (take a contents)

@@ -1,15 +1,5 @@
 -- From one event to the next: what an entity stands for as an event begins, and as it ends.
-use Rattle.std.proofs.Common.{◌≡◌, ℕ, ◌≤◌, Bool, List, [], length, drop, Option, ap, subst, ◌∙◌}
-use Rattle.lapd_frame.specs.declared.notes.Note.{Note}
-use Rattle.model_link.specs.declared.timers.LinkTimer.{LinkTimer}
-use Rattle.model_link.specs.declared.terms.Terms.{Terms}
-use Rattle.model_link.specs.Link.{Link, queue_of}
-use Rattle.model_link.specs.Steps.{Course, begun, Step}
-use Rattle.lapd_link_steps.specs.declared.entity.Entity.{Entity}
-use Rattle.lapd_link_steps.specs.declared.told.Told.{Told}
-use Rattle.lapd_link_steps.specs.Past.{link_of, if_told, course_of, Fits}
-use Rattle.lapd_link_steps.specs.Does.{Agrees}
-use Rattle.lapd_link_steps.specs.Done.{IsNothing, past_at, Rests, Took}
+use Rattle.lapd_link_steps.proofs.Vocabulary.{◌≡◌, ℕ, ◌≤◌, Bool, List, [], length, drop, Option, ap, subst, ◌∙◌, Note, LinkTimer, Terms, Link, queue_of, Course, begun, Step, Entity, Told, link_of, if_told, course_of, Fits, Agrees, IsNothing, past_at, Rests, Took}
 
 -- an event begins: its past fits,
 pub fits-resting : {terms : Terms} {e : Entity} {m : Link} {none : Told} → Rests terms e m → length (queue_of m) ≤ 127 → IsNothing none → Fits terms (queue_of m) e none (past_at m)

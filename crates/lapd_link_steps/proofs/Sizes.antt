@@ -1,18 +1,6 @@
 -- The octets of control frames.
-use Rattle.std.proofs.Common.{◌≡◌, ℕ, ◌+◌, ◌<◌, Bool, true, List, [], ◌∷◌, length, take, get_or, Some, refl, sym, ap, ◌∙◌}
-use Rattle.std.specs.Prelude.{sum_by}
-use Rattle.std.specs.List.{slice_get}
-use Rattle.std.proofs.lemmas.List.Sums.{sum_by-cons, sum_by_more}
-use Rattle.std.proofs.lemmas.Option.{slice_get-get_or}
-use Rattle.std.proofs.Math.Seq.{take-length}
-use Rattle.lapd_frame.specs.declared.addresses.Side.TheVariants.{Network}
-use Rattle.lapd_frame.specs.declared.controls.Control.{Control}
+use Rattle.lapd_link_steps.proofs.Vocabulary.{◌≡◌, ℕ, ◌+◌, ◌<◌, Bool, true, List, [], ◌∷◌, length, take, get_or, Some, refl, sym, ap, ◌∙◌, sum_by, slice_get, sum_by-cons, sum_by_more, slice_get-get_or, take-length, Network, Control, spelling, start_of, ControlFrame, Terms, frame_of}
 use Rattle.lapd_frame.specs.declared.controls.Control.TheVariants as control
-use Rattle.lapd_frame.specs.Grammar.{spelling}
-use Rattle.lapd_frame.specs.Reading.{start_of}
-use Rattle.model_link.specs.declared.frames.ControlFrame.{ControlFrame}
-use Rattle.model_link.specs.declared.terms.Terms.{Terms}
-use Rattle.model_link.specs.Link.{frame_of}
 
 -- a control frame has no information
 octets-of : (t : Terms) (command : Bool) (x : Control) → start_of x ≡ length (spelling Network (frame_of t (record { command = command; control = x })))

@@ -1,21 +1,7 @@
 -- How steps are put together. The answer for a row is the chain of its words.
-use Rattle.std.proofs.Common.{◌≡◌, ℕ, Bool, true, false, IsTrue, cond, List, Option, Some, None, MatchOption, refl, sym, ap, subst, arith}
-use Rattle.lapd_seq.specs.declared.numbers.Seq.{Seq}
-use Rattle.lapd_seq.specs.Circle.{IsNamed, named}
-use Rattle.lapd_seq.specs.Windows.{Stands}
+use Rattle.lapd_link_steps.proofs.Vocabulary.{◌≡◌, ℕ, Bool, true, false, IsTrue, cond, List, Option, Some, None, MatchOption, refl, sym, ap, subst, arith, Seq, IsNamed, named, Stands, State, Terms, Link, Sent, Course, Step, ◌then◌, nothing, depending_on, by_bit, changed, acknowledge, by_number, pending_is, start, T200, failed, Entity, Told, Past, past_of, link_of, course_of, Fits, Agrees, Does, DoesBy}
 use Rattle.lapd_frame.specs.declared.notes.ErrorCode.TheVariants as code
-use Rattle.model_link.specs.declared.states.State.{State}
-use Rattle.model_link.specs.declared.terms.Terms.{Terms}
-use Rattle.model_link.specs.Link.{Link}
-use Rattle.model_link.specs.Steps.{Sent, Course, Step, ◌then◌, nothing, depending_on, by_bit, changed}
-use Rattle.model_link.specs.Words.{acknowledge, by_number, pending_is, start}
-use Rattle.model_link.specs.declared.timers.LinkTimer.TheVariants.{T200}
 use Rattle.model_link.specs.Offers as offers
-use Rattle.model_link.specs.MultipleFrame.{failed}
-use Rattle.lapd_link_steps.specs.declared.entity.Entity.{Entity}
-use Rattle.lapd_link_steps.specs.declared.told.Told.{Told}
-use Rattle.lapd_link_steps.specs.Past.{Past, past_of, link_of, course_of, Fits}
-use Rattle.lapd_link_steps.specs.Does.{Agrees, Does, DoesBy}
 
 -- one step after the other
 infixr 10 ◌▹◌

@@ -1,6 +1,5 @@
 -- What the tests of the tables answer.
-use Rattle.std.proofs.Common.{◌≡◌, ℕ, true, false, not, eqb, inl, inr, ap}
-use Rattle.std.proofs.lemmas.Bool.Decides.{eqb_tells}
+use Rattle.lapd_link_steps.proofs.Vocabulary.{◌≡◌, ℕ, true, false, not, eqb, inl, inr, ap, eqb_tells}
 
 pub ne-eqb : (a b : ℕ) → (a ≡ b → ⊥) → eqb a b ≡ false
 ne-eqb a b differ = elim (eqb_tells a b) [ inl same ↦ absurd (differ same.1) | inr other ↦ other.0 ]

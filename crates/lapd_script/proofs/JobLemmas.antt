@@ -1,7 +1,5 @@
 -- The program's words, where they stand in references.
-use Rattle.std.proofs.Common.{◌≡◌, ℕ, ◌<◌, ◌≤◌, Bool, true, false, cond, ◌&&◌, List, [], ◌∷◌, length, Some, None, Option, refl, ap, ◌∙◌, Bor, bytes_eq, codes, arith}
-use Rattle.lapd_script.specs.Words.{texts}
-use Rattle.lapd_script.specs.Job.{Job, job, frame, job_or_none, limits_of}
+use Rattle.lapd_script.proofs.Vocabulary.{◌≡◌, ℕ, ◌<◌, ◌≤◌, Bool, true, false, cond, ◌&&◌, List, [], ◌∷◌, length, Some, None, Option, refl, ap, ◌∙◌, Bor, bytes_eq, codes, arith, texts, Job, job, frame, job_or_none, limits_of}
 use Rattle.lapd_script.proofs.ReadLemmas.{at}
 
 otherwise : {A : Type 0} (t : Bool) (x y : A) → false ≡ t → y ≡ cond t x y

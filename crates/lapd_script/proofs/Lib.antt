@@ -1,4 +1,5 @@
 -- Lemmas: words, numbers and lines of a script.
+pub mod Vocabulary
 pub mod JobLemmas
 pub mod NumberLemmas
 pub mod ReadLemmas

@@ -1,15 +1,5 @@
 -- What `parse` reads of decimal digits.
-use Rattle.std.proofs.Common.{◌≡◌, ℕ, ◌<◌, ◌^◌, true, false, ◌&&◌, List, [], ◌∷◌, None, Ok, Err, Result, refl, sym, ap, ◌∙◌, arith}
-use Rattle.std.specs.List.{list_all}
-use Rattle.std.specs.Char.{is_ascii_digit}
-use Rattle.std.specs.Str.{all_ascii_digits, IsUtf8}
-use Rattle.std.specs.Str.Parse.{digits_value, ParsesUnsigned}
-use Rattle.std.specs.Result.{result_ok}
-use Rattle.std.proofs.lemmas.Str.{IsUtf8-from_ascii}
-use Rattle.std.proofs.lemmas.Str.Ascii.{IsAscii-nil, IsAscii-cons}
-use Rattle.std.specs.Str.{IsAscii}
-use Rattle.std.proofs.lemmas.Str.Parse.{IsNumeralModel, numerals_by_value, tells_all_ascii_digits, parse_digits}
-use Rattle.lapd_script.specs.Number.{number, within}
+use Rattle.lapd_script.proofs.Vocabulary.{◌≡◌, ℕ, ◌<◌, ◌^◌, true, false, ◌&&◌, List, [], ◌∷◌, None, Ok, Err, Result, refl, sym, ap, ◌∙◌, arith, list_all, is_ascii_digit, all_ascii_digits, IsUtf8, digits_value, ParsesUnsigned, result_ok, IsUtf8-from_ascii, IsAscii-nil, IsAscii-cons, IsAscii, IsNumeralModel, numerals_by_value, tells_all_ascii_digits, parse_digits, number, within}
 
 own : IsNumeralModel (λ word. all_ascii_digits word ≡ true) (digits_value 10)
 own = numerals_by_value _ tells_all_ascii_digits

@@ -1,13 +1,5 @@
 -- How words are split off.
-use Rattle.std.proofs.Common.{◌≡◌, ℕ, ◌+◌, ◌<◌, ◌≤◌, Bool, true, false, cond, ltb, List, [], ◌∷◌, ◌++◌, length, take, drop, Some, None, Option, refl, sym, ap, ◌∙◌, arith, rules, eqb, subst, map, append_assoc, Bor, take_all, ◌-◌, length-drop, length-append}
-use Rattle.std.specs.List.{position, position_or_len}
-use Rattle.std.proofs.lemmas.List.Splits.{slice_split_first, slice_split_none}
-use Rattle.std.proofs.lemmas.List.Sums.{position_or_len_is, fails_before_first}
-use Rattle.std.proofs.lemmas.List.Quantifiers.{position-Some}
-use Rattle.std.proofs.lemmas.List.{map-append, length-map}
-use Rattle.std.proofs.Math.Seq.{take-append_seam}
-use Rattle.std.proofs.lemmas.Grind.{common_steps}
-use Rattle.lapd_script.specs.Words.{words_of, texts}
+use Rattle.lapd_script.proofs.Vocabulary.{◌≡◌, ℕ, ◌+◌, ◌<◌, ◌≤◌, Bool, true, false, cond, ltb, List, [], ◌∷◌, ◌++◌, length, take, drop, Some, None, Option, refl, sym, ap, ◌∙◌, arith, rules, eqb, subst, map, append_assoc, Bor, take_all, ◌-◌, length-drop, length-append, position, position_or_len, slice_split_first, slice_split_none, position_or_len_is, fails_before_first, position-Some, map-append, length-map, take-append_seam, common_steps, words_of, texts}
 
 abbrev is_space : ℕ → Bool
 is_space octet = eqb octet 32

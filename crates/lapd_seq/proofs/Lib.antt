@@ -1,3 +1,4 @@
 -- Lemmas.
+pub mod Vocabulary
 pub mod Callers
 pub mod Remainders

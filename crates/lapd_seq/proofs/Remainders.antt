@@ -1,10 +1,6 @@
 -- Sequence numbers, their distances, and the plain numbers that they stand for.
-use Rattle.std.proofs.Common.{◌≡◌, ℕ, ◌+◌, ◌%◌, ◌<◌, ◌≤◌, refl, ap, inl, inr, Bool, true, false, IsTrue, MatchOption, ◌↔◌, arith}
-use Rattle.lapd_seq.specs.declared.numbers.Seq.{Seq}
-use Rattle.lapd_seq.specs.Numbers.{seq}
-use Rattle.lapd_seq.specs.Circle.{distance_of, AreNumbers, IsValid, IsNamed, named}
+use Rattle.lapd_seq.proofs.Vocabulary.{◌≡◌, ℕ, ◌+◌, ◌%◌, ◌<◌, ◌≤◌, refl, ap, inl, inr, Bool, true, false, IsTrue, MatchOption, ◌↔◌, arith, Seq, seq, distance_of, AreNumbers, IsValid, IsNamed, named, leb_tells}
 use Rattle.lapd_seq.proofs.Callers.{is_seq, seq-value, distance-plain, seq-distance}
-use Rattle.std.proofs.lemmas.Bool.Decides.{leb_tells}
 
 -- the number after
 pub seq-next : (x y : Seq) (n : ℕ) → x ≡ seq n → y.value ≡ (x.value + 1) % 128 → y ≡ seq (n + 1)

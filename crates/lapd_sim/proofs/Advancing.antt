@@ -1,14 +1,7 @@
 -- How the lines of a script are gone through.
-use Rattle.std.proofs.Common.{◌≡◌, ◌≢◌, ℕ, ◌+◌, ◌-◌, ◌<◌, ◌≤◌, Bool, true, false, List, [], ◌∷◌, ◌++◌, length, get_or, take, drop, Result, Ok, Err, Some, Option, refl, sym, ap, ◌∙◌, subst, append_assoc, arith, ◌==◌, true≢false, inl, inr}
-use Rattle.std.specs.Prelude.{IfOk}
-use Rattle.std.specs.List.{list_any, AllWithin, HoldsAt}
-use Rattle.std.proofs.lemmas.Bool.Decides.{eqb_tells}
-use Rattle.std.proofs.lemmas.List.{append-nil, drop-append-le, drop_all, drop_more, get_or-take, length-append, length-drop, length-take, take-append-drop, take-take}
-use Rattle.lapd_sim.specs.declared.faults.PlayFault.{PlayFault}
-use Rattle.lapd_sim.specs.declared.faults.PlayFault.TheVariants.{Read}
-use Rattle.lapd_sim.specs.declared.lines.ScriptLines.{ScriptLines}
-use Rattle.lapd_sim.specs.ScriptLines.{held, too_long_after, AreLeft, Takes, Advances, IsReady}
-use Rattle.model_sim.specs.Pieces.{pieces_of, line_in}
+use Rattle.lapd_sim.proofs.Vocabulary.{◌≡◌, ◌≢◌, ℕ, ◌+◌, ◌-◌, ◌<◌, ◌≤◌, Bool, true, false, List, [], ◌∷◌, ◌++◌, length, get_or, take, drop, Result, Ok, Err, Some, Option, refl, sym, ap, ◌∙◌, subst, append_assoc, arith, ◌==◌, inl, inr, IfOk, list_any, AllWithin, HoldsAt, eqb_tells, append-nil, drop-append-le, drop_all, drop_more, get_or-take, length-drop, length-take, take-append-drop, take-take, PlayFault, Read, ScriptLines, held, too_long_after, AreLeft, Takes, Advances, IsReady, pieces_of, line_in}
+use Rattle.std.proofs.Common.{true≢false}
+use Rattle.std.proofs.lemmas.List.{length-append}
 use Rattle.lapd_sim.proofs.Pieces.{IsOpen, HasPiece, piece_ended, line_ended, piece_last, line_last, piece_long}
 use Rattle.lapd_sim.proofs.Reading.{open_part}
 

@@ -1,40 +1,12 @@
 -- What happens on a card of either kind.
-use Rattle.std.proofs.Common.{◌≡◌, ℕ, ◌+◌, ◌-◌, ◌<◌, ◌≤◌, List, [], ◌∷◌, fold, length, Option, None, Some, Result, Ok, Err, refl, sym, ap, ◌∙◌, subst, arith}
-use Rattle.std.proofs.Math.Logic.{∥∥₁_elim}
-use Rattle.std.proofs.Props.{props}
-use Rattle.std.proofs.lemmas.List.{length-take}
+use Rattle.lapd_sim.proofs.Vocabulary.{◌≡◌, ℕ, ◌+◌, ◌-◌, ◌<◌, ◌≤◌, List, [], ◌∷◌, fold, length, Option, None, Some, Result, Ok, Err, refl, sym, ap, ◌∙◌, subst, arith, ∥∥₁_elim, props, length-take, listed, Order, Timer, IsNext, NextFrame, Store, Output, IsPut, IsStuck, Puts, Config, taken, Request, ranges_of, Event, at, after, after_all, happening_counted, Happening, expires, asks, line_of, events_of, HappensAt, Setup, ordered, Scene, at_once, orders_of, idle_after, config_stays, Board, Octets, Frames, Exchange, as_store, line_count, OnBoard, Leads, LeadsBy, IsTaken, scene, Tells, Holds}
 use Rattle.lapd_card.specs.Card as octets_card
 use Rattle.lapd_card.specs.Stands as octets
 use Rattle.lapd_card.specs.FrameCard as frames_card
 use Rattle.lapd_card.specs.FrameStands as frames
-use Rattle.lapd_frame.specs.ShortLists.{listed}
-use Rattle.lapd_frame.specs.declared.timers.Order.{Order}
-use Rattle.lapd_frame.specs.declared.timers.Timer.{Timer}
-use Rattle.lapd_line.specs.FrameStands.{IsNext}
-use Rattle.lapd_line.specs.declared.frame_line.NextFrame.{NextFrame}
-use Rattle.lapd_store.specs.Store.{Store}
-use Rattle.lapd_transcript.specs.Streams.{Output, IsPut, IsStuck, Puts}
-use Rattle.model_line.specs.declared.config.Config.{Config}
 use Rattle.model_line.specs.Event as line_event
-use Rattle.model_line.specs.Pull.{Taken, taken}
-use Rattle.model_line.specs.Request.{Request}
-use Rattle.model_line.proofs.Ranges.{ranges_of}
+use Rattle.model_line.specs.Pull.{Taken}
 use Rattle.model_card.specs.Card as machine
-use Rattle.model_card.specs.Event.{Event, at}
-use Rattle.model_card.specs.Machine.{after}
-use Rattle.model_card.specs.Run.{after_all}
-use Rattle.model_card.specs.HappeningsCounted.{happening_counted}
-use Rattle.model_card.specs.Happening.{Happening, expires, asks, line_of, events_of, HappensAt}
-use Rattle.model_sim.specs.Setup.{Setup, ordered}
-use Rattle.model_sim.specs.Steps.{Scene}
-use Rattle.model_sim.proofs.AtOnce.{at_once, orders_of, idle_after}
-use Rattle.model_sim.proofs.Runs.{config_stays}
-use Rattle.lapd_sim.specs.declared.board.Board.{Board}
-use Rattle.lapd_sim.specs.declared.board.Board.TheVariants.{Octets, Frames}
-use Rattle.lapd_sim.specs.declared.exchange.Exchange.{Exchange}
-use Rattle.lapd_sim.specs.Boards.{as_store, line_count, OnBoard, Leads, LeadsBy, IsTaken}
-use Rattle.lapd_sim.specs.Obeyed.{scene, Tells}
-use Rattle.lapd_sim.specs.Stands.{Holds}
 
 -- ---- a card of either kind goes on
 

@@ -1,7 +1,6 @@
 -- Lists whose members stand for one another, one by one.
-use Rattle.std.proofs.Common.{◌≡◌, ℕ, zero, suc, ◌+◌, ◌<◌, Bool, true, false, true≢false, if◌then◌else◌, List, [], ◌∷◌, ◌++◌, length, get_or, set, replicate, sym, subst, arith}
-use Rattle.std.proofs.Math.Numerals.{suc-eq-add-one}
-use Rattle.lapd_sim.specs.Stands.{Each}
+use Rattle.lapd_sim.proofs.Vocabulary.{◌≡◌, ℕ, zero, suc, ◌+◌, ◌<◌, Bool, true, false, if◌then◌else◌, List, [], ◌∷◌, ◌++◌, length, get_or, set, replicate, sym, subst, arith, suc-eq-add-one, Each}
+use Rattle.std.proofs.Common.{true≢false}
 
 pub each_at : {A B : Type 0} (R : A → B → Type 0) (xs : List A) (ys : List B) (i : ℕ) (x : A) (y : B) → i < length xs → Each R xs ys → R (get_or xs i x) (get_or ys i y)
 each_at R [] ys i x y h e = absurd (omega (arith, h))

@@ -1,18 +1,6 @@
 -- When the page goes out: before more is read, and at the end of a script.
-use Rattle.std.proofs.Common.{◌≡◌, ℕ, ◌++◌, List, [], Bool, true, false, Option, Result, Ok, Err, refl, sym, subst, arith}
-use Rattle.std.proofs.lemmas.Bool.{true≢false}
-use Rattle.std.specs.Prelude.{IfOk, IfErr, IsTrue, ◌<◌}
-use Rattle.lapd_transcript.specs.Streams.{Taken, IsWritten, IsBroken, Writes, Output, output, IsPut, one_failure_more}
-use Rattle.lapd_transcript.specs.declared.streams.WriteFailed.{WriteFailed}
-use Rattle.lapd_transcript.proofs.Known.{appends_nothing, writes_then, broken_more, puts_nothing, puts_written, puts_unwritten}
-use Rattle.model_sim.specs.Script.{transcript}
-use Rattle.lapd_sim.specs.declared.faults.PlayFault.{PlayFault}
-use Rattle.lapd_sim.specs.declared.faults.PlayFault.TheVariants.{Read, Write, Script, OutOfMemory}
-use Rattle.lapd_sim.specs.declared.lines.ScriptLines.{ScriptLines}
-use Rattle.lapd_sim.specs.Faults.{reads_failed, writes_failed, writes_failed_by}
-use Rattle.lapd_sim.specs.Pages.{PutsSome, PutsNone, Reaches, is_cut}
-use Rattle.lapd_sim.specs.Plays.{Plays, PlaysOn}
-use Rattle.lapd_sim.specs.ScriptLines.{Advances}
+use Rattle.lapd_sim.proofs.Vocabulary.{◌≡◌, ℕ, ◌++◌, List, [], Bool, true, false, Option, Result, Ok, Err, refl, sym, subst, arith, true≢false, IfOk, IfErr, IsTrue, Taken, IsWritten, IsBroken, Writes, Output, output, IsPut, one_failure_more, WriteFailed, appends_nothing, writes_then, broken_more, puts_nothing, puts_written, puts_unwritten, transcript, PlayFault, Read, Write, Script, OutOfMemory, ScriptLines, reads_failed, writes_failed, writes_failed_by, PutsSome, PutsNone, Reaches, is_cut, Plays, PlaysOn, Advances}
+use Rattle.std.specs.Prelude.{◌<◌}
 
 -- ---- the end
 

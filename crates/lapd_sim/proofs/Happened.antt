@@ -1,18 +1,9 @@
 -- What happens to frames at a card for them, at a line of the setup.
-use Rattle.std.proofs.Common.{◌≡◌, ℕ, ◌<◌, nat_lt, List, Bool, cond, take, Option, None, Some, Result, Ok, Err, refl, sym, subst}
-use Rattle.model_card.specs.Happening.{comes}
+use Rattle.lapd_sim.proofs.Vocabulary.{◌≡◌, ℕ, ◌<◌, nat_lt, List, Bool, cond, take, Option, None, Some, Result, Ok, Err, refl, sym, subst, comes, CardKind, BadLine, BadFrame, Output, IsPut, IsStuck, Puts, frame_text, nothing_text, Setup, Scene, after_coming, after_happening, after_next, at_line, can_come, next_text, with_card, IsTaken, Obeys, scene}
 use Rattle.model_line.specs.Pull.{Taken}
 use Rattle.lapd_script.specs.Meaning as meaning
-use Rattle.lapd_script.specs.declared.command.CardKind.{CardKind}
 use Rattle.lapd_script.specs.declared.command.CardKind.TheVariants.{Octets, Frames}
-use Rattle.lapd_script.specs.declared.kind.FaultKind.TheVariants.{BadLine, BadFrame}
-use Rattle.lapd_transcript.specs.Streams.{Output, IsPut, IsStuck, Puts}
-use Rattle.lapd_transcript.specs.Text.{frame_text, nothing_text}
-use Rattle.model_sim.specs.Setup.{Setup}
-use Rattle.model_sim.specs.Steps.{Scene, after_coming, after_happening, after_next, at_line, can_come, next_text, with_card}
 use Rattle.lapd_sim.specs.declared.faults.LineFault.TheVariants.{Write}
-use Rattle.lapd_sim.specs.Boards.{IsTaken}
-use Rattle.lapd_sim.specs.Obeyed.{Obeys, scene}
 use Rattle.lapd_sim.proofs.Scenes.{right_frames, obeyed_there, broken_there}
 
 -- a frame that comes can be any

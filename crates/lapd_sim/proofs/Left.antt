@@ -1,9 +1,5 @@
 -- What is left of a terminal's bits, once an octet is taken.
-use Rattle.std.proofs.Common.{◌≡◌, ℕ, ◌<◌, ◌≤◌, Bool, List, ◌++◌, length, ap, arith, length-append}
-use Rattle.std.proofs.lemmas.Bool.{le-ltb}
-use Rattle.lapd_bits.specs.Bits.{low_bits}
-use Rattle.lapd_bits.specs.Framer.{refilled}
-use Rattle.lapd_bits.proofs.BitLemmas.{length-low_bits}
+use Rattle.lapd_sim.proofs.Vocabulary.{◌≡◌, ℕ, ◌<◌, ◌≤◌, Bool, List, ◌++◌, length, ap, arith, length-append, le-ltb, low_bits, refilled, length-low_bits}
 
 -- where a whole octet is left, fewer bits are left after it
 pub octet_takes : (left new : List Bool) (octet : ℕ) → low_bits 8 octet ++ new ≡ refilled left → 8 ≤ length left → length new < length left

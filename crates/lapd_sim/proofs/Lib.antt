@@ -1,4 +1,5 @@
 -- Lemmas: a script that is read, played and printed, on octets and on whole frames.
+pub mod Vocabulary
 pub mod Left
 pub mod Pieces
 pub mod Reading

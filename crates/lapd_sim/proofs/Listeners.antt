@@ -1,20 +1,7 @@
 -- What a listener has heard, and what has been written of it, while it is told octet by octet.
-use Rattle.std.proofs.Common.{◌≡◌, ℕ, List, [], ◌∷◌, ◌++◌, length, drop, filter_map, flat_map, Ok, Err, Bor, Option, option_to_list, refl, sym, ap, ◌∙◌, subst, append_assoc, append-nil}
-use Rattle.std.proofs.Math.Seq.{drop-append_seam}
-use Rattle.std.proofs.lemmas.List.Elements.{filter_map-append}
-use Rattle.std.proofs.lemmas.Grind.{flat_map-append}
-use Rattle.lapd_bits.proofs.OneEvent.{one_event_an_octet}
-use Rattle.lapd_bits.specs.Heard.{heard_of}
-use Rattle.lapd_bits.specs.Stream.{Event, heard_in}
-use Rattle.lapd_bits.specs.declared.heard.Heard.{Heard}
-use Rattle.lapd_bits.specs.declared.heard.Heard.TheVariants.{Nothing, Dropped, Frame, Overlong}
-use Rattle.lapd_bits.specs.declared.deframer.Deframer.{Deframer}
-use Rattle.lapd_transcript.proofs.Known.{puts_nothing, puts_then, stuck_more}
-use Rattle.lapd_transcript.specs.Streams.{Output, IsPut, IsStuck}
-use Rattle.lapd_transcript.specs.Text.{frame_text}
-use Rattle.lapd_transcript.specs.declared.streams.WriteFailed.{WriteFailed}
-use Rattle.lapd_sim.specs.Stands.{Hears}
-use Rattle.model_sim.specs.Setup.{frame_in, found}
+use Rattle.lapd_sim.proofs.Vocabulary.{◌≡◌, ℕ, List, [], ◌∷◌, ◌++◌, length, drop, filter_map, Ok, Err, Bor, Option, option_to_list, refl, sym, ap, ◌∙◌, subst, append_assoc, drop-append_seam, filter_map-append, flat_map-append, one_event_an_octet, heard_of, heard_in, Heard, Nothing, Dropped, Frame, Overlong, Deframer, puts_nothing, puts_then, stuck_more, Output, IsPut, IsStuck, frame_text, WriteFailed, Hears, frame_in, found}
+use Rattle.std.proofs.Common.{flat_map, append-nil}
+use Rattle.lapd_bits.specs.Stream.{Event}
 
 -- what is told of events
 abbrev pub events_text : ℕ → List Event → List ℕ

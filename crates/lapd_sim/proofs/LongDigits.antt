@@ -1,15 +1,6 @@
 -- Words that are longer than the digits of any frame.
-use Rattle.std.proofs.Common.{◌≡◌, ℕ, ◌*◌, ◌%◌, ◌<◌, Bool, true, false, ◌&&◌, ◌||◌, if◌then◌else◌, List, [], ◌∷◌, length, get_or, Some, None, is_some, Result, Ok, Err, refl, ap, sym, ◌∙◌, arith, codes, bytes_eq, nat_eq}
-use Rattle.std.specs.List.{list_all, AllPass}
-use Rattle.std.specs.Char.{is_ascii_hexdigit}
-use Rattle.std.specs.Int.{is_in_range}
-use Rattle.std.proofs.lemmas.Bool.{false≢true}
-use Rattle.std.proofs.lemmas.List.Sums.{AllPass-from_list_all, list_all-from_AllPass}
-use Rattle.hex.specs.declared.error.FromHexError.{FromHexError}
-use Rattle.hex.specs.Hex.{decode_of, is_hex_digit}
-use Rattle.hex.proofs.HexLemmas.{decode_of-digits, decode_of-ok}
-use Rattle.lapd_script.specs.declared.kind.FaultKind.TheVariants.{BadOctets}
-use Rattle.lapd_script.specs.Octets.{octets, or_bad}
+use Rattle.lapd_sim.proofs.Vocabulary.{◌≡◌, ℕ, ◌*◌, ◌%◌, ◌<◌, Bool, true, false, ◌&&◌, if◌then◌else◌, List, [], ◌∷◌, length, get_or, Some, None, is_some, Result, Ok, Err, refl, ap, sym, ◌∙◌, arith, codes, bytes_eq, nat_eq, list_all, AllPass, is_ascii_hexdigit, is_in_range, false≢true, AllPass-from_list_all, list_all-from_AllPass, FromHexError, decode_of, is_hex_digit, decode_of-digits, decode_of-ok, BadOctets, octets, or_bad}
+use Rattle.std.proofs.Common.{◌||◌}
 
 -- ---- two ways to tell a hexadecimal digit
 

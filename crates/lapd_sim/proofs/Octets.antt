@@ -1,12 +1,5 @@
 -- Scripts and transcripts in memory.
-use Rattle.std.proofs.Common.{◌≡◌, ℕ, ◌++◌, true, List, [], Option, Some, Result, Ok, Err, ◌∙◌, subst, arith}
-use Rattle.std.proofs.lemmas.List.{append-nil}
-use Rattle.std.specs.Io.KnownBytes.{Appends}
-use Rattle.lapd_transcript.specs.Streams.{Taken}
-use Rattle.lapd_sim.specs.declared.faults.PlayFault.{PlayFault}
-use Rattle.lapd_sim.specs.declared.faults.PlayFault.TheVariants.{Read, Write, Script, OutOfMemory}
-use Rattle.lapd_sim.specs.Faults.{reads_failed_by}
-use Rattle.lapd_sim.specs.Plays.{Plays, PlaysOctets}
+use Rattle.lapd_sim.proofs.Vocabulary.{◌≡◌, ℕ, ◌++◌, true, List, [], Option, Some, Result, Ok, Err, ◌∙◌, subst, arith, append-nil, Appends, Taken, PlayFault, Read, Write, Script, OutOfMemory, reads_failed_by, Plays, PlaysOctets}
 
 -- what has been appended to a list that is known
 appended : (a b : Option (List ℕ)) (old new text : List ℕ) → a ≡ Some old → b ≡ Some new → Appends a b text → new ≡ old ++ text

@@ -1,16 +1,7 @@
 -- What comes from a line and what a line takes, one octet more.
-use Rattle.std.proofs.Common.{◌≡◌, ℕ, List, [], ◌∷◌, ◌++◌, map, Result, Ok, Err, refl, ap, sym, ◌∙◌, subst, append_assoc}
-use Rattle.std.proofs.lemmas.List.{append-nil, map-append}
+use Rattle.lapd_sim.proofs.Vocabulary.{◌≡◌, ℕ, List, [], ◌∷◌, ◌++◌, map, Result, Ok, Err, refl, ap, sym, ◌∙◌, subst, append_assoc, append-nil, map-append, Event, at, answer, WriteFailed, Output, IsPut, IsStuck, puts_then, stuck_more, puts_nothing, Setup, happened, Scene, with_event, with_events, answer_text, octets_at, after_rx, scene, Tells}
 use Rattle.std.proofs.lemmas.List.Sums.{fold-append}
 use Rattle.model_line.specs.Event as line_event
-use Rattle.model_card.specs.Event.{Event, at}
-use Rattle.model_card.specs.Machine.{answer}
-use Rattle.lapd_transcript.specs.declared.streams.WriteFailed.{WriteFailed}
-use Rattle.lapd_transcript.specs.Streams.{Output, IsPut, IsStuck}
-use Rattle.lapd_transcript.proofs.Known.{puts_then, stuck_more, puts_nothing}
-use Rattle.model_sim.specs.Setup.{Setup, happened}
-use Rattle.model_sim.specs.Steps.{Scene, with_event, with_events, answer_text, octets_at, after_rx}
-use Rattle.lapd_sim.specs.Obeyed.{scene, Tells}
 
 -- ---- what is said after what was said before
 

@@ -1,23 +1,7 @@
 -- What one frame is on the line of a terminal that has sent nothing.
-use Rattle.std.proofs.Common.{◌≡◌, ℕ, zero, suc, ◌+◌, ◌*◌, ◌<◌, ◌≤◌, Bool, true, if◌then◌else◌, List, [], ◌∷◌, ◌++◌, length, refl, ap, sym, ◌∙◌, subst, arith, length-append}
-use Rattle.std.proofs.lemmas.Bool.{le-ltb}
-use Rattle.std.proofs.lemmas.List.{append-nil}
-use Rattle.std.proofs.lemmas.List.Elements.{All-append}
-use Rattle.lapd_bits.specs.Bits.{bits, flag, octets_of}
-use Rattle.lapd_bits.specs.Check.{check}
+use Rattle.lapd_sim.proofs.Vocabulary.{◌≡◌, ℕ, zero, suc, ◌+◌, ◌*◌, ◌<◌, ◌≤◌, Bool, true, if◌then◌else◌, List, [], ◌∷◌, ◌++◌, length, refl, ap, sym, ◌∙◌, subst, arith, length-append, le-ltb, append-nil, All-append, bits, flag, octets_of, check, Framing, with_idle, Item, idle, frame, line_text, stuffed, AreOctets, length-bits, length-check, line_text-push, Terminal, HasPut, on_line, Sends}
 use Rattle.lapd_bits.specs.Framer as framing
-use Rattle.lapd_bits.specs.Framer.{Framing, with_idle}
-use Rattle.lapd_bits.specs.Sent.{Item, idle, frame, line_text}
-use Rattle.lapd_bits.specs.Stuffing.{stuffed}
-use Rattle.lapd_bits.specs.StuffingLaws.{AreOctets}
-use Rattle.lapd_bits.proofs.BitLemmas.{length-bits}
-use Rattle.lapd_bits.proofs.Division.Unique.{length-check}
-use Rattle.lapd_bits.proofs.FramerStands.{line_text-push}
 use Rattle.model_sim.specs.Setup as machine
-use Rattle.lapd_sim.specs.declared.terminal.Terminal.{Terminal}
-use Rattle.lapd_sim.specs.OnLine.{HasPut}
-use Rattle.lapd_sim.specs.Shown.{on_line}
-use Rattle.lapd_sim.specs.Stands.{Sends}
 use Rattle.lapd_sim.proofs.Terminals.{octets_of-few, octets_since, length-text, whole_where, rest_where, rest_stays}
 
 -- ---- how long it is

@@ -1,17 +1,6 @@
 -- The page on its way, while a script is played.
-use Rattle.std.proofs.Common.{◌≡◌, ◌++◌, ◌∙◌, ℕ, List, [], Bool, Option, Ok, Err, sym, ap, subst}
-use Rattle.std.proofs.lemmas.List.{append-nil}
-use Rattle.std.proofs.lemmas.Grind.{fold-append}
-use Rattle.lapd_transcript.specs.Streams.{Output, IsPut, IsStuck}
-use Rattle.lapd_transcript.proofs.Known.{puts_then, stuck_more}
-use Rattle.model_sim.specs.Pieces.{pieces_of}
-use Rattle.model_sim.specs.Script.{Played, played, one_more, not_begun, transcript}
+use Rattle.lapd_sim.proofs.Vocabulary.{◌≡◌, ◌++◌, ◌∙◌, ℕ, List, [], Bool, Option, Ok, Err, sym, ap, subst, append-nil, fold-append, Output, IsPut, IsStuck, puts_then, stuck_more, pieces_of, Played, played, one_more, not_begun, transcript, PlayFault, Read, Write, Script, OutOfMemory, ScriptLines, PutsNone, PutsSome, Reaches, PlaysOn}
 use Rattle.lapd_sim.specs.declared.setup.Setup.{Setup}
-use Rattle.lapd_sim.specs.declared.faults.PlayFault.{PlayFault}
-use Rattle.lapd_sim.specs.declared.faults.PlayFault.TheVariants.{Read, Write, Script, OutOfMemory}
-use Rattle.lapd_sim.specs.declared.lines.ScriptLines.{ScriptLines}
-use Rattle.lapd_sim.specs.Pages.{PutsNone, PutsSome, Reaches}
-use Rattle.lapd_sim.specs.Plays.{PlaysOn}
 use Rattle.lapd_sim.proofs.Playing.{IsPlayed, grows, stops_reading}
 
 -- the page has gone out

@@ -1,9 +1,5 @@
 -- The pieces of a text.
-use Rattle.std.proofs.Common.{◌≡◌, ◌≢◌, ℕ, ◌+◌, ◌<◌, ◌≤◌, false, eqb, List, [], ◌∷◌, ◌++◌, length, suc, inl, inr, refl, ap, subst, arith}
-use Rattle.std.specs.List.{All}
-use Rattle.std.proofs.lemmas.Bool.{ne_eqb}
-use Rattle.std.proofs.lemmas.Bool.Decides.{eqb_tells}
-use Rattle.model_sim.specs.Pieces.{pieces_of, with_octet, line_in}
+use Rattle.lapd_sim.proofs.Vocabulary.{◌≡◌, ◌≢◌, ℕ, ◌+◌, ◌<◌, ◌≤◌, false, eqb, List, [], ◌∷◌, ◌++◌, length, suc, inl, inr, refl, ap, subst, arith, All, ne_eqb, eqb_tells, pieces_of, with_octet, line_in}
 
 -- No octet is a line feed.
 abbrev pub IsOpen : List ℕ → Type 0

@@ -1,33 +1,9 @@
 -- How far a script has been played.
-use Rattle.std.proofs.Common.{◌≡◌, ℕ, ◌+◌, ◌^◌, ◌<◌, ◌≤◌, ◌++◌, List, [], ◌∷◌, length, fold, true, false, cond, Bool, Option, None, Some, Result, Ok, Err, refl, sym, ap, ◌∙◌, subst, append_assoc, nat_lt, inr}
-use Rattle.std.specs.Prelude.{◌||◌}
-use Rattle.std.proofs.lemmas.Bool.{lt-ltb, le-ltb, ltb-false, true≢false}
-use Rattle.std.proofs.lemmas.Option.{none-some}
-use Rattle.std.proofs.lemmas.List.{append-nil}
-use Rattle.std.proofs.lemmas.Grind.{fold-append}
-use Rattle.lapd_script.specs.declared.kind.FaultKind.{FaultKind}
-use Rattle.lapd_script.specs.declared.kind.FaultKind.TheVariants.{TooLong}
-use Rattle.lapd_script.specs.Meaning.{Meaning}
-use Rattle.lapd_script.specs.Read.{read}
-use Rattle.lapd_transcript.specs.Streams.{Output, IsPut, IsStuck}
-use Rattle.lapd_transcript.proofs.Known.{puts_then, stuck_more, puts_nothing}
+use Rattle.lapd_sim.proofs.Vocabulary.{◌≡◌, ℕ, ◌+◌, ◌^◌, ◌<◌, ◌≤◌, ◌++◌, List, [], ◌∷◌, length, fold, true, false, cond, Bool, Option, None, Some, Result, Ok, Err, refl, sym, ap, ◌∙◌, subst, append_assoc, nat_lt, inr, ◌||◌, lt-ltb, le-ltb, ltb-false, true≢false, none-some, append-nil, fold-append, FaultKind, TooLong, Meaning, read, Output, IsPut, IsStuck, puts_then, stuck_more, puts_nothing, pieces_of, line_in, Played, Fault, played, one_more, not_begun, counted, faulty, is_too_long, after_reading, after_meaning, after_bench, after_scene, after_piece, unless_faulty, transcript, first_fault, Scene, with_card, without_card, LineFault, Faulty, PlayFault, Read, Write, Script, OutOfMemory, ScriptLines, fault_at, PutsSome, AreLeft, IsTooLong, Advances, held, Said, Does, Obeys, StartsBy, said, said_by, said_of, said_with, said_without, scene, PlaysOn, AreAnswered, Has, Stands}
 use Rattle.model_sim.specs.Setup as machine
-use Rattle.model_sim.specs.Pieces.{pieces_of, line_in}
-use Rattle.model_sim.specs.Script.{Played, Fault, played, one_more, not_begun, counted, faulty, is_too_long, after_reading, after_meaning, after_bench, after_scene, after_piece, unless_faulty, transcript, first_fault}
-use Rattle.model_sim.specs.Steps.{Scene, with_card, without_card}
 use Rattle.lapd_sim.specs.declared.setup.Setup.{Setup}
-use Rattle.lapd_sim.specs.declared.faults.LineFault.{LineFault}
 use Rattle.lapd_sim.specs.declared.faults.LineFault.TheVariants as line
-use Rattle.lapd_sim.specs.declared.faults.LineFault.TheVariants.{Faulty}
-use Rattle.lapd_sim.specs.declared.faults.PlayFault.{PlayFault}
-use Rattle.lapd_sim.specs.declared.faults.PlayFault.TheVariants.{Read, Write, Script, OutOfMemory}
-use Rattle.lapd_sim.specs.declared.lines.ScriptLines.{ScriptLines}
-use Rattle.lapd_sim.specs.Faults.{fault_at}
-use Rattle.lapd_sim.specs.Pages.{PutsSome}
-use Rattle.lapd_sim.specs.ScriptLines.{AreLeft, IsNext, IsTooLong, Advances, held}
-use Rattle.lapd_sim.specs.Obeyed.{Said, Does, Obeys, StartsBy, said, said_by, said_of, said_with, said_without, scene}
-use Rattle.lapd_sim.specs.Plays.{PlaysOn, AreAnswered}
-use Rattle.lapd_sim.specs.Stands.{Has, Stands}
+use Rattle.lapd_sim.specs.ScriptLines.{IsNext}
 use Rattle.lapd_sim.proofs.Wholes.{AreWhole, no_whole, whole_more, first_whole, some_octet, split_first, read_whole}
 
 -- These pieces of the text have been played without a fault, and what is left of it is still to be read.

@@ -1,13 +1,5 @@
 -- What a line has taken, octet by octet.
-use Rattle.std.proofs.Common.{◌≡◌, ℕ, zero, suc, ◌+◌, List, [], ◌∷◌, ◌++◌, refl, sym, ap, ◌∙◌, subst}
-use Rattle.std.proofs.Math.Numerals.{suc-eq-add-one}
-use Rattle.model_card.specs.Event.{at}
-use Rattle.model_card.specs.Machine.{answer}
-use Rattle.model_line.specs.Event.{pull}
-use Rattle.lapd_sim.specs.Stands.{Holds}
-use Rattle.lapd_sim.specs.declared.exchange.Exchange.{Exchange}
-use Rattle.model_sim.specs.Setup.{Setup, happened}
-use Rattle.model_sim.specs.Steps.{Pulls, octet_in, one_pull, pulls}
+use Rattle.lapd_sim.proofs.Vocabulary.{◌≡◌, ℕ, zero, suc, ◌+◌, List, [], ◌∷◌, ◌++◌, refl, sym, ap, ◌∙◌, subst, suc-eq-add-one, at, answer, pull, Holds, Exchange, Setup, happened, Pulls, octet_in, one_pull, pulls}
 
 -- one more is the last
 pulls_more : (n line : ℕ) (p : Pulls) → pulls (suc n) line p ≡ one_pull line (pulls n line p)

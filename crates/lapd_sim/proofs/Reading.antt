@@ -1,22 +1,7 @@
 -- What is read into the buffer of the lines.
-use Rattle.std.proofs.Common.{◌≡◌, ◌≢◌, ℕ, ◌+◌, ◌-◌, ◌<◌, ◌≤◌, Bool, true, false, cond, eqb, ltb, List, [], ◌++◌, length, get_or, take, drop, Some, None, Option, inl, inr, refl, sym, ap, ◌∙◌, subst, append_assoc, arith}
-use Rattle.std.specs.List.{copy_within, AllWithin, HoldsAt, position, position_or_len}
-use Rattle.std.proofs.lemmas.Bool.{cases_lt, eqb-false}
-use Rattle.std.proofs.lemmas.Bool.Decides.{nat_tests}
-use Rattle.std.proofs.lemmas.Grind.{common_steps}
-use Rattle.std.proofs.lemmas.List.{get_or-drop, get_or-take, length-append, length-drop, length-take, take-append-le, take_at, take-take}
-use Rattle.std.proofs.lemmas.List.Quantifiers.{position-Some}
-use Rattle.std.proofs.lemmas.List.Sums.{fails_before_first}
-use Rattle.std.specs.Io.KnownBytes.{Consumes, IsAtEnd, Keeps}
-use Rattle.std.specs.Prelude.{Vec}
-use Rattle.std.specs.Vec.{with_items}
-use Rattle.std.proofs.lemmas.List.{with_items_is}
-use Rattle.std.proofs.lemmas.List.Edits.{length-paste, take-paste}
-use Rattle.std.proofs.lemmas.Slice.{between_is}
-use Rattle.std.proofs.Math.Seq.{take-append-add}
+use Rattle.lapd_sim.proofs.Vocabulary.{◌≡◌, ◌≢◌, ℕ, ◌+◌, ◌-◌, ◌<◌, ◌≤◌, Bool, true, false, cond, eqb, ltb, List, [], ◌++◌, length, get_or, take, drop, Some, None, Option, inl, inr, refl, sym, ap, ◌∙◌, subst, append_assoc, arith, copy_within, AllWithin, HoldsAt, position, position_or_len, cases_lt, eqb-false, nat_tests, common_steps, get_or-drop, get_or-take, length-drop, length-take, take-append-le, take_at, take-take, position-Some, fails_before_first, Consumes, IsAtEnd, Keeps, Vec, with_items, with_items_is, length-paste, take-paste, between_is, take-append-add, ScriptLines, held, AreLeft}
+use Rattle.std.proofs.lemmas.List.{length-append}
 use borrow.Rule.Slice.PartMut.{put_mid}
-use Rattle.lapd_sim.specs.declared.lines.ScriptLines.{ScriptLines}
-use Rattle.lapd_sim.specs.ScriptLines.{held, AreLeft}
 use Rattle.lapd_sim.proofs.Pieces.{IsOpen}
 
 -- Where the first line feed stands, by place in the whole buffer.

@@ -1,16 +1,7 @@
 -- What is told of a request that is refused.
+use Rattle.lapd_sim.proofs.Vocabulary.{subst, ap, ◌∙◌, Refusal, refused, orders_in, Event, answer, Output, IsPut, IsStuck, Puts, Setup, happened, ordered, answer_text, with_event, scene, Tells}
 use Rattle.std.specs.Prelude.{◌≡◌, Result, Ok, Err, fold}
-use Rattle.std.proofs.Common.{subst, ap, ◌∙◌}
-use Rattle.lapd_frame.specs.declared.refusals.Refusal.{Refusal}
-use Rattle.model_line.specs.Event.{refused}
-use Rattle.model_line.specs.Laws.{orders_in}
-use Rattle.model_card.specs.Event.{Event}
-use Rattle.model_card.specs.Machine.{answer}
 use Rattle.lapd_clock.specs.Timers as clocks
-use Rattle.lapd_transcript.specs.Streams.{Output, IsPut, IsStuck, Puts}
-use Rattle.model_sim.specs.Setup.{Setup, happened, ordered}
-use Rattle.model_sim.specs.Steps.{answer_text, with_event}
-use Rattle.lapd_sim.specs.Obeyed.{scene, Tells}
 
 pub refused-told : {E : Type 0} (result : Result Unit E) (old new : Output) (why : Refusal) (m : Setup) (e : Event) (stands : Setup → Type 0)
     → refused why ≡ answer e m.card → Puts result old new (answer_text e.line (refused why)) → stands (happened m e)

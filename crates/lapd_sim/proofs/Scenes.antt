@@ -1,26 +1,9 @@
 -- What a line says, event by event.
-use Rattle.std.proofs.Common.{◌≡◌, ℕ, zero, suc, ◌+◌, ◌<◌, ◌≤◌, nat_lt, nat_le, List, [], ◌∷◌, ◌++◌, length, take, drop, get_or, fold, Bool, true, false, cond, Option, None, Some, Result, Ok, Err, refl, sym, ap, ◌∙◌, subst, append_assoc}
+use Rattle.lapd_sim.proofs.Vocabulary.{◌≡◌, ℕ, zero, suc, ◌+◌, ◌<◌, ◌≤◌, nat_lt, nat_le, List, [], ◌∷◌, ◌++◌, length, take, drop, get_or, fold, Bool, true, false, cond, Option, None, Some, Result, Ok, Err, refl, sym, ap, ◌∙◌, subst, append_assoc, lt-ltb, le-leb, true≢false, CardKind, BadNumber, BadLine, BadFrame, append-nil, map-append, take_more, take-append-drop, fold-append, octet, Event, at, answer, Output, IsPut, IsStuck, stuck_more, Setup, LengthFault, due_at, FaultKind, Scene, with_event, with_events, octets_at, after_rx, at_line, answer_text, expiries, expired, Pulls, pulls, one_pull, after_pull, after_in, after_counters, after_coming, can_come, for_octets, for_frames, with_card, LineFault, Faulty, Obeys, scene}
 use Rattle.std.specs.Prelude.{◌&&◌}
-use Rattle.std.proofs.lemmas.Bool.{lt-ltb, le-leb, true≢false}
 use Rattle.lapd_script.specs.Meaning as meaning
-use Rattle.lapd_script.specs.declared.command.CardKind.{CardKind}
 use Rattle.lapd_script.specs.declared.command.CardKind.TheVariants.{Octets, Frames}
-use Rattle.lapd_script.specs.declared.kind.FaultKind.TheVariants.{BadNumber, BadLine, BadFrame}
-use Rattle.std.proofs.lemmas.List.{append-nil, map-append, take_more, take-append-drop}
-use Rattle.std.proofs.lemmas.Grind.{fold-append}
-use Rattle.model_line.specs.Event.{octet}
-use Rattle.model_card.specs.Event.{Event, at}
-use Rattle.model_card.specs.Machine.{answer}
-use Rattle.lapd_transcript.specs.Streams.{Output, IsPut, IsStuck}
-use Rattle.lapd_transcript.proofs.Known.{stuck_more}
-use Rattle.model_sim.specs.Setup.{Setup}
-use Rattle.lapd_clock.specs.declared.fault.LengthFault.{LengthFault}
-use Rattle.lapd_clock.specs.Timers.{due_at}
-use Rattle.lapd_script.specs.declared.kind.FaultKind.{FaultKind}
-use Rattle.model_sim.specs.Steps.{Scene, with_event, with_events, octets_at, after_rx, at_line, answer_text, expiries, expired, Pulls, pulls, one_pull, after_pull, after_in, after_counters, after_coming, can_come, for_octets, for_frames, with_card}
-use Rattle.lapd_sim.specs.declared.faults.LineFault.{LineFault}
-use Rattle.lapd_sim.specs.declared.faults.LineFault.TheVariants.{Faulty, Write, OutOfMemory}
-use Rattle.lapd_sim.specs.Obeyed.{Obeys, scene}
+use Rattle.lapd_sim.specs.declared.faults.LineFault.TheVariants.{Write, OutOfMemory}
 
 -- one octet more
 pub rx_more : (line : ℕ) (xs : List ℕ) (i : ℕ) (s : Scene) → i < length xs

@@ -1,17 +1,6 @@
 -- What a `frame` job has written where it ends.
-use Rattle.std.proofs.Common.{◌≡◌, ℕ, zero, suc, ◌≤◌, List, [], ◌∷◌, ◌++◌, length, take, Result, Ok, Err, refl, ap, sym, subst, arith}
-use Rattle.std.specs.Prelude.{IsErr, IsErrAnd}
-use Rattle.std.proofs.lemmas.Bool.{false≢true}
-use Rattle.lapd_frame.specs.declared.addresses.Side.{Side}
-use Rattle.lapd_frame.specs.Grammar.{Parts, Spells}
-use Rattle.lapd_script.specs.Octets.{octets}
-use Rattle.lapd_transcript.specs.declared.streams.WriteFailed.{WriteFailed}
-use Rattle.lapd_transcript.specs.Shown.{shown_text, on_line_text}
-use Rattle.lapd_transcript.specs.Streams.{Taken, IsWritten, IsBroken}
-use Rattle.lapd_transcript.proofs.Known.{broken_more, writes_then}
-use Rattle.lapd_sim.specs.declared.shown.FrameFault.{FrameFault}
-use Rattle.lapd_sim.specs.declared.shown.FrameFault.TheVariants.{BadOctets, TooLong, NoFrame, Write, OutOfMemory}
-use Rattle.lapd_sim.specs.Shown.{on_line, IsShown, IsUnshown, ShowsFrame}
+use Rattle.lapd_sim.proofs.Vocabulary.{◌≡◌, ℕ, zero, suc, ◌≤◌, List, [], ◌∷◌, ◌++◌, length, take, Result, Ok, Err, refl, ap, sym, subst, arith, IsErr, IsErrAnd, false≢true, Side, Parts, Spells, octets, WriteFailed, shown_text, on_line_text, Taken, IsWritten, IsBroken, broken_more, writes_then, FrameFault, NoFrame, on_line, IsShown, IsUnshown, ShowsFrame}
+use Rattle.lapd_sim.specs.declared.shown.FrameFault.TheVariants.{BadOctets, TooLong, Write, OutOfMemory}
 
 -- the exit of a `?`
 pub exit_is : (r : Result Unit FrameFault) (fault : FrameFault) → IsErr r × IsErrAnd r (λ why. why ≡ fault) → r ≡ Err fault

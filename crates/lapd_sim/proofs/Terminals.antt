@@ -1,25 +1,9 @@
 -- What a terminal gives, octet by octet, up to the octets of a frame that it sends.
-use Rattle.std.proofs.Common.{◌≡◌, ℕ, zero, suc, ◌+◌, ◌*◌, ◌%◌, ◌==◌, ◌<◌, ◌≤◌, Bool, true, false, if◌then◌else◌, List, [], ◌∷◌, ◌++◌, length, drop, Result, Ok, Err, OnOk, refl, ap, sym, ◌∙◌, subst, arith, append_assoc, length-append}
-use Rattle.std.proofs.lemmas.Bool.{le-ltb, lt-ltb, ne_eqb, false≢true}
-use Rattle.std.proofs.lemmas.List.{append-nil, drop_at}
-use Rattle.std.proofs.lemmas.List.Elements.{All-append, All-head, All-tail}
-use Rattle.lapd_bits.specs.Bits.{bits, flag, low_bits, octets_of}
+use Rattle.lapd_sim.proofs.Vocabulary.{◌≡◌, ℕ, zero, suc, ◌+◌, ◌*◌, ◌%◌, ◌==◌, ◌<◌, ◌≤◌, Bool, true, false, if◌then◌else◌, List, [], ◌∷◌, ◌++◌, length, drop, Result, Ok, Err, OnOk, refl, ap, sym, ◌∙◌, subst, arith, append_assoc, length-append, le-ltb, lt-ltb, ne_eqb, false≢true, append-nil, drop_at, All-append, All-head, All-tail, bits, flag, low_bits, octets_of, Framing, with_idle, Item, idle, frame, item_text, line_text, AreOctets, bits-append, length-bits, number_of-low_bits, line_text-push, at, WriteFailed, Output, IsStuck, Setup, with_frame, sending, octets_sent, after_sending, with_event, after_rx, Gives, scene, Tells, Sends}
 use Rattle.lapd_bits.specs.Framer as framing
-use Rattle.lapd_bits.specs.Framer.{Framing, with_idle}
-use Rattle.lapd_bits.specs.Sent.{Item, idle, frame, item_text, line_text}
-use Rattle.lapd_bits.specs.StuffingLaws.{AreOctets}
-use Rattle.lapd_bits.proofs.BitLemmas.{bits-append, length-bits, number_of-low_bits}
-use Rattle.lapd_bits.proofs.FramerStands.{line_text-push}
 use Rattle.model_line.specs.Event as line_event
-use Rattle.model_card.specs.Event.{at}
-use Rattle.lapd_transcript.specs.declared.streams.WriteFailed.{WriteFailed}
-use Rattle.lapd_transcript.specs.Streams.{Output, IsStuck}
-use Rattle.model_sim.specs.Setup.{Setup, Terminal, with_frame, sending, octets_sent, after_sending}
-use Rattle.model_sim.specs.Steps.{with_event, after_rx}
+use Rattle.model_sim.specs.Setup.{Terminal}
 use Rattle.lapd_sim.specs.declared.terminal.Terminal as rust
-use Rattle.lapd_sim.specs.Gives.{Gives}
-use Rattle.lapd_sim.specs.Obeyed.{scene, Tells}
-use Rattle.lapd_sim.specs.Stands.{Sends}
 use Rattle.lapd_sim.proofs.OneByOne.{tells_then, broken_then, tells_none}
 
 -- ---- octets of bits

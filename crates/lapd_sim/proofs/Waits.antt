@@ -1,24 +1,7 @@
 -- What has been written, and what an exchange stands for, while it waits.
-use Rattle.std.proofs.Common.{◌≡◌, ℕ, ◌<◌, List, [], ◌++◌, Some, None, Ok, Err, refl, sym, ap, ◌∙◌, subst}
-use Rattle.std.proofs.Math.Logic.{∥∥₁_elim}
-use Rattle.std.proofs.Props.{props}
-use Rattle.model_card.specs.Event.{at}
-use Rattle.model_card.specs.Machine.{answer}
-use Rattle.lapd_clock.specs.Timer.{Timer, AreInRange}
-use Rattle.lapd_clock.specs.Timers.{Timers, due_at, time_until}
+use Rattle.lapd_sim.proofs.Vocabulary.{◌≡◌, ℕ, ◌<◌, List, [], ◌++◌, Some, None, Ok, Err, refl, sym, ap, ◌∙◌, subst, ∥∥₁_elim, props, at, answer, AreInRange, Timers, due_at, time_until, Setup, happened, Scene, answer_text, with_event, at_expiry, expired, until, scene, Tells, OnBoard, counters_on, Holds, Plan, Board, Exchange, puts_nothing, puts_then, stuck_more, Output, IsPut, IsStuck, WriteFailed, expiry_lowers, until-expired, until-over, text_grows}
+use Rattle.lapd_clock.specs.Timer.{Timer}
 use Rattle.model_line.specs.Event as line_event
-use Rattle.model_sim.specs.Setup.{Setup, happened}
-use Rattle.model_sim.specs.Steps.{Scene, answer_text, with_event, at_expiry, expired, until}
-use Rattle.lapd_sim.specs.Obeyed.{scene, Tells}
-use Rattle.lapd_sim.specs.Boards.{OnBoard, counters_on}
-use Rattle.lapd_sim.specs.Stands.{Holds}
-use Rattle.lapd_sim.specs.declared.board.Plan.{Plan}
-use Rattle.lapd_sim.specs.declared.board.Board.{Board}
-use Rattle.lapd_sim.specs.declared.exchange.Exchange.{Exchange}
-use Rattle.lapd_transcript.proofs.Known.{puts_nothing, puts_then, stuck_more}
-use Rattle.lapd_transcript.specs.Streams.{Output, IsPut, IsStuck}
-use Rattle.lapd_transcript.specs.declared.streams.WriteFailed.{WriteFailed}
-use Rattle.model_sim.proofs.Expiries.{expiry_lowers, until-expired, until-over, text_grows}
 
 -- From a setup, some timers have expired, and what they say has been written; what falls due until the end is the same.
 pub record Waits (e : Exchange) (before after : Output) (end : ℕ) (m : Setup) : Type 0 where

@@ -1,12 +1,6 @@
 -- The lines of a text whose line feed has come.
-use Rattle.std.proofs.Common.{◌≡◌, ◌≢◌, ℕ, ◌++◌, List, [], ◌∷◌, Bool, true, false, cond, refl, sym, ap, ◌∙◌, subst, append_assoc}
-use Rattle.std.specs.Prelude.{◌||◌, ◌==◌, filter, All}
-use Rattle.std.proofs.lemmas.Bool.{true≢false, ne_eqb}
-use Rattle.std.proofs.lemmas.List.{append-nil}
-use Rattle.std.proofs.lemmas.List.Elements.{filter-append, All-head, All-tail, All-weaker}
-use Rattle.std.proofs.lemmas.List.Folds.{list_any_none}
-use Rattle.model_sim.specs.Pieces.{pieces_of, with_octet}
-use Rattle.lapd_sim.specs.Plays.{is_whole, whole_lines}
+use Rattle.lapd_sim.proofs.Vocabulary.{◌≡◌, ◌≢◌, ℕ, ◌++◌, List, [], ◌∷◌, Bool, true, false, cond, refl, sym, ap, ◌∙◌, subst, append_assoc, ◌||◌, filter, true≢false, ne_eqb, append-nil, filter-append, All-head, All-tail, All-weaker, list_any_none, pieces_of, with_octet, is_whole, whole_lines}
+use Rattle.std.specs.Prelude.{◌==◌, All}
 
 abbrev is_nil : {X : Type 0} → List X → Bool
 is_nil [] = true

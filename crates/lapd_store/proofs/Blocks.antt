@@ -1,7 +1,5 @@
 -- A run of octets that is written as two blocks, its beginning and its end.
-use Rattle.std.proofs.Common.{◌≡◌, ℕ, ◌+◌, ◌-◌, ◌<◌, ◌≤◌, inl, inr, List, length, get_or, slice_get, Option, None, ap, ◌∙◌, arith}
-use Rattle.std.proofs.lemmas.Bool.Decides.{leb_tells}
-use Rattle.lapd_store.specs.Region.{Holds, SameOutside}
+use Rattle.lapd_store.proofs.Vocabulary.{◌≡◌, ℕ, ◌+◌, ◌-◌, ◌<◌, ◌≤◌, inl, inr, List, length, get_or, slice_get, Option, None, ap, ◌∙◌, arith, leb_tells, Holds, SameOutside}
 
 -- where the first octets were written, and then the last, all were
 pub both_ends : (old new : List (Option ℕ)) (from last n : ℕ) (octets first block : List ℕ) → last ≤ n → length first ≡ n → length block ≡ n

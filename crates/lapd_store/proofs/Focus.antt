@@ -1,12 +1,7 @@
 -- One of several owners taken out of their list and put back: what a call on one owner does, it does among all. A level
 -- above applies what is said of one owner `for every list of others` to `rest`, and then `back`.
-use Rattle.std.proofs.Common.{◌≡◌, ℕ, ◌+◌, ◌<◌, List, [], ◌∷◌, ◌++◌, length, refl, sym, ap, subst, ◌∙◌, append_assoc, length-append, get_or, set, arith}
-use Rattle.std.proofs.lemmas.List.Elements.{All-head, All-tail, All-get_or, All-set}
-use Rattle.std.proofs.lemmas.List.Sums.{sum_by-cons}
-use Rattle.std.proofs.lemmas.Slice.Zip.{length-zip, get_or-zip}
-use Rattle.std.specs.List.{All, flat_map, remove, sum_by, zip}
-use Rattle.lapd_store.specs.Ownership.{Owned, Holds, owned_octets}
-use Rattle.lapd_store.specs.Store.{Store}
+use Rattle.lapd_store.proofs.Vocabulary.{◌≡◌, ℕ, ◌+◌, ◌<◌, List, [], ◌∷◌, ◌++◌, length, refl, sym, ap, subst, ◌∙◌, append_assoc, length-append, get_or, set, arith, All-head, All-tail, All-get_or, All-set, sum_by-cons, length-zip, get_or-zip, All, flat_map, remove, sum_by, zip, Owned, owned_octets, Store}
+use Rattle.lapd_store.specs.Ownership.{Holds}
 use Rattle.lapd_store.proofs.Ownership.{Holds-take_out, Holds-put_back, Holds-second, owned_octets-append}
 use Rattle.lapd_store.proofs.Queues.{zip-set}
 

@@ -1,4 +1,5 @@
 -- Lemmas: who owns which slot; queues in slots; a shelf of slabs, and one in a region of octets.
+pub mod Vocabulary
 pub mod Entries
 pub mod Focus
 pub mod Ownership

@@ -1,6 +1,5 @@
 -- What the walks of the functions on pointers share: octets taken out of a row, put back, or seen.
-use Rattle.std.proofs.Common.{◌≡◌, ℕ, zero, suc, ◌+◌, ◌<◌, ◌≤◌, List, [], ◌∷◌, ◌++◌, map, length, take, drop, set, replicate, Option, Some, None, refl, sym, ap, subst, ◌∙◌, arith, take-append-drop}
-use Rattle.std.specs.Borrow.{full_share, u8}
+use Rattle.lapd_store.proofs.Vocabulary.{◌≡◌, ℕ, zero, suc, ◌+◌, ◌<◌, ◌≤◌, List, [], ◌∷◌, ◌++◌, map, length, take, drop, set, replicate, Option, Some, None, refl, sym, ap, subst, ◌∙◌, arith, take-append-drop, full_share, u8, octet, octets, octet_lent, lent}
 use seplogic.Ra.Ura.{Ura}
 use base.Logic.{ent, sep, wand, via, snd∗, id⊢, mono_r, apply∗}
 use base.Fml.{Lft, froom}
@@ -10,7 +9,6 @@ use types.Logic.{Logic, sem}
 use types.Kit.{‵, raw, ◌⊛◌, ◌$◌, ◌∵◌, !, qed, by, move, keep, use1, use2, split, fjoin, rewrite, frame, assume, done}
 use denote.Plain.{uint_out}
 use denote.Slice.{elements_shared}
-use Rattle.lapd_store.specs.Memory.{octet, octets, octet_lent, lent}
 
 module _ {M : Type 1} {𝓤 : Ura M} (𝓛 : Logic 𝓤) (b : ℕ) where
   open 𝓛 use {H}

@@ -1,18 +1,9 @@
 -- Laws of ownership: what the calls of a shelf do to the list of pairs that it holds. Whoever shares a shelf reasons by
 -- these laws, and not about maps. Each takes the clauses of the call that it is about as its premises.
-use Rattle.std.proofs.Common.{◌≡◌, ℕ, ◌+◌, ◌<◌, Some, List, [], ◌∷◌, ◌++◌, map, length, drop, take, suc, refl, sym, ap, subst, ◌∙◌, eqb, append_assoc, get_or, set}
-use Rattle.std.proofs.lemmas.List.Concat.{flat_map-append}
-use Rattle.std.proofs.lemmas.List.{set_split, set-get_or}
-use Rattle.std.proofs.lemmas.List.Elements.{All-contains, Contains-append_left}
-use Rattle.std.proofs.lemmas.Option.{slice_get_within, get_or_from_slice_get}
-use Rattle.std.proofs.lemmas.List.Sorted.{IsPermutation-refl, IsPermutation-sym, IsPermutation-cons, IsPermutation-trans, IsPermutation-middle, IsPermutation-append_comm, IsPermutation-append_left, All-permutation, length_permutation}
-use Rattle.std.proofs.lemmas.List.Sums.{sum_by-append}
-use Rattle.std.proofs.lemmas.Map.Entries.{sum_by_values_permutation}
+use Rattle.lapd_store.proofs.Vocabulary.{◌≡◌, ℕ, ◌+◌, ◌<◌, Some, List, [], ◌∷◌, ◌++◌, map, length, drop, take, suc, refl, sym, ap, subst, ◌∙◌, eqb, append_assoc, get_or, set, flat_map-append, set_split, set-get_or, All-contains, Contains-append_left, slice_get_within, get_or_from_slice_get, IsPermutation-refl, IsPermutation-sym, IsPermutation-cons, IsPermutation-trans, IsPermutation-middle, IsPermutation-append_comm, IsPermutation-append_left, All-permutation, length_permutation, sum_by-append, sum_by_values_permutation, Contains, IsDistinct, flat_map, fold, remove, IsPermutation, Store, empty_store, contents_of, IsFree, used_slots, stored_octets, with_contents, without, Owned, owned_octets}
 use Rattle.std.specs.FinMap as finmap
-use Rattle.std.specs.List.{Contains, IsDistinct, flat_map, fold, remove, slice_get}
-use Rattle.std.specs.List.Sorted.{IsPermutation}
-use Rattle.lapd_store.specs.Store.{Store, empty_store, contents_of, IsFree, used_slots, stored_octets, with_contents, without}
-use Rattle.lapd_store.specs.Ownership.{Owned, Holds, owned_octets}
+use Rattle.std.specs.List.{slice_get}
+use Rattle.lapd_store.specs.Ownership.{Holds}
 use Rattle.lapd_store.proofs.Entries.{entries-empty, entries-insert_free, entries-remove, entries_found, keys_distinct}
 
 -- a fresh shelf holds nothing

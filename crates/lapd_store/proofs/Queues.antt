@@ -1,13 +1,8 @@
 -- Laws of ownership for a queue of slots: it owns each of its slots with the message in it, and others own the rest. As
 -- in `Ownership`, each law takes the clauses of the calls that it is about as its premises.
-use Rattle.std.proofs.Common.{◌≡◌, ℕ, ◌+◌, zero, suc, Some, IsSome, List, [], ◌∷◌, ◌++◌, length, drop, set, refl, sym, ap, subst, ◌∙◌, arith, length-append, length-drop}
-use Rattle.std.proofs.lemmas.List.{drop-drop}
-use Rattle.std.proofs.lemmas.Option.{none-some, same_Some}
-use Rattle.std.proofs.lemmas.Slice.Zip.{length-zip, seconds-zip}
-use Rattle.std.specs.List.{slice_get, sum_by, zip}
-use Rattle.lapd_store.specs.Ownership.{Owned, Holds, Keeps, owned_octets, pairs_of}
-use Rattle.lapd_store.specs.SlotRing.{SlotRing, without_oldest_ones}
-use Rattle.lapd_store.specs.Store.{Store, contents_of, IsUsed, IsFree, with_contents, without}
+use Rattle.lapd_store.proofs.Vocabulary.{◌≡◌, ℕ, ◌+◌, zero, suc, Some, IsSome, List, [], ◌∷◌, ◌++◌, length, drop, set, refl, sym, ap, subst, ◌∙◌, arith, length-append, length-drop, drop-drop, none-some, same_Some, length-zip, seconds-zip, sum_by, zip, Owned, Keeps, owned_octets, pairs_of, SlotRing, without_oldest_ones, Store, contents_of, IsUsed, IsFree, with_contents, without}
+use Rattle.std.specs.List.{slice_get}
+use Rattle.lapd_store.specs.Ownership.{Holds}
 use Rattle.lapd_store.proofs.Ownership.{values_octets, Holds-put_newest, Holds-release, contents_of-at}
 
 -- one message more, the newest

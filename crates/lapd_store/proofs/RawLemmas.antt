@@ -1,17 +1,8 @@
 -- A region of slots as a store.
-use Rattle.std.proofs.Common.{◌≡◌, ◌≢◌, ℕ, zero, suc, ◌+◌, ◌*◌, ◌<◌, ◌≤◌, ◌⊎◌, inl, inr, Option, Some, None, List, [], ◌∷◌, map, length, get_or, refl, sym, ap, ◌∙◌, arith}
+use Rattle.lapd_store.proofs.Vocabulary.{◌≡◌, ◌≢◌, ℕ, zero, suc, ◌+◌, ◌*◌, ◌<◌, ◌≤◌, ◌⊎◌, inl, inr, Option, Some, None, List, [], ◌∷◌, map, length, get_or, refl, sym, ap, ◌∙◌, arith, find, filter_map, nat_cmp, nat_cmp_total, cond-true, cond-false, ne_eqb, eq-eqb, get_or_default_zero, entries_from, Holds, SameOutside, free_mark, link, octets_at, slot_contents, contents_from, IsApart, IsFreeList}
 use native.Mathlib.Nat.{zero-mul, suc-mul}
 use Rattle.std.specs.FinMap as finmap
-use Rattle.std.specs.FinMap.Entries.{find}
-use Rattle.std.specs.List.{filter_map}
-use Rattle.std.specs.Ordering.{nat_cmp}
-use Rattle.std.specs.Cmp.{nat_cmp_total}
-use Rattle.std.proofs.lemmas.Bool.{cond-true, cond-false, ne_eqb, eq-eqb}
-use Rattle.std.proofs.lemmas.Grind.{get_or_default_zero}
-use Rattle.slab.specs.Slab.{entries_from}
-use Rattle.lapd_store.specs.Region.{Holds, SameOutside}
 use Rattle.lapd_store.proofs.Runs.{run_of}
-use Rattle.lapd_store.specs.RawStore.{free_mark, link, octets_at, slot_contents, contents_from, IsApart, IsFreeList}
 use Rattle.lapd_store.proofs.Entries.{find-head, find-tail}
 
 -- the entries of a list of places, found by their number

@@ -1,14 +1,7 @@
 -- A shelf over a region stays sound: after a put, a release and at the start.
-use Rattle.std.proofs.Common.{◌≡◌, ◌≢◌, ℕ, zero, suc, ◌+◌, ◌*◌, ◌^◌, ◌<◌, ◌≤◌, Option, Some, None, IsSome, List, [], ◌∷◌, length, replicate, set, get_or, refl, sym, ap, subst, ◌∙◌, arith, inl, inr, length-set}
+use Rattle.lapd_store.proofs.Vocabulary.{◌≡◌, ◌≢◌, ℕ, zero, suc, ◌+◌, ◌*◌, ◌^◌, ◌<◌, ◌≤◌, Option, Some, None, IsSome, List, [], ◌∷◌, length, replicate, set, get_or, refl, sym, ap, subst, ◌∙◌, arith, inl, inr, length-set, nat_cmp, cases_eq, cond-true, cond-false, le-ltb, lt-ltb, get_or-replicate, length-replicate, get_or-set_same, get_or-set_other, entries_from, Holds, SameOutside, free_mark, list_end, or_end, link, slot_contents, contents_from, raw_store, IsApart, IsFreeList, IsFilled, Store, empty_store, contents_of, IsUsed, IsFree, used_slots, stored_octets, with_contents, without, IsWithinLimits, Inside}
 use Rattle.std.specs.FinMap as finmap
-use Rattle.std.specs.Ordering.{nat_cmp}
-use Rattle.std.proofs.lemmas.Bool.{cases_eq, cond-true, cond-false, le-ltb, lt-ltb}
-use Rattle.std.proofs.lemmas.List.{get_or-replicate, length-replicate, get_or-set_same, get_or-set_other}
-use Rattle.slab.specs.Slab.{entries_from}
-use Rattle.lapd_store.specs.Region.{Holds, SameOutside}
-use Rattle.lapd_store.specs.RawStore.{free_mark, list_end, or_end, link, slot_contents, contents_from, raw_store, IsApart, IsFreeList, IsFilled, IsSound}
-use Rattle.lapd_store.specs.Store.{Store, empty_store, contents_of, IsUsed, IsFree, used_slots, stored_octets, with_contents, without, IsWithinLimits}
-use Rattle.lapd_store.specs.declared.raw_shelf.RawShelf.TheInside.{Inside}
+use Rattle.lapd_store.specs.RawStore.{IsSound}
 use Rattle.lapd_store.proofs.Entries.{each_key, same_entries, get-insert_same, get-insert_other, get-remove_same, get-remove_other}
 use Rattle.lapd_store.proofs.RawLemmas.{get_raw, times_le, slot_ends, kept, contents_held, contents_free, marked, marked_within, used_within, apart_used, list_kept}
 use Rattle.lapd_store.proofs.StoreLemmas.{used_slots-empty, stored_octets-empty, IsWithinLimits-empty, used_slots-with_contents, stored_octets-with_contents, IsWithinLimits-with_contents, used_slots-without, stored_octets-without, IsWithinLimits-without, stored_octets_bound}

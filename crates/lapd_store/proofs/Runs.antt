@@ -1,8 +1,6 @@
 -- Octets that were written, place by place and as a run.
-use Rattle.std.proofs.Common.{◌≡◌, ℕ, ◌+◌, ◌<◌, ◌≤◌, List, [], ◌∷◌, map, length, take, drop, get_or, slice_get, Option, Some, None, refl, sym, ap, ◌∙◌, arith, length-take, length-drop, get_or-take, get_or-drop, ext_get_or}
+use Rattle.lapd_store.proofs.Vocabulary.{◌≡◌, ℕ, ◌+◌, ◌<◌, ◌≤◌, List, [], ◌∷◌, map, length, take, drop, get_or, slice_get, Option, Some, None, refl, sym, ap, ◌∙◌, arith, length-take, length-drop, get_or-take, get_or-drop, ext_get_or, length-map, Holds}
 use Prim.Native.Nat.{zero, suc}
-use Rattle.std.proofs.lemmas.List.{length-map}
-use Rattle.lapd_store.specs.Region.{Holds}
 
 get_some : (xs : List ℕ) (i : ℕ) → get_or (map Some xs) i None ≡ slice_get xs i
 get_some [] i = refl

@@ -1,6 +1,6 @@
 -- A `&` to a region's memory is made of one to each octet that was written.
+use Rattle.lapd_store.proofs.Vocabulary.{u8, octet, octets, octet_lent, lent, octets_own, octets_lent}
 use Rattle.std.specs.Prelude.{ℕ, ◌+◌, List, [], ◌∷◌, Option, Some, None, refl}
-use Rattle.std.specs.Borrow.{u8}
 use seplogic.Ra.Ura.{Ura}
 use base.Fml.{Lft, Incl, ftrue, ffalse}
 use types.Logic.{Logic}
@@ -13,7 +13,6 @@ use denote.Shares.{Shares-less}
 use denote.Struct.Field.{u8-field}
 use denote.Struct.Laws.{u8-laws, u8-copy}
 use denote.Struct.Lending.{Lends, Lends-both, Lends-nothing, Lends-false}
-use Rattle.lapd_store.specs.Memory.{octet, octets, octet_lent, lent, octets_own, octets_lent}
 
 abbrev byte_laws : Laws u8
 byte_laws = of_field u8-field u8-laws refl (copy_shared u8-field u8-copy)

@@ -1,16 +1,6 @@
 -- A slab of octet vectors as a store.
-use Rattle.std.proofs.Common.{◌≡◌, ℕ, zero, suc, ◌+◌, ◌-◌, ◌^◌, ◌<◌, ◌≤◌, Option, Some, None, IsSome, List, [], ◌∷◌, map, length, refl, sym, ap, subst, ◌∙◌, arith, get_or}
+use Rattle.lapd_store.proofs.Vocabulary.{◌≡◌, ℕ, zero, suc, ◌+◌, ◌-◌, ◌^◌, ◌<◌, ◌≤◌, Option, Some, None, IsSome, List, [], ◌∷◌, map, length, refl, sym, ap, subst, ◌∙◌, arith, get_or, find, count_by, option_map, is_some, nat_cmp, nat_cmp_total, Slab, get, slab_len, entries_from, ContainsKey, Updates, ArrayVec, Owned, filled, slab_store, IsSound, empty_store, contents_of, IsUsed, IsFree, used_slots, stored_octets, with_contents, without, IsWithinLimits}
 use Rattle.std.specs.FinMap as finmap
-use Rattle.std.specs.FinMap.Entries.{find}
-use Rattle.std.specs.List.{count_by}
-use Rattle.std.specs.Option.{option_map, is_some}
-use Rattle.std.specs.Ordering.{nat_cmp}
-use Rattle.std.specs.Cmp.{nat_cmp_total}
-use Rattle.slab.specs.Slab.{Slab, get, slab_len, entries_from, ContainsKey, Updates}
-use Rattle.arrayvec.specs.ArrayVec.{ArrayVec}
-use Rattle.lapd_store.specs.Ownership.{Owned}
-use Rattle.lapd_store.specs.SlabStore.{filled, slab_store, IsSound}
-use Rattle.lapd_store.specs.Store.{empty_store, contents_of, IsUsed, IsFree, used_slots, stored_octets, with_contents, without, IsWithinLimits}
 use Rattle.lapd_store.specs.declared.slab_shelf.SlabShelf.TheInside.{Inside}
 use Rattle.lapd_store.proofs.StoreLemmas.{used_slots-empty, stored_octets-empty, IsWithinLimits-empty, used_slots-with_contents, stored_octets-with_contents, IsWithinLimits-with_contents, used_slots-without, stored_octets-without, IsWithinLimits-without, stored_octets_bound}
 use Rattle.lapd_store.proofs.Entries.{find-head, find-tail, each_key, same_entries, get-insert_same, get-insert_other, get-remove_same, get-remove_other}

@@ -1,5 +1,5 @@
 -- The machine values of the structs that stand for memory: what is owned tells them, and is made of nothing.
-use Rattle.std.proofs.Common.{◌≡◌, ℕ, zero, suc, List, [], ◌∷◌, ◌++◌, T, refl, lit<, ◌∙◌}
+use Rattle.lapd_store.proofs.Vocabulary.{◌≡◌, ℕ, zero, suc, List, [], ◌∷◌, ◌++◌, T, refl, lit<, ◌∙◌}
 use seplogic.Ra.Ura.{Ura}
 use base.Logic.{ent, emp, sep}
 use base.Fml.{Fml}

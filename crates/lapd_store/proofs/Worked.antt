@@ -1,9 +1,5 @@
 -- The definitions on a worked example: a shelf of two slots with two messages on it, in slots 3 and 1.
-use Rattle.std.proofs.Common.{◌≡◌, Some, None, [], ◌∷◌, refl, sym, ◌∙◌, arith}
-use Rattle.std.proofs.lemmas.Map.Keys.{IsDistinct-head}
-use Rattle.std.specs.FinMap.{get-empty}
-use Rattle.std.specs.Ordering.{nat_cmp}
-use Rattle.lapd_store.specs.Store.{Store, empty_store, contents_of, IsFull, stored_octets, with_contents, without}
+use Rattle.lapd_store.proofs.Vocabulary.{◌≡◌, Some, None, [], ◌∷◌, refl, sym, ◌∙◌, arith, IsDistinct-head, get-empty, nat_cmp, Store, empty_store, contents_of, IsFull, stored_octets, with_contents, without}
 use Rattle.lapd_store.specs.Ownership.{Holds}
 use Rattle.lapd_store.proofs.Entries.{get-insert_same, get-insert_other, get-remove_same}
 use Rattle.lapd_store.proofs.Ownership.{Holds-empty, Holds-put, Holds-release, Holds-swap, used_slots-held, stored_octets-held, slots_distinct}

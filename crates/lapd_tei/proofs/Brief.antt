@@ -1,17 +1,12 @@
 -- TEI management tells of an event one note and one order at most.
-use Rattle.std.proofs.Common.{ℕ, ◌≤◌, Bool, true, false, cond, ◌==◌, [], length, Option, Some, None, arith}
-use Rattle.lapd_frame.specs.declared.refusals.Refusal.{Refusal}
-use Rattle.lapd_tei.specs.Events.{Event, message, expiry, assign, remove, check, refusal, step, unless_refused, course, told}
-use Rattle.lapd_tei.specs.Machine.{Management, TeiTold}
+use Rattle.lapd_tei.proofs.Vocabulary.{ℕ, ◌≤◌, Bool, true, false, cond, ◌==◌, [], length, Option, Some, None, arith, Refusal, Event, message, expiry, remove, check, refusal, step, unless_refused, course, told, Management, TeiTold, heard_in, free_place, free_tei, Course, begun, no_room, lose_one, unserved, begin_check, end_check, check_is}
+use Rattle.lapd_tei.specs.Events.{assign}
 use Rattle.lapd_tei.specs.declared.check.Check.{Check}
 use Rattle.lapd_tei.specs.declared.check.Period.{Period}
 use Rattle.lapd_tei.specs.declared.check.Period.TheVariants.{First, Second}
-use Rattle.lapd_tei.specs.Messages.{heard_in}
 use Rattle.lapd_tei.specs.declared.heard.Heard.{Heard}
 use Rattle.lapd_tei.specs.declared.heard.Heard.TheVariants.{IdentityRequest, IdentityCheckResponse, IdentityVerify}
 use Rattle.lapd_tei.specs.Rows as rows
-use Rattle.lapd_tei.specs.Table.{free_place, free_tei}
-use Rattle.lapd_tei.specs.Words.{Course, begun, no_room, lose_one, unserved, begin_check, end_check, check_is}
 
 pub record IsBrief (t : TeiTold) : Type 0 where
   pub notes : length t.notes ≤ 1

@@ -1,15 +1,6 @@
 -- How many messages wait after each row of the table, and how many are lost; what a message does that is not served;
 -- and which TEI a terminal is assigned.
-use Rattle.std.proofs.Common.{◌≡◌, ℕ, ◌+◌, ◌<◌, ◌≤◌, ◌==◌, nat_le, true, false, cond, List, [], ◌∷◌, ◌++◌, length, Option, Some, None, subst, ap, ◌∙◌, refl, sym, arith, length-append}
-use Rattle.std.specs.Option.{option_map}
-use Rattle.std.proofs.lemmas.Bool.{false≢true}
-use Rattle.std.proofs.lemmas.Bool.Decides.{nat_tests}
-use Rattle.lapd_tei.specs.Messages.{Message, IdentityAssigned, IdentityDenied, IdentityCheckRequest, IdentityRemove, Heard, IdentityRequest, IdentityVerify, IdentityCheckResponse}
-use Rattle.lapd_tei.specs.Table.{Places, place_of, free_place, free_tei}
-use Rattle.lapd_tei.specs.Machine.{Management, Check, Period, First, Second, Gained, messages_limit}
-use Rattle.lapd_tei.specs.Words.{Course, begun, no_room, with_message, lost_after, left, leave, check_is, begin_check, end_check, lose_one, send, unserved}
-use Rattle.lapd_tei.specs.Rows.{assign, assign_new, request, remembered_in, verify, may_be_checked, counted, responses, doubled, count, respond, serve, expire_period, expire_check, expire, is_unanswered, removed, join_at, put_on, is_checked, take_off, nothing_happens}
-use Rattle.lapd_tei.specs.Laws.{AssignsLowest}
+use Rattle.lapd_tei.proofs.Vocabulary.{◌≡◌, ℕ, ◌+◌, ◌<◌, ◌≤◌, ◌==◌, nat_le, true, false, cond, List, [], ◌∷◌, ◌++◌, length, Option, Some, None, subst, ap, ◌∙◌, refl, sym, arith, length-append, option_map, false≢true, nat_tests, Message, IdentityAssigned, IdentityDenied, IdentityCheckRequest, IdentityRemove, Heard, IdentityRequest, IdentityVerify, IdentityCheckResponse, Places, place_of, free_place, free_tei, Management, Check, Period, First, Second, Gained, messages_limit, Course, begun, no_room, with_message, lost_after, left, leave, check_is, begin_check, end_check, lose_one, send, unserved, assign, assign_new, request, remembered_in, verify, may_be_checked, counted, responses, doubled, count, respond, serve, expire_period, expire_check, expire, is_unanswered, removed, join_at, put_on, is_checked, take_off, nothing_happens, AssignsLowest}
 use Rattle.lapd_tei.proofs.Tables.{free_tei-is}
 
 -- Where an event has led, from m on.

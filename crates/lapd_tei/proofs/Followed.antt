@@ -1,13 +1,6 @@
 -- T201 runs while a TEI is under check, and the orders of each row say so.
-use Rattle.std.proofs.Common.{◌≡◌, ℕ, ◌==◌, nat_le, Bool, true, false, cond, is_some, Option, Some, None, refl}
-use Rattle.lapd_frame.specs.declared.refusals.Refusal.{Refusal}
-use Rattle.lapd_tei.specs.Messages.{Heard, IdentityRemove, IdentityRequest, IdentityVerify, IdentityCheckResponse, heard_in}
-use Rattle.lapd_tei.specs.Table.{free_place, free_tei}
-use Rattle.lapd_tei.specs.Machine.{Management, Check, Period, First, Second}
-use Rattle.lapd_tei.specs.Words.{Course, Step, begun, no_room, leave, check_is, begin_check, end_check, lose_one, send, unserved}
-use Rattle.lapd_tei.specs.Rows.{assign, assign_new, remembered_in, may_be_checked, counted, responses, doubled, count, respond, serve, expire_period, expire_check, is_unanswered, removed, join_at, put_on, is_checked, take_off, nothing_happens}
-use Rattle.lapd_tei.specs.Events.{Event, message, expiry, assign as assigning, remove, check, course, refusal, unless_refused, step}
-use Rattle.lapd_tei.specs.Laws.{Follows, T201Follows, ExpiredT201Follows}
+use Rattle.lapd_tei.proofs.Vocabulary.{◌≡◌, ℕ, ◌==◌, nat_le, Bool, true, false, cond, is_some, Option, Some, None, refl, Refusal, Heard, IdentityRemove, IdentityRequest, IdentityVerify, IdentityCheckResponse, heard_in, free_place, free_tei, Management, Check, Period, First, Second, Course, Step, begun, no_room, leave, check_is, begin_check, end_check, lose_one, send, unserved, assign, assign_new, remembered_in, may_be_checked, counted, responses, doubled, count, respond, serve, expire_period, expire_check, is_unanswered, removed, join_at, put_on, is_checked, take_off, nothing_happens, Event, message, expiry, remove, check, course, refusal, unless_refused, step, Follows, T201Follows, ExpiredT201Follows}
+use Rattle.lapd_tei.specs.Events.{assign as assigning}
 
 -- Where an event has led, where T201 ran before or not.
 abbrev Followed : Bool → Course → Type 0

@@ -1,16 +1,6 @@
 -- The laws of the table, from what each of its rows keeps.
-use Rattle.std.proofs.Common.{◌≡◌, ℕ, Bool, true, false, not, List, [], ◌∷◌, Option, Some, None, refl, sym, ap}
-use Rattle.std.proofs.lemmas.Option.{none-some}
-use Rattle.lapd_frame.specs.declared.refusals.Refusal.{Refusal}
-use Rattle.lapd_frame.specs.declared.refusals.Refusal.TheVariants.{NoLink, TeiTaken}
-use Rattle.lapd_tei.specs.Messages.{heard_in}
-use Rattle.lapd_tei.specs.Table.{is_on}
-use Rattle.lapd_tei.specs.Machine.{Management, empty}
-use Rattle.lapd_tei.specs.Words.{begun, Step}
-use Rattle.lapd_tei.specs.Rows.{put_on, take_off}
-use Rattle.lapd_tei.specs.Events.{Event, message, expiry, assign, remove, check, refusal_if, refusal, step, unless_refused, course, after, after_offer}
-use Rattle.lapd_tei.specs.Sound.{IsSound}
-use Rattle.lapd_tei.specs.Laws.{IsInRange, Act, event, pull, AreInRange, after_acts, IsSoundThroughout, ChangesAreTold, LowestIsAssigned, NewIsAssigned, OneMoreWaits, OneIsLost, UnservedChangesNothing}
+use Rattle.lapd_tei.proofs.Vocabulary.{◌≡◌, ℕ, Bool, true, false, not, List, [], ◌∷◌, Option, Some, None, refl, sym, ap, none-some, Refusal, NoLink, TeiTaken, heard_in, is_on, Management, empty, begun, Step, put_on, take_off, Event, message, expiry, remove, check, refusal_if, refusal, step, unless_refused, course, after, after_offer, IsSound, IsInRange, Act, event, pull, AreInRange, after_acts, IsSoundThroughout, ChangesAreTold, LowestIsAssigned, NewIsAssigned, OneMoreWaits, OneIsLost, UnservedChangesNothing}
+use Rattle.lapd_tei.specs.Events.{assign}
 use Rattle.lapd_tei.proofs.SoundWords.{table-empty, memory-empty, queue-empty, queue-rest}
 use Rattle.lapd_tei.proofs.Tables.{not_not}
 use Rattle.lapd_tei.proofs.Served.{Leads, stands_still, leads-serve, leads-expire, leads-put_on, leads-take_off, leads-check}

@@ -1,4 +1,5 @@
 -- Lemmas: tables of TEIs, messages that are remembered, and what is served.
+pub mod Vocabulary
 pub mod Lists
 pub mod Tables
 pub mod Memories

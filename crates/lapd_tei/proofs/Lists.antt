@@ -1,10 +1,5 @@
 -- Lemmas on lists.
-use Rattle.std.proofs.Common.{◌≡◌, ℕ, zero, suc, ◌+◌, ◌<◌, ◌≤◌, inl, inr, Bool, true, false, cond, List, [], ◌∷◌, ◌++◌, drop, Some, None, subst, ◌∙◌, refl, sym, ap, arith}
-use Rattle.std.specs.List.{All, AllByRecursion, IsDistinct, filter, find, range_with_len}
-use Rattle.std.specs.List.Retain.{RetainsInTurn}
-use Rattle.std.proofs.lemmas.Bool.{cases_order}
-use Rattle.std.proofs.lemmas.List.Elements.{All-from_recursion, recursion_from_All}
-use Rattle.std.proofs.lemmas.Option.{none-some, same_Some}
+use Rattle.lapd_tei.proofs.Vocabulary.{◌≡◌, ℕ, zero, suc, ◌+◌, ◌<◌, ◌≤◌, inl, inr, Bool, true, false, cond, List, [], ◌∷◌, ◌++◌, drop, Some, None, subst, ◌∙◌, refl, sym, ap, arith, All, AllByRecursion, IsDistinct, filter, find, range_with_len, RetainsInTurn, cases_order, All-from_recursion, recursion_from_All, none-some, same_Some}
 
 -- a test that changes nothing, tried at each element in turn
 pub retained : {S X : Type 0} (R : S → X → Bool → S → X → Type 0) (test : X → Bool) (s : S) → ((x : X) (b : Bool) (t : S) (y : X) → R s x b t y → (b ≡ test x) × (t ≡ s) × (y ≡ x)) → (xs ys : List X) → RetainsInTurn R s xs ys → ys ≡ filter test xs

@@ -1,15 +1,5 @@
 -- The assignments that are remembered: after one more, and after a TEI left.
-use Rattle.std.proofs.Common.{◌≡◌, ℕ, ◌-◌, ◌≤◌, ◌==◌, Bool, true, false, cond, List, [], ◌∷◌, ◌++◌, length, drop, set, Option, Some, None, subst, ◌∙◌, refl, sym, ap, arith, length-drop}
-use Rattle.std.specs.List.{AllByRecursion, filter, find}
-use Rattle.std.specs.Option.{option_map}
-use Rattle.std.proofs.lemmas.Bool.{false≢true}
-use Rattle.std.proofs.lemmas.List.Elements.{All-nil, All-cons, All-append, All-drop, recursion_from_All}
-use Rattle.std.proofs.lemmas.Option.{none-some, same_Some}
-use Rattle.lapd_tei.specs.Table.{Places, is_on, place_of, free_place}
-use Rattle.lapd_tei.specs.Machine.{Remembered}
-use Rattle.lapd_tei.specs.Words.{latest, freed, is_of_other}
-use Rattle.lapd_tei.specs.Rows.{is_for, tei_in, remembered_in}
-use Rattle.lapd_tei.specs.Sound.{IsSoundTable, IsSoundMemory, same_ri, same_tei}
+use Rattle.lapd_tei.proofs.Vocabulary.{◌≡◌, ℕ, ◌-◌, ◌≤◌, ◌==◌, Bool, true, false, cond, List, [], ◌∷◌, ◌++◌, length, drop, set, Option, Some, None, subst, ◌∙◌, refl, sym, ap, arith, length-drop, AllByRecursion, filter, find, option_map, false≢true, All-nil, All-cons, All-append, All-drop, recursion_from_All, none-some, same_Some, Places, is_on, place_of, free_place, Remembered, latest, freed, is_of_other, is_for, tei_in, remembered_in, IsSoundTable, IsSoundMemory, same_ri, same_tei}
 use Rattle.lapd_tei.proofs.Lists.{All-filter_by, IsDistinct-push, IsDistinct-drop, IsDistinct-filter, none-found}
 use Rattle.lapd_tei.proofs.Tables.{on-put, on-freed, on-range}
 

@@ -1,9 +1,5 @@
 -- In a table of fewer than 63 places not all of 63 TEIs can stand.
-use Rattle.std.proofs.Common.{◌≡◌, ℕ, zero, suc, ◌+◌, ◌≤◌, ◌<◌, ◌==◌, ◌||◌, Bool, true, false, not, cond, [], ◌∷◌, length, Option, Some, None, IsSome, refl, sym, arith}
-use Rattle.std.specs.List.{find, range_with_len}
-use Rattle.std.proofs.lemmas.Bool.Decides.{nat_tests}
-use Rattle.std.proofs.lemmas.Option.{none-some}
-use Rattle.lapd_tei.specs.Table.{Places, is_on, is_off}
+use Rattle.lapd_tei.proofs.Vocabulary.{◌≡◌, ℕ, zero, suc, ◌+◌, ◌≤◌, ◌<◌, ◌==◌, ◌||◌, Bool, true, false, not, cond, [], ◌∷◌, length, Option, Some, None, IsSome, refl, sym, arith, find, range_with_len, nat_tests, none-some, Places, is_on, is_off}
 
 -- how many of n numbers, from a on, pass a test
 count_in : (ℕ → Bool) → ℕ → ℕ → ℕ

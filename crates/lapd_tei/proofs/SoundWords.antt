@@ -1,15 +1,5 @@
 -- What the words of the table keep.
-use Rattle.std.proofs.Common.{◌≡◌, ℕ, zero, suc, ◌+◌, ◌≤◌, nat_le, true, false, cond, List, [], ◌∷◌, ◌++◌, length, drop, set, replicate, Option, Some, None, IfSome, refl, arith, length-append, length-drop}
-use Rattle.std.specs.List.{IsDistinct}
-use Rattle.std.proofs.lemmas.Bool.Decides.{nat_tests}
-use Rattle.std.proofs.lemmas.List.Elements.{All-nil, All-cons, All-append, All-drop}
-use Rattle.std.proofs.lemmas.Option.{none-some}
-use Rattle.lapd_tei.specs.Messages.{Message, action_of}
-use Rattle.lapd_tei.specs.Table.{Places, is_on, place_of, free_place}
-use Rattle.lapd_tei.specs.Machine.{Check, Period, First, Second}
-use Rattle.lapd_tei.specs.Words.{no_room, with_message, freed}
-use Rattle.lapd_tei.specs.Rows.{counted, responses, is_checked}
-use Rattle.lapd_tei.specs.Sound.{IsAt, IsSoundTable, IsSoundMemory, IsSoundCheck, IsSoundQueue}
+use Rattle.lapd_tei.proofs.Vocabulary.{◌≡◌, ℕ, zero, suc, ◌+◌, ◌≤◌, nat_le, true, false, cond, List, [], ◌∷◌, ◌++◌, length, drop, set, replicate, Option, Some, None, IfSome, refl, arith, length-append, length-drop, IsDistinct, nat_tests, All-nil, All-cons, All-append, All-drop, none-some, Message, action_of, Places, is_on, place_of, free_place, Check, Period, First, Second, no_room, with_message, freed, counted, responses, is_checked, IsAt, IsSoundTable, IsSoundMemory, IsSoundCheck, IsSoundQueue}
 use Rattle.lapd_tei.proofs.Tables.{on-put, on-freed}
 
 has_room : (n : ℕ) → nat_le 4 n ≡ false → n + 1 ≤ 4

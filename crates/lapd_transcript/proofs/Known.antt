@@ -1,14 +1,5 @@
 -- Writes one after the other.
-use Rattle.std.proofs.Common.{◌≡◌, ℕ, ◌+◌, List, [], ◌∷◌, ◌++◌, length, take, drop, Some, None, Ok, Err, Result, Option, refl, sym, ap, ◌∙◌, subst, append_assoc, arith, Bor, suc, zero, get_or, ◌<◌, ◌≤◌, ◌-◌, take_all, length-drop, length-append, false}
-use Rattle.std.specs.Prelude.{IsOk, OnOk, OnErr, is_ok}
-use Rattle.std.proofs.lemmas.Bool.{false≢true}
-use Rattle.std.specs.List.{flat_map}
-use Rattle.std.proofs.Math.Seq.{take-append-add, take-append_seam}
-use Rattle.std.proofs.lemmas.List.{append-nil, take-append-drop, take_more}
-use Rattle.std.proofs.lemmas.Grind.{flat_map-append}
-use Rattle.std.specs.Io.KnownBytes.{Appends, Keeps}
-use Rattle.lapd_transcript.specs.declared.streams.WriteFailed.{WriteFailed}
-use Rattle.lapd_transcript.specs.Streams.{Taken, IsWritten, IsBroken, Writes, Output, output, IsPut, IsStuck, Puts, one_failure_more}
+use Rattle.lapd_transcript.proofs.Vocabulary.{◌≡◌, ℕ, ◌+◌, List, [], ◌∷◌, ◌++◌, length, take, drop, Some, None, Ok, Err, Result, Option, refl, sym, ap, ◌∙◌, subst, append_assoc, arith, Bor, suc, zero, get_or, ◌<◌, ◌≤◌, ◌-◌, take_all, length-drop, length-append, false, IsOk, OnOk, OnErr, is_ok, false≢true, flat_map, take-append-add, take-append_seam, append-nil, take-append-drop, take_more, flat_map-append, Appends, Keeps, WriteFailed, Taken, IsWritten, IsBroken, Writes, Output, output, IsPut, IsStuck, Puts, one_failure_more}
 
 appends_then : (a b c : Option (List ℕ)) (x y : List ℕ) → Appends a b x → Appends b c y → Appends a c (x ++ y)
 appends_then None b c x y h k = tt

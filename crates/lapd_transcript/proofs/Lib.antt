@@ -1,4 +1,5 @@
 -- Lemmas: digits, numbers and pieces of text.
+pub mod Vocabulary
 pub mod Known
 pub mod Digits
 pub mod Numerals

@@ -1,10 +1,5 @@
 -- The pieces of the line about a frame.
-use Rattle.std.proofs.Common.{◌≡◌, ℕ, Bool, if◌then◌else◌, List, [], ◌∷◌, ◌++◌, Option, Some, None, is_some, option_map, Result, refl, ap, sym, subst, ◌∙◌, append_assoc}
-use Rattle.std.specs.List.{flat_map}
-use Rattle.lapd_seq.specs.declared.numbers.Seq.{Seq}
-use Rattle.lapd_transcript.specs.Shown.{number_text}
-use Rattle.lapd_transcript.specs.declared.streams.WriteFailed.{WriteFailed}
-use Rattle.lapd_transcript.specs.Streams.{Taken, Writes}
+use Rattle.lapd_transcript.proofs.Vocabulary.{◌≡◌, ℕ, Bool, if◌then◌else◌, List, [], ◌∷◌, ◌++◌, Option, Some, None, is_some, option_map, Result, refl, ap, sym, subst, ◌∙◌, append_assoc, flat_map, Seq, number_text, WriteFailed, Taken, Writes}
 
 -- pieces, and then a text
 abbrev pub before : List (List ℕ) → List ℕ → List ℕ

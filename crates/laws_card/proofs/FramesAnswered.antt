@@ -27,14 +27,14 @@ use Rattle.laws_line.proofs.Hearing.{aim-of-frame}
 use Rattle.model_card.specs.Card.{Card, line_at}
 use Rattle.model_card.specs.Happening.{comes, events_of, spelled, HappensAt, AreIdle}
 use Rattle.model_card.specs.Run.{after_all}
-use Rattle.model_card.specs.Sound as card
+use Rattle.model_card.specs.Sound as card_sound
 use Rattle.model_card.proofs.CardSound.{cards_stay_sound}
 use Rattle.model_card.proofs.Happening.{config_stays, frames_are_of_lines, happenings_are_events}
 use Rattle.model_card.proofs.Steps.{has_lines, line_sound}
 use Rattle.laws_card.specs.Frames.{after_frame, ComesFor, IsGivenWithin, IsAnswered, PollsAreAnswered, CommandsAreAnswered}
 use Rattle.laws_card.proofs.FramesGiven.{given-soon}
 
-module _ (m : Card) (s : card.IsSound m) (idle : AreIdle m) (number : ℕ) (octets : List ℕ) (service : Service) (tei place : ℕ) (parts : Parts)
+module _ (m : Card) (s : card_sound.IsSound m) (idle : AreIdle m) (number : ℕ) (octets : List ℕ) (service : Service) (tei place : ℕ) (parts : Parts)
     (h : ComesFor m number octets service tei place parts) where
   abbrev c : Config
   c = m.config
@@ -85,7 +85,7 @@ module _ (m : Card) (s : card.IsSound m) (idle : AreIdle m) (number : ℕ) (octe
   same : then.config ≡ c
   same = config_stays m (spelled m (comes number octets ∷ []))
 
-  then-sound : card.IsSound then
+  then-sound : card_sound.IsSound then
   then-sound =
       cards_stay_sound.always m (spelled m (comes number octets ∷ [])) s
       (happenings_are_events m (comes number octets ∷ []) (All-cons (HappensAt m) (comes number octets) [] h.at_line (All-nil (HappensAt m))))
@@ -121,8 +121,8 @@ module _ (m : Card) (s : card.IsSound m) (idle : AreIdle m) (number : ℕ) (octe
       (by-answer (asked_of (link_in l service place).state parts.control) answer e
       (unnumbered-answered (terms c service tei) (link_in l service place) h.room parts.address.command parts.info parts.control)))
 
-pub polls-answered : (m : Card) → card.IsSound m → AreIdle m → PollsAreAnswered m
+pub polls-answered : (m : Card) → card_sound.IsSound m → AreIdle m → PollsAreAnswered m
 polls-answered m s idle number octets service tei place parts h p = poll-given m s idle number octets service tei place parts h p
 
-pub commands-answered : (m : Card) → card.IsSound m → AreIdle m → CommandsAreAnswered m
+pub commands-answered : (m : Card) → card_sound.IsSound m → AreIdle m → CommandsAreAnswered m
 commands-answered m s idle number octets service tei place parts answer h e = command-given m s idle number octets service tei place parts h answer e

@@ -28,7 +28,7 @@ use Rattle.model_card.specs.Card.{Card, line_at}
 use Rattle.model_card.specs.Happening.{goes, events_of, spelled}
 use Rattle.model_card.specs.Run.{after_all}
 use Rattle.model_card.specs.Said.{next_of, said, gives}
-use Rattle.model_card.specs.Sound as card
+use Rattle.model_card.specs.Sound as card_sound
 use Rattle.model_card.proofs.Happening.{config_stays, frames_are_of_lines, after_all-append}
 use Rattle.model_card.proofs.Steps.{has_lines, line_sound}
 use Rattle.laws_card.specs.Frames.{after_calls, CallsEnd, IsGivenWithin, WaitingIsGiven}
@@ -176,7 +176,7 @@ said-then n m number count within =
     ap (λ c. gives (option_map next_of (taken c (line_at number (after_calls m number n))))) (config_stays m (spelled m (replicate n (goes number))))
     ∙ ap (λ l. gives (option_map next_of (taken m.config l))) (line-of-calls n m number count within)
 
-module _ (m : Card) (s : card.IsSound m) where
+module _ (m : Card) (s : card_sound.IsSound m) where
   pub calls-end : CallsEnd m
   calls-end number within =
       let l = line_at number m in

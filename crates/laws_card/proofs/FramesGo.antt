@@ -12,7 +12,7 @@ use Rattle.model_card.specs.Event.{at}
 use Rattle.model_card.specs.Happening.{goes, events_of}
 use Rattle.model_card.specs.Run.{after_all}
 use Rattle.model_card.specs.Said.{Said, Next, next_of, said, gives}
-use Rattle.model_card.specs.Sound as card
+use Rattle.model_card.specs.Sound as card_sound
 use Rattle.model_card.proofs.Happening.{frames_are_of_lines}
 use Rattle.laws_card.specs.Frames.{GivesWhatGoes}
 
@@ -29,7 +29,7 @@ not-none next e = absurd (cc)
 not-some : (t : Taken) → gives (Some (next_of t)) ≡ gives None → ⊥
 not-some t e = absurd (cc)
 
-module _ (m : Card) (s : card.IsSound m) (number : ℕ) (within : number < m.config.lines) where
+module _ (m : Card) (s : card_sound.IsSound m) (number : ℕ) (within : number < m.config.lines) where
   abbrev l : Line
   l = line_at number m
 
@@ -54,7 +54,7 @@ module _ (m : Card) (s : card.IsSound m) (number : ℕ) (within : number < m.con
   none None is e = ap (λ events. after_all m (map (at number) events)) (calls_for m.config l None is)
   none (Some t) is e = absurd (not-some t (sym (ap (λ o. gives (option_map next_of o)) is) ∙ e))
 
-pub gives-what-goes : (m : Card) → card.IsSound m → GivesWhatGoes m
+pub gives-what-goes : (m : Card) → card_sound.IsSound m → GivesWhatGoes m
 gives-what-goes m s = record {
   whole = λ number next within e.
       ap (λ x. x.items) (there m s number within) ∙ whole m s number within next (taken m.config (line_at number m)) refl e;

@@ -16,7 +16,7 @@ use Rattle.model_line.specs.Event as line_event
 use Rattle.model_line.specs.Event.{Answer, octet, nothing, dropped}
 use Rattle.model_line.specs.Line.{Line, fresh_line, link_in, terms}
 use Rattle.model_line.specs.Machine as lines
-use Rattle.model_line.specs.Sound as sound_line
+use Rattle.model_line.specs.Sound as line
 use Rattle.laws_line.specs.Heard.{Ends, Adds, IsFor, OnlyTells, IsToManagement, contents_in, due}
 use Rattle.laws_line.proofs.Ending.{ended-octets}
 use Rattle.laws_line.proofs.Hearing.{sapi-is, no-event, dropped-stretch}
@@ -44,7 +44,7 @@ record OctetServed (c : Config) (before after : Line) (a : Answer) (value : ℕ)
       → Ends c before value octets → IsFor c before service tei place parts octets
       → contents_in a ≡ due (terms c service tei) parts (link_in before service place)
 
-octet-served : (c : Config) (l : Line) (value : ℕ) → sound_line.IsInRange c → sound_line.IsSound c l
+octet-served : (c : Config) (l : Line) (value : ℕ) → line.IsInRange c → line.IsSound c l
     → OctetServed c l (lines.after c (octet value) l) (lines.answer c (octet value) l) value
 octet-served c l value ranged s = record {
   none = λ ends. no-event c l value ends;

@@ -9,7 +9,7 @@ use Rattle.model_line.specs.Event.{octet, request, pull}
 use Rattle.model_line.specs.Machine as lines
 use Rattle.model_line.specs.Request.{Assign}
 use Rattle.laws_line.specs.WorkedPolled.{small, octets_before, before_poll}
-use Rattle.laws_line.specs.WorkedSabme as sabme
+use Rattle.laws_line.specs.WorkedSabme as worked
 use Rattle.laws_line.specs.WorkedSabme.{before_sabme}
 use Rattle.model_card.specs.Card.{Card, fresh, line_at}
 use Rattle.model_card.specs.Event.{Event, at}
@@ -33,7 +33,7 @@ line_is = refl
 
 -- The same of its SABME alone, for `WorkedSabme`.
 abbrev pub events_before_sabme : List Event
-events_before_sabme = at 0 (request (Assign 64)) ∷ map at_line_0 sabme.octets_before
+events_before_sabme = at 0 (request (Assign 64)) ∷ map at_line_0 worked.octets_before
 
 abbrev pub card_before_sabme : Card
 card_before_sabme = after_all (fresh small) events_before_sabme

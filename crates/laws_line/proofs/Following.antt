@@ -10,7 +10,7 @@ use Rattle.lapd_frame.specs.declared.timers.Order.{Order}
 use Rattle.lapd_frame.specs.declared.timers.Timer.{Timer}
 use Rattle.lapd_frame.specs.declared.timers.Timer.TheVariants.{T200, T203, T201}
 use Rattle.model_link.specs.declared.timers.LinkTimer.{LinkTimer}
-use Rattle.model_link.specs.declared.timers.LinkTimer.TheVariants as kind
+use Rattle.model_link.specs.declared.timers.LinkTimer.TheVariants as link_timer
 use Rattle.model_link.specs.Events as link
 use Rattle.model_link.specs.Link.{Link, fresh}
 use Rattle.model_link.specs.Machine as links
@@ -31,20 +31,20 @@ use Rattle.model_line.specs.Line.{service_at}
 use Rattle.laws_line.proofs.Obeyed.{Steers, as_it_was, steers-event, t201-obeyed, t201-leaves, obeyed-append, service-same, services-equal, both-true}
 use Rattle.laws_line.proofs.Places.{has-no-place, has-place, stays-placed}
 
--- A link's timer of the line, by its kind.
+-- A link's timer of the line, by its link_timer.
 abbrev pub timer_of : LinkTimer → Service → ℕ → Timer
-timer_of kind.T200 service tei = T200 service tei
-timer_of kind.T203 service tei = T203 service tei
+timer_of link_timer.T200 service tei = T200 service tei
+timer_of link_timer.T203 service tei = T203 service tei
 
 -- What holds of T201 and of both kinds holds of each timer.
 pub each-timer : (P : Timer → Type 0) → P T201 → ((k : LinkTimer) (service : Service) (tei : ℕ) → P (timer_of k service tei)) → (timer : Timer) → P timer
 each-timer P x y T201 = x
-each-timer P x y (T200 service tei) = y kind.T200 service tei
-each-timer P x y (T203 service tei) = y kind.T203 service tei
+each-timer P x y (T200 service tei) = y link_timer.T200 service tei
+each-timer P x y (T203 service tei) = y link_timer.T203 service tei
 
 pub running-of : (k : LinkTimer) (service : Service) (tei : ℕ) (l : Line) → is_running (timer_of k service tei) l ≡ runs_at service k (place_of tei l.management.places) l
-running-of kind.T200 service tei l = refl
-running-of kind.T203 service tei l = refl
+running-of link_timer.T200 service tei l = refl
+running-of link_timer.T203 service tei l = refl
 
 -- lines with the same table, check and links run the same timers
 alike : (before after : Line) → after.links ≡ before.links → (k : LinkTimer) (service : Service) (o : Option ℕ) → runs_at service k o after ≡ runs_at service k o before
@@ -55,25 +55,25 @@ pub same-running : (before after : Line) → after.management.places ≡ before.
     → (timer : Timer) → is_running timer after ≡ is_running timer before
 same-running before after places check links T201 = check
 same-running before after places check links (T200 service tei) =
-    ap (λ ps. runs_at service kind.T200 (place_of tei ps) after) places ∙ alike before after links kind.T200 service (place_of tei before.management.places)
+    ap (λ ps. runs_at service link_timer.T200 (place_of tei ps) after) places ∙ alike before after links link_timer.T200 service (place_of tei before.management.places)
 same-running before after places check links (T203 service tei) =
-    ap (λ ps. runs_at service kind.T203 (place_of tei ps) after) places ∙ alike before after links kind.T203 service (place_of tei before.management.places)
+    ap (λ ps. runs_at service link_timer.T203 (place_of tei ps) after) places ∙ alike before after links link_timer.T203 service (place_of tei before.management.places)
 
 -- Two timers of links are different, where service or TEI are.
 other-timers : (one other : LinkTimer) (c : Config) (s s' : Service) (n n' : ℕ) → (same_service s s' && (n == n')) ≡ false
     → is_same (timer_at (terms c s n) one) (timer_of other s' n') ≡ false
-other-timers kind.T200 kind.T200 c s s' n n' e = e
-other-timers kind.T200 kind.T203 c s s' n n' e = refl
-other-timers kind.T203 kind.T200 c s s' n n' e = refl
-other-timers kind.T203 kind.T203 c s s' n n' e = e
+other-timers link_timer.T200 link_timer.T200 c s s' n n' e = e
+other-timers link_timer.T200 link_timer.T203 c s s' n n' e = refl
+other-timers link_timer.T203 link_timer.T200 c s s' n n' e = refl
+other-timers link_timer.T203 link_timer.T203 c s s' n n' e = e
 
 pub t201-other : (k : LinkTimer) (s : Service) (n : ℕ) → is_same T201 (timer_of k s n) ≡ false
-t201-other kind.T200 s n = refl
-t201-other kind.T203 s n = refl
+t201-other link_timer.T200 s n = refl
+t201-other link_timer.T203 s n = refl
 
 its-timer : (c : Config) (k : LinkTimer) (s : Service) (n : ℕ) → timer_at (terms c s n) k ≡ timer_of k s n
-its-timer c kind.T200 s n = refl
-its-timer c kind.T203 s n = refl
+its-timer c link_timer.T200 s n = refl
+its-timer c link_timer.T203 s n = refl
 
 -- a number is that of one service and one place
 pub same-number : (s s' : Service) (p p' : ℕ) → link_number p s ≡ link_number p' s' → (s ≡ s') × (p ≡ p')
@@ -125,7 +125,7 @@ module _ (c : Config) (l : Line) (s : IsSound c l) (service : Service) (tei plac
 
   other-timer : (k : LinkTimer) (s' : Service) (n' : ℕ) → (same_service service s' && (tei == n')) ≡ false → Steered (timer_of k s' n')
   other-timer k s' n' other =
-      steers.others (timer_of k s' n') (is_running (timer_of k s' n') l) (other-timers kind.T200 k c service s' tei n' other) (other-timers kind.T203 k c service s' tei n' other)
+      steers.others (timer_of k s' n') (is_running (timer_of k s' n') l) (other-timers link_timer.T200 k c service s' tei n' other) (other-timers link_timer.T203 k c service s' tei n' other)
       ∙ running-of k s' n' l ∙ same-place k s' n' other (place_of n' l.management.places) refl ∙ sym (running-of k s' n' (with_link n y l))
 
   link-timer : (k : LinkTimer) (s' : Service) (n' : ℕ) → Steered (timer_of k s' n')
@@ -286,11 +286,11 @@ module _ (c : Config) (l : Line) (s : IsSound c l) (m : Management) (sound : IsS
         chain (timer_of k Call tei) (is_running (timer_of k Call tei) l) false false false call packet orders
         (ap (λ b. obeyed (timer_of k Call tei) b call) (ran k Call)
         ∙ subst (λ timer. obeyed timer (runs k first.running) call ≡ false) (its-timer c k Call tei) (by-call.own k ∙ no-timer k))
-        (by-packet.others (timer_of k Call tei) false (other-timers kind.T200 k c Packet Call tei tei refl) (other-timers kind.T203 k c Packet Call tei tei refl))
+        (by-packet.others (timer_of k Call tei) false (other-timers link_timer.T200 k c Packet Call tei tei refl) (other-timers link_timer.T203 k c Packet Call tei tei refl))
         (leaves k Call tei false)
     its-own-left k Packet =
         chain (timer_of k Packet tei) (is_running (timer_of k Packet tei) l) (is_running (timer_of k Packet tei) l) false false call packet orders
-        (by-call.others (timer_of k Packet tei) _ (other-timers kind.T200 k c Call Packet tei tei refl) (other-timers kind.T203 k c Call Packet tei tei refl))
+        (by-call.others (timer_of k Packet tei) _ (other-timers link_timer.T200 k c Call Packet tei tei refl) (other-timers link_timer.T203 k c Call Packet tei tei refl))
         (ap (λ b. obeyed (timer_of k Packet tei) b packet) (ran k Packet ∙ ap (λ (z : Link). runs k z.running) (sym second-is))
         ∙ subst (λ timer. obeyed timer (runs k second.running) packet ≡ false) (its-timer c k Packet tei) (by-packet.own k ∙ no-timer k))
         (leaves k Packet tei false)
@@ -306,8 +306,8 @@ module _ (c : Config) (l : Line) (s : IsSound c l) (m : Management) (sound : IsS
             let b = is_running (timer_of k s' n') l in
             let apart : (z : Service) → (same_service z s' && (tei == n')) ≡ false = λ z. ap (λ x. same_service z s' && x) e ∙ and-false (same_service z s') in
             chain (timer_of k s' n') b b b b call packet orders
-            (by-call.others (timer_of k s' n') b (other-timers kind.T200 k c Call s' tei n' (apart Call)) (other-timers kind.T203 k c Call s' tei n' (apart Call)))
-            (by-packet.others (timer_of k s' n') b (other-timers kind.T200 k c Packet s' tei n' (apart Packet)) (other-timers kind.T203 k c Packet s' tei n' (apart Packet)))
+            (by-call.others (timer_of k s' n') b (other-timers link_timer.T200 k c Call s' tei n' (apart Call)) (other-timers link_timer.T203 k c Call s' tei n' (apart Call)))
+            (by-packet.others (timer_of k s' n') b (other-timers link_timer.T200 k c Packet s' tei n' (apart Packet)) (other-timers link_timer.T203 k c Packet s' tei n' (apart Packet)))
             (leaves k s' n' b)
             ∙ elsewhere place None gone.is_free gone.within k s' n' (λ same. none-some n' same)
             (λ at. true≢false (sym (eq-eqb tei n' (some-same tei n' (sym gone.was_there ∙ at))) ∙ e))

@@ -23,7 +23,7 @@ use Rattle.lapd_tei.specs.Sound.{IsAt}
 use Rattle.lapd_tei.specs.Table.{Places}
 use Rattle.lapd_tei.specs.declared.outcome.Change.{Change}
 use Rattle.lapd_tei.specs.declared.outcome.Change.TheVariants.{Gained, Left}
-use Rattle.lapd_tei.proofs.LawLemmas as tei_laws
+use Rattle.lapd_tei.proofs.LawLemmas as tei_lemmas
 use Rattle.model_line.specs.declared.config.Config.{Config}
 use Rattle.model_line.specs.Event.{Event, octet, expiry, request, pull, LineTold}
 use Rattle.model_line.specs.Deliveries.{is_change_at}
@@ -122,7 +122,7 @@ module _ (c : Config) (ranged : IsInRange c) (l : Line) (s : IsSound c l) (recei
   aim_parts (at_link service tei place e) proper = at_its_link service tei place e proper
   aim_parts (at_management e) proper =
       change_parts (teis.told e l.management).change (told_of_management (teis.told e l.management)) (teis.after e l.management).places
-      (teis.after e l.management) (tei_laws.changes_are_told e l.management proper s.management)
+      (teis.after e l.management) (tei_lemmas.changes_are_told e l.management proper s.management)
   aim_parts (at_units unit) proper = stays (link_at number l) (link_at number l) refl
 
 -- A pull leaves the contents of each link, and V(A).

@@ -21,7 +21,7 @@ use Rattle.model_link.specs.Steps.{Course, begun}
 use Rattle.model_link.specs.declared.frames.ControlFrame.{ControlFrame}
 use Rattle.model_link.specs.declared.terms.Terms.{Terms}
 use Rattle.model_link.specs.declared.timers.LinkTimer.{LinkTimer}
-use Rattle.model_link.specs.declared.timers.LinkTimer.TheVariants as kind
+use Rattle.model_link.specs.declared.timers.LinkTimer.TheVariants as link_timer
 use Rattle.laws_link.proofs.KnownRows.{layer_3_knows}
 use Rattle.model_link.proofs.OwnNotes.{notes-own}
 use Rattle.lapd_tei.specs.Events as teis
@@ -271,8 +271,8 @@ known-up c (octet value) l service tei s =
     let aim = option_map_or (aim_of_heard c l) (gained c.n201 l.received value) (at_none nothing) in
     ap (λ b. fold (up_by_note service tei) b (of_aim c aim now).told.notes) (sym (read.same-read false is_up service tei l now refl refl))
     ∙ heard-up c now (received_sound c value l s) (gained c.n201 l.received value) service tei
-known-up c (expiry (T200 by n)) l service tei s = timer-up c l s by n kind.T200 (place_in l n) refl service tei
-known-up c (expiry (T203 by n)) l service tei s = timer-up c l s by n kind.T203 (place_in l n) refl service tei
+known-up c (expiry (T200 by n)) l service tei s = timer-up c l s by n link_timer.T200 (place_in l n) refl service tei
+known-up c (expiry (T203 by n)) l service tei s = timer-up c l s by n link_timer.T203 (place_in l n) refl service tei
 known-up c (expiry T201) l service tei s = management-up c l s teis.expiry tt service tei
 known-up c (request r) l service tei s = go (refusal c false r l) (request_proper c l r)
   where

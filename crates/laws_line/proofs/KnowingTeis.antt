@@ -17,7 +17,7 @@ use Rattle.laws_link.specs.Known.{is_up}
 use Rattle.model_link.specs.Link.{Link, fresh}
 use Rattle.model_link.specs.Machine as links
 use Rattle.model_link.specs.declared.timers.LinkTimer.{LinkTimer}
-use Rattle.model_link.specs.declared.timers.LinkTimer.TheVariants as kind
+use Rattle.model_link.specs.declared.timers.LinkTimer.TheVariants as link_timer
 use Rattle.model_link.proofs.OwnNotes.{notes-own}
 use Rattle.lapd_tei.specs.Events as teis
 use Rattle.lapd_tei.specs.Events.{refusal_if}
@@ -237,8 +237,8 @@ module _ (c : Config) (l : Line) (s : IsSound c l) (tei : ℕ) where
 pub known-on : (c : Config) (e : Event) (l : Line) (tei : ℕ) → IsSound c l → taken_for_on tei (has_tei tei l) e (answer c e l) ≡ has_tei tei (after c e l)
 unfolding after answer
 known-on c (octet value) l tei s = heard-knows c (with_received value l) (received_sound c value l s) tei (gained c.n201 l.received value)
-known-on c (expiry (T200 by n)) l tei s = timer-knows c l s tei by n kind.T200 (place_in l n)
-known-on c (expiry (T203 by n)) l tei s = timer-knows c l s tei by n kind.T203 (place_in l n)
+known-on c (expiry (T200 by n)) l tei s = timer-knows c l s tei by n link_timer.T200 (place_in l n)
+known-on c (expiry (T203 by n)) l tei s = timer-knows c l s tei by n link_timer.T203 (place_in l n)
 known-on c (expiry T201) l tei s = management-knows c l s teis.expiry tt tei (λ none. refl)
 known-on c (request r) l tei s = go (refusal c false r l) refl (request_proper c l r)
   where

@@ -9,7 +9,7 @@ use Rattle.lapd_frame.specs.declared.timers.Timer.{Timer}
 use Rattle.lapd_frame.specs.declared.timers.Timer.TheVariants.{T200, T203, T201}
 use Rattle.lapd_frame.specs.Services.{same_service}
 use Rattle.model_link.specs.declared.timers.LinkTimer.{LinkTimer}
-use Rattle.model_link.specs.declared.timers.LinkTimer.TheVariants as kind
+use Rattle.model_link.specs.declared.timers.LinkTimer.TheVariants as link_timer
 use Rattle.model_link.specs.declared.terms.Terms.{Terms}
 use Rattle.model_link.specs.Events as link
 use Rattle.model_link.specs.Link.{Link}
@@ -65,7 +65,7 @@ t201-leaves timer other running before (Stop T201 ∷ o ∷ os) after h = absurd
 -- runs where the link runs it, and each other is as it was.
 pub record Steers (t : Terms) (left : Timer → Bool → Bool) (orders : List Order) (before after : Link) : Type 0 where
   pub own : (k : LinkTimer) → obeyed (timer_at t k) (left (timer_at t k) (runs k before.running)) orders ≡ runs k after.running
-  pub others : (timer : Timer) (running : Bool) → is_same (timer_at t kind.T200) timer ≡ false → is_same (timer_at t kind.T203) timer ≡ false
+  pub others : (timer : Timer) (running : Bool) → is_same (timer_at t link_timer.T200) timer ≡ false → is_same (timer_at t link_timer.T203) timer ≡ false
       → obeyed timer (left timer running) orders ≡ running
 
 abbrev pub as_it_was : Timer → Bool → Bool
@@ -89,29 +89,29 @@ comes t l k h false e = subst (λ b. obeyed (timer_at t k) b (links.told t (link
 
 pub steers-expiry : (t : Terms) (k : LinkTimer) (l : Link) → IsTimed l
     → Steers t (without (timer_at t k)) (links.told t (link.expired k) l).orders l (links.after t (link.expired k) l)
-steers-expiry t kind.T200 l h = record {
+steers-expiry t link_timer.T200 l h = record {
   own = own;
   others = λ timer running one two.
-      ap (λ b. obeyed timer (cond b false running) (links.told t (link.expired kind.T200) l).orders) one
-      ∙ leaves-others t (link.expired kind.T200) l timer running one two;
+      ap (λ b. obeyed timer (cond b false running) (links.told t (link.expired link_timer.T200) l).orders) one
+      ∙ leaves-others t (link.expired link_timer.T200) l timer running one two;
 }
   where
-    own : (k : LinkTimer) → obeyed (timer_at t k) (without (timer_at t kind.T200) (timer_at t k) (runs k l.running)) (links.told t (link.expired kind.T200) l).orders
-        ≡ runs k (links.after t (link.expired kind.T200) l).running
-    own kind.T200 =
-        ap (λ b. obeyed (timer_at t kind.T200) (cond b false (runs kind.T200 l.running)) (links.told t (link.expired kind.T200) l).orders) (itself t.service t.tei)
-        ∙ comes t l kind.T200 h (runs kind.T200 l.running) refl
-    own kind.T203 = stays-in-step t (link.expired kind.T200) l kind.T203
-steers-expiry t kind.T203 l h = record {
+    own : (k : LinkTimer) → obeyed (timer_at t k) (without (timer_at t link_timer.T200) (timer_at t k) (runs k l.running)) (links.told t (link.expired link_timer.T200) l).orders
+        ≡ runs k (links.after t (link.expired link_timer.T200) l).running
+    own link_timer.T200 =
+        ap (λ b. obeyed (timer_at t link_timer.T200) (cond b false (runs link_timer.T200 l.running)) (links.told t (link.expired link_timer.T200) l).orders) (itself t.service t.tei)
+        ∙ comes t l link_timer.T200 h (runs link_timer.T200 l.running) refl
+    own link_timer.T203 = stays-in-step t (link.expired link_timer.T200) l link_timer.T203
+steers-expiry t link_timer.T203 l h = record {
   own = own;
   others = λ timer running one two.
-      ap (λ b. obeyed timer (cond b false running) (links.told t (link.expired kind.T203) l).orders) two
-      ∙ leaves-others t (link.expired kind.T203) l timer running one two;
+      ap (λ b. obeyed timer (cond b false running) (links.told t (link.expired link_timer.T203) l).orders) two
+      ∙ leaves-others t (link.expired link_timer.T203) l timer running one two;
 }
   where
-    own : (k : LinkTimer) → obeyed (timer_at t k) (without (timer_at t kind.T203) (timer_at t k) (runs k l.running)) (links.told t (link.expired kind.T203) l).orders
-        ≡ runs k (links.after t (link.expired kind.T203) l).running
-    own kind.T203 =
-        ap (λ b. obeyed (timer_at t kind.T203) (cond b false (runs kind.T203 l.running)) (links.told t (link.expired kind.T203) l).orders) (itself t.service t.tei)
-        ∙ comes t l kind.T203 h (runs kind.T203 l.running) refl
-    own kind.T200 = stays-in-step t (link.expired kind.T203) l kind.T200
+    own : (k : LinkTimer) → obeyed (timer_at t k) (without (timer_at t link_timer.T203) (timer_at t k) (runs k l.running)) (links.told t (link.expired link_timer.T203) l).orders
+        ≡ runs k (links.after t (link.expired link_timer.T203) l).running
+    own link_timer.T203 =
+        ap (λ b. obeyed (timer_at t link_timer.T203) (cond b false (runs link_timer.T203 l.running)) (links.told t (link.expired link_timer.T203) l).orders) (itself t.service t.tei)
+        ∙ comes t l link_timer.T203 h (runs link_timer.T203 l.running) refl
+    own link_timer.T200 = stays-in-step t (link.expired link_timer.T203) l link_timer.T200

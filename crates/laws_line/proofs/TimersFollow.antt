@@ -10,7 +10,7 @@ use Rattle.lapd_frame.specs.declared.timers.Order.{Order}
 use Rattle.lapd_frame.specs.declared.timers.Timer.{Timer}
 use Rattle.lapd_frame.specs.declared.timers.Timer.TheVariants.{T200, T203, T201}
 use Rattle.model_link.specs.declared.timers.LinkTimer.{LinkTimer}
-use Rattle.model_link.specs.declared.timers.LinkTimer.TheVariants as kind
+use Rattle.model_link.specs.declared.timers.LinkTimer.TheVariants as link_timer
 use Rattle.model_link.specs.Events as link
 use Rattle.model_link.specs.Link.{Link, fresh}
 use Rattle.model_link.specs.Machine as links
@@ -153,14 +153,14 @@ module _ (c : Config) (l : Line) (s : IsSound c l) where
   dead k service tei none = each-timer _ (by-t201 k) (λ k' s' n'. go k' s' n' (is_same (timer_of k service tei) (timer_of k' s' n')) refl)
     where
       by-t201 : (k : LinkTimer) → without (timer_of k service tei) T201 (is_running T201 l) ≡ is_running T201 l
-      by-t201 kind.T200 = refl
-      by-t201 kind.T203 = refl
+      by-t201 link_timer.T200 = refl
+      by-t201 link_timer.T203 = refl
 
       its-tei : (k k' : LinkTimer) (s' : Service) (n' : ℕ) → is_same (timer_of k service tei) (timer_of k' s' n') ≡ true → tei ≡ n'
-      its-tei kind.T200 kind.T200 s' n' e = eqb-true tei n' (both-true _ _ e).1
-      its-tei kind.T200 kind.T203 s' n' e = absurd (true≢false (sym e))
-      its-tei kind.T203 kind.T200 s' n' e = absurd (true≢false (sym e))
-      its-tei kind.T203 kind.T203 s' n' e = eqb-true tei n' (both-true _ _ e).1
+      its-tei link_timer.T200 link_timer.T200 s' n' e = eqb-true tei n' (both-true _ _ e).1
+      its-tei link_timer.T200 link_timer.T203 s' n' e = absurd (true≢false (sym e))
+      its-tei link_timer.T203 link_timer.T200 s' n' e = absurd (true≢false (sym e))
+      its-tei link_timer.T203 link_timer.T203 s' n' e = eqb-true tei n' (both-true _ _ e).1
 
       go : (k' : LinkTimer) (s' : Service) (n' : ℕ) (b : Bool) → is_same (timer_of k service tei) (timer_of k' s' n') ≡ b → cond b false (is_running (timer_of k' s' n') l) ≡ is_running (timer_of k' s' n') l
       go k' s' n' false e = refl
@@ -175,16 +175,16 @@ module _ (c : Config) (l : Line) (s : IsSound c l) where
       (same k) (steers-expiry (terms c service tei) k (link_in l service place) (timed (link_number place service))))
     where
       same : (k : LinkTimer) → timer_at (terms c service tei) k ≡ timer_of k service tei
-      same kind.T200 = refl
-      same kind.T203 = refl
+      same link_timer.T200 = refl
+      same link_timer.T203 = refl
 
   -- and of T201
   pub t201-expired : Follow (without T201) l (of_aim c (at_management teis.expiry) l).told.orders (of_aim c (at_management teis.expiry) l).line
   t201-expired = management-followed c l s (without T201) (λ k service tei b. ours k service tei b) teis.expiry tt (expired_t201_follows l.management)
     where
       ours : (k : LinkTimer) (service : Service) (tei : ℕ) (b : Bool) → without T201 (timer_of k service tei) b ≡ b
-      ours kind.T200 service tei b = refl
-      ours kind.T203 service tei b = refl
+      ours link_timer.T200 service tei b = refl
+      ours link_timer.T203 service tei b = refl
 
   -- A pull: what a link gives, it orders as well.
   given-orders : (t : Terms) (x : Link) (g : Given) → links.given t x ≡ Some g → g.orders ≡ (links.told t link.offer x).orders
@@ -243,8 +243,8 @@ runs-follow c (octet value) l timer s timed =
     subst (λ b. obeyed timer b (of_aim c (option_map_or (aim_of_heard c l) (gained c.n201 l.received value) (at_none nothing)) now).told.orders
     ≡ is_running timer (of_aim c (option_map_or (aim_of_heard c l) (gained c.n201 l.received value) (at_none nothing)) now).line)
     (received-same l (l.received ++ value ∷ []) timer) h
-runs-follow c (expiry (T200 service tei)) l timer s timed = expired c l s kind.T200 service tei timed (place_in l tei) refl timer
-runs-follow c (expiry (T203 service tei)) l timer s timed = expired c l s kind.T203 service tei timed (place_in l tei) refl timer
+runs-follow c (expiry (T200 service tei)) l timer s timed = expired c l s link_timer.T200 service tei timed (place_in l tei) refl timer
+runs-follow c (expiry (T203 service tei)) l timer s timed = expired c l s link_timer.T203 service tei timed (place_in l tei) refl timer
 runs-follow c (expiry T201) l timer s timed = t201-expired c l s timer
 runs-follow c (request r) l timer s timed = go (refusal c false r l) (request_proper c l r)
   where
@@ -262,8 +262,8 @@ needs-runs k service l h (Some place) = ap (runs k) (sym (h.links (link_number p
 
 pub needed-runs : (l : Line) → HaveTheirTimers l → (timer : Timer) → is_needed timer l ≡ is_running timer l
 needed-runs l h T201 = refl
-needed-runs l h (T200 service tei) = needs-runs kind.T200 service l h (place_in l tei)
-needed-runs l h (T203 service tei) = needs-runs kind.T203 service l h (place_in l tei)
+needed-runs l h (T200 service tei) = needs-runs link_timer.T200 service l h (place_in l tei)
+needed-runs l h (T203 service tei) = needs-runs link_timer.T203 service l h (place_in l tei)
 
 pub timely-line : (c : Config) (e : Event) (l : Line) → IsInRange c → IsSound c l → HaveTheirTimers l → HaveTheirTimers (after c e l)
 timely-line c e l ranged s h = record {
@@ -291,5 +291,5 @@ nowhere c tei = has-no-place (replicate c.terminals None) tei (λ i at. none-som
 
 pub begins-with-none : (c : Config) (timer : Timer) → is_needed timer (fresh_line c) ≡ false
 begins-with-none c T201 = refl
-begins-with-none c (T200 service tei) = ap (λ o. option_map_or (link_needs kind.T200 service (fresh_line c)) o false) (nowhere c tei)
-begins-with-none c (T203 service tei) = ap (λ o. option_map_or (link_needs kind.T203 service (fresh_line c)) o false) (nowhere c tei)
+begins-with-none c (T200 service tei) = ap (λ o. option_map_or (link_needs link_timer.T200 service (fresh_line c)) o false) (nowhere c tei)
+begins-with-none c (T203 service tei) = ap (λ o. option_map_or (link_needs link_timer.T203 service (fresh_line c)) o false) (nowhere c tei)

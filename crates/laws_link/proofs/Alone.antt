@@ -9,7 +9,7 @@ use Rattle.model_link.specs.declared.frames.ControlFrame.{ControlFrame}
 use Rattle.model_link.specs.declared.timers.LinkTimer.TheVariants.{T200}
 use Rattle.model_link.specs.declared.terms.Terms.{Terms}
 use Rattle.model_link.specs.Link.{Link, outstanding}
-use Rattle.model_link.specs.Events as events
+use Rattle.model_link.specs.Events as link
 use Rattle.model_link.specs.Machine.{course, after, given, given_of}
 use Rattle.model_link.specs.Offers
 use Rattle.model_link.specs.Sound.{IsInRange, IsSound, IsWaitingFrame, is_information}
@@ -70,7 +70,7 @@ module _ (t : Terms) (l : Link) (h : IsSound t l) where
   from-sent c (Some s) x = x
 
   pub given-may-go : IfSome (given t l) (λ g. IsTrue (is_i_frame g) → MayGo t l)
-  given-may-go = from-sent (course t events.offer l) (course t events.offer l).sent (offering l.waiting h.frames)
+  given-may-go = from-sent (course t link.offer l) (course t link.offer l).sent (offering l.waiting h.frames)
 
 -- after any number of offers
 pub offered-in-order : (t : Terms) → IsInRange t → (m : ℕ) (l : Link) → IsSound t l
@@ -78,9 +78,9 @@ pub offered-in-order : (t : Terms) → IsInRange t → (m : ℕ) (l : Link) → 
 unfolding offered i_frames_offered
 offered-in-order t r zero l h = subst (λ j. IfSome (given t l) (λ g. IsOffered l.contents j g.frame g.contents)) (omega arith) (given-is-offered t l h)
 offered-in-order t r (suc m) l h =
-    let next = after t events.offer l in
-    let rest = offered-in-order t r m next (sound-after t r events.offer l h) in
-    let at : next.s + i_frames_offered t m next ≡ l.s + (i_frames t events.offer l + i_frames_offered t m next) =
+    let next = after t link.offer l in
+    let rest = offered-in-order t r m next (sound-after t r link.offer l h) in
+    let at : next.s + i_frames_offered t m next ≡ l.s + (i_frames t link.offer l + i_frames_offered t m next) =
     ap (λ s. s + i_frames_offered t m next) (offer-counts t l h) ∙ omega arith in
     subst (λ j. IfSome (given t (offered t m next)) (λ g. IsOffered l.contents j g.frame g.contents)) at
     (subst (λ xs. IfSome (given t (offered t m next)) (λ g. IsOffered xs (next.s + i_frames_offered t m next) g.frame g.contents)) (offer-leaves t l).contents rest)

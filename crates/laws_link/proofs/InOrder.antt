@@ -6,7 +6,7 @@ use Rattle.model_link.specs.declared.frames.ControlFrame.{ControlFrame}
 use Rattle.model_link.specs.declared.timers.LinkTimer.TheVariants.{T200}
 use Rattle.model_link.specs.declared.terms.Terms.{Terms}
 use Rattle.model_link.specs.Link.{Link}
-use Rattle.model_link.specs.Events as events
+use Rattle.model_link.specs.Events as link
 use Rattle.model_link.specs.Machine.{course, after, given, given_of}
 use Rattle.model_link.specs.Offers
 use Rattle.model_link.specs.Sound.{IsSound, IsWaitingFrame}
@@ -41,5 +41,5 @@ module _ (t : Terms) (l : Link) (h : IsSound t l) where
   from-sent c None x = tt
   from-sent c (Some s) x = x
 
-  pub given-in-order : IfSome (given t l) (λ g. IsInOrder t l (after t events.offer l) g.frame)
-  given-in-order = from-sent (course t events.offer l) (course t events.offer l).sent (offering l.waiting refl)
+  pub given-in-order : IfSome (given t l) (λ g. IsInOrder t l (after t link.offer l) g.frame)
+  given-in-order = from-sent (course t link.offer l) (course t link.offer l).sent (offering l.waiting refl)

@@ -13,7 +13,7 @@ use Rattle.model_link.specs.declared.frames.ControlFrame.{ControlFrame}
 use Rattle.model_link.specs.declared.timers.LinkTimer.TheVariants.{T200}
 use Rattle.model_link.specs.declared.terms.Terms.{Terms}
 use Rattle.model_link.specs.Link.{Link}
-use Rattle.model_link.specs.Events as events
+use Rattle.model_link.specs.Events as link
 use Rattle.model_link.specs.Machine.{course, after, given, given_of}
 use Rattle.model_link.specs.Offers
 use Rattle.model_link.specs.Sound.{IsSound, IsWaitingFrame, is_information}
@@ -72,7 +72,7 @@ module _ (t : Terms) (l : Link) (h : IsSound t l) where
   from-sent c (Some s) x = x
 
   pub given-is-offered : IfSome (given t l) (λ g. IsOffered l.contents l.s g.frame g.contents)
-  given-is-offered = from-sent (course t events.offer l) (course t events.offer l).sent (offered l.waiting h.frames)
+  given-is-offered = from-sent (course t link.offer l) (course t link.offer l).sent (offered l.waiting h.frames)
 
 -- What such a frame carries is the contents with the number, if it is an I-frame, and else nothing.
 pub carried-is : (all : List (List ℕ)) (j : ℕ) (command : Bool) (control : Control) (contents : Option (List ℕ))
@@ -108,7 +108,7 @@ module _ (t : Terms) (l : Link) where
       (record { contents = refl; acknowledged = refl }) (record { contents = refl; acknowledged = refl }))
       (either l.pending _ _ (record { contents = refl; acknowledged = refl }) (record { contents = refl; acknowledged = refl }))
 
-  pub offer-leaves : Left l (course t events.offer l)
+  pub offer-leaves : Left l (course t link.offer l)
   offer-leaves = leaving l.waiting
 
 -- and V(S) counts the I-frame that it gives.
@@ -130,5 +130,5 @@ module _ (t : Terms) (l : Link) (h : IsSound t l) where
       (one-of (Offers.is_awaiting_acknowledgement one_more.link) one_more (Words.start T200 one_more) refl refl)
       (one-of l.pending _ _ (sym (add-zero l.s)) (sym (add-zero l.s)))
 
-  pub offer-counts : (after t events.offer l).s ≡ l.s + one (option_map_or is_i_frame (given t l) false)
+  pub offer-counts : (after t link.offer l).s ≡ l.s + one (option_map_or is_i_frame (given t l) false)
   offer-counts = counting l.waiting h.frames

@@ -7,7 +7,7 @@ use Rattle.model_link.specs.declared.timers.LinkTimer.{LinkTimer}
 use Rattle.model_link.specs.declared.timers.LinkTimer.TheVariants.{T200, T203}
 use Rattle.model_link.specs.declared.terms.Terms.{Terms}
 use Rattle.model_link.specs.Link.{Link}
-use Rattle.model_link.specs.Events as events
+use Rattle.model_link.specs.Events as link
 use Rattle.model_link.specs.Machine.{course, after, given, given_of}
 use Rattle.model_link.specs.Offers
 use Rattle.model_link.specs.Steps.{Course, Sent, begun, ◌then◌, changed}
@@ -50,5 +50,5 @@ module _ (t : Terms) (l : Link) where
   from-sent c None x = tt
   from-sent c (Some s) x = x
 
-  pub given-leaves : IfSome (given t l) (λ g. LeavesTimers t l (after t events.offer l) g.orders)
-  given-leaves = from-sent (course t events.offer l) (course t events.offer l).sent (offering l.waiting)
+  pub given-leaves : IfSome (given t l) (λ g. LeavesTimers t l (after t link.offer l) g.orders)
+  given-leaves = from-sent (course t link.offer l) (course t link.offer l).sent (offering l.waiting)

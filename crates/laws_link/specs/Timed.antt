@@ -4,7 +4,7 @@ use Rattle.lapd_frame.specs.Services.{same_service}
 use Rattle.lapd_frame.specs.declared.timers.Order.{Order}
 use Rattle.lapd_frame.specs.declared.timers.Order.TheVariants.{Start, Stop}
 use Rattle.lapd_frame.specs.declared.timers.Timer.{Timer}
-use Rattle.lapd_frame.specs.declared.timers.Timer.TheVariants as line_timer
+use Rattle.lapd_frame.specs.declared.timers.Timer.TheVariants as timers
 use Rattle.model_link.specs.declared.states.State.{State}
 use Rattle.model_link.specs.declared.states.State.TheVariants.{TeiAssigned, AwaitingEstablishment, AwaitingRelease, Established, TimerRecovery}
 use Rattle.model_link.specs.declared.timers.LinkTimer.{LinkTimer}
@@ -29,9 +29,9 @@ pub record IsTimed (l : Link) : Type 0 where
 
 -- Whether two timers of a line are the same one.
 abbrev pub is_same : Timer → Timer → Bool
-is_same (line_timer.T200 service tei) (line_timer.T200 other by) = same_service service other && tei == by
-is_same (line_timer.T203 service tei) (line_timer.T203 other by) = same_service service other && tei == by
-is_same line_timer.T201 line_timer.T201 = true
+is_same (timers.T200 service tei) (timers.T200 other by) = same_service service other && tei == by
+is_same (timers.T203 service tei) (timers.T203 other by) = same_service service other && tei == by
+is_same timers.T201 timers.T201 = true
 is_same one other = false
 
 -- Whether a timer runs at a caller's that obeys orders, one after the other: a Start of it starts it, or starts it

@@ -33,7 +33,7 @@ use Rattle.model_line.specs.Request.{Request, Establish, Release, Data, Assign, 
 use Rattle.model_line.specs.Requested.{aim_of_request, at_requested}
 use Rattle.model_line.specs.Sides.{at_side}
 use Rattle.model_card.specs.Pulled.{frame_taken, octet_in}
-use Rattle.laws_line.specs.Requests as laws_requests
+use Rattle.laws_line.specs.Requests as requests
 use Rattle.laws_line.specs.Heard.{Ends, Adds, IsMalformed, IsTooLong}
 use Rattle.laws_line.specs.Share.{is_granted}
 use Rattle.laws_line.specs.Steady.{IsBy, BringsMalformed, timer_of}
@@ -256,7 +256,7 @@ module _ (c : Config) (service : Service) (tei : ℕ) (k : Known) where
     brings-malformed n x e what y =
         ap (λ e. led c service tei k n e (seen c e l a) x) y.by ∙ malformed-leads n x y.value y.address y.octets what (own-address y.address y.sapi y.tei_is) y.ends
 
-    asked-leads : (x : ℕ) (asked : link.Request) → by_request service tei x (laws_requests.of_link service tei asked) ≡ expected (terms c service tei) k 0 (link.requested asked false) x
+    asked-leads : (x : ℕ) (asked : link.Request) → by_request service tei x (requests.of_link service tei asked) ≡ expected (terms c service tei) k 0 (link.requested asked false) x
     asked-leads x link.Establish = ap (λ b. cond (b && x == 4) 5 x) (own-is service tei)
     asked-leads x link.Release = ap (λ b. cond (b && is_up x) 6 x) (own-is service tei)
     asked-leads x (link.Data contents) = refl
@@ -288,7 +288,7 @@ module _ (c : Config) (service : Service) (tei : ℕ) (k : Known) where
         ∙ ap (λ o. option_map_or (by_expiry c.n200 k n x) o x) (ticked timer)
     one-led n x e (link.requested asked full) y =
         ap (λ e. led c service tei k n e (seen c e l a) x) y.0
-        ∙ granted-leads x (laws_requests.of_link service tei asked) a y.1 ∙ asked-leads x asked ∙ full-or-not n x asked full
+        ∙ granted-leads x (requests.of_link service tei asked) a y.1 ∙ asked-leads x asked ∙ full-or-not n x asked full
     one-led n x e link.offer y = ap (λ e. led c service tei k n e (seen c e l a) x) y ∙ pull-leads x (begun c l) a
     one-led n x e link.cleared y = absurd y
 

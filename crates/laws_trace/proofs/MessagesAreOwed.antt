@@ -19,7 +19,7 @@ use Rattle.model_line.specs.Event as line_event
 use Rattle.model_line.specs.Event.{Answer, refused}
 use Rattle.model_line.specs.Line.{Line, fresh_line}
 use Rattle.model_line.specs.Machine as lines
-use Rattle.model_line.specs.Sound as line_sounds
+use Rattle.model_line.specs.Sound as line
 use Rattle.laws_line.specs.Drains.{most_pulls}
 use Rattle.laws_line.specs.Frames.{lost_in}
 use Rattle.laws_line.specs.Pulls.{HasNothing}
@@ -159,7 +159,7 @@ no-messages : (c : Config) (card : Card) (number : ℕ) → HasNothing c (line_a
 unfolding after_all
 no-messages c card number h = h.messages
 
-module _ (c : Config) (events : List Event) (number : ℕ) (ranged : line_sounds.IsInRange c) (all : AreAtLines (fresh c) events) (within : number < c.lines) where
+module _ (c : Config) (events : List Event) (number : ℕ) (ranged : line.IsInRange c) (all : AreAtLines (fresh c) events) (within : number < c.lines) where
   start : line_at number (fresh c) ≡ fresh_line c
   start = get_or-replicate c.lines number (fresh_line c) (fresh_line c) within
 
@@ -195,7 +195,7 @@ messages-are-owed c events number ranged all within = front c events number rang
 pub all-messages-go-out : Always AllMessagesGoOut
 all-messages-go-out c events number ranged all within = whole c events number ranged all within
 
-pub known-at-end : (c : Config) (events : List Event) (number : ℕ) → line_sounds.IsInRange c → AreAtLines (fresh c) events → number < c.lines
+pub known-at-end : (c : Config) (events : List Event) (number : ℕ) → line.IsInRange c → AreAtLines (fresh c) events → number < c.lines
     → Knows (hearing [] (fold (led c number) none_on (moments (fresh c) events))) (line_at number (after_all (fresh c) events)).management
 known-at-end c events number ranged all within = (ran c events number ranged all within).knows
 

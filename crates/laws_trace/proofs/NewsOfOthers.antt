@@ -21,7 +21,7 @@ use Rattle.lapd_tei.specs.declared.outcome.Change.{Change}
 use Rattle.lapd_tei.specs.declared.outcome.Change.TheVariants.{Gained, Left}
 use Rattle.model_link.specs.declared.terms.Terms.{Terms}
 use Rattle.model_link.specs.declared.timers.LinkTimer.{LinkTimer}
-use Rattle.model_link.specs.declared.timers.LinkTimer.TheVariants as kind
+use Rattle.model_link.specs.declared.timers.LinkTimer.TheVariants as link_timer
 use Rattle.model_link.specs.Events as link
 use Rattle.model_link.specs.Notes.{IsOwn}
 use Rattle.model_link.specs.Link.{Link, fresh}
@@ -159,8 +159,8 @@ module _ (service : Service) (tei : ℕ) where
         (λ parts its to aims there. All-cons No (notes.Unit its group_tei) [] refl (All-nil No)) e
 
     pub expiry-silent : (timer : Timer) → Silent (aim_of_expiry timer l)
-    expiry-silent (T200 its by) = timer-silent its by kind.T200 (place_in l by)
-    expiry-silent (T203 its by) = timer-silent its by kind.T203 (place_in l by)
+    expiry-silent (T200 its by) = timer-silent its by link_timer.T200 (place_in l by)
+    expiry-silent (T203 its by) = timer-silent its by link_timer.T203 (place_in l by)
     expiry-silent T201 = managed teis.expiry tt
 
     pub request-silent : (r : Request) → IsProper c l (aim_of_request r l) → Silent (aim_of_request r l)

@@ -14,7 +14,7 @@ use Rattle.model_line.specs.Line.{Line, place_in}
 use Rattle.model_line.specs.Machine as lines
 use Rattle.model_line.specs.Octet.{gained}
 use Rattle.model_line.specs.Pull.{Taken}
-use Rattle.model_line.specs.Pull as line_pull
+use Rattle.model_line.specs.Pull as pulls
 use Rattle.model_line.specs.Request.{Request, Establish, Release, Data, Assign, Remove, Check, SetBusy, ClearBusy}
 use Rattle.model_line.specs.Requested.{at_requested, aim_of_request}
 use Rattle.model_card.specs.Event.{Event}
@@ -71,7 +71,7 @@ module _ (c : Config) (service : Service) (tei : ℕ) where
   seen-begins (octet value) l a = octet-begins (gained c.n201 l.received value) a
   seen-begins (expiry timer) l a = told-begins a
   seen-begins (request r) l a = asked-begins r a
-  seen-begins pull l a = pull-begins (line_pull.begun c l) a
+  seen-begins pull l a = pull-begins (pulls.begun c l) a
 
   module _ (e : line_event.Event) (l : Line) (a : Answer) where
     sabme-none : frame_by c e l ≡ None → option_map_or is_sabme (control_in service tei (frame_by c e l)) false ≡ false

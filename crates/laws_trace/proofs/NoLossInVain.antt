@@ -18,7 +18,7 @@ use Rattle.lapd_tei.specs.Words.{Course}
 use Rattle.lapd_tei.proofs.Tables.{place_of-is}
 use Rattle.laws_link.specs.Waiting.{room, behind}
 use Rattle.model_link.specs.declared.timers.LinkTimer.{LinkTimer}
-use Rattle.model_link.specs.declared.timers.LinkTimer.TheVariants as kind
+use Rattle.model_link.specs.declared.timers.LinkTimer.TheVariants as link_timer
 use Rattle.model_link.specs.Events as link
 use Rattle.model_link.specs.Link.{Link, fresh}
 use Rattle.model_link.specs.Sound as link_sound
@@ -79,8 +79,8 @@ module _ (c : Config) (l : Line) where
   timer-none its by k (Some place) = tt
 
   expiry-none : (timer : Timer) → NoLoss (aim_of_expiry timer l)
-  expiry-none (timers.T200 its by) = timer-none its by kind.T200 (place_in l by)
-  expiry-none (timers.T203 its by) = timer-none its by kind.T203 (place_in l by)
+  expiry-none (timers.T200 its by) = timer-none its by link_timer.T200 (place_in l by)
+  expiry-none (timers.T203 its by) = timer-none its by link_timer.T203 (place_in l by)
   expiry-none timers.T201 = tt
 
   asked-none : (its : Service) (by : ℕ) (asked : link.Request) (o : Option ℕ) → NoLoss (at_requested its by asked o)

@@ -22,7 +22,7 @@ use Rattle.model_link.specs.Machine as links
 use Rattle.model_link.specs.Steps.{Sent}
 use Rattle.model_link.specs.Told.{Given}
 use Rattle.model_link.specs.declared.timers.LinkTimer.{LinkTimer}
-use Rattle.model_link.specs.declared.timers.LinkTimer.TheVariants as kind
+use Rattle.model_link.specs.declared.timers.LinkTimer.TheVariants as link_timer
 use Rattle.model_line.specs.declared.config.Config.{Config}
 use Rattle.model_line.specs.Event.{Event, octet, expiry, request, pull, Answer, told, nothing}
 use Rattle.model_line.specs.Effect.{Aim, at_none, at_link, at_management, at_units, of_aim}
@@ -122,8 +122,8 @@ module _ (c : Config) (l : Line) where
   timer-silent its by k (Some place) = refl
 
   expiry-silent : (timer : Timer) → Silent (aim_of_expiry timer l)
-  expiry-silent (timers.T200 its by) = timer-silent its by kind.T200 (place_in l by)
-  expiry-silent (timers.T203 its by) = timer-silent its by kind.T203 (place_in l by)
+  expiry-silent (timers.T200 its by) = timer-silent its by link_timer.T200 (place_in l by)
+  expiry-silent (timers.T203 its by) = timer-silent its by link_timer.T203 (place_in l by)
   expiry-silent timers.T201 = tt
 
   asked-silent : (its : Service) (by : ℕ) (asked : link.Request) (o : Option ℕ) → Silent (at_requested its by asked o)

@@ -25,7 +25,7 @@ use Rattle.lapd_tei.specs.Events as teis
 use Rattle.lapd_tei.specs.declared.outcome.Change.{Change}
 use Rattle.lapd_tei.specs.declared.outcome.Change.TheVariants.{Gained, Left}
 use Rattle.model_link.specs.Events as link
-use Rattle.model_link.specs.declared.timers.LinkTimer.TheVariants as kind
+use Rattle.model_link.specs.declared.timers.LinkTimer.TheVariants as link_timer
 use Rattle.model_line.specs.declared.config.Config.{Config}
 use Rattle.model_line.specs.Effect.{Aim, at_none, at_link, at_management, at_units, told_of_management, of_change, of_aim}
 use Rattle.model_line.specs.Event.{Event, LineTold, octet, expiry, request, pull, nothing}
@@ -131,12 +131,12 @@ octet-aims c l value = go (gained c.n201 l.received value) refl
 timer-aims : (l : Line) (timer : Timer) → IsOfOctetsAt (aim_of_expiry timer l)
 timer-aims l (timers.T200 service tei) = by-place (place_in l tei)
   where
-    by-place : (o : Option ℕ) → IsOfOctetsAt (at_timer service tei kind.T200 o)
+    by-place : (o : Option ℕ) → IsOfOctetsAt (at_timer service tei link_timer.T200 o)
     by-place None = tt
     by-place (Some place) = tt
 timer-aims l (timers.T203 service tei) = by-place (place_in l tei)
   where
-    by-place : (o : Option ℕ) → IsOfOctetsAt (at_timer service tei kind.T203 o)
+    by-place : (o : Option ℕ) → IsOfOctetsAt (at_timer service tei link_timer.T203 o)
     by-place None = tt
     by-place (Some place) = tt
 timer-aims l timers.T201 = tt

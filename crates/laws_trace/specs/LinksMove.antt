@@ -9,7 +9,7 @@ use Rattle.lapd_frame.specs.declared.faults.ReadFault.TheVariants.{Undefined, Wr
 use Rattle.lapd_frame.specs.declared.overlong.Long.{Long}
 use Rattle.lapd_frame.specs.declared.overlong.Long.TheVariants as long
 use Rattle.lapd_frame.specs.declared.services.Service.{Service}
-use Rattle.lapd_frame.specs.declared.timers.Timer.TheVariants as line_timer
+use Rattle.lapd_frame.specs.declared.timers.Timer.TheVariants as timers
 use Rattle.lapd_frame.specs.Grammar.{Parts}
 use Rattle.lapd_frame.specs.Reading.{reading, long_reading}
 use Rattle.lapd_seq.specs.declared.numbers.Seq.{Seq}
@@ -115,8 +115,8 @@ by_expiry n200 k n state T200 =
 by_expiry n200 k n state T203 = if state == 7 && not (awaits k (Some 7)) then 8 else state
 
 abbrev pub expired_of : Service → ℕ → line_event.Event → Option LinkTimer
-expired_of service tei (expiry (line_timer.T200 of by)) = if is_own service tei of by then Some T200 else None
-expired_of service tei (expiry (line_timer.T203 of by)) = if is_own service tei of by then Some T203 else None
+expired_of service tei (expiry (timers.T200 of by)) = if is_own service tei of by then Some T200 else None
+expired_of service tei (expiry (timers.T203 of by)) = if is_own service tei of by then Some T203 else None
 expired_of service tei other = None
 
 -- How often T200 of a link has expired since the link came to its state.

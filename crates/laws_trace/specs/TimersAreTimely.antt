@@ -5,7 +5,7 @@ use Rattle.std.specs.Option.{option_map_or}
 use Rattle.lapd_frame.specs.declared.controls.Control.{Control}
 use Rattle.lapd_frame.specs.declared.controls.Control.TheVariants.{Information, ReceiveReady, ReceiveNotReady, Reject, Sabme}
 use Rattle.lapd_frame.specs.declared.services.Service.{Service}
-use Rattle.lapd_frame.specs.declared.timers.Timer.TheVariants as line_timer
+use Rattle.lapd_frame.specs.declared.timers.Timer.TheVariants as timers
 use Rattle.lapd_frame.specs.Grammar.{Parts}
 use Rattle.lapd_frame.specs.Reading.{reading}
 use Rattle.model_link.specs.declared.timers.LinkTimer.{LinkTimer}
@@ -97,8 +97,8 @@ TimersRun c events number =
     let ms = moments (fresh c) events in
     let state = state_of service tei (line_at number (after_all (fresh c) events)) in
     let k = fold (watch c service tei number) nothing_yet ms in
-    (runs_at_callers number (line_timer.T200 service tei) false ms ≡ awaits k state)
-    × (runs_at_callers number (line_timer.T203 service tei) false ms ≡ (is_state 7 state && not (awaits k state)))
+    (runs_at_callers number (timers.T200 service tei) false ms ≡ awaits k state)
+    × (runs_at_callers number (timers.T203 service tei) false ms ≡ (is_state 7 state && not (awaits k state)))
 
 -- In state 7 T200 is started anew by RNR, and by RR, or I while the terminal is not busy, with an N(R) that acknowledges an I-frame:
 -- it is not the N(R) heard last; and T203 by RR, REJ, I and SABME (clauses 5.5.1.2, 5.6.3.2, 5.6.4, 5.6.5 and 5.9.8).

@@ -17,7 +17,7 @@ use Rattle.model_line.specs.declared.config.Config.{Config}
 use Rattle.model_line.specs.Event.{LineTold}
 use Rattle.model_line.specs.Expiry.{at_timer, aim_of_expiry}
 use Rattle.model_line.specs.Line.{Line, place_in, terms}
-use Rattle.model_line.specs.Request as asked_of
+use Rattle.model_line.specs.Request as asked
 use Rattle.model_line.specs.Request.{Request, Data}
 use Rattle.laws_wire.specs.Wire.{Station, Wire, with_first_of, with_first_lost, requests, takes, loses, acting, turned}
 use Rattle.laws_wire.specs.Call.{confirmed, indicated}
@@ -36,14 +36,14 @@ module _ (service : Service) (tei : ℕ) where
   -- the requests and timers of a call
   pub for-data : (P : Request → Type 0) → ((octets : List ℕ) → AreOctets octets → P (Data service tei octets)) → (r : Request) → IsRoughTalkOf service tei (requests r) → P r
   for-data P own (Data s t octets) is = subst (λ s'. P (Data s' t octets)) (sym is.0) (subst (λ t'. P (Data service t' octets)) (sym is.1) (own octets is.2))
-  for-data P own (asked_of.Establish s t) is = absurd is
-  for-data P own (asked_of.Release s t) is = absurd is
-  for-data P own (asked_of.Unit s t octets) is = absurd is
-  for-data P own (asked_of.Assign t) is = absurd is
-  for-data P own (asked_of.Remove t) is = absurd is
-  for-data P own (asked_of.Check t) is = absurd is
-  for-data P own (asked_of.SetBusy s t) is = absurd is
-  for-data P own (asked_of.ClearBusy s t) is = absurd is
+  for-data P own (asked.Establish s t) is = absurd is
+  for-data P own (asked.Release s t) is = absurd is
+  for-data P own (asked.Unit s t octets) is = absurd is
+  for-data P own (asked.Assign t) is = absurd is
+  for-data P own (asked.Remove t) is = absurd is
+  for-data P own (asked.Check t) is = absurd is
+  for-data P own (asked.SetBusy s t) is = absurd is
+  for-data P own (asked.ClearBusy s t) is = absurd is
 
   abbrev pub Aims : Timer → LinkTimer → Type 0
   Aims timer its = (l : Line) → aim_of_expiry timer l ≡ at_timer service tei its (place_in l tei)

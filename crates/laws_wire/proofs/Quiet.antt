@@ -10,7 +10,7 @@ use Rattle.model_link.specs.Requests.{refusal}
 use Rattle.laws_two_links.specs.TwoEnds.{End, with_link, with_sent, frame_given}
 use Rattle.laws_two_links.specs.TwoEnds as two_ends
 use Rattle.model_line.specs.declared.config.Config.{Config}
-use Rattle.model_line.specs.Request as asked_of
+use Rattle.model_line.specs.Request as asked
 use Rattle.model_line.specs.Request.{Request, Establish, Release, Data, Assign, Remove, Check, SetBusy, ClearBusy}
 use Rattle.model_card.specs.Happening.{goes, asks}
 use Rattle.model_card.specs.Said.{said}
@@ -100,7 +100,7 @@ module _ (service : Service) (tei : ℕ) where
         subst (λ s'. P (Data s' t octets)) (sym is.0) (subst (λ t'. P (Data service t' octets)) (sym is.1) (own octets is.2))
     for-data P own (Establish s t) is = absurd is
     for-data P own (Release s t) is = absurd is
-    for-data P own (asked_of.Unit s t octets) is = absurd is
+    for-data P own (asked.Unit s t octets) is = absurd is
     for-data P own (Assign t) is = absurd is
     for-data P own (Remove t) is = absurd is
     for-data P own (Check t) is = absurd is

@@ -47,7 +47,7 @@ use Rattle.model_card.specs.Happening.{Happening, comes, goes, expires, asks, li
 use Rattle.model_card.specs.Machine.{wants_room}
 use Rattle.model_card.specs.Run.{after_all}
 use Rattle.model_card.specs.Said.{says, gives, next_of, said}
-use Rattle.model_card.specs.Sound as card
+use Rattle.model_card.specs.Sound as card_sound
 use Rattle.model_card.proofs.CardSound.{always_sound}
 use Rattle.model_card.proofs.Happening.{all_at, config_stays, frames_are_of_lines, lines_stay_idle}
 use Rattle.model_card.proofs.Steps.{has_lines, line_sound}
@@ -65,7 +65,7 @@ pub record IsCarried (c : Config) (service : Service) (tei : ℕ) (f : Parts) : 
 
 pub record Stands (c : Config) (service : Service) (tei place : ℕ) (s : Station) (n : End) : Type 0 where
   pub config : s.card.config ≡ c
-  pub sound : card.IsSound s.card
+  pub sound : card_sound.IsSound s.card
   pub idle : AreIdle s.card
   pub within : s.line < c.lines
   pub speaks : Speaks c service tei place n.link (line_at s.line s.card)
@@ -138,7 +138,7 @@ module _ (service : Service) (tei place : ℕ) (s : Station) (n : End) (h : Stan
     abbrev next : Card
     next = after_all m (events_of m x)
 
-    next-sound : card.IsSound next
+    next-sound : card_sound.IsSound next
     next-sound = always_sound m (events_of m x) h.sound (all_at m (line_of x) (events_at m x) here.0)
 
     next-idle : AreIdle next
@@ -151,7 +151,7 @@ module _ (service : Service) (tei place : ℕ) (s : Station) (n : End) (h : Stan
         → s'.way ≡ map (spelling c.side) n'.way → All (IsCarried c service tei) n'.way → Stands c service tei place s' n'
     stands-then n' s' is same-line same-terms speaks way carried = record {
       config = ap (λ k. k.config) is ∙ config_stays m (events_of m x);
-      sound = subst card.IsSound (sym is) next-sound;
+      sound = subst card_sound.IsSound (sym is) next-sound;
       idle = subst AreIdle (sym is) next-idle;
       within = subst (λ i. i < c.lines) (sym same-line) h.within;
       speaks = subst (λ i. Speaks c service tei place n'.link (line_at i s'.card)) (sym same-line) (subst (λ k. Speaks c service tei place n'.link (line_at s.line k)) (sym is) speaks);

@@ -14,7 +14,7 @@ use Rattle.model_line.specs.Event.{LineTold}
 use Rattle.model_line.specs.Line.{Line, link_number, link_count, link_at, link_of, place_in, terms, terms_at}
 use Rattle.model_card.specs.Card.{line_at}
 use Rattle.model_card.specs.Happening.{AreIdle}
-use Rattle.model_card.specs.Sound as card
+use Rattle.model_card.specs.Sound as card_sound
 use Rattle.laws_two_links.specs.AnyOrder.{weight}
 use Rattle.laws_two_links.specs.Rounds.{IsReady, IsTaken}
 use Rattle.laws_two_links.specs.Waits.{HasNothingToSend}
@@ -59,7 +59,7 @@ ends_of service tei w = record { near = end_of service tei w.near; far = end_of 
 -- other link of the line has anything to send, and nothing is on its way; and what the link's layer 3 was granted, which are
 -- octets, are its contents.
 pub record Speaks (service : Service) (tei : ℕ) (s : Station) : Type 0 where
-  pub sound : card.IsSound s.card
+  pub sound : card_sound.IsSound s.card
   pub idle : AreIdle s.card
   pub within : s.line < s.card.config.lines
   pub place : ℕ

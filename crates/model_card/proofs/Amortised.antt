@@ -1,17 +1,7 @@
 -- The frames sent, amortised.
-use Rattle.std.proofs.Common.{◌≡◌, ℕ, ◌+◌, ◌*◌, ◌≤◌, List, [], ◌∷◌, sym, subst, arith}
-use Rattle.std.specs.Prelude.{sum_by}
-use Rattle.std.proofs.lemmas.List.Elements.{All-head, All-tail}
+use Rattle.model_card.proofs.Vocabulary.{◌≡◌, ℕ, ◌+◌, ◌*◌, ◌≤◌, List, [], ◌∷◌, sym, subst, arith, sum_by, All-head, All-tail, event_rises, Event, Card, line_at, may_send, window, sent, heard, accepted, expired, rejected, is_sent, is_heard, is_accepted, is_running_expiry, is_reject, FramesAmortised, after, answer, IsAmortised, Moment, moments, after_all, IsAtLine, AreAtLines}
 use Rattle.model_line.specs.Machine as lines
 use Rattle.model_line.specs.Counts as line
-use Rattle.model_line.proofs.ByEvent.{event_rises}
-use Rattle.model_card.specs.Event.{Event}
-use Rattle.model_card.specs.Card.{Card, line_at}
-use Rattle.model_card.specs.Counts.{may_send, window, sent, heard, accepted, expired, rejected, is_sent, is_heard, is_accepted, is_running_expiry, is_reject}
-use Rattle.model_card.specs.Laws.{FramesAmortised}
-use Rattle.model_card.specs.Machine.{after, answer}
-use Rattle.model_card.specs.Promises.{IsAmortised}
-use Rattle.model_card.specs.Run.{Moment, moments, after_all, IsAtLine, AreAtLines}
 use Rattle.model_card.proofs.Steps.{HasLines, has_lines, by_room, line_sound, after_lines, one_line, count_cons}
 
 -- one event

@@ -1,28 +1,10 @@
 -- By how much each event lets rise what may be sent.
-use Rattle.std.proofs.Common.{◌≡◌, ℕ, ◌+◌, ◌*◌, ◌≤◌, ◌<◌, Bool, true, false, length, nat_le, Option, Some, None, option_to_list, ap, sym, ◌∙◌, cond, arith}
-use Rattle.std.specs.Prelude.{sum_by, count_by}
-use Rattle.std.specs.Option.{option_map_or}
-use Rattle.std.proofs.lemmas.Bool.{false≢true}
+use Rattle.model_card.proofs.Vocabulary.{◌≡◌, ℕ, ◌+◌, ◌*◌, ◌≤◌, ◌<◌, Bool, true, false, length, nat_le, Option, Some, None, ap, sym, ◌∙◌, cond, arith, sum_by, count_by, option_map_or, false≢true, Timer, octet, expiry, request, pull, Config, Line, refusal, Request, counted_one, falls_by_pull, expiry_none, request_none, brings, octet_rejects, RisesByOctet, RisesByExpiry, RisesByRequest, FallsByPull, RisesBy, IsPriced, Card, line_at, window, at, FramesByEvent, IsSound}
+use Rattle.std.proofs.Common.{option_to_list}
 use Rattle.lapd_bits.specs.Stream as stream
-use Rattle.lapd_frame.specs.declared.timers.Timer.{Timer}
 use Rattle.model_line.specs.Event as line_event
-use Rattle.model_line.specs.Event.{octet, expiry, request, pull}
 use Rattle.model_line.specs.Counts as line
-use Rattle.model_line.specs.declared.config.Config.{Config}
-use Rattle.model_line.specs.Line.{Line}
 use Rattle.model_line.specs.Machine as lines
-use Rattle.model_line.specs.Refusal.{refusal}
-use Rattle.model_line.specs.Request.{Request}
-use Rattle.model_line.proofs.ByEvent.{counted_one, falls_by_pull}
-use Rattle.model_line.proofs.EventsReject.{expiry_none, request_none}
-use Rattle.model_line.proofs.LineRises.{brings}
-use Rattle.model_line.proofs.RejectsHeard.{octet_rejects}
-use Rattle.model_card.specs.ByEvent.{RisesByOctet, RisesByExpiry, RisesByRequest, FallsByPull, RisesBy, IsPriced}
-use Rattle.model_card.specs.Card.{Card, line_at}
-use Rattle.model_card.specs.Counts.{window}
-use Rattle.model_card.specs.Event.{at}
-use Rattle.model_card.specs.Laws.{FramesByEvent}
-use Rattle.model_card.specs.Sound.{IsSound}
 use Rattle.model_card.proofs.Amortised.{event_within}
 use Rattle.model_card.proofs.Heard.{event_heard}
 use Rattle.model_card.proofs.EachMoment.{each_moment}

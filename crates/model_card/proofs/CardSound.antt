@@ -1,22 +1,7 @@
 -- A card is sound as it begins, and each event keeps it so.
-use Rattle.std.proofs.Common.{◌≡◌, ℕ, ◌+◌, ◌*◌, ◌≤◌, ◌<◌, Bool, true, false, ◌&&◌, List, [], ◌∷◌, nat_le, ap, ◌∙◌, arith}
-use Rattle.std.specs.Prelude.{sum_by}
-use Rattle.std.proofs.lemmas.Bool.{leb-false}
-use Rattle.std.proofs.lemmas.List.Elements.{All-head, All-tail}
-use Rattle.std.proofs.lemmas.List.Folds.{sum_by-replicate}
-use Rattle.model_line.specs.declared.config.Config.{Config}
-use Rattle.model_line.specs.Counts.{one}
-use Rattle.model_line.specs.Line.{fresh_line}
+use Rattle.model_card.proofs.Vocabulary.{◌≡◌, ℕ, ◌+◌, ◌*◌, ◌≤◌, ◌<◌, Bool, true, false, ◌&&◌, List, [], ◌∷◌, nat_le, ap, ◌∙◌, arith, sum_by, leb-false, All-head, All-tail, sum_by-replicate, Config, one, fresh_line, slots_of, slots_grow, fresh_slots, Card, fresh, line_at, used, Event, CardsStaySound, after, after_all, IsAtLine, AreAtLines, IsSound}
 use Rattle.model_line.specs.Machine as lines
 use Rattle.model_line.specs.Sound as line
-use Rattle.model_line.specs.Stored.{slots_of}
-use Rattle.model_line.proofs.SlotsGrow.{slots_grow, fresh_slots}
-use Rattle.model_card.specs.Card.{Card, fresh, line_at, used}
-use Rattle.model_card.specs.Event.{Event}
-use Rattle.model_card.specs.Laws.{CardsStaySound}
-use Rattle.model_card.specs.Machine.{after}
-use Rattle.model_card.specs.Run.{after_all, IsAtLine, AreAtLines}
-use Rattle.model_card.specs.Sound.{IsSound}
 use Rattle.model_card.proofs.Steps.{has_lines, by_room, line_sound, after_lines, fresh_lines, one_line}
 
 -- who is not turned away finds room

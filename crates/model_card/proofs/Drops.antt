@@ -1,20 +1,6 @@
 -- What is dropped changes nothing, and costs nothing.
-use Rattle.std.proofs.Common.{◌≡◌, ℕ, ◌<◌, Some, IsSome, ap, sym, ◌∙◌, subst, arith}
-use Rattle.std.proofs.lemmas.Option.{none-some}
-use Rattle.lapd_bits.specs.declared.heard.Cause.{Cause}
-use Rattle.model_line.specs.Event.{octet, told, dropped}
+use Rattle.model_card.proofs.Vocabulary.{◌≡◌, ℕ, ◌<◌, Some, IsSome, ap, sym, ◌∙◌, subst, arith, none-some, Cause, octet, told, dropped, cause_in, Line, with_received, octet_leaves, named_cause, Card, line_at, may_send, IsDropWithoutCost, with_octet, IsDropWithoutEffect, at, DropsCostNothing, DropsChangeNothing, after, answer, with_line, IsSound}
 use Rattle.model_line.specs.Counts as line
-use Rattle.model_line.specs.Laws.{cause_in}
-use Rattle.model_line.specs.Line.{Line}
-use Rattle.model_line.specs.Octet.{with_received}
-use Rattle.model_line.proofs.Drops.{octet_leaves, named_cause}
-use Rattle.model_card.specs.Card.{Card, line_at}
-use Rattle.model_card.specs.Counts.{may_send}
-use Rattle.model_card.specs.Drops.{IsDropWithoutCost, with_octet, IsDropWithoutEffect}
-use Rattle.model_card.specs.Event.{at}
-use Rattle.model_card.specs.Laws.{DropsCostNothing, DropsChangeNothing}
-use Rattle.model_card.specs.Machine.{after, answer, with_line}
-use Rattle.model_card.specs.Sound.{IsSound}
 use Rattle.model_card.proofs.EachMoment.{each_moment, every_moment}
 use Rattle.model_card.proofs.Steps.{has_lines, by_room, one_line}
 

@@ -1,12 +1,5 @@
 -- What holds of every sound card and event at a line of it holds in every moment of a run.
-use Rattle.std.proofs.Common.{List, [], ◌∷◌}
-use Rattle.std.specs.Prelude.{All}
-use Rattle.std.proofs.lemmas.List.Elements.{All-nil, All-cons, All-head, All-tail}
-use Rattle.model_card.specs.Card.{Card}
-use Rattle.model_card.specs.Event.{Event}
-use Rattle.model_card.specs.Machine.{after, answer}
-use Rattle.model_card.specs.Run.{Moment, moments, IsAtLine, AreAtLines}
-use Rattle.model_card.specs.Sound.{IsSound}
+use Rattle.model_card.proofs.Vocabulary.{List, [], ◌∷◌, All, All-nil, All-cons, All-head, All-tail, Card, Event, after, answer, Moment, moments, IsAtLine, AreAtLines, IsSound}
 use Rattle.model_card.proofs.CardSound.{after_is_sound}
 
 abbrev pub moment_of : Card → Event → Moment

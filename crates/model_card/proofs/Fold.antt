@@ -1,10 +1,5 @@
 -- A run as one fold is its moments.
-use Rattle.std.proofs.Common.{◌≡◌, List, [], ◌∷◌, ◌++◌, refl, sym, ◌∙◌, append_assoc, append-nil}
-use Rattle.std.specs.Prelude.{fold, map}
-use Rattle.model_card.specs.Event.{Event}
-use Rattle.model_card.specs.Laws.{reply_of, RunIsMoments}
-use Rattle.model_card.specs.Machine.{after, answer}
-use Rattle.model_card.specs.Run.{Run, one_more, moments, after_all}
+use Rattle.model_card.proofs.Vocabulary.{◌≡◌, List, [], ◌∷◌, ◌++◌, refl, sym, ◌∙◌, append_assoc, append-nil, fold, map, Event, reply_of, RunIsMoments, after, answer, Run, one_more, moments, after_all}
 
 folded_card : (events : List Event) (r : Run) → (fold one_more r events).card ≡ after_all r.card events
 unfolding after_all

@@ -1,27 +1,10 @@
 -- Happenings at a card as its events.
-use Rattle.std.proofs.Common.{◌≡◌, ◌≢◌, ℕ, zero, suc, ◌+◌, ◌<◌, Bool, true, false, ◌&&◌, List, [], ◌∷◌, ◌++◌, length, map, replicate, get_or, set, is_some, if◌then◌else◌, refl, ap, sym, subst, ◌∙◌, arith, ⊎_elim}
-use Rattle.std.specs.Prelude.{All}
-use Rattle.std.proofs.lemmas.Bool.{cases_eq}
-use Rattle.std.proofs.lemmas.List.{set-get_or, set-set, get_or-set_same, get_or-set_other, length-set, length-replicate}
-use Rattle.std.proofs.lemmas.List.Elements.{All-nil, All-cons, All-head, All-tail, All-append}
-use Rattle.lapd_bits.specs.StuffingLaws.{AreOctets}
-use Rattle.model_line.specs.declared.config.Config.{Config}
+use Rattle.model_card.proofs.Vocabulary.{◌≡◌, ◌≢◌, ℕ, zero, suc, ◌+◌, ◌<◌, Bool, true, false, ◌&&◌, List, [], ◌∷◌, ◌++◌, length, replicate, get_or, set, is_some, if◌then◌else◌, refl, ap, sym, subst, ◌∙◌, arith, ⊎_elim, All, cases_eq, set-get_or, set-set, get_or-set_same, get_or-set_other, length-replicate, All-nil, All-cons, All-head, All-tail, All-append, AreOctets, Config, Line, fresh_line, taken, Card, fresh, line_at, is_full, Event, at, after, answer, wants_room, lines_after, Moment, moments, after_all, AreAtLines, IsAtLine, Fault, IsIdle, line_octets, came, fault_octets, cause_of, after_events, answers_to, pulls_to_begin, pulls_for, Happening, comes, failed, goes, expires, asks, line_of, events_at, events_of, spelled, IsWhole, HappensAt, HappenAt, AreIdle, answer_in, IsAtLineAlone, HappeningsAreEvents, LinesStayIdle, FramesAreOfLines, frames_are_heard, frames_come_whole, nothing_else_is_received}
+use Rattle.std.proofs.Common.{map}
+use Rattle.std.proofs.lemmas.List.{length-set}
 use Rattle.model_line.specs.Event as line_event
-use Rattle.model_line.specs.Line.{Line, fresh_line}
 use Rattle.model_line.specs.Machine as lines
-use Rattle.model_line.specs.Pull.{taken}
-use Rattle.model_card.specs.Card.{Card, fresh, line_at, is_full}
-use Rattle.model_card.specs.Event.{Event, at}
-use Rattle.model_card.specs.Machine.{after, answer, wants_room, lines_after}
-use Rattle.model_card.specs.Run.{Moment, moments, after_all, AreAtLines, IsAtLine}
-use Rattle.model_line.specs.declared.faults.Fault.{Fault}
-use Rattle.model_line.specs.Whole.{IsIdle, line_octets, came, fault_octets, cause_of}
-use Rattle.model_line.specs.WholeAtLine.{after_events, answers_to, pulls_to_begin, pulls_for}
-use Rattle.model_card.specs.Happening.{Happening, comes, failed, goes, expires, asks, line_of, events_at, events_of, spelled, IsWhole, HappensAt, HappenAt, AreIdle, with_line, answer_in, IsAtLineAlone}
-use Rattle.model_card.specs.HappeningLaws.{HappeningsAreEvents, LinesStayIdle, FramesAreOfLines}
-use Rattle.model_line.proofs.FramesHeard.{frames_are_heard}
-use Rattle.model_line.proofs.FramesCome.{frames_come_whole}
-use Rattle.model_line.proofs.FramesReceived.{nothing_else_is_received}
+use Rattle.model_card.specs.Happening.{with_line}
 
 -- ---- events name lines, and leave the configuration
 

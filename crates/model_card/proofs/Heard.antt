@@ -1,18 +1,7 @@
 -- The frames heard in the moments of a run are those by which the frames heard in all octets received grow.
-use Rattle.std.proofs.Common.{◌≡◌, ◌+◌, ◌*◌, ◌≤◌, List, [], ◌∷◌, ap, arith}
-use Rattle.std.specs.Prelude.{sum_by}
-use Rattle.std.proofs.lemmas.Bool.{and_parts}
-use Rattle.std.proofs.lemmas.List.Elements.{All-head, All-tail}
+use Rattle.model_card.proofs.Vocabulary.{◌≡◌, ◌+◌, ◌*◌, ◌≤◌, List, [], ◌∷◌, ap, arith, sum_by, and_parts, All-head, All-tail, heard_counted, takes_no_frame, Event, Card, line_at, is_full, may_send, frames_heard, window, sent, heard, is_heard, accepted, expired, rejected, FramesCounted, after, answer, IsAmortised, Moment, moments, after_all, IsAtLine, AreAtLines}
 use Rattle.model_line.specs.Machine as lines
 use Rattle.model_line.specs.Counts as line
-use Rattle.model_line.proofs.ByEvent.{heard_counted, takes_no_frame}
-use Rattle.model_card.specs.Event.{Event}
-use Rattle.model_card.specs.Card.{Card, line_at, is_full}
-use Rattle.model_card.specs.Counts.{may_send, frames_heard, window, sent, heard, is_heard, accepted, expired, rejected}
-use Rattle.model_card.specs.Laws.{FramesCounted}
-use Rattle.model_card.specs.Machine.{after, answer}
-use Rattle.model_card.specs.Promises.{IsAmortised}
-use Rattle.model_card.specs.Run.{Moment, moments, after_all, IsAtLine, AreAtLines}
 use Rattle.model_card.proofs.Steps.{HasLines, has_lines, by_room, line_sound, after_lines, one_line, count_cons}
 
 -- one event

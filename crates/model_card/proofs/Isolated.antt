@@ -1,23 +1,8 @@
 -- What a card does at one line, beside what happens at the others.
-use Rattle.std.proofs.Common.{◌≡◌, ◌≢◌, ℕ, ◌≤◌, ◌<◌, ◌==◌, Bool, true, false, not, ◌&&◌, List, [], ◌∷◌, length, get_or, set, nat_le, refl, ap, sym, ◌∙◌, subst, cond, arith, ◌⊎◌, inl, inr, ⊎_elim, length-set}
-use Rattle.std.specs.Prelude.{sum_by, map, filter}
-use Rattle.std.proofs.lemmas.Bool.{leb-false, lt-leb, and_parts, true≢false, eqb-true, eq-eqb, cases_eq}
-use Rattle.std.proofs.lemmas.List.{get_or-set_same, get_or-set_other, get_or-replicate}
-use Rattle.std.proofs.lemmas.List.Sums.{get_or-le-sum_by, sum_by-set}
-use Rattle.lapd_frame.specs.declared.refusals.Refusal.TheVariants.{PoolFull}
-use Rattle.model_line.specs.Event.{Answer, refused}
-use Rattle.model_line.specs.Counts.{is_pool_full}
-use Rattle.model_line.specs.Line.{Line, fresh_line}
+use Rattle.model_card.proofs.Vocabulary.{◌≡◌, ◌≢◌, ℕ, ◌≤◌, ◌<◌, ◌==◌, Bool, true, false, not, ◌&&◌, List, [], ◌∷◌, length, get_or, set, nat_le, refl, ap, sym, ◌∙◌, subst, cond, arith, ◌⊎◌, inl, inr, ⊎_elim, length-set, sum_by, map, filter, leb-false, lt-leb, and_parts, cases_eq, get_or-set_same, get_or-set_other, get_or-replicate, get_or-le-sum_by, sum_by-set, PoolFull, Answer, refused, is_pool_full, Line, fresh_line, slots_of, line_not_pool, fresh_slots, Card, fresh, line_at, used, Event, is_served_at, event_in, answers_at, LinesIsolated, wants_room, after, answer, moments}
+use Rattle.std.proofs.lemmas.Bool.{true≢false, eqb-true, eq-eqb}
 use Rattle.model_line.specs.Machine as lines
-use Rattle.model_line.specs.Stored.{slots_of}
-use Rattle.model_line.proofs.NotPool.{line_not_pool}
-use Rattle.model_line.proofs.SlotsGrow.{fresh_slots}
-use Rattle.model_card.specs.Card.{Card, fresh, line_at, used}
-use Rattle.model_card.specs.Event.{Event}
-use Rattle.model_card.specs.Isolation.{is_served_at, event_in, answer_in, events_at, answers_at}
-use Rattle.model_card.specs.Laws.{LinesIsolated}
-use Rattle.model_card.specs.Machine.{wants_room, after, answer}
-use Rattle.model_card.specs.Run.{moments}
+use Rattle.model_card.specs.Isolation.{answer_in, events_at}
 use Rattle.model_card.proofs.CardSound.{fresh_used}
 use Rattle.model_card.proofs.Steps.{by_room, fresh_lines}
 

@@ -1,4 +1,5 @@
 -- Lemmas: events of a card one by one, whole runs of it, and what whole frames mean to it.
+pub mod Vocabulary
 pub mod Steps
 pub mod Heard
 pub mod Amortised

@@ -1,26 +1,7 @@
 -- The frames sent are linear in the octets received.
-use Rattle.std.proofs.Common.{◌≡◌, ℕ, ◌+◌, ◌*◌, ◌≤◌, List, [], ◌∷◌, ap, sym, ◌∙◌, subst, arith}
-use Rattle.std.specs.Prelude.{sum_by}
-use Rattle.std.proofs.lemmas.Bool.{and_parts}
-use Rattle.std.proofs.lemmas.List.Elements.{All-head, All-tail}
-use Rattle.std.proofs.lemmas.List.Folds.{sum_by-replicate}
-use Rattle.std.proofs.lemmas.List.Sums.{sum_by-cons}
-use Rattle.std.proofs.Math.Nat.{mul-le-mul_left}
-use Rattle.model_line.specs.declared.config.Config.{Config}
-use Rattle.model_line.specs.Line.{Line, fresh_line}
+use Rattle.model_card.proofs.Vocabulary.{◌≡◌, ℕ, ◌+◌, ◌*◌, ◌≤◌, List, [], ◌∷◌, ap, sym, ◌∙◌, subst, arith, sum_by, and_parts, All-head, All-tail, sum_by-replicate, sum_by-cons, mul-le-mul_left, Config, Line, fresh_line, IsInRange, event_rejects, takes_no_reject, fresh_may_send, frames_within, long_frames_within, Event, Card, fresh, line_at, is_full, octets_of_line, octets_received, may_send, frames_heard, long_frames_heard, window, sent, heard, accepted, expired, rejected, is_reject, FramesLinear, after, answer, IsAmortisedFromZero, HasSixOctetsAFrame, HasSevenOctetsAReject, IsLinear, Moment, moments, after_all, IsAtLine, AreAtLines}
 use Rattle.model_line.specs.Machine as lines
-use Rattle.model_line.specs.Sound.{IsInRange}
 use Rattle.model_line.specs.Counts as line
-use Rattle.model_line.proofs.EventsReject.{event_rejects, takes_no_reject}
-use Rattle.model_line.proofs.AimsRise.{fresh_may_send}
-use Rattle.model_line.proofs.RejectsHeard.{frames_within, long_frames_within}
-use Rattle.model_card.specs.Event.{Event}
-use Rattle.model_card.specs.Card.{Card, fresh, line_at, is_full}
-use Rattle.model_card.specs.Counts.{octets_of_line, octets_received, may_send, frames_heard, long_frames_heard, window, sent, heard, accepted, expired, rejected, is_reject}
-use Rattle.model_card.specs.Laws.{FramesLinear}
-use Rattle.model_card.specs.Machine.{after, answer}
-use Rattle.model_card.specs.Promises.{IsAmortisedFromZero, HasSixOctetsAFrame, HasSevenOctetsAReject, IsLinear}
-use Rattle.model_card.specs.Run.{Moment, moments, after_all, IsAtLine, AreAtLines}
 use Rattle.model_card.proofs.Amortised.{amortised}
 use Rattle.model_card.proofs.Heard.{run_heard}
 use Rattle.model_card.proofs.Steps.{HasLines, by_room, line_sound, after_lines, fresh_lines, one_line, count_cons}

@@ -1,23 +1,7 @@
 -- Where there is a slot for each place of each queue, the pool is never full.
-use Rattle.std.proofs.Common.{◌≡◌, ℕ, zero, suc, ◌+◌, ◌*◌, ◌≤◌, ◌<◌, false, List, [], ◌∷◌, length, get_or, subst, arith}
-use Rattle.std.specs.Prelude.{sum_by, All}
-use Rattle.std.proofs.lemmas.Bool.{and_parts, leb-true}
-use Rattle.std.proofs.lemmas.List.Elements.{All-nil, All-cons, All-head, All-tail}
-use Rattle.std.proofs.lemmas.List.Sums.{sum_by-cons, sum_by-le}
-use Rattle.model_line.specs.declared.config.Config.{Config}
-use Rattle.model_line.specs.Counts.{is_pool_full}
-use Rattle.model_line.specs.Line.{Line, fresh_line}
+use Rattle.model_card.proofs.Vocabulary.{◌≡◌, ℕ, zero, suc, ◌+◌, ◌*◌, ◌≤◌, ◌<◌, false, List, [], ◌∷◌, length, get_or, subst, arith, sum_by, All, and_parts, leb-true, All-nil, All-cons, All-head, All-tail, sum_by-cons, sum_by-le, Config, is_pool_full, Line, fresh_line, slots_of, line_not_pool, places_of, slots_few, taker_finds, Card, fresh, line_at, used, is_full, Event, PoolNeverFull, after, answer, IsNotRefusedForPool, moments, IsAtLine, AreAtLines}
 use Rattle.model_line.specs.Machine as lines
 use Rattle.model_line.specs.Sound as line
-use Rattle.model_line.specs.Stored.{slots_of}
-use Rattle.model_line.proofs.NotPool.{line_not_pool}
-use Rattle.model_line.proofs.RoomForAll.{places_of, slots_few, taker_finds}
-use Rattle.model_card.specs.Card.{Card, fresh, line_at, used, is_full}
-use Rattle.model_card.specs.Event.{Event}
-use Rattle.model_card.specs.Laws.{PoolNeverFull}
-use Rattle.model_card.specs.Machine.{after, answer}
-use Rattle.model_card.specs.Promises.{IsNotRefusedForPool}
-use Rattle.model_card.specs.Run.{moments, IsAtLine, AreAtLines}
 use Rattle.model_card.proofs.Steps.{HasLines, by_room, line_sound, after_lines, fresh_lines}
 
 -- a sum of terms of at most m, by one of them

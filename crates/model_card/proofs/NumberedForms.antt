@@ -1,10 +1,5 @@
 -- Deliveries that are numbered moment by moment are numbered as a whole.
-use Rattle.std.proofs.Common.{◌≡◌, ◌≢◌, ℕ, ◌+◌, ◌%◌, ◌==◌, Bool, true, false, List, [], ◌∷◌, ◌++◌, Option, Some, None, refl, ap, sym, ◌∙◌, subst, cond, eqb-true, eq-eqb, true≢false}
-use Rattle.std.specs.Prelude.{option_to_list}
-use Rattle.std.proofs.lemmas.List.Elements.{All-nil, All-cons}
-use Rattle.model_link.specs.Deliveries.{Arrived}
-use Rattle.model_link.specs.Numbered.{Numbered}
-use Rattle.model_card.specs.Numbered.{Share, contents_of, AreNumbered, frames_of, deliveries_of}
+use Rattle.model_card.proofs.Vocabulary.{◌≡◌, ◌≢◌, ℕ, ◌+◌, ◌%◌, ◌==◌, Bool, true, false, List, [], ◌∷◌, ◌++◌, Option, Some, None, refl, ap, sym, ◌∙◌, subst, cond, eqb-true, eq-eqb, true≢false, option_to_list, All-nil, All-cons, Arrived, Numbered, Share, contents_of, AreNumbered, frames_of, deliveries_of}
 
 -- one frame more in front, which does not have the next number
 passed : (i : ℕ) (f : Arrived) (frames : List Arrived) (ds : List (List ℕ)) → f.ns.value ≢ i % 128 → Numbered i frames ds → Numbered i (f ∷ frames) ds

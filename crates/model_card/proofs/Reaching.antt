@@ -1,15 +1,5 @@
 -- Cards that are reached: one that begins is, each event at a line leads to another, and all of them are sound.
-use Rattle.std.proofs.Common.{◌≡◌, List, [], ◌∷◌, ◌++◌, refl, sym, ap, ◌∙◌, subst}
-use Rattle.std.proofs.lemmas.List.Elements.{All-nil, All-push}
-use Rattle.model_line.specs.declared.config.Config.{Config}
-use Rattle.model_line.specs.Sound.{IsInRange}
-use Rattle.model_card.specs.Card.{Card, fresh}
-use Rattle.model_card.specs.Event.{Event}
-use Rattle.model_card.specs.Laws.{CardsAreReached}
-use Rattle.model_card.specs.Machine.{after}
-use Rattle.model_card.specs.Reached.{IsReached}
-use Rattle.model_card.specs.Run.{after_all, IsAtLine}
-use Rattle.model_card.specs.Sound.{IsSound}
+use Rattle.model_card.proofs.Vocabulary.{◌≡◌, List, [], ◌∷◌, ◌++◌, refl, sym, ap, ◌∙◌, subst, All-nil, All-push, Config, IsInRange, Card, fresh, Event, CardsAreReached, after, IsReached, after_all, IsAtLine, IsSound}
 use Rattle.model_card.proofs.CardSound.{always_sound, fresh_is_sound}
 
 pub reached-fresh : (c : Config) → IsInRange c → IsReached (fresh c)

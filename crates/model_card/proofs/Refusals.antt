@@ -1,23 +1,7 @@
 -- Requests are refused by the table.
-use Rattle.std.proofs.Common.{◌≡◌, ℕ, Bool, true, false, not, ◌&&◌, List, [], ◌∷◌, ◌++◌, get_or, set, Option, Some, None, is_some, IsSome, refl, ap, sym, ◌∙◌, subst, cond, ◌↔◌}
-use Rattle.std.proofs.lemmas.Bool.{false≢true}
-use Rattle.std.proofs.lemmas.List.{set-get_or}
-use Rattle.lapd_frame.specs.declared.refusals.Refusal.{Refusal}
-use Rattle.lapd_frame.specs.declared.refusals.Refusal.TheVariants.{PoolFull}
+use Rattle.model_card.proofs.Vocabulary.{◌≡◌, ℕ, Bool, true, false, not, ◌&&◌, List, [], ◌∷◌, ◌++◌, get_or, set, Option, Some, None, is_some, IsSome, refl, ap, sym, ◌∙◌, subst, cond, ◌↔◌, false≢true, set-get_or, Refusal, PoolFull, Config, Answer, request, refused, Line, fresh_line, unless_refused, unless_refused_told, Effect, of_aim, Row, first_that_holds, bad_tei, no_link, bad_tei_or_group, no_link_nor_group, wrong_state, too_long, queue_full, unit_queue_full, pool_full, refusal, Request, Establish, Release, Data, Unit, Assign, Remove, Check, SetBusy, ClearBusy, aim_of_request, carries_contents, at, Card, line_at, is_full, RefusedByTheTable, after, answer}
 use Rattle.model_link.specs.Events as link
-use Rattle.model_line.specs.declared.config.Config.{Config}
-use Rattle.model_line.specs.Event.{Answer, request, refused}
-use Rattle.model_line.specs.Line.{Line, fresh_line}
 use Rattle.model_line.specs.Machine as lines
-use Rattle.model_line.specs.Machine.{unless_refused, unless_refused_told}
-use Rattle.model_line.specs.Effect.{Effect, of_aim}
-use Rattle.model_line.specs.Refusal.{Row, first_that_holds, bad_tei, no_link, bad_tei_or_group, no_link_nor_group, wrong_state, too_long, queue_full, unit_queue_full, pool_full, refusal}
-use Rattle.model_line.specs.Request.{Request, Establish, Release, Data, Unit, Assign, Remove, Check, SetBusy, ClearBusy}
-use Rattle.model_line.specs.Requested.{aim_of_request, carries_contents}
-use Rattle.model_card.specs.Event.{at}
-use Rattle.model_card.specs.Card.{Card, line_at, is_full}
-use Rattle.model_card.specs.Laws.{RefusedByTheTable}
-use Rattle.model_card.specs.Machine.{after, answer}
 
 -- A full pool refuses after all other rows, and contents alone.
 abbrev pool_refusal : Bool → Option Refusal

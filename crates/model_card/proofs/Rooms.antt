@@ -1,20 +1,5 @@
 -- A room says why data is refused.
-use Rattle.std.proofs.Common.{◌≡◌, ℕ, zero, suc, ◌-◌, ◌<◌, ◌≤◌, ◌==◌, Bool, true, false, not, nat_le, nat_lt, List, [], ◌∷◌, length, Option, Some, None, Result, Ok, Err, IsTrue, refl, sym, ap, ◌∙◌, cond, arith}
-use Rattle.std.proofs.Math.Dec.{eqb-suc-zero}
-use Rattle.std.proofs.Math.Nat.{sub-eq-zero_of_le}
-use Rattle.std.proofs.lemmas.Bool.{leb-true, leb-false, le-ltb, false≢true}
-use Rattle.lapd_frame.specs.declared.refusals.Refusal.{Refusal}
-use Rattle.lapd_frame.specs.declared.refusals.Refusal.TheVariants.{BadTei, NoLink, WrongState, TooLong, QueueFull, PoolFull}
-use Rattle.lapd_frame.specs.declared.services.Service.{Service}
-use Rattle.model_link.specs.declared.rooms.Room.{Room}
-use Rattle.model_link.specs.Link.{is_multiple_frame, queue_of}
-use Rattle.model_link.specs.Room.{room_of, refusal_for}
-use Rattle.model_line.specs.Line.{has_tei, link_of, terms}
-use Rattle.model_line.specs.Refusal.{refusal}
-use Rattle.model_line.specs.Request.{Data}
-use Rattle.model_line.specs.Room.{unless}
-use Rattle.model_card.specs.Card.{Card, line_at, used, is_full}
-use Rattle.model_card.specs.Room.{free, room, RefusesBy}
+use Rattle.model_card.proofs.Vocabulary.{◌≡◌, ℕ, zero, suc, ◌-◌, ◌<◌, ◌≤◌, ◌==◌, Bool, true, false, not, nat_le, nat_lt, List, [], ◌∷◌, length, Option, Some, None, Result, Ok, Err, IsTrue, refl, sym, ap, ◌∙◌, cond, arith, eqb-suc-zero, sub-eq-zero_of_le, leb-true, leb-false, le-ltb, false≢true, Refusal, BadTei, NoLink, WrongState, TooLong, QueueFull, PoolFull, Service, Room, is_multiple_frame, queue_of, room_of, refusal_for, has_tei, link_of, terms, refusal, Data, unless, Card, line_at, used, is_full, free, room, RefusesBy}
 
 -- None is left exactly where all are taken.
 none_left : (all taken : ℕ) → nat_le all taken ≡ (all - taken == 0)

@@ -1,17 +1,8 @@
 -- What happenings are answered with, in the answers to their events.
-use Rattle.std.proofs.Common.{◌≡◌, ℕ, [], ◌∷◌, ◌++◌, map, replicate, Option, Some, None, option_map, is_some, if◌then◌else◌, refl, ap, subst, ◌∙◌}
+use Rattle.model_card.proofs.Vocabulary.{◌≡◌, ℕ, [], ◌∷◌, ◌++◌, replicate, Option, Some, None, option_map, is_some, if◌then◌else◌, refl, ap, subst, ◌∙◌, Taken, taken, Card, line_at, moments, answers_to, pulls_to_begin, Happening, comes, failed, goes, expires, asks, events_of, HappensAt, AreIdle, answer_in, AnswersSayIt, said, gives, next_of, Means, calls_for, frames_come_whole, frames_go_whole}
+use Rattle.std.proofs.Common.{map}
 use Rattle.model_line.specs.Event as line_event
-use Rattle.model_line.specs.Pull.{Taken, taken}
-use Rattle.model_card.specs.Card.{Card, line_at}
-use Rattle.model_card.specs.Run.{moments}
-use Rattle.model_line.specs.WholeAtLine.{answers_to, pulls_to_begin}
-use Rattle.model_card.specs.Happening.{Happening, comes, failed, goes, expires, asks, events_of, HappensAt, AreIdle, answer_in}
-use Rattle.model_card.specs.HappeningLaws.{AnswersSayIt}
-use Rattle.model_card.specs.Said.{said, gives, next_of, Means}
 use Rattle.model_card.proofs.Happening.{frames_are_of_lines}
-use Rattle.model_line.proofs.FrameCalls.{calls_for}
-use Rattle.model_line.proofs.FramesCome.{frames_come_whole}
-use Rattle.model_line.proofs.FramesGo.{frames_go_whole}
 
 pub answers_say_it : AnswersSayIt
 unfolding moments

@@ -1,11 +1,5 @@
 -- What happenings are, and lists of them.
-use Rattle.std.proofs.Common.{◌≡◌, List, [], ◌∷◌, ◌++◌, refl, ap, sym, ◌∙◌, append_assoc, append-nil}
-use Rattle.model_card.specs.Card.{Card}
-use Rattle.model_card.specs.Event.{Event}
-use Rattle.model_card.specs.Machine.{after}
-use Rattle.model_card.specs.Run.{after_all}
-use Rattle.model_card.specs.Happening.{Happening, comes, failed, goes, expires, asks, events_of, spelled}
-use Rattle.model_card.specs.HappeningLaws.{HappeningsAreSpelled}
+use Rattle.model_card.proofs.Vocabulary.{◌≡◌, List, [], ◌∷◌, ◌++◌, refl, ap, sym, ◌∙◌, append_assoc, append-nil, Card, Event, after, after_all, Happening, comes, failed, goes, expires, asks, events_of, spelled, HappeningsAreSpelled}
 
 after-both : (m : Card) (front behind : List Event) → after_all m (front ++ behind) ≡ after_all (after_all m front) behind
 unfolding after_all

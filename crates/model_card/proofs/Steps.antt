@@ -1,20 +1,7 @@
 -- An event at a card is one at one of its lines, or finds the pool full.
-use Rattle.std.proofs.Common.{◌≡◌, ℕ, ◌+◌, ◌<◌, Bool, true, false, List, ◌∷◌, length, set, refl, ◌∙◌, cond, arith, length-set}
-use Rattle.std.specs.Prelude.{sum_by, count_by, All}
-use Rattle.std.proofs.lemmas.List.{length-replicate}
-use Rattle.std.proofs.lemmas.List.Elements.{All-set, All-get_or, All-replicate}
-use Rattle.std.proofs.lemmas.List.Sums.{sum_by-set, sum_by-cons}
-use Rattle.lapd_frame.specs.declared.refusals.Refusal.TheVariants.{PoolFull}
-use Rattle.model_line.specs.declared.config.Config.{Config}
-use Rattle.model_line.specs.Event.{Answer, refused}
-use Rattle.model_line.specs.Line.{Line, fresh_line}
+use Rattle.model_card.proofs.Vocabulary.{◌≡◌, ℕ, ◌+◌, ◌<◌, Bool, true, false, List, ◌∷◌, length, set, refl, ◌∙◌, cond, arith, length-set, sum_by, count_by, All, length-replicate, All-set, All-get_or, All-replicate, sum_by-set, sum_by-cons, PoolFull, Config, Answer, refused, Line, fresh_line, after_sound, fresh_sound, Event, Card, fresh, line_at, wants_room, after, answer, IsSound}
 use Rattle.model_line.specs.Machine as lines
 use Rattle.model_line.specs.Sound as line
-use Rattle.model_line.proofs.LineSound.{after_sound, fresh_sound}
-use Rattle.model_card.specs.Event.{Event}
-use Rattle.model_card.specs.Card.{Card, fresh, line_at}
-use Rattle.model_card.specs.Machine.{wants_room, after, answer}
-use Rattle.model_card.specs.Sound.{IsSound}
 
 -- A card of sound lines.
 pub record HasLines (card : Card) : Type 0 where

@@ -1,21 +1,6 @@
 -- The octets stored, and their limit.
-use Rattle.std.proofs.Common.{◌≡◌, ℕ, suc, ◌+◌, ◌*◌, ◌≤◌, List, [], ◌∷◌, length, refl, sym, subst, arith}
-use Rattle.std.specs.Prelude.{sum_by, All}
-use Rattle.std.proofs.lemmas.List.Elements.{All-head, All-tail}
-use Rattle.std.proofs.lemmas.List.Sums.{sum_by-cons}
-use Rattle.std.proofs.Math.Nat.{mul-le-mul_left}
-use Rattle.model_line.specs.declared.config.Config.{Config}
-use Rattle.model_line.specs.Line.{Line}
+use Rattle.model_card.proofs.Vocabulary.{◌≡◌, ℕ, suc, ◌+◌, ◌*◌, ◌≤◌, List, [], ◌∷◌, length, refl, sym, subst, arith, sum_by, All, All-head, All-tail, sum_by-cons, mul-le-mul_left, Config, Line, slots_of, stored_in, stored_few, Card, used, Event, StoredWithinLimit, after, after_all, IsSound, limit_in, stored, limit}
 use Rattle.model_line.specs.Sound as line
-use Rattle.model_line.specs.Stored.{slots_of, stored_in}
-use Rattle.model_line.proofs.StoredBounds.{stored_few}
-use Rattle.model_card.specs.Card.{Card, used}
-use Rattle.model_card.specs.Event.{Event}
-use Rattle.model_card.specs.Laws.{StoredWithinLimit}
-use Rattle.model_card.specs.Machine.{after}
-use Rattle.model_card.specs.Run.{after_all}
-use Rattle.model_card.specs.Sound.{IsSound}
-use Rattle.model_card.specs.Stored.{limit_in, stored, limit}
 use Rattle.model_card.proofs.CardSound.{always_sound}
 
 stored_by_lines : (c : Config) (ls : List Line) → All (line.IsSound c) ls

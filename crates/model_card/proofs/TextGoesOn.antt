@@ -1,32 +1,9 @@
 -- Pulls of a line go on with its text, and no other event puts anything on the line.
-use Rattle.std.proofs.Common.{◌≡◌, ◌≢◌, ℕ, ◌<◌, ◌==◌, ◌&&◌, Bool, true, false, List, [], ◌∷◌, ◌++◌, get_or, set, Option, Some, None, option_map, IfSome, refl, ap, sym, ◌∙◌, subst, cond, arith, append_assoc, append-nil, eqb-true, eq-eqb, true≢false}
-use Rattle.std.specs.Prelude.{option_to_list}
-use Rattle.std.proofs.lemmas.List.{get_or-set_same, get_or-set_other}
-use Rattle.std.proofs.lemmas.List.Elements.{All-head, All-tail}
-use Rattle.lapd_bits.specs.Sent.{Item, idle, frame}
-use Rattle.lapd_frame.specs.declared.refusals.Refusal.{Refusal}
-use Rattle.lapd_tei.specs.declared.outcome.Change.{Change}
-use Rattle.lapd_tei.specs.declared.outcome.Change.TheVariants.{Gained, Left}
+use Rattle.model_card.proofs.Vocabulary.{◌≡◌, ◌≢◌, ℕ, ◌<◌, ◌==◌, ◌&&◌, Bool, true, false, List, [], ◌∷◌, ◌++◌, get_or, set, Option, Some, None, option_map, IfSome, refl, ap, sym, ◌∙◌, subst, cond, arith, append_assoc, append-nil, eqb-true, eq-eqb, true≢false, option_to_list, get_or-set_same, get_or-set_other, All-head, All-tail, Item, idle, frame, Refusal, Change, Gained, Left, Config, LineTold, octet, expiry, request, pull, Line, fresh_line, unless_refused, unless_refused_told, aim_of_octet, with_received, aim_of_expiry, Aim, at_none, at_link, at_management, at_units, Effect, of_aim, of_change, told_of_management, Taken, taken, is_due, with_item, next_octet, refusal, aim_of_request, TakesSoundly, taken_sound, Event, Card, line_at, TextGoesOn, wants_room, after, answer, octet_in, frame_taken, frame_in, octets_pulled, frames_begun, frames_among, moments, after_all, IsAtLine, AreAtLines}
 use Rattle.lapd_tei.specs.Events as teis
-use Rattle.model_line.specs.declared.config.Config.{Config}
-use Rattle.model_line.specs.Event.{LineTold, Event as LineEvent, octet, expiry, request, pull}
-use Rattle.model_line.specs.Line.{Line, fresh_line}
+use Rattle.model_line.specs.Event.{Event as LineEvent}
 use Rattle.model_line.specs.Machine as lines
-use Rattle.model_line.specs.Machine.{unless_refused, unless_refused_told}
-use Rattle.model_line.specs.Octet.{aim_of_octet, with_received}
-use Rattle.model_line.specs.Expiry.{aim_of_expiry}
-use Rattle.model_line.specs.Effect.{Aim, at_none, at_link, at_management, at_units, Effect, of_aim, of_change, told_of_management}
-use Rattle.model_line.specs.Pull.{Taken, taken, is_due, with_item, next_octet}
-use Rattle.model_line.specs.Refusal.{refusal}
-use Rattle.model_line.specs.Requested.{aim_of_request}
 use Rattle.model_line.specs.Sound as line
-use Rattle.model_line.proofs.PullSound.{TakesSoundly, taken_sound}
-use Rattle.model_card.specs.Event.{Event}
-use Rattle.model_card.specs.Card.{Card, line_at}
-use Rattle.model_card.specs.Laws.{TextGoesOn}
-use Rattle.model_card.specs.Machine.{wants_room, after, answer}
-use Rattle.model_card.specs.Pulled.{octet_in, frame_taken, frame_in, octets_pulled, frames_begun, frames_among}
-use Rattle.model_card.specs.Run.{moments, after_all, IsAtLine, AreAtLines}
 use Rattle.model_card.proofs.Steps.{HasLines, has_lines, by_room, line_sound, after_lines}
 
 -- What comes to the items of a line and to the octets given of it.

@@ -1,35 +1,12 @@
 -- By how much an aim lets rise what a line may still send.
-use Rattle.std.proofs.Common.{◌≡◌, ℕ, ◌+◌, ◌≤◌, ◌<◌, List, [], ◌∷◌, length, get_or, set, Option, Some, None, ap, ◌∙◌, arith, length-append, length-set, refl, zero, suc, replicate, ⊎_elim}
-use Rattle.std.specs.Prelude.{sum_by}
-use Rattle.std.specs.List.{range_with_len}
-use Rattle.std.proofs.lemmas.Bool.{cases_lt}
-use Rattle.std.proofs.lemmas.List.{get_or-set_same, get_or-set_other, get_or-replicate, get_or_past, length-replicate}
-use Rattle.std.proofs.lemmas.List.Sums.{sum_by-cons}
-use Rattle.lapd_frame.specs.declared.services.Service.{Service}
-use Rattle.lapd_frame.specs.declared.services.Service.TheVariants.{Call, Packet}
+use Rattle.model_line.proofs.Vocabulary.{◌≡◌, ℕ, ◌+◌, ◌≤◌, ◌<◌, List, [], ◌∷◌, length, get_or, set, Option, Some, None, ap, ◌∙◌, arith, length-append, length-set, refl, zero, suc, replicate, ⊎_elim, sum_by, range_with_len, cases_lt, get_or-set_same, get_or-set_other, get_or-replicate, get_or_past, length-replicate, sum_by-cons, Service, Call, Packet, Link, fresh, event-rises, Moves, Management, IsAt, Places, Change, Gained, Left, at-within, Config, LineTold, may_send, may_send_at_link, Line, fresh_line, link_number, link_count, service_at, link_at, link_in, terms, terms_at, Aim, at_none, at_link, at_management, at_units, of_link, of_change, of_management, of_aim, IsInRange, IsSound, sum_of_links}
 use Rattle.model_link.specs.Events as link
-use Rattle.model_link.specs.Link.{Link, fresh}
 use Rattle.model_link.specs.Machine as links
 use Rattle.model_link.specs.Rises as rises
-use Rattle.model_link.proofs.RiseEvents.{event-rises}
 use Rattle.lapd_tei.specs.Events as teis
 use Rattle.lapd_tei.specs.Laws as tei_laws
-use Rattle.lapd_tei.specs.Laws.{Moves}
 use Rattle.lapd_tei.specs.Machine as tei
-use Rattle.lapd_tei.specs.Machine.{Management}
-use Rattle.lapd_tei.specs.Sound.{IsAt}
-use Rattle.lapd_tei.specs.Table.{Places}
-use Rattle.lapd_tei.specs.declared.outcome.Change.{Change}
-use Rattle.lapd_tei.specs.declared.outcome.Change.TheVariants.{Gained, Left}
 use Rattle.lapd_tei.proofs.LawLemmas as tei_lemmas
-use Rattle.lapd_tei.proofs.Tables.{at-within}
-use Rattle.model_line.specs.declared.config.Config.{Config}
-use Rattle.model_line.specs.Event.{LineTold}
-use Rattle.model_line.specs.Counts.{may_send, may_send_at_link}
-use Rattle.model_line.specs.Line.{Line, fresh_line, link_number, link_count, service_at, link_at, link_in, terms, terms_at}
-use Rattle.model_line.specs.Effect.{Aim, at_none, at_link, at_management, at_units, of_link, of_change, of_management, of_aim}
-use Rattle.model_line.specs.Sound.{IsInRange, IsSound}
-use Rattle.model_line.specs.Stored.{sum_of_links}
 use Rattle.model_line.proofs.AimsSound.{IsProper}
 use Rattle.model_line.proofs.LinksSound.{sound_in}
 use Rattle.model_line.proofs.Numbers.{service_at-number, number_within, sum_changed}

@@ -1,22 +1,9 @@
 -- What an event is to the parts of a line keeps the line sound.
-use Rattle.std.proofs.Common.{◌≡◌, ◌<◌, [], ◌∷◌, length, get_or, set, Option, Some, None, refl, ap, sym, ◌∙◌, subst, arith, length-set, length-append}
-use Rattle.std.proofs.lemmas.List.{get_or-set_other}
-use Rattle.std.proofs.lemmas.List.Elements.{All-nil, All-cons, All-append}
+use Rattle.model_line.proofs.Vocabulary.{◌≡◌, ◌<◌, [], ◌∷◌, length, get_or, set, Option, Some, None, refl, ap, sym, ◌∙◌, subst, arith, length-set, length-append, get_or-set_other, All-nil, All-cons, All-append, Moves, HasJoined, HasLeft, Management, IsAt, Places, Change, Gained, Left, Config, LineTold, Line, link_at, place_at, Aim, at_none, at_link, at_management, at_units, of_change, of_management, of_aim, IsInRange, IsSoundAt, IsSound, IsUnitData}
 use Rattle.lapd_tei.specs.Events as teis
 use Rattle.lapd_tei.specs.Laws as tei_laws
-use Rattle.lapd_tei.specs.Laws.{Moves, HasJoined, HasLeft}
-use Rattle.lapd_tei.specs.Machine.{Management}
 use Rattle.lapd_tei.specs.Sound as tei
-use Rattle.lapd_tei.specs.Sound.{IsAt}
-use Rattle.lapd_tei.specs.Table.{Places}
-use Rattle.lapd_tei.specs.declared.outcome.Change.{Change}
-use Rattle.lapd_tei.specs.declared.outcome.Change.TheVariants.{Gained, Left}
 use Rattle.lapd_tei.proofs.LawLemmas as tei_laws_lemmas
-use Rattle.model_line.specs.declared.config.Config.{Config}
-use Rattle.model_line.specs.Event.{LineTold}
-use Rattle.model_line.specs.Line.{Line, link_at, place_at}
-use Rattle.model_line.specs.Effect.{Aim, at_none, at_link, at_management, at_units, of_change, of_management, of_aim}
-use Rattle.model_line.specs.Sound.{IsInRange, IsSoundAt, IsSound, IsUnitData}
 use Rattle.model_line.proofs.LinksSound.{link_event_sound, with_both}
 
 -- An aim that a line can have: a link's TEI is at its place, a request's TEI is one of a terminal, and unit data finds

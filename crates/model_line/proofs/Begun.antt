@@ -1,22 +1,5 @@
 -- The latest frame of a line is the one that a pull began last.
-use Rattle.std.proofs.Common.{◌≡◌, Bool, true, false, ◌∷◌, [], ◌++◌, Option, Some, None, refl, ap, cond}
-use Rattle.std.specs.Option.{option_map_or}
-use Rattle.lapd_bits.specs.Heads.{latest_frame}
-use Rattle.lapd_bits.specs.Sent.{idle, frame}
-use Rattle.lapd_bits.proofs.FramerStands.{latest-push}
-use Rattle.lapd_tei.specs.declared.outcome.Change.{Change}
-use Rattle.lapd_tei.specs.declared.outcome.Change.TheVariants.{Gained, Left}
-use Rattle.model_line.specs.declared.config.Config.{Config}
-use Rattle.model_line.specs.Begun.{frame_taken, LatestIsBegun}
-use Rattle.model_line.specs.Effect.{Aim, at_none, at_link, at_management, at_units, of_aim, of_change}
-use Rattle.model_line.specs.Event.{Event, octet, expiry, request, pull, LineTold}
-use Rattle.model_line.specs.Expiry.{aim_of_expiry}
-use Rattle.model_line.specs.Line.{Line}
-use Rattle.model_line.specs.Machine.{after, unless_refused}
-use Rattle.model_line.specs.Octet.{aim_of_octet, with_received}
-use Rattle.model_line.specs.Pull.{Taken, taken, is_due, with_item}
-use Rattle.model_line.specs.Refusal.{refusal}
-use Rattle.model_line.specs.Requested.{aim_of_request}
+use Rattle.model_line.proofs.Vocabulary.{◌≡◌, Bool, true, false, ◌∷◌, [], ◌++◌, Option, Some, None, refl, ap, cond, option_map_or, latest_frame, idle, frame, latest-push, Change, Gained, Left, Config, frame_taken, LatestIsBegun, Aim, at_none, at_link, at_management, at_units, of_aim, of_change, Event, octet, expiry, request, pull, LineTold, aim_of_expiry, Line, after, unless_refused, aim_of_octet, with_received, Taken, taken, is_due, with_item, refusal, aim_of_request}
 
 -- The parts of a line leave its items as they were.
 by_change : (c : Config) (o : Option Change) (t : LineTold) (l : Line) → (of_change c o t l).line.items ≡ l.items

@@ -1,19 +1,6 @@
 -- What single events bring: frames by octets alone, and a pull.
-use Rattle.std.proofs.Common.{◌≡◌, ℕ, ◌+◌, ◌≤◌, Bool, true, false, Option, Some, None, option_to_list, refl, ap, sym, ◌∙◌, cond, arith}
-use Rattle.std.specs.Option.{option_map_or}
-use Rattle.std.proofs.lemmas.Bool.{false≢true}
-use Rattle.std.specs.Prelude.{count_by}
-use Rattle.model_line.specs.declared.config.Config.{Config}
-use Rattle.model_line.specs.Event.{Event, octet, expiry, request, pull}
-use Rattle.model_line.specs.Counts.{one, is_frame, hears}
-use Rattle.model_line.specs.Expiry.{aim_of_expiry}
-use Rattle.model_line.specs.Laws.{Rises, IsHeardCounted, HearsOne, FallsByPull}
-use Rattle.model_line.specs.Line.{Line}
-use Rattle.model_line.specs.Machine.{after, answer, takes_slot, unless_refused}
-use Rattle.model_line.specs.Octet.{aim_of_octet, with_received}
-use Rattle.model_line.specs.Refusal.{refusal}
-use Rattle.model_line.specs.Requested.{aim_of_request}
-use Rattle.model_line.specs.Sound.{IsInRange, IsSound}
+use Rattle.model_line.proofs.Vocabulary.{◌≡◌, ℕ, ◌+◌, ◌≤◌, Bool, true, false, Option, Some, None, option_to_list, refl, ap, sym, ◌∙◌, cond, arith, option_map_or, false≢true, count_by, Config, Event, octet, expiry, request, pull, one, is_frame, aim_of_expiry, Rises, IsHeardCounted, HearsOne, FallsByPull, Line, after, answer, takes_slot, unless_refused, aim_of_octet, with_received, refusal, aim_of_request, IsInRange, IsSound}
+use Rattle.model_line.specs.Counts.{hears}
 use Rattle.model_line.proofs.EventsRise.{heard_same, pull_heard, rises_by_totals}
 use Rattle.model_line.proofs.LineRises.{brings}
 use Rattle.model_line.proofs.PullRises.{pull_falls}

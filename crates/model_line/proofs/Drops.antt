@@ -1,34 +1,14 @@
 -- What an octet brings that is dropped changes nothing, and costs nothing.
-use Rattle.std.proofs.Common.{◌≡◌, ℕ, Bool, true, false, [], Option, Some, None, IsSome, refl, ap, sym, ◌∙◌}
-use Rattle.std.specs.Option.{option_map_or, unwrap_or}
-use Rattle.std.proofs.lemmas.Bool.{false≢true}
-use Rattle.std.proofs.lemmas.List.{set-get_or}
-use Rattle.std.proofs.lemmas.Option.{none-some}
-use Rattle.lapd_bits.specs.declared.heard.Cause.{Cause}
-use Rattle.lapd_bits.specs.declared.heard.Cause.TheVariants.{Unserved}
+use Rattle.model_line.proofs.Vocabulary.{◌≡◌, ℕ, Bool, true, false, [], Option, Some, None, IsSome, refl, ap, sym, ◌∙◌, option_map_or, unwrap_or, false≢true, set-get_or, none-some, Cause, Unserved, Service, Terms, LinkTimer, fresh, orders_for, Change, Gained, Left, Config, LineTold, octet, told, nothing, may_send, cause_in, DropsChangeNothing, Line, link_number, link_in, with_link, terms, gained, aim_of_heard, with_received, Effect, at_none, unserved_cause, told_of_link, told_of_management, of_link, of_change, of_management, of_aim, unserved_leaves}
 use Rattle.lapd_bits.specs.Stream as stream
-use Rattle.lapd_frame.specs.declared.services.Service.{Service}
-use Rattle.model_link.specs.declared.terms.Terms.{Terms}
-use Rattle.model_link.specs.declared.timers.LinkTimer.{LinkTimer}
 use Rattle.model_link.specs.declared.timers.LinkTimer.TheVariants.{T200, T203}
 use Rattle.model_link.specs.Events as link
-use Rattle.model_link.specs.Link.{fresh}
 use Rattle.model_link.specs.Machine as links
-use Rattle.model_link.specs.Told.{orders_for}
 use Rattle.lapd_tei.specs.Events as teis
-use Rattle.lapd_tei.specs.declared.outcome.Change.{Change}
-use Rattle.lapd_tei.specs.declared.outcome.Change.TheVariants.{Gained, Left}
 use Rattle.lapd_tei.proofs.LawLemmas as tei_lemmas
-use Rattle.model_line.specs.declared.config.Config.{Config}
-use Rattle.model_line.specs.Event.{LineTold, octet, told, nothing, dropped}
-use Rattle.model_line.specs.Counts.{may_send}
-use Rattle.model_line.specs.Laws.{cause_in, DropsChangeNothing}
-use Rattle.model_line.specs.Line.{Line, link_number, link_in, with_link, terms}
+use Rattle.model_line.specs.Event.{dropped}
 use Rattle.model_line.specs.Machine as lines
-use Rattle.model_line.specs.Octet.{gained, aim_of_heard, with_received}
-use Rattle.model_line.specs.Effect.{Effect, at_none, unserved_cause, told_of_link, told_of_management, of_link, of_change, of_management, of_aim}
 use Rattle.model_line.proofs.ProperAims.{heard_aims}
-use Rattle.model_link.proofs.Unserved.{unserved_leaves}
 
 -- a link or TEI management names a cause exactly where it does not serve
 unserved_is : (b : Bool) (cause : Cause) → unserved_cause b ≡ Some cause → (b ≡ true) × (Unserved ≡ cause)

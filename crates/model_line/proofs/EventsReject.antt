@@ -1,29 +1,8 @@
 -- Each event that brings an REJ with a valid N(R) is heard as a frame of four octets.
-use Rattle.std.proofs.Common.{◌≡◌, ℕ, Bool, true, false, Option, Some, None, IfSome, refl, ap, cond, arith}
-use Rattle.std.specs.Prelude.{count_by}
-use Rattle.std.proofs.lemmas.Bool.{false≢true}
+use Rattle.model_line.proofs.Vocabulary.{◌≡◌, ℕ, Bool, true, false, Option, Some, None, IfSome, refl, ap, cond, arith, count_by, false≢true, Refusal, Service, Timer, T200, T203, T201, LinkTimer, Config, Event, octet, expiry, request, pull, one, is_long_frame, long_frames_heard, rejects, rejects_aimed, at_timer, aim_of_expiry, IsRejectHeard, Line, place_in, after, takes_slot, unless_refused, aim_of_octet, with_received, Aim, of_aim, Taken, taken, is_due, with_item, refusal, Request, Establish, Release, Data, Unit, Assign, Remove, Check, SetBusy, ClearBusy, at_requested, aim_of_request, IsInRange, IsSound}
 use Rattle.lapd_bits.specs.Stream as stream
-use Rattle.lapd_frame.specs.declared.refusals.Refusal.{Refusal}
-use Rattle.lapd_frame.specs.declared.services.Service.{Service}
-use Rattle.lapd_frame.specs.declared.timers.Timer.{Timer}
-use Rattle.lapd_frame.specs.declared.timers.Timer.TheVariants.{T200, T203, T201}
 use Rattle.model_link.specs.Events as link
-use Rattle.model_link.specs.declared.timers.LinkTimer.{LinkTimer}
 use Rattle.model_link.specs.declared.timers.LinkTimer.TheVariants as link_timer
-use Rattle.model_line.specs.declared.config.Config.{Config}
-use Rattle.model_line.specs.Event.{Event, octet, expiry, request, pull}
-use Rattle.model_line.specs.Counts.{one, is_long_frame, long_frames_heard, rejects, rejects_aimed}
-use Rattle.model_line.specs.Expiry.{at_timer, aim_of_expiry}
-use Rattle.model_line.specs.Laws.{IsRejectHeard}
-use Rattle.model_line.specs.Line.{Line, place_in}
-use Rattle.model_line.specs.Machine.{after, takes_slot, unless_refused}
-use Rattle.model_line.specs.Octet.{aim_of_octet, with_received}
-use Rattle.model_line.specs.Effect.{Aim, of_aim}
-use Rattle.model_line.specs.Pull.{Taken, taken, is_due, with_item}
-use Rattle.model_line.specs.Refusal.{refusal}
-use Rattle.model_line.specs.Request.{Request, Establish, Release, Data, Unit, Assign, Remove, Check, SetBusy, ClearBusy}
-use Rattle.model_line.specs.Requested.{at_requested, aim_of_request}
-use Rattle.model_line.specs.Sound.{IsInRange, IsSound}
 use Rattle.model_line.proofs.LineRises.{aim_received}
 use Rattle.model_line.proofs.PullSound.{TakesSoundly, taken_sound}
 use Rattle.model_line.proofs.RejectsHeard.{octet_rejects}

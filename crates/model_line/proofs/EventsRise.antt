@@ -1,34 +1,13 @@
 -- By how much an event lets rise what a line sends and may still send.
-use Rattle.std.proofs.Common.{◌≡◌, ℕ, ◌+◌, ◌*◌, ◌≤◌, Bool, true, false, max, Option, Some, None, is_some, IfSome, refl, ap, sym, subst, cond, arith}
-use Rattle.std.specs.Prelude.{count_by}
+use Rattle.model_line.proofs.Vocabulary.{◌≡◌, ℕ, ◌+◌, ◌*◌, ◌≤◌, Bool, true, false, max, Option, Some, None, is_some, IfSome, refl, ap, sym, subst, cond, arith, count_by, Service, Refusal, Timer, T200, T203, T201, LinkTimer, Management, expire_check, Course, Config, Event, octet, expiry, request, pull, one, may_send, frames_heard, is_frame, is_running_expiry, rejects, is_accepted, is_begun, rejects_aimed, at_timer, aim_of_expiry, runs_at, Line, window, place_in, link_in, terms, after, answer, unless_refused, unless_refused_told, aim_of_octet, with_received, Aim, at_none, at_link, at_management, at_units, told_of_management, of_change, of_management, of_aim, Taken, taken, with_item, with_due, is_due, refusal, Request, Establish, Release, Data, Unit, Assign, Remove, Check, SetBusy, ClearBusy, at_requested, aim_of_request, IsInRange, IsSound}
 use Rattle.lapd_bits.specs.Stream as stream
-use Rattle.lapd_frame.specs.declared.services.Service.{Service}
-use Rattle.lapd_frame.specs.declared.refusals.Refusal.{Refusal}
-use Rattle.lapd_frame.specs.declared.timers.Timer.{Timer}
-use Rattle.lapd_frame.specs.declared.timers.Timer.TheVariants.{T200, T203, T201}
 use Rattle.model_link.specs.Events as link
 use Rattle.model_link.specs.Machine as links
 use Rattle.model_link.specs.Requests as requests
-use Rattle.model_link.specs.declared.timers.LinkTimer.{LinkTimer}
 use Rattle.model_link.specs.declared.timers.LinkTimer.TheVariants as link_timer
 use Rattle.lapd_tei.specs.Events as teis
-use Rattle.lapd_tei.specs.Machine.{Management}
-use Rattle.lapd_tei.specs.Rows.{expire_check}
-use Rattle.lapd_tei.specs.Words.{Course, begun}
+use Rattle.lapd_tei.specs.Words.{begun}
 use Rattle.lapd_tei.specs.declared.check.Check as checks
-use Rattle.model_line.specs.declared.config.Config.{Config}
-use Rattle.model_line.specs.Event.{Event, octet, expiry, request, pull}
-use Rattle.model_line.specs.Counts.{one, may_send, frames_heard, is_frame, is_running_expiry, rejects, is_accepted, is_begun, rejects_aimed}
-use Rattle.model_line.specs.Expiry.{at_timer, aim_of_expiry, runs_at}
-use Rattle.model_line.specs.Line.{Line, window, place_in, link_in, terms}
-use Rattle.model_line.specs.Machine.{after, answer, unless_refused, unless_refused_told}
-use Rattle.model_line.specs.Octet.{aim_of_octet, with_received}
-use Rattle.model_line.specs.Effect.{Aim, at_none, at_link, at_management, at_units, told_of_management, of_change, of_management, of_aim}
-use Rattle.model_line.specs.Pull.{Taken, taken, with_item, with_due, is_due}
-use Rattle.model_line.specs.Refusal.{refusal}
-use Rattle.model_line.specs.Request.{Request, Establish, Release, Data, Unit, Assign, Remove, Check, SetBusy, ClearBusy}
-use Rattle.model_line.specs.Requested.{at_requested, aim_of_request}
-use Rattle.model_line.specs.Sound.{IsInRange, IsSound}
 use Rattle.model_line.proofs.AimsRise.{price_at, aim_rises, management_rises}
 use Rattle.model_line.proofs.AimsSound.{IsProper}
 use Rattle.model_line.proofs.LineRises.{octet_costs, aim_received, window_most}

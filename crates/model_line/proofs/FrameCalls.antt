@@ -1,16 +1,7 @@
 -- Calls for the next frame come to an end.
-use Rattle.std.proofs.Common.{◌≡◌, ℕ, zero, suc, ◌+◌, ◌≤◌, ◌<◌, Bool, true, false, List, [], ◌∷◌, ◌++◌, map, replicate, Option, Some, None, is_some, if◌then◌else◌, refl, ap, sym, subst, ◌∙◌, arith}
-use Rattle.model_line.specs.declared.config.Config.{Config}
-use Rattle.model_line.specs.Counts.{one, may_send, is_begun}
-use Rattle.model_line.specs.Event.{Event, pull, Answer, pulled}
-use Rattle.model_line.specs.Line.{Line}
-use Rattle.model_line.specs.Machine.{after, answer}
-use Rattle.model_line.specs.Pull.{Taken, taken}
-use Rattle.model_line.specs.Sound.{IsInRange, IsSound}
+use Rattle.model_line.proofs.Vocabulary.{◌≡◌, ℕ, zero, suc, ◌+◌, ◌≤◌, ◌<◌, Bool, true, false, List, [], ◌∷◌, ◌++◌, map, replicate, Option, Some, None, is_some, if◌then◌else◌, refl, ap, sym, subst, ◌∙◌, arith, Config, one, may_send, is_begun, Event, pull, Answer, pulled, Line, after, answer, Taken, taken, IsInRange, IsSound, after_events, answers_to, octet_alone, pulls_to_begin, pulls_for, after_calls, CallsComeToAnEnd}
 use Rattle.model_line.proofs.ByEvent.{falls_by_pull}
 use Rattle.model_line.proofs.LineSound.{after_sound}
-use Rattle.model_line.specs.WholeAtLine.{after_events, answers_to, octet_alone, pulls_to_begin, pulls_for, after_calls}
-use Rattle.model_line.specs.WholeLaws.{CallsComeToAnEnd}
 use Rattle.model_line.proofs.FramesGo.{frames_go_whole}
 
 -- the frames that answers begin

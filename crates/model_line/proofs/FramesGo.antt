@@ -1,19 +1,7 @@
 -- The pulls up to the one that begins the next frame.
-use Rattle.std.proofs.Common.{◌≡◌, ℕ, zero, suc, ◌+◌, ◌-◌, ◌*◌, ◌/◌, ◌≤◌, ◌<◌, Bool, true, false, List, [], ◌∷◌, ◌++◌, length, map, replicate, drop, Option, Some, None, option_map, is_some, refl, ap, sym, ◌∙◌, arith, append_assoc, length-append, add-one}
+use Rattle.model_line.proofs.Vocabulary.{◌≡◌, ℕ, zero, suc, ◌+◌, ◌-◌, ◌*◌, ◌/◌, ◌≤◌, ◌<◌, Bool, true, false, List, [], ◌∷◌, ◌++◌, length, map, replicate, drop, Option, Some, None, option_map, is_some, refl, ap, sym, ◌∙◌, arith, append_assoc, length-append, add-one, option_map_or, lt-ltb, le-ltb, length-drop, bits, frame, line_text, length-bits, Config, Event, pull, Answer, pulled, Line, Taken, taken, left_of, is_due, with_item, with_due, with_octet, next_octet, begun, orders_of, after_events, answers_to, giving, octet_alone, pulls_to_begin, GoesWhole, FramesGoWhole}
 use Rattle.std.specs.Prelude.{nat_lt, if◌then◌else◌}
-use Rattle.std.specs.Option.{option_map_or}
-use Rattle.std.proofs.lemmas.Bool.{lt-ltb, le-ltb}
-use Rattle.std.proofs.lemmas.List.{length-drop}
-use Rattle.lapd_bits.specs.Bits.{bits}
-use Rattle.lapd_bits.specs.Sent.{frame, line_text}
-use Rattle.lapd_bits.proofs.BitLemmas.{length-bits}
-use Rattle.model_line.specs.declared.config.Config.{Config}
-use Rattle.model_line.specs.Event.{Event, pull, Answer, pulled}
-use Rattle.model_line.specs.Line.{Line}
 use Rattle.model_line.specs.Machine as lines
-use Rattle.model_line.specs.Pull.{Taken, taken, left_of, is_due, with_item, with_due, with_octet, next_octet, begun, orders_of}
-use Rattle.model_line.specs.WholeAtLine.{after_events, answers_to, giving, octet_alone, pulls_to_begin, GoesWhole}
-use Rattle.model_line.specs.WholeLaws.{FramesGoWhole}
 use Rattle.model_line.proofs.FramesTaken.{taken_moved, taken_same, taken_keeps, taken_keeps_given}
 
 -- ---- one pull

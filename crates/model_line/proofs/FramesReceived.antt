@@ -1,35 +1,12 @@
 -- What is heard is the same to a line whatever it has received, and leaves what it has received.
-use Rattle.std.proofs.Common.{◌≡◌, ℕ, List, Option, Some, None, Result, Ok, Err, refl, ap, ◌∙◌, if◌then◌else◌}
+use Rattle.model_line.proofs.Vocabulary.{◌≡◌, ℕ, List, Option, Some, None, Result, Ok, Err, refl, ap, ◌∙◌, if◌then◌else◌, Tei, Address, ReadFault, BadExtension, Undefined, WrongSize, Short, Long, Service, Parts, reading, long_reading, service_of, Change, Gained, Left, Config, LineTold, Line, Effect, Aim, at_none, at_link, at_management, at_units, told_of_management, of_change, of_management, of_aim, aim_of_expiry, drop_for, group_tei, management_sapi, at_place, to_service, addressed, message_of, aim_of_reading, unless_at_link, aim_of_long, heard_side, aim_of_heard, at_side, Taken, taken, is_due, with_item, with_due, refusal, aim_of_request, receiving, NothingElseIsReceived}
 use Rattle.std.specs.Prelude.{◌==◌, Bool, true, false}
 use Rattle.lapd_bits.specs.Stream as stream
-use Rattle.lapd_bits.specs.declared.heard.Cause.TheVariants.{Tei}
-use Rattle.lapd_frame.specs.declared.addresses.Address.{Address}
-use Rattle.lapd_frame.specs.declared.faults.ReadFault.{ReadFault}
-use Rattle.lapd_frame.specs.declared.faults.ReadFault.TheVariants.{BadExtension, Undefined, WrongSize, Short}
-use Rattle.lapd_frame.specs.declared.overlong.Long.{Long}
 use Rattle.lapd_frame.specs.declared.overlong.Long.TheVariants as long
-use Rattle.lapd_frame.specs.declared.services.Service.{Service}
-use Rattle.lapd_frame.specs.Grammar.{Parts}
-use Rattle.lapd_frame.specs.Reading.{reading, long_reading}
-use Rattle.lapd_frame.specs.Services.{service_of}
 use Rattle.model_link.specs.Events as link
 use Rattle.lapd_tei.specs.Events as teis
 use Rattle.lapd_tei.specs.Machine as tei
-use Rattle.lapd_tei.specs.declared.outcome.Change.{Change}
-use Rattle.lapd_tei.specs.declared.outcome.Change.TheVariants.{Gained, Left}
-use Rattle.model_line.specs.declared.config.Config.{Config}
-use Rattle.model_line.specs.Event.{LineTold}
-use Rattle.model_line.specs.Line.{Line}
-use Rattle.model_line.specs.Effect.{Effect, Aim, at_none, at_link, at_management, at_units, told_of_management, of_change, of_management, of_aim}
-use Rattle.model_line.specs.Expiry.{aim_of_expiry}
 use Rattle.model_line.specs.Machine as lines
-use Rattle.model_line.specs.Octet.{drop_for, group_tei, management_sapi, at_place, to_service, addressed, message_of, aim_of_reading, unless_at_link, aim_of_long, heard_side, aim_of_heard}
-use Rattle.model_line.specs.Sides.{at_side}
-use Rattle.model_line.specs.Pull.{Taken, taken, is_due, with_item, with_due}
-use Rattle.model_line.specs.Refusal.{refusal}
-use Rattle.model_line.specs.Requested.{aim_of_request}
-use Rattle.model_line.specs.WholeAtLine.{receiving}
-use Rattle.model_line.specs.WholeLaws.{NothingElseIsReceived}
 use Rattle.model_line.proofs.FramesTaken.{taken_keeps}
 
 -- ---- what is heard is the same event of a part

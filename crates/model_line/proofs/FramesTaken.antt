@@ -1,13 +1,8 @@
 -- What a pull takes is the same whatever the line has received and given.
-use Rattle.std.proofs.Common.{◌≡◌, ℕ, List, [], ◌∷◌, Option, Some, None, option_map, refl, ap, sym, ◌∙◌}
+use Rattle.model_line.proofs.Vocabulary.{◌≡◌, ℕ, List, [], ◌∷◌, Option, Some, None, option_map, refl, ap, sym, ◌∙◌, option_or, unwrap_or, Given, Config, Line, UnitData, terms_at, link_at, Taken, with_message, message_taken, with_unit, unit_taken, with_given_frame, link_taken, first_taken, round, taken}
 use Rattle.std.specs.Prelude.{slice_get}
-use Rattle.std.specs.Option.{option_or, unwrap_or}
 use Rattle.model_link.specs.Machine as links
-use Rattle.model_link.specs.Told.{Given}
 use Rattle.lapd_tei.specs.Events as teis
-use Rattle.model_line.specs.declared.config.Config.{Config}
-use Rattle.model_line.specs.Line.{Line, UnitData, terms_at, link_at}
-use Rattle.model_line.specs.Pull.{Taken, with_message, message_taken, with_unit, unit_taken, with_given_frame, link_taken, first_taken, round, taken}
 
 -- a line, and what is taken of it, with other octets received and given
 abbrev pub moved : List ℕ → List ℕ → Line → Line

@@ -1,4 +1,5 @@
 -- Lemmas: what stays sound, what rises and what is numbered at a line; what whole frames mean to it.
+pub mod Vocabulary
 pub mod Ranges
 pub mod Numbers
 pub mod LinksSound

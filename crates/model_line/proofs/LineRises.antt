@@ -1,23 +1,9 @@
 -- By how much an event lets rise what a line sends and may still send.
-use Rattle.std.proofs.Common.{◌≡◌, ℕ, ◌+◌, ◌*◌, ◌≤◌, Bool, true, false, List, [], ◌∷◌, ◌++◌, length, slice_get, max, Option, Some, None, option_to_list, refl, ap, sym, ◌∙◌, subst, cond, arith}
-use Rattle.std.specs.Prelude.{count_by}
-use Rattle.std.specs.Option.{option_map_or}
-use Rattle.std.proofs.lemmas.List.Sums.{sum_by-append}
+use Rattle.model_line.proofs.Vocabulary.{◌≡◌, ℕ, ◌+◌, ◌*◌, ◌≤◌, Bool, true, false, List, [], ◌∷◌, ◌++◌, length, slice_get, max, Option, Some, None, option_to_list, refl, ap, sym, ◌∙◌, subst, cond, arith, count_by, option_map_or, sum_by-append, one_event_an_octet, Service, Call, Packet, Config, one, is_frame, frames_heard, is_long_frame, long_frames_heard, rejects_aimed, Line, window, link_in, gained, aim_of_heard, aim_of_octet, with_received, Aim, at_none, at_link, at_management, at_units, told_of_management, of_change, of_aim, LineTold, nothing, Change, Gained, Left}
 use Rattle.lapd_bits.specs.Stream as stream
-use Rattle.lapd_bits.proofs.OneEvent.{one_event_an_octet}
-use Rattle.lapd_frame.specs.declared.services.Service.{Service}
-use Rattle.lapd_frame.specs.declared.services.Service.TheVariants.{Call, Packet}
 use Rattle.model_link.specs.Events as link
 use Rattle.model_link.specs.Rises as rises
-use Rattle.model_line.specs.declared.config.Config.{Config}
-use Rattle.model_line.specs.Counts.{one, is_frame, frames_heard, is_long_frame, long_frames_heard, rejects_aimed}
-use Rattle.model_line.specs.Line.{Line, window, link_in}
-use Rattle.model_line.specs.Octet.{gained, aim_of_heard, aim_of_octet, with_received}
-use Rattle.model_line.specs.Effect.{Aim, at_none, at_link, at_management, at_units, told_of_management, of_change, of_aim}
-use Rattle.model_line.specs.Event.{LineTold, nothing}
 use Rattle.lapd_tei.specs.Events as teis
-use Rattle.lapd_tei.specs.declared.outcome.Change.{Change}
-use Rattle.lapd_tei.specs.declared.outcome.Change.TheVariants.{Gained, Left}
 use Rattle.model_line.proofs.AimsRise.{price_at}
 use Rattle.model_line.proofs.ProperAims.{heard_aims}
 

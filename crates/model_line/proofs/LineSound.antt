@@ -1,23 +1,5 @@
 -- A line is sound as it begins, and each event keeps it so.
-use Rattle.std.proofs.Common.{◌≡◌, ℕ, ◌+◌, ◌≤◌, Bool, true, false, [], ◌∷◌, length, replicate, get_or, nat_lt, Option, Some, None, IfSome, refl, ap, sym, ◌∙◌, subst, cond, arith, append-nil}
-use Rattle.std.proofs.lemmas.Bool.{ltb-false}
-use Rattle.std.proofs.lemmas.List.{get_or-replicate, length-replicate}
-use Rattle.std.proofs.lemmas.List.Elements.{All-nil, All-cons, All-append}
-use Rattle.lapd_bits.specs.Bits.{flag}
-use Rattle.lapd_bits.specs.Framer.{item_octets}
-use Rattle.lapd_bits.specs.Sent.{idle, frame}
-use Rattle.model_link.specs.Link.{fresh}
-use Rattle.lapd_tei.proofs.LawLemmas.{sound-empty}
-use Rattle.model_line.specs.declared.config.Config.{Config}
-use Rattle.model_line.specs.Event.{Event, octet, expiry, request, pull}
-use Rattle.model_line.specs.Line.{Line, link_count, place_at, fresh_line}
-use Rattle.model_line.specs.Machine.{after, unless_refused}
-use Rattle.model_line.specs.Octet.{aim_of_octet, with_received}
-use Rattle.model_line.specs.Expiry.{aim_of_expiry}
-use Rattle.model_line.specs.Pull.{Taken, taken, is_due, with_item, with_due, with_octet}
-use Rattle.model_line.specs.Refusal.{refusal}
-use Rattle.model_line.specs.Requested.{aim_of_request}
-use Rattle.model_line.specs.Sound.{IsInRange, IsSoundAt, IsSound, IsUnitData, IsTextOf}
+use Rattle.model_line.proofs.Vocabulary.{◌≡◌, ℕ, ◌+◌, ◌≤◌, Bool, true, false, [], ◌∷◌, length, replicate, get_or, nat_lt, Option, Some, None, IfSome, refl, ap, sym, ◌∙◌, subst, cond, arith, append-nil, ltb-false, get_or-replicate, length-replicate, All-nil, All-cons, All-append, flag, item_octets, idle, frame, fresh, sound-empty, Config, Event, octet, expiry, request, pull, Line, link_count, place_at, fresh_line, after, unless_refused, aim_of_octet, with_received, aim_of_expiry, Taken, taken, is_due, with_item, with_due, with_octet, refusal, aim_of_request, IsInRange, IsSoundAt, IsSound, IsUnitData, IsTextOf}
 use Rattle.model_line.proofs.AimsSound.{aim_sound}
 use Rattle.model_line.proofs.Numbers.{place_within}
 use Rattle.model_line.proofs.ProperAims.{octet_proper, expiry_proper, request_proper}

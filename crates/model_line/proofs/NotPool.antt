@@ -1,15 +1,6 @@
 -- A line by itself never finds the pool full: the pool is the card's.
-use Rattle.std.proofs.Common.{◌≡◌, ℕ, Bool, true, false, List, [], ◌∷◌, Option, Some, None, refl, cond}
-use Rattle.lapd_frame.specs.declared.refusals.Refusal.{Refusal}
+use Rattle.model_line.proofs.Vocabulary.{◌≡◌, ℕ, Bool, true, false, List, [], ◌∷◌, Option, Some, None, refl, cond, Refusal, Config, Event, octet, expiry, request, pull, is_pool, is_pool_full, Line, answer, unless_refused_told, of_request, Effect, Row, first_that_holds, bad_tei, no_link, bad_tei_or_group, wrong_side, no_link_nor_group, wrong_state, too_long, queue_full, unit_queue_full, pool_full, tei_taken, table_full, check_running, control_full, refusal, Request, Establish, Release, Data, Unit, Assign, Remove, Check, SetBusy, ClearBusy}
 use Rattle.model_link.specs.Events as link
-use Rattle.model_line.specs.declared.config.Config.{Config}
-use Rattle.model_line.specs.Event.{Event, octet, expiry, request, pull}
-use Rattle.model_line.specs.Counts.{is_pool, is_pool_full}
-use Rattle.model_line.specs.Line.{Line}
-use Rattle.model_line.specs.Machine.{answer, unless_refused_told, of_request}
-use Rattle.model_line.specs.Effect.{Effect}
-use Rattle.model_line.specs.Refusal.{Row, first_that_holds, bad_tei, no_link, bad_tei_or_group, wrong_side, no_link_nor_group, wrong_state, too_long, queue_full, unit_queue_full, pool_full, tei_taken, table_full, check_running, control_full, refusal}
-use Rattle.model_line.specs.Request.{Request, Establish, Release, Data, Unit, Assign, Remove, Check, SetBusy, ClearBusy}
 
 -- The refusal is for another reason.
 abbrev IsOther : Option Refusal → Type 0

@@ -1,39 +1,11 @@
 -- What an event delivers at a link of a line: the next eligible I-frame's contents, or none; or its numbers begin anew.
-use Rattle.std.proofs.Common.{◌≡◌, ◌≢◌, ℕ, ◌+◌, ◌*◌, ◌<◌, Bool, true, false, cond, ◌==◌, List, [], ◌∷◌, length, get_or, set, Option, Some, None, is_some, refl, ap, sym, ◌∙◌, subst, inl, inr, ⊎_elim, arith, eqb-true, eq-eqb, true≢false, length-set}
-use Rattle.std.specs.Prelude.{All}
-use Rattle.std.specs.List.{list_any}
-use Rattle.std.specs.Option.{option_or, option_map_or}
-use Rattle.std.proofs.lemmas.List.{get_or-set_same, get_or-set_other}
-use Rattle.std.proofs.lemmas.List.Elements.{All-head, All-tail}
-use Rattle.lapd_frame.specs.declared.notes.Note.{Note}
+use Rattle.model_line.proofs.Vocabulary.{◌≡◌, ◌≢◌, ℕ, ◌+◌, ◌*◌, ◌<◌, Bool, true, false, cond, ◌==◌, List, [], ◌∷◌, length, get_or, set, Option, Some, None, is_some, refl, ap, sym, ◌∙◌, subst, inl, inr, ⊎_elim, arith, eqb-true, eq-eqb, true≢false, length-set, All, list_any, option_or, option_map_or, get_or-set_same, get_or-set_other, All-head, All-tail, Note, Service, Call, Packet, Terms, Link, fresh, is_data, done, delivery, counted_on, event-delivers, IsOwn, notes-own, event-tells, Moves, Management, IsAt, Places, Change, Gained, Left, Config, Answer, LineTold, told, nothing, same_service, arrived_aimed, arrived, is_change_at, restarts_aimed, restarts, is_data_of, delivered_in, delivered_at, delivered, Line, link_number, service_at, place_at, tei_at, link_at, link_in, terms, link_count, Aim, at_none, at_link, at_management, at_units, told_of_link, told_of_management, of_change, of_aim, IsSound}
 use Rattle.lapd_frame.specs.declared.notes.Note.TheVariants as notes
-use Rattle.lapd_frame.specs.declared.services.Service.{Service}
-use Rattle.lapd_frame.specs.declared.services.Service.TheVariants.{Call, Packet}
-use Rattle.model_link.specs.declared.terms.Terms.{Terms}
 use Rattle.model_link.specs.Deliveries as arrivals
 use Rattle.model_link.specs.Events as link
-use Rattle.model_link.specs.Link.{Link, fresh}
 use Rattle.model_link.specs.Machine as links
-use Rattle.model_link.specs.Notes.{is_data}
-use Rattle.model_link.proofs.Counting.{done}
-use Rattle.model_link.proofs.Delivering.{delivery, counted_on, event-delivers}
-use Rattle.model_link.proofs.OwnNotes.{IsOwn, notes-own}
-use Rattle.model_link.proofs.TellRows.{event-tells}
 use Rattle.lapd_tei.specs.Events as teis
-use Rattle.lapd_tei.specs.Laws.{Moves}
-use Rattle.lapd_tei.specs.Machine.{Management}
-use Rattle.lapd_tei.specs.Sound.{IsAt}
-use Rattle.lapd_tei.specs.Table.{Places}
-use Rattle.lapd_tei.specs.declared.outcome.Change.{Change}
-use Rattle.lapd_tei.specs.declared.outcome.Change.TheVariants.{Gained, Left}
 use Rattle.lapd_tei.proofs.LawLemmas as tei_laws
-use Rattle.model_line.specs.declared.config.Config.{Config}
-use Rattle.model_line.specs.Event.{Answer, LineTold, told, nothing}
-use Rattle.lapd_frame.specs.Services.{same_service}
-use Rattle.model_line.specs.Deliveries.{arrived_aimed, arrived, is_change_at, restarts_aimed, restarts, is_data_of, delivered_in, delivered_at, delivered}
-use Rattle.model_line.specs.Line.{Line, link_number, service_at, place_at, tei_at, link_at, link_in, terms, link_count}
-use Rattle.model_line.specs.Effect.{Aim, at_none, at_link, at_management, at_units, told_of_link, told_of_management, of_change, of_aim}
-use Rattle.model_line.specs.Sound.{IsSound}
 use Rattle.model_line.proofs.AimsSound.{IsProper}
 use Rattle.model_line.proofs.Numbers.{place_at-number, service_at-number, at_place}
 

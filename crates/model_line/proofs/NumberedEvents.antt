@@ -1,30 +1,9 @@
 -- Each event of a line is what a link's numbers say of it.
-use Rattle.std.proofs.Common.{◌≡◌, ℕ, zero, suc, ◌<◌, Bool, true, false, cond, ◌&&◌, not, List, [], ◌∷◌, ◌++◌, get_or, set, ◌==◌, Option, Some, None, is_some, option_map, IfSome, refl, sym, true≢false}
-use Rattle.std.specs.Option.{option_or, option_map_or}
+use Rattle.model_line.proofs.Vocabulary.{◌≡◌, ℕ, zero, suc, ◌<◌, Bool, true, false, cond, ◌&&◌, not, List, [], ◌∷◌, ◌++◌, get_or, set, ◌==◌, Option, Some, None, is_some, option_map, IfSome, refl, sym, true≢false, option_or, option_map_or, Refusal, Service, Timer, T200, T203, T201, LinkTimer, Link, fresh, offer-keeps-r, transfer-goes-on, Config, Event, octet, expiry, request, pull, refused, nothing, arrived_aimed, arrived, restarts_aimed, restarts, delivered, Line, link_number, link_at, link_in, terms, terms_at, link_count, place_in, after, answer, takes_slot, unless_refused, unless_refused_told, gained, aim_of_octet, aim_of_heard, at_timer, aim_of_expiry, Aim, at_none, of_aim, Taken, with_message, message_taken, with_unit, unit_taken, with_given_frame, link_taken, first_taken, round, taken, is_due, with_item, after_pull, answer_to_pull, refusal, Request, Establish, Release, Data, Unit, Assign, Remove, Check, SetBusy, ClearBusy, aim_of_request, at_requested, carries_contents, IsSound}
 use Rattle.lapd_bits.specs.Stream as stream
-use Rattle.lapd_frame.specs.declared.refusals.Refusal.{Refusal}
-use Rattle.lapd_frame.specs.declared.services.Service.{Service}
-use Rattle.lapd_frame.specs.declared.timers.Timer.{Timer}
-use Rattle.lapd_frame.specs.declared.timers.Timer.TheVariants.{T200, T203, T201}
-use Rattle.model_link.specs.declared.timers.LinkTimer.{LinkTimer}
 use Rattle.model_link.specs.declared.timers.LinkTimer.TheVariants as link_timer
 use Rattle.model_link.specs.Events as link
-use Rattle.model_link.specs.Link.{Link, fresh}
 use Rattle.model_link.specs.Machine as links
-use Rattle.model_link.proofs.OwnNotes.{offer-keeps-r, transfer-goes-on}
-use Rattle.model_line.specs.declared.config.Config.{Config}
-use Rattle.model_line.specs.Event.{Event, octet, expiry, request, pull, refused, nothing}
-use Rattle.model_line.specs.Deliveries.{arrived_aimed, arrived, restarts_aimed, restarts, delivered}
-use Rattle.model_line.specs.Line.{Line, link_number, link_at, link_in, terms, terms_at, link_count, place_in}
-use Rattle.model_line.specs.Machine.{after, answer, takes_slot, unless_refused, unless_refused_told}
-use Rattle.model_line.specs.Octet.{gained, aim_of_octet, aim_of_heard}
-use Rattle.model_line.specs.Expiry.{at_timer, aim_of_expiry}
-use Rattle.model_line.specs.Effect.{Aim, at_none, of_aim}
-use Rattle.model_line.specs.Pull.{Taken, with_message, message_taken, with_unit, unit_taken, with_given_frame, link_taken, first_taken, round, taken, is_due, with_item, after_pull, answer_to_pull}
-use Rattle.model_line.specs.Refusal.{refusal}
-use Rattle.model_line.specs.Request.{Request, Establish, Release, Data, Unit, Assign, Remove, Check, SetBusy, ClearBusy}
-use Rattle.model_line.specs.Requested.{aim_of_request, at_requested, carries_contents}
-use Rattle.model_line.specs.Sound.{IsSound}
 use Rattle.model_line.proofs.Numbered.{Part, brings_none, none_at, HasNoContents, aim_parts}
 use Rattle.model_line.proofs.AimsSound.{IsProper}
 use Rattle.model_line.proofs.ProperAims.{heard_aims, octet_proper, expiry_proper, request_proper}

@@ -1,12 +1,5 @@
 -- Links by their numbers, and sums over them.
-use Rattle.std.proofs.Common.{◌≡◌, ◌≢◌, ℕ, zero, suc, ◌+◌, ◌*◌, ◌%◌, ◌≤◌, ◌<◌, ◌⊎◌, ◌==◌, refl, ap, sym, ◌∙◌, cond, arith, ⊎_elim, inl, inr}
-use Rattle.std.specs.Prelude.{sum_by}
-use Rattle.std.specs.List.{range_with_len}
-use Rattle.std.proofs.lemmas.List.Sums.{sum_by-cons}
-use Rattle.std.proofs.lemmas.Bool.{cases_eq}
-use Rattle.lapd_frame.specs.declared.services.Service.{Service}
-use Rattle.lapd_frame.specs.declared.services.Service.TheVariants.{Call, Packet}
-use Rattle.model_line.specs.Line.{link_number, service_at, place_at}
+use Rattle.model_line.proofs.Vocabulary.{◌≡◌, ◌≢◌, ℕ, zero, suc, ◌+◌, ◌*◌, ◌%◌, ◌≤◌, ◌<◌, ◌⊎◌, ◌==◌, refl, ap, sym, ◌∙◌, cond, arith, ⊎_elim, inl, inr, sum_by, range_with_len, sum_by-cons, cases_eq, Service, Call, Packet, link_number, service_at, place_at}
 
 -- a number has its service and its place
 pub place_at-number : (place : ℕ) (service : Service) → place_at (link_number place service) ≡ place

@@ -1,21 +1,8 @@
 -- What a link gives to be sent is no longer than a frame may be.
-use Rattle.std.proofs.Common.{◌≡◌, ℕ, ◌+◌, ◌≤◌, Bool, true, false, List, [], ◌∷◌, length, slice_get, Option, Some, None, IfSome, refl, cond, arith, ⊎_elim, subst, sym}
-use Rattle.std.specs.Prelude.{All}
-use Rattle.std.specs.Option.{unwrap_or}
-use Rattle.std.proofs.lemmas.List.Elements.{All-head, All-get_or}
-use Rattle.std.proofs.lemmas.Option.{slice_get_cases}
-use Rattle.lapd_frame.specs.Grammar.{spelling}
-use Rattle.model_link.specs.declared.frames.ControlFrame.{ControlFrame}
-use Rattle.model_link.specs.declared.terms.Terms.{Terms}
-use Rattle.model_link.specs.Link.{Link, fresh, address_at}
-use Rattle.model_link.specs.Machine.{given, given_of, course}
-use Rattle.model_link.specs.Events.{offer}
-use Rattle.model_link.specs.Offers.{offer_among, may_send_information, is_awaiting_acknowledgement, next_information, give_information, with_one_sent, send_information, send_acknowledgement}
-use Rattle.model_link.specs.Sound.{IsSound, IsWaitingFrame}
-use Rattle.model_link.specs.Steps.{Course, Sent, begun, ◌then◌, changed}
-use Rattle.model_link.specs.Words.{pending_is, start}
+use Rattle.model_line.proofs.Vocabulary.{◌≡◌, ℕ, ◌+◌, ◌≤◌, Bool, true, false, List, [], ◌∷◌, length, slice_get, Option, Some, None, IfSome, refl, cond, arith, ⊎_elim, subst, sym, All, unwrap_or, All-head, All-get_or, slice_get_cases, spelling, ControlFrame, Terms, Link, fresh, address_at, given, given_of, course, offer, offer_among, may_send_information, is_awaiting_acknowledgement, next_information, give_information, with_one_sent, send_information, send_acknowledgement, IsWaitingFrame, Sent, ◌then◌, changed, pending_is, start, Config}
+use Rattle.model_link.specs.Sound.{IsSound}
+use Rattle.model_link.specs.Steps.{Course, begun}
 use Rattle.model_link.specs.declared.timers.LinkTimer.TheVariants.{T200}
-use Rattle.model_line.specs.declared.config.Config.{Config}
 use Rattle.model_line.specs.Pull.{frame_of}
 
 abbrev octets_sent : Config → Terms → Sent → List ℕ

@@ -1,40 +1,11 @@
 -- Each event is something that a line can have.
-use Rattle.std.proofs.Common.{◌≡◌, ℕ, ◌≤◌, Bool, true, false, ◌==◌, List, length, nat_lt, Option, Some, None, Result, Ok, Err, refl, cond}
-use Rattle.std.specs.Option.{option_map_or}
-use Rattle.std.proofs.lemmas.Bool.{ltb-false, leb-false}
+use Rattle.model_line.proofs.Vocabulary.{◌≡◌, ℕ, ◌≤◌, Bool, true, false, ◌==◌, List, length, nat_lt, Option, Some, None, Result, Ok, Err, refl, cond, option_map_or, ltb-false, leb-false, Cause, Tei, Unserved, Address, Control, ReadFault, BadExtension, Undefined, WrongSize, Short, Long, Refusal, Service, Timer, T200, T203, T201, Parts, reading, long_reading, service_of, LinkTimer, place_of-is, Config, nothing, Line, place_in, Request, Establish, Release, Data, Unit, Assign, Remove, Check, SetBusy, ClearBusy, Aim, at_none, at_link, at_management, at_units, gained, management_sapi, group_tei, drop_for, at_place, to_service, addressed, message_of, aim_of_reading, unless_at_link, aim_of_long, heard_side, aim_of_heard, aim_of_octet, group_told, IsToGroup, at_timer, aim_of_expiry, at_requested, aim_of_request, refusal, unless_refused}
 use Rattle.lapd_bits.specs.Stream as stream
-use Rattle.lapd_bits.specs.declared.heard.Cause.{Cause}
-use Rattle.lapd_bits.specs.declared.heard.Cause.TheVariants.{Tei, Unserved}
-use Rattle.lapd_frame.specs.declared.addresses.Address.{Address}
-use Rattle.lapd_frame.specs.declared.controls.Control.{Control}
 use Rattle.lapd_frame.specs.declared.controls.Control.TheVariants as control
-use Rattle.lapd_frame.specs.declared.faults.ReadFault.{ReadFault}
-use Rattle.lapd_frame.specs.declared.faults.ReadFault.TheVariants.{BadExtension, Undefined, WrongSize, Short}
-use Rattle.lapd_frame.specs.declared.overlong.Long.{Long}
 use Rattle.lapd_frame.specs.declared.overlong.Long.TheVariants as long
-use Rattle.lapd_frame.specs.declared.refusals.Refusal.{Refusal}
-use Rattle.lapd_frame.specs.declared.services.Service.{Service}
-use Rattle.lapd_frame.specs.declared.timers.Timer.{Timer}
-use Rattle.lapd_frame.specs.declared.timers.Timer.TheVariants.{T200, T203, T201}
-use Rattle.lapd_frame.specs.Grammar.{Parts}
-use Rattle.lapd_frame.specs.Reading.{reading, long_reading}
-use Rattle.lapd_frame.specs.Services.{service_of}
 use Rattle.model_link.specs.Events as link
-use Rattle.model_link.specs.declared.timers.LinkTimer.{LinkTimer}
 use Rattle.model_link.specs.declared.timers.LinkTimer.TheVariants as link_timer
 use Rattle.lapd_tei.specs.Events as teis
-use Rattle.lapd_tei.proofs.Tables.{place_of-is}
-use Rattle.model_line.specs.declared.config.Config.{Config}
-use Rattle.model_line.specs.Event.{nothing}
-use Rattle.model_line.specs.Line.{Line, place_in}
-use Rattle.model_line.specs.Request.{Request, Establish, Release, Data, Unit, Assign, Remove, Check, SetBusy, ClearBusy}
-use Rattle.model_line.specs.Effect.{Aim, at_none, at_link, at_management, at_units}
-use Rattle.model_line.specs.Octet.{gained, management_sapi, group_tei, drop_for, at_place, to_service, addressed, message_of, aim_of_reading, unless_at_link, aim_of_long, heard_side, aim_of_heard, aim_of_octet}
-use Rattle.model_line.specs.Sides.{group_told, IsToGroup}
-use Rattle.model_line.specs.Expiry.{at_timer, aim_of_expiry}
-use Rattle.model_line.specs.Requested.{at_requested, aim_of_request}
-use Rattle.model_line.specs.Refusal.{refusal}
-use Rattle.model_line.specs.Machine.{unless_refused}
 use Rattle.model_line.proofs.AimsSound.{IsProper}
 use Rattle.model_line.proofs.Sides.{side_aims, unit_tei}
 

@@ -1,23 +1,8 @@
 -- A frame that a pull takes is no longer among those that may be sent.
-use Rattle.std.proofs.Common.{◌≡◌, ℕ, ◌+◌, ◌*◌, ◌≤◌, ◌<◌, Bool, true, false, List, [], ◌∷◌, length, drop, slice_get, Option, Some, None, is_some, option_map, IfSome, refl, ap, sym, ◌∙◌, subst, cond, arith}
-use Rattle.std.specs.Prelude.{All}
-use Rattle.std.specs.Option.{option_or, unwrap_or}
-use Rattle.std.proofs.lemmas.List.Elements.{All-head, All-tail}
+use Rattle.model_line.proofs.Vocabulary.{◌≡◌, ℕ, ◌+◌, ◌*◌, ◌≤◌, ◌<◌, Bool, true, false, List, [], ◌∷◌, length, drop, slice_get, Option, Some, None, is_some, option_map, IfSome, refl, ap, sym, ◌∙◌, subst, cond, arith, All, option_or, unwrap_or, All-head, All-tail, Link, Sent, Given, Terms, event-rises, offer-falls, frame_of, Message, Config, one, may_send, Line, UnitData, link_count, service_at, place_at, tei_at, terms, link_at, Taken, message_taken, unit_frame, unit_taken, with_given_frame, link_taken, first_taken, round, taken, is_due, begun, with_item, after_pull, IsInRange, IsSoundAt, IsSound}
 use Rattle.model_link.specs.Events as link
-use Rattle.model_link.specs.Link.{Link}
 use Rattle.model_link.specs.Machine as links
 use Rattle.model_link.specs.Rises as rises
-use Rattle.model_link.specs.Steps.{Sent}
-use Rattle.model_link.specs.Told.{Given}
-use Rattle.model_link.specs.declared.terms.Terms.{Terms}
-use Rattle.model_link.proofs.RiseEvents.{event-rises, offer-falls}
-use Rattle.lapd_tei.specs.Messages.{frame_of}
-use Rattle.lapd_tei.specs.declared.messages.Message.{Message}
-use Rattle.model_line.specs.declared.config.Config.{Config}
-use Rattle.model_line.specs.Counts.{one, may_send}
-use Rattle.model_line.specs.Line.{Line, UnitData, link_count, service_at, place_at, tei_at, terms, link_at}
-use Rattle.model_line.specs.Pull.{Taken, message_taken, unit_frame, unit_taken, with_given_frame, link_taken, first_taken, round, taken, is_due, begun, with_item, after_pull}
-use Rattle.model_line.specs.Sound.{IsInRange, IsSoundAt, IsSound}
 use Rattle.model_line.proofs.AimsRise.{one_changed}
 use Rattle.model_line.proofs.Offered.{fresh_gives_nothing}
 use Rattle.model_line.proofs.PullSound.{round_below}

@@ -1,25 +1,8 @@
 -- What a pull takes leaves a line sound, and is a frame of at most the longest length.
-use Rattle.std.proofs.Common.{◌≡◌, ℕ, zero, suc, ◌+◌, ◌≤◌, ◌<◌, List, [], ◌∷◌, length, take, drop, slice_get, Option, Some, None, option_map, IfSome, refl, ap, sym, ◌∙◌, subst, arith}
-use Rattle.std.specs.Prelude.{All}
-use Rattle.std.specs.List.{range_with_len}
-use Rattle.std.specs.Option.{option_or, unwrap_or}
-use Rattle.std.proofs.lemmas.List.Elements.{All-nil, All-cons, All-head, All-tail, All-drop, All-take, All-append}
-use Rattle.lapd_frame.specs.declared.addresses.Side.{Side}
+use Rattle.model_line.proofs.Vocabulary.{◌≡◌, ℕ, zero, suc, ◌+◌, ◌≤◌, ◌<◌, List, [], ◌∷◌, length, take, drop, slice_get, Option, Some, None, option_map, IfSome, refl, ap, sym, ◌∙◌, subst, arith, All, range_with_len, option_or, unwrap_or, All-nil, All-cons, All-head, All-tail, All-drop, All-take, All-append, Side, Link, Terms, Given, sound-after, frame_of, Message, IdentityAssigned, IdentityDenied, IdentityCheckRequest, IdentityRemove, sound-after_offer, Config, Line, UnitData, link_count, service_at, place_at, tei_at, terms, link_at, with_link, Taken, with_message, message_taken, unit_frame, with_unit, unit_taken, with_given_frame, link_taken, first_taken, round_from, round, taken, IsInRange, IsSoundAt, IsSound, IsUnitData}
 use Rattle.model_link.specs.Events as link
-use Rattle.model_link.specs.Link.{Link}
 use Rattle.model_link.specs.Machine as links
-use Rattle.model_link.specs.declared.terms.Terms.{Terms}
-use Rattle.model_link.specs.Told.{Given}
-use Rattle.model_link.proofs.SoundEvents.{sound-after}
-use Rattle.lapd_tei.specs.Messages.{frame_of}
-use Rattle.lapd_tei.specs.declared.messages.Message.{Message}
-use Rattle.lapd_tei.specs.declared.messages.Message.TheVariants.{IdentityAssigned, IdentityDenied, IdentityCheckRequest, IdentityRemove}
-use Rattle.lapd_tei.proofs.LawLemmas.{sound-after_offer}
-use Rattle.model_line.specs.declared.config.Config.{Config}
-use Rattle.model_line.specs.Line.{Line, UnitData, link_count, service_at, place_at, tei_at, terms, link_at, with_link}
 use Rattle.model_line.specs.Pull as pull
-use Rattle.model_line.specs.Pull.{Taken, with_message, message_taken, unit_frame, with_unit, unit_taken, with_given_frame, link_taken, first_taken, round_from, round, taken}
-use Rattle.model_line.specs.Sound.{IsInRange, IsSoundAt, IsSound, IsUnitData}
 use Rattle.model_line.proofs.LinksSound.{with_link_sound}
 use Rattle.model_line.proofs.Offered.{given_short, fresh_gives_nothing}
 use Rattle.model_line.proofs.Ranges.{ranges_of, terms_in_range}

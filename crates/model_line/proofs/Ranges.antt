@@ -1,14 +1,6 @@
 -- What the ranges of a configuration say.
-use Rattle.std.proofs.Common.{◌≡◌, ℕ, ◌≤◌, Bool, true, false, not, cond, Option, Some, None, max, refl, arith}
-use Rattle.std.proofs.lemmas.Bool.{and_parts, leb-true}
-use Rattle.lapd_frame.specs.declared.services.Service.{Service}
-use Rattle.lapd_frame.specs.declared.services.Service.TheVariants.{Call, Packet}
+use Rattle.model_line.proofs.Vocabulary.{◌≡◌, ℕ, ◌≤◌, Bool, true, false, not, cond, Option, Some, None, max, refl, arith, and_parts, leb-true, Service, Call, Packet, Config, Field, is_within, terms, IsInRange}
 use Rattle.model_link.specs.Sound as links
-use Rattle.model_line.specs.declared.config.Config.{Config}
-use Rattle.model_line.specs.declared.config.Field.{Field}
-use Rattle.model_line.specs.Config.{is_within}
-use Rattle.model_line.specs.Line.{terms}
-use Rattle.model_line.specs.Sound.{IsInRange}
 
 passed : (b : Bool) (f : Field) (o : Option Field) → cond (not b) (Some f) o ≡ None → (b ≡ true) × (o ≡ None)
 passed true f o h = (refl, h)

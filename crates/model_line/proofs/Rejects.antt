@@ -1,17 +1,8 @@
 -- An REJ is a frame of four octets, and frames take their octets of the stream.
-use Rattle.std.proofs.Common.{◌≡◌, ℕ, ◌%◌, ◌/◌, ◌==◌, Bool, true, false, not, List, [], ◌∷◌, length, drop, slice_index, Option, Some, None, Result, Ok, Err, refl, ap, sym, ◌∙◌, subst, cond, arith}
-use Rattle.std.proofs.lemmas.Bool.{ne_eqb, eqb-true}
-use Rattle.lapd_frame.specs.declared.addresses.Address.{Address}
-use Rattle.lapd_frame.specs.declared.addresses.Side.{Side}
-use Rattle.lapd_frame.specs.declared.controls.Control.{Control}
+use Rattle.model_line.proofs.Vocabulary.{◌≡◌, ℕ, ◌%◌, ◌/◌, ◌==◌, Bool, true, false, not, List, [], ◌∷◌, length, drop, slice_index, Option, Some, None, Result, Ok, Err, refl, ap, sym, ◌∙◌, subst, cond, arith, ne_eqb, Address, Side, Control, ReadFault, BadExtension, Undefined, WrongSize, Short, has_bad_extension, Parts, allows, takes, row, reading, header_of, control_of, supervisory_of, unnumbered_of, address_of, completed, sized, start_of, seq, reject_number}
+use Rattle.std.proofs.lemmas.Bool.{eqb-true}
 use Rattle.lapd_frame.specs.declared.controls.Control.TheVariants as control
-use Rattle.lapd_frame.specs.declared.faults.ReadFault.{ReadFault}
-use Rattle.lapd_frame.specs.declared.faults.ReadFault.TheVariants.{BadExtension, Undefined, WrongSize, Short}
-use Rattle.lapd_frame.specs.Faults.{has_bad_extension}
-use Rattle.lapd_frame.specs.Grammar.{Parts, allows, takes, row}
-use Rattle.lapd_frame.specs.Reading.{reading, header_of, control_of, supervisory_of, unnumbered_of, address_of, checked, completed, sized, start_of}
-use Rattle.lapd_seq.specs.Numbers.{seq}
-use Rattle.model_link.specs.Rises.{reject_number}
+use Rattle.lapd_frame.specs.Reading.{checked}
 
 -- what is read is no REJ
 abbrev pub NoReject : Result Parts ReadFault → Type 0

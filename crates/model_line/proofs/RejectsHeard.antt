@@ -1,34 +1,10 @@
 -- Each REJ with a valid N(R) is a frame of four octets that is heard; and frames take their octets of the stream.
-use Rattle.std.proofs.Common.{◌≡◌, ℕ, ◌+◌, ◌*◌, ◌-◌, ◌≤◌, ◌==◌, Bool, true, false, List, [], ◌∷◌, ◌++◌, length, take, nat_le, Option, Some, None, option_to_list, Result, Ok, Err, IfSome, refl, ap, sym, ◌∙◌, subst, cond, arith}
-use Rattle.std.specs.Prelude.{count_by, sum_by, All}
-use Rattle.std.specs.Option.{option_map_or}
-use Rattle.std.proofs.lemmas.Bool.{le-leb, leb-true}
-use Rattle.std.proofs.lemmas.List.{length-take-le}
-use Rattle.std.proofs.lemmas.List.Sums.{sum_by-cons}
-use Rattle.std.proofs.lemmas.List.Elements.{All-head, All-tail}
+use Rattle.model_line.proofs.Vocabulary.{◌≡◌, ℕ, ◌+◌, ◌*◌, ◌-◌, ◌≤◌, ◌==◌, Bool, true, false, List, [], ◌∷◌, ◌++◌, length, take, nat_le, Option, Some, None, option_to_list, Result, Ok, Err, IfSome, refl, ap, sym, ◌∙◌, subst, cond, arith, count_by, sum_by, All, option_map_or, le-leb, leb-true, length-take-le, sum_by-cons, All-head, All-tail, overlong, dropped, judged, room_for, IsWhole, heard_within_stream, IsWeight, weight_of_heard, judged_as, Address, Tei, Unserved, Control, ReadFault, BadExtension, Undefined, WrongSize, Short, Service, Parts, reading, service_of, Link, Config, nothing, one, is_frame, frames_heard, is_long_frame, long_frames_heard, rejects_aimed, Line, place_in, management_sapi, group_tei, drop_for, at_place, to_service, addressed, message_of, aim_of_reading, heard_side, aim_of_heard, aim_of_octet, with_received, Aim, at_none}
 use Rattle.lapd_bits.specs.Stream as stream
-use Rattle.lapd_bits.specs.Stream.{Event, frame, overlong, dropped, judged, room_for}
-use Rattle.lapd_bits.specs.StreamLaws.{IsWhole}
-use Rattle.lapd_bits.proofs.StreamLengths.{heard_within_stream, IsWeight, weight_of_heard, judged_as}
-use Rattle.lapd_frame.specs.declared.addresses.Address.{Address}
-use Rattle.lapd_bits.specs.declared.heard.Cause.TheVariants.{Tei, Unserved}
-use Rattle.lapd_frame.specs.declared.controls.Control.{Control}
+use Rattle.lapd_bits.specs.Stream.{Event, frame}
 use Rattle.lapd_frame.specs.declared.controls.Control.TheVariants as control
-use Rattle.lapd_frame.specs.declared.faults.ReadFault.{ReadFault}
-use Rattle.lapd_frame.specs.declared.faults.ReadFault.TheVariants.{BadExtension, Undefined, WrongSize, Short}
-use Rattle.lapd_frame.specs.declared.services.Service.{Service}
-use Rattle.lapd_frame.specs.Grammar.{Parts}
-use Rattle.lapd_frame.specs.Reading.{reading}
-use Rattle.lapd_frame.specs.Services.{service_of}
 use Rattle.model_link.specs.Events as link
-use Rattle.model_link.specs.Link.{Link}
 use Rattle.model_link.specs.Rises as rises
-use Rattle.model_line.specs.declared.config.Config.{Config}
-use Rattle.model_line.specs.Event.{nothing}
-use Rattle.model_line.specs.Counts.{one, is_frame, frames_heard, is_long_frame, long_frames_heard, rejects_aimed}
-use Rattle.model_line.specs.Line.{Line, place_in}
-use Rattle.model_line.specs.Octet.{management_sapi, group_tei, drop_for, at_place, to_service, addressed, message_of, aim_of_reading, heard_side, aim_of_heard, aim_of_octet, with_received}
-use Rattle.model_line.specs.Effect.{Aim, at_none}
 use Rattle.model_line.proofs.LineRises.{brings}
 use Rattle.model_line.proofs.Sides.{side_aims}
 use Rattle.model_line.proofs.Rejects.{NoReject, three_no_reject}

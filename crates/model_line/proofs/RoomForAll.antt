@@ -1,25 +1,6 @@
 -- A line uses no more slots than its queues have places, and fewer where contents are accepted.
-use Rattle.std.proofs.Common.{◌≡◌, ℕ, zero, suc, ◌+◌, ◌*◌, ◌≤◌, ◌<◌, Bool, true, false, cond, not, ◌&&◌, List, [], ◌∷◌, length, Option, Some, None, is_some, refl, ap, sym, subst, ⊎_elim, arith, true≢false}
-use Rattle.std.specs.Prelude.{sum_by}
-use Rattle.std.specs.List.{range_with_len}
-use Rattle.std.specs.Option.{option_map_or}
-use Rattle.std.proofs.lemmas.Bool.{leb-false, cases_eq}
-use Rattle.std.proofs.lemmas.List.Sums.{sum_by-cons}
-use Rattle.lapd_frame.specs.declared.refusals.Refusal.{Refusal}
-use Rattle.lapd_frame.specs.declared.services.Service.{Service}
+use Rattle.model_line.proofs.Vocabulary.{◌≡◌, ℕ, zero, suc, ◌+◌, ◌*◌, ◌≤◌, ◌<◌, Bool, true, false, cond, not, ◌&&◌, List, [], ◌∷◌, length, Option, Some, None, is_some, refl, ap, sym, subst, ⊎_elim, arith, true≢false, sum_by, range_with_len, option_map_or, leb-false, cases_eq, sum_by-cons, Refusal, Service, Link, fresh, queue_of, serves, is_queue_full, place_of-is, at-within, Config, Event, octet, expiry, request, pull, Line, link_number, link_count, place_at, place_in, tei_at, link_at, link_in, terms, takes_slot, Row, first_that_holds, bad_tei, no_link, bad_tei_or_group, no_link_nor_group, wrong_state, too_long, queue_full, unit_queue_full, pool_full, refusal, Request, Establish, Release, Data, Unit, Assign, Remove, Check, SetBusy, ClearBusy, carries_contents, IsSoundAt, IsSound, slots_by_link, slots_of}
 use Rattle.model_link.specs.Events as link
-use Rattle.model_link.specs.Link.{Link, fresh, queue_of}
-use Rattle.model_link.specs.Requests.{serves, is_queue_full}
-use Rattle.lapd_tei.proofs.Tables.{place_of-is, at-within}
-use Rattle.model_line.specs.declared.config.Config.{Config}
-use Rattle.model_line.specs.Event.{Event, octet, expiry, request, pull}
-use Rattle.model_line.specs.Line.{Line, link_number, link_count, place_at, place_in, tei_at, link_at, link_in, terms}
-use Rattle.model_line.specs.Machine.{takes_slot}
-use Rattle.model_line.specs.Refusal.{Row, first_that_holds, bad_tei, no_link, bad_tei_or_group, no_link_nor_group, wrong_state, too_long, queue_full, unit_queue_full, pool_full, refusal}
-use Rattle.model_line.specs.Request.{Request, Establish, Release, Data, Unit, Assign, Remove, Check, SetBusy, ClearBusy}
-use Rattle.model_line.specs.Requested.{carries_contents}
-use Rattle.model_line.specs.Sound.{IsSoundAt, IsSound}
-use Rattle.model_line.specs.Stored.{slots_by_link, slots_of}
 use Rattle.model_line.proofs.Numbers.{number_within, sum_bounded}
 
 -- All places of a line's queues.

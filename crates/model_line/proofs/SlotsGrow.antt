@@ -1,49 +1,14 @@
 -- By how many slots a line's contents grow.
-use Rattle.std.proofs.Common.{◌≡◌, ℕ, zero, suc, ⊎_elim, replicate, ◌+◌, ◌≤◌, ◌<◌, Bool, true, false, not, ◌&&◌, List, [], ◌∷◌, length, drop, slice_get, get_or, set, Option, Some, None, is_some, option_map, IfSome, refl, ap, sym, ◌∙◌, subst, cond, arith, length-append, length-set, length-drop}
-use Rattle.std.specs.Prelude.{sum_by, All}
-use Rattle.std.specs.List.{range_with_len}
-use Rattle.std.specs.Option.{option_or, option_map_or, unwrap_or}
-use Rattle.std.proofs.lemmas.Bool.{cases_lt}
-use Rattle.std.proofs.lemmas.List.{get_or-set_same, get_or-set_other, get_or-replicate, get_or_past, length-replicate}
-use Rattle.std.proofs.lemmas.List.Sums.{sum_by-cons}
-use Rattle.std.proofs.lemmas.List.Elements.{All-head, All-tail}
+use Rattle.model_line.proofs.Vocabulary.{◌≡◌, ℕ, zero, suc, ⊎_elim, replicate, ◌+◌, ◌≤◌, ◌<◌, Bool, true, false, not, ◌&&◌, List, [], ◌∷◌, length, drop, slice_get, get_or, set, Option, Some, None, is_some, option_map, IfSome, refl, ap, sym, ◌∙◌, subst, cond, arith, length-append, length-set, sum_by, All, range_with_len, option_or, option_map_or, unwrap_or, cases_lt, get_or-set_same, get_or-set_other, get_or-replicate, get_or_past, length-replicate, sum_by-cons, All-head, All-tail, Service, Call, Packet, Refusal, Timer, T200, T203, T201, Link, fresh, queue_of, LinkTimer, queue-after, Moves, Management, IsAt, Places, Change, Gained, Left, at-within, Config, LineTold, nothing, Event, octet, expiry, request, pull, one, at_timer, aim_of_expiry, Line, fresh_line, link_number, link_count, service_at, place_at, place_in, tei_at, link_at, link_in, terms, after, takes_slot, unless_refused, gained, aim_of_heard, aim_of_octet, with_received, Aim, at_none, at_link, at_management, at_units, told_of_management, of_link, of_change, of_aim, Taken, with_message, message_taken, unit_frame, unit_taken, with_given_frame, link_taken, first_taken, round, taken, is_due, with_item, with_due, refusal, Request, Establish, Release, Data, Unit, Assign, Remove, Check, SetBusy, ClearBusy, at_requested, aim_of_request, carries_contents, IsInRange, IsSoundAt, IsSound, sum_of_links, slots_by_link, slots_of}
+use Rattle.std.proofs.Common.{length-drop}
 use Rattle.lapd_bits.specs.Stream as stream
-use Rattle.lapd_frame.specs.declared.services.Service.{Service}
-use Rattle.lapd_frame.specs.declared.services.Service.TheVariants.{Call, Packet}
-use Rattle.lapd_frame.specs.declared.refusals.Refusal.{Refusal}
-use Rattle.lapd_frame.specs.declared.timers.Timer.{Timer}
-use Rattle.lapd_frame.specs.declared.timers.Timer.TheVariants.{T200, T203, T201}
 use Rattle.model_link.specs.Events as link
-use Rattle.model_link.specs.Link.{Link, fresh, queue_of}
 use Rattle.model_link.specs.Machine as links
 use Rattle.model_link.specs.Requests as requests
 use Rattle.model_link.specs.Rises as rises
-use Rattle.model_link.specs.declared.timers.LinkTimer.{LinkTimer}
 use Rattle.model_link.specs.declared.timers.LinkTimer.TheVariants as link_timer
-use Rattle.model_link.proofs.Slots.{queue-after}
 use Rattle.lapd_tei.specs.Events as teis
-use Rattle.lapd_tei.specs.Laws.{Moves}
-use Rattle.lapd_tei.specs.Machine.{Management}
-use Rattle.lapd_tei.specs.Sound.{IsAt}
-use Rattle.lapd_tei.specs.Table.{Places}
-use Rattle.lapd_tei.specs.declared.outcome.Change.{Change}
-use Rattle.lapd_tei.specs.declared.outcome.Change.TheVariants.{Gained, Left}
 use Rattle.lapd_tei.proofs.LawLemmas as tei_lemmas
-use Rattle.lapd_tei.proofs.Tables.{at-within}
-use Rattle.model_line.specs.declared.config.Config.{Config}
-use Rattle.model_line.specs.Event.{LineTold, nothing, Event, octet, expiry, request, pull}
-use Rattle.model_line.specs.Counts.{one}
-use Rattle.model_line.specs.Expiry.{at_timer, aim_of_expiry}
-use Rattle.model_line.specs.Line.{Line, fresh_line, link_number, link_count, service_at, place_at, place_in, tei_at, link_at, link_in, terms}
-use Rattle.model_line.specs.Machine.{after, takes_slot, unless_refused}
-use Rattle.model_line.specs.Octet.{gained, aim_of_heard, aim_of_octet, with_received}
-use Rattle.model_line.specs.Effect.{Aim, at_none, at_link, at_management, at_units, told_of_management, of_link, of_change, of_aim}
-use Rattle.model_line.specs.Pull.{Taken, with_message, message_taken, unit_frame, unit_taken, with_given_frame, link_taken, first_taken, round, taken, is_due, with_item, with_due}
-use Rattle.model_line.specs.Refusal.{refusal}
-use Rattle.model_line.specs.Request.{Request, Establish, Release, Data, Unit, Assign, Remove, Check, SetBusy, ClearBusy}
-use Rattle.model_line.specs.Requested.{at_requested, aim_of_request, carries_contents}
-use Rattle.model_line.specs.Sound.{IsInRange, IsSoundAt, IsSound}
-use Rattle.model_line.specs.Stored.{sum_of_links, slots_by_link, slots_of}
 use Rattle.model_line.proofs.AimsSound.{IsProper}
 use Rattle.model_line.proofs.LinksSound.{sound_in}
 use Rattle.model_line.proofs.LineSound.{received_sound}

@@ -1,31 +1,10 @@
 -- An expiry starts at most one timer.
-use Rattle.std.proofs.Common.{◌≡◌, ℕ, ◌≤◌, List, [], ◌∷◌, ◌++◌, length, Option, Some, None, refl, ◌∙◌, arith}
-use Rattle.lapd_frame.specs.declared.services.Service.{Service}
-use Rattle.lapd_frame.specs.declared.services.Service.TheVariants.{Call, Packet}
-use Rattle.lapd_frame.specs.declared.timers.Order.{Order}
-use Rattle.lapd_frame.specs.declared.timers.Order.TheVariants.{Start, Stop}
-use Rattle.lapd_frame.specs.declared.timers.Timer.{Timer}
-use Rattle.lapd_frame.specs.declared.timers.Timer.TheVariants.{T200, T203, T201}
-use Rattle.model_link.proofs.TellRows.{one-start}
+use Rattle.model_line.proofs.Vocabulary.{◌≡◌, ℕ, ◌≤◌, List, [], ◌∷◌, ◌++◌, length, Option, Some, None, refl, ◌∙◌, arith, Service, Call, Packet, Order, Start, Stop, Timer, T200, T203, T201, one-start, Link, orders_for, starts, Terms, LinkTimer, IsBrief, told_brief, Change, Gained, Left, Config, expiry, at_timer, aim_of_expiry, orders_in, Line, link_in, place_in, terms, answer, told_of_management, of_link, of_change, of_aim}
 use Rattle.model_link.specs.Events as link
-use Rattle.model_link.specs.Link.{Link}
 use Rattle.model_link.specs.Machine as links
-use Rattle.model_link.specs.Told.{orders_for, starts}
-use Rattle.model_link.specs.declared.terms.Terms.{Terms}
-use Rattle.model_link.specs.declared.timers.LinkTimer.{LinkTimer}
 use Rattle.model_link.specs.declared.timers.LinkTimer.TheVariants as link_timer
-use Rattle.lapd_tei.proofs.Brief.{IsBrief, told_brief}
 use Rattle.lapd_tei.specs.Events as teis
 use Rattle.lapd_tei.specs.Machine as tei
-use Rattle.lapd_tei.specs.declared.outcome.Change.{Change}
-use Rattle.lapd_tei.specs.declared.outcome.Change.TheVariants.{Gained, Left}
-use Rattle.model_line.specs.declared.config.Config.{Config}
-use Rattle.model_line.specs.Event.{expiry}
-use Rattle.model_line.specs.Expiry.{at_timer, aim_of_expiry}
-use Rattle.model_line.specs.Laws.{orders_in}
-use Rattle.model_line.specs.Line.{Line, link_in, place_in, terms}
-use Rattle.model_line.specs.Machine.{answer}
-use Rattle.model_line.specs.Effect.{told_of_management, of_link, of_change, of_aim}
 
 -- what starts nothing may stand before other orders
 before_starts : (xs ys : List Order) → starts xs ≡ 0 → starts (xs ++ ys) ≡ starts ys

@@ -1,30 +1,8 @@
 -- A sound line holds at most so many octets, and at most N201 octets in each slot.
-use Rattle.std.proofs.Common.{◌≡◌, ℕ, zero, suc, ◌+◌, ◌*◌, ◌/◌, ◌≤◌, ◌<◌, Bool, true, false, List, [], ◌∷◌, length, reverse, nat_lt, Option, Some, None, refl, sym, subst, cond, arith}
-use Rattle.std.specs.Prelude.{sum_by, All}
-use Rattle.std.specs.List.{range_with_len}
-use Rattle.std.specs.Option.{option_map_or, unwrap_or}
-use Rattle.std.proofs.lemmas.Bool.{ltb-false}
-use Rattle.std.proofs.lemmas.List.Elements.{All-head, All-tail, All-drop, All-nil, All-cons}
-use Rattle.std.proofs.lemmas.List.Sums.{sum_by-le, sum_by-cons}
-use Rattle.lapd_bits.specs.Bits.{bits}
-use Rattle.lapd_bits.specs.Stuffing.{unstuffed}
-use Rattle.lapd_bits.specs.Deframer.{kept_count, open_gap}
-use Rattle.lapd_bits.specs.Framer.{runs_low, item_octets, last_octets}
-use Rattle.lapd_bits.specs.Sent.{Item}
-use Rattle.lapd_bits.specs.Stream.{room_for}
-use Rattle.lapd_frame.specs.declared.addresses.Side.TheVariants.{Network}
-use Rattle.lapd_frame.specs.Grammar.{spelling}
-use Rattle.lapd_tei.specs.Machine.{held}
-use Rattle.model_link.specs.Link.{Link, frame_of, queue_of}
+use Rattle.model_line.proofs.Vocabulary.{◌≡◌, ℕ, zero, suc, ◌+◌, ◌*◌, ◌/◌, ◌≤◌, ◌<◌, Bool, true, false, List, [], ◌∷◌, length, reverse, nat_lt, Option, Some, None, refl, sym, subst, cond, arith, sum_by, All, range_with_len, option_map_or, unwrap_or, ltb-false, All-head, All-tail, All-drop, All-nil, All-cons, sum_by-le, sum_by-cons, bits, unstuffed, kept_count, open_gap, runs_low, item_octets, last_octets, Item, room_for, Network, spelling, held, Link, queue_of, IsWaitingFrame, ControlFrame, Terms, Config, Line, UnitData, link_count, service_at, place_at, tei_at, terms, link_at, left_of, IsSoundAt, IsSound, IsUnitData, held_received, held_sent, held_by_link, held_in, sum_of_links, slots_by_link, slots_of, total_length, unit_length, octets_by_link, stored_in}
+use Rattle.model_link.specs.Link.{frame_of}
 use Rattle.model_link.specs.Rises as links
-use Rattle.model_link.specs.Sound.{IsWaitingFrame}
-use Rattle.model_link.specs.declared.frames.ControlFrame.{ControlFrame}
-use Rattle.model_link.specs.declared.terms.Terms.{Terms}
-use Rattle.model_line.specs.declared.config.Config.{Config}
-use Rattle.model_line.specs.Line.{Line, UnitData, link_count, service_at, place_at, tei_at, terms, link_at}
-use Rattle.model_line.specs.Pull.{left_of}
-use Rattle.model_line.specs.Sound.{IsSoundAt, IsSound, IsUnitData}
-use Rattle.model_line.specs.Stored.{held_received, held_sent, held_by_link, held_in, sum_of_links, slots_by_link, slots_of, total_length, unit_length, octets_by_link, octets_of, stored_in}
+use Rattle.model_line.specs.Stored.{octets_of}
 use Rattle.model_line.proofs.Numbers.{sum_bounded}
 
 -- of a frame that is received

@@ -1,14 +1,5 @@
 -- The octets given are a beginning of the text of the items.
-use Rattle.std.proofs.Common.{◌≡◌, ℕ, ◌≤◌, Bool, List, [], ◌∷◌, ◌++◌, length, take, drop, ap, sym, ◌∙◌, arith, length-append, append_assoc}
-use Rattle.std.proofs.lemmas.List.{length-take-le, take-append-drop}
-use Rattle.std.proofs.Math.Seq.{drop-append_seam}
-use Rattle.lapd_bits.specs.Bits.{bits, flag, low_bits, number_of}
-use Rattle.lapd_bits.specs.Sent.{Item, idle, frame, frame_text, item_text, line_text}
-use Rattle.lapd_bits.proofs.BitLemmas.{bits-push, low_bits-number_of_n}
-use Rattle.lapd_bits.proofs.FramerStands.{line_text-push}
-use Rattle.model_line.specs.Line.{Line}
-use Rattle.model_line.specs.Pull.{left_of, next_octet}
-use Rattle.model_line.specs.Sound.{IsTextOf}
+use Rattle.model_line.proofs.Vocabulary.{◌≡◌, ℕ, ◌≤◌, Bool, List, [], ◌∷◌, ◌++◌, length, take, drop, ap, sym, ◌∙◌, arith, length-append, append_assoc, length-take-le, take-append-drop, drop-append_seam, bits, flag, low_bits, number_of, Item, idle, frame, frame_text, item_text, line_text, bits-push, low_bits-number_of_n, line_text-push, Line, left_of, next_octet, IsTextOf}
 
 -- The bits of an octet are left.
 pub record IsReady (items : List Item) (given : List ℕ) : Type 0 where

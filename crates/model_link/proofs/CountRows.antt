@@ -1,22 +1,11 @@
 -- What each event delivers, and what it makes of V(R).
-use Rattle.std.proofs.Common.{◌≡◌, ℕ, Bool, true, false, List, Option, None, inl, inr, refl}
-use Rattle.lapd_frame.specs.declared.controls.Control.{Control}
-use Rattle.lapd_frame.specs.declared.controls.Control.TheVariants.{Information, Ua}
-use Rattle.lapd_frame.specs.declared.notes.ErrorCode.{ErrorCode}
-use Rattle.model_link.specs.declared.states.State.{State}
-use Rattle.model_link.specs.declared.states.State.TheVariants.{AwaitingEstablishment, AwaitingRelease, Established, TimerRecovery}
-use Rattle.model_link.specs.declared.terms.Terms.{Terms}
-use Rattle.model_link.specs.Deliveries.{information_of}
+use Rattle.model_link.proofs.Vocabulary.{◌≡◌, ℕ, Bool, true, false, List, Option, None, inl, inr, refl, Control, Information, Ua, ErrorCode, State, AwaitingEstablishment, AwaitingRelease, Established, TimerRecovery, Terms, information_of, frame_in_4, establish_in_4, frame_in_5, t200_in_5, frame_in_6, t200_in_6, T200}
 use Rattle.model_link.specs.Requests
-use Rattle.model_link.specs.TeiAssigned.{frame_in_4, establish_in_4}
-use Rattle.model_link.specs.AwaitingEstablishment.{frame_in_5, t200_in_5}
-use Rattle.model_link.specs.AwaitingRelease.{frame_in_6, t200_in_6}
 use Rattle.model_link.specs.MultipleFrame
 use Rattle.model_link.specs.Established
 use Rattle.model_link.specs.TimerRecovery
 use Rattle.model_link.specs.Machine
 use Rattle.model_link.proofs.Leads.{Leads}
-use Rattle.model_link.specs.declared.timers.LinkTimer.TheVariants.{T200}
 use Rattle.model_link.proofs.Counting.{On, counted, done}
 use Rattle.model_link.proofs.Kept.{Fits, Kept}
 use Rattle.model_link.proofs.Rows.{row_in_4, row_in_5, row_in_6, row_in_7, row_in_8, malformed_row, expired_row, establish_row, release_row, set_busy_row, clear_busy_row}

@@ -1,18 +1,9 @@
 -- What an offer gives is a frame.
-use Rattle.std.proofs.Common.{◌≡◌, ℕ, zero, suc, ◌≤◌, Bool, true, false, cond, List, [], ◌∷◌, length, Option, None, Some, refl, subst, arith}
-use Rattle.std.specs.Prelude.{All, IfSome, slice_get}
-use Rattle.std.proofs.lemmas.List.Elements.{All-head, All-tail}
-use Rattle.lapd_seq.specs.Numbers.{seq}
-use Rattle.lapd_frame.specs.declared.controls.Control.TheVariants.{ReceiveReady}
-use Rattle.model_link.specs.declared.frames.ControlFrame.{ControlFrame}
-use Rattle.model_link.specs.declared.terms.Terms.{Terms}
-use Rattle.model_link.specs.Link.{Link}
+use Rattle.model_link.proofs.Vocabulary.{◌≡◌, ℕ, zero, suc, ◌≤◌, Bool, true, false, cond, List, [], ◌∷◌, length, Option, None, Some, refl, subst, arith, All, IfSome, slice_get, All-head, All-tail, seq, ReceiveReady, ControlFrame, Terms, Link, Sent, Course, begun, IsInRange, IsSound, IsWaitingFrame, IsGiven}
 use Rattle.model_link.specs.Events
-use Rattle.model_link.specs.Steps.{Sent, Course, begun}
 use Rattle.model_link.specs.Words
 use Rattle.model_link.specs.Offers
 use Rattle.model_link.specs.Machine
-use Rattle.model_link.specs.Sound.{IsInRange, IsSound, IsWaitingFrame, IsGiven}
 use Rattle.model_link.proofs.Waits.{frame_without_information, waits}
 
 -- a control frame goes alone

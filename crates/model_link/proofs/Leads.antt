@@ -1,7 +1,5 @@
 -- Where a step leads: from what held before it to what holds after it.
-use Rattle.std.proofs.Common.{◌≡◌, Bool, true, false, cond, refl}
-use Rattle.model_link.specs.Link.{Link}
-use Rattle.model_link.specs.Steps.{Course, Step, ◌then◌, nothing, depending_on, by_bit}
+use Rattle.model_link.proofs.Vocabulary.{◌≡◌, Bool, true, false, cond, refl, Link, Course, Step, ◌then◌, nothing, depending_on, by_bit}
 
 pub record Leads (P : Course → Type 0) (f : Step) (Q : Course → Type 0) : Type 0 where
   pub leads : (c : Course) → P c → Q (f c)

@@ -1,4 +1,5 @@
 -- Lemmas.
+pub mod Vocabulary
 pub mod Leads
 pub mod Waits
 pub mod Kept

@@ -1,13 +1,5 @@
 -- Numbered deliveries: one more eligible frame, delivered or passed over.
-use Rattle.std.proofs.Common.{◌≡◌, ◌≢◌, ℕ, ◌+◌, ◌%◌, Bool, true, false, cond, ◌==◌, List, [], ◌∷◌, ◌++◌, length, Option, Some, None, refl, sym, ap, subst, ◌∙◌, append_assoc, append-nil, length-append, true≢false, eqb-true, eq-eqb, ◌⊎◌, inl, inr, arith}
-use Rattle.std.specs.Prelude.{option_to_list}
-use Rattle.std.proofs.lemmas.List.Elements.{All-push, All-nil}
-use Rattle.model_link.specs.declared.terms.Terms.{Terms}
-use Rattle.model_link.specs.Link.{Link, fresh}
-use Rattle.model_link.specs.Events.{Event}
-use Rattle.model_link.specs.Machine.{after, after_all, told, course}
-use Rattle.model_link.specs.Deliveries.{Arrived, eligible}
-use Rattle.model_link.specs.Numbered.{Numbered, History, nothing_yet, with_event, with_all, IsNumbered}
+use Rattle.model_link.proofs.Vocabulary.{◌≡◌, ◌≢◌, ℕ, ◌+◌, ◌%◌, Bool, true, false, cond, ◌==◌, List, [], ◌∷◌, ◌++◌, length, Option, Some, None, refl, sym, ap, subst, ◌∙◌, append_assoc, append-nil, length-append, true≢false, eqb-true, eq-eqb, ◌⊎◌, inl, inr, arith, option_to_list, All-push, All-nil, Terms, Link, fresh, Event, after, after_all, told, course, Arrived, eligible, Numbered, History, nothing_yet, with_event, with_all, IsNumbered}
 use Rattle.model_link.proofs.Counting.{Counted, Restarted}
 use Rattle.model_link.proofs.Delivering.{delivery, counted_on, event-delivers}
 

@@ -1,18 +1,5 @@
 -- Each word keeps the numbers, the queue and what waits within their bounds.
-use Rattle.std.proofs.Common.{◌≡◌, ℕ, ◌+◌, ◌<◌, ◌≤◌, Bool, true, false, cond, List, [], ◌∷◌, ◌++◌, length, refl, arith, length-append}
-use Rattle.std.specs.Prelude.{All, nat_lt}
-use Rattle.std.proofs.lemmas.Bool.{ltb-true}
-use Rattle.std.proofs.lemmas.List.Elements.{All-push}
-use Rattle.lapd_seq.specs.Numbers.{seq}
-use Rattle.lapd_frame.specs.declared.controls.Control.TheVariants.{Reject, Sabme, Disc, Ua, Dm}
-use Rattle.lapd_frame.specs.declared.notes.Note.{Note}
-use Rattle.model_link.specs.declared.states.State.{State}
-use Rattle.model_link.specs.declared.timers.LinkTimer.{LinkTimer}
-use Rattle.model_link.specs.declared.frames.ControlFrame.{ControlFrame}
-use Rattle.model_link.specs.declared.terms.Terms.{Terms}
-use Rattle.model_link.specs.Link.{Link}
-use Rattle.model_link.specs.Sound.{IsWaitingFrame}
-use Rattle.model_link.specs.Steps.{Course, ◌then◌}
+use Rattle.model_link.proofs.Vocabulary.{◌≡◌, ℕ, ◌+◌, ◌<◌, ◌≤◌, Bool, true, false, cond, List, [], ◌∷◌, ◌++◌, length, refl, arith, length-append, All, nat_lt, ltb-true, All-push, seq, Reject, Sabme, Disc, Ua, Dm, Note, State, LinkTimer, ControlFrame, Terms, Link, IsWaitingFrame, Course, ◌then◌}
 use Rattle.model_link.specs.Words
 use Rattle.model_link.proofs.Leads.{Leads, keeping_then}
 use Rattle.model_link.proofs.Waits.{ua_waits, dm_waits, sabme_waits, disc_waits, rej_waits, ready_command_waits, ready_response_waits}

@@ -1,15 +1,5 @@
 -- What a link owes the line, and how each word lets it rise: a purse holds what may still be spent.
-use Rattle.std.proofs.Common.{ℕ, ◌+◌, ◌≤◌, Bool, true, false, cond, List, [], ◌∷◌, ◌++◌, length, is_some, le_refl, arith, length-append}
-use Rattle.lapd_seq.specs.Numbers.{seq}
-use Rattle.lapd_frame.specs.declared.controls.Control.TheVariants.{Reject, Sabme, Disc, Ua, Dm}
-use Rattle.lapd_frame.specs.declared.notes.Note.{Note}
-use Rattle.model_link.specs.declared.timers.LinkTimer.{LinkTimer}
-use Rattle.model_link.specs.declared.frames.ControlFrame.{ControlFrame}
-use Rattle.model_link.specs.declared.terms.Terms.{Terms}
-use Rattle.model_link.specs.Link.{Link, unsent}
-use Rattle.model_link.specs.Rises.{may_send, window_back}
-use Rattle.model_link.specs.Sound.{IsInRange}
-use Rattle.model_link.specs.Steps.{Course, Step, ◌then◌}
+use Rattle.model_link.proofs.Vocabulary.{ℕ, ◌+◌, ◌≤◌, Bool, true, false, cond, List, [], ◌∷◌, ◌++◌, length, is_some, le_refl, arith, length-append, seq, Reject, Sabme, Disc, Ua, Dm, Note, LinkTimer, ControlFrame, Terms, Link, unsent, may_send, window_back, IsInRange, Course, Step, ◌then◌}
 use Rattle.model_link.specs.Words
 use Rattle.model_link.proofs.Leads.{Leads, then_leads}
 use Rattle.model_link.proofs.Numbers.{Claim, Bound, note_keeps, deliver_keeps, deliver_unit_keeps, refuse_keeps, peer_busy_keeps, own_busy_keeps, rejecting_keeps, pending_keeps, repeats_keeps, repeated_keeps, flags_keeps, start_keeps, no_timer_keeps, count_keeps, ua_keeps, dm_keeps, sabme_keeps, disc_keeps, enquire_keeps, answer_keeps, report_keeps, reject_keeps}

@@ -1,8 +1,6 @@
 -- With own busy on, no acknowledgement is owed: every word and every row keeps it so.
-use Rattle.std.proofs.Common.{◌≡◌, ◌∙◌, Bool, false, IsTrue, refl, sym, true≢false}
-use Rattle.model_link.specs.declared.terms.Terms.{Terms}
+use Rattle.model_link.proofs.Vocabulary.{◌≡◌, ◌∙◌, Bool, false, IsTrue, refl, sym, true≢false, Terms, Course}
 use Rattle.model_link.specs.Events
-use Rattle.model_link.specs.Steps.{Course}
 use Rattle.model_link.specs.Machine
 use Rattle.model_link.proofs.Kept.{Kept}
 use Rattle.model_link.proofs.Rows.{every_event}

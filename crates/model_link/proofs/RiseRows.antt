@@ -1,24 +1,7 @@
 -- Each row of the tables costs no more frames than its event's price.
-use Rattle.std.proofs.Common.{◌≡◌, ℕ, ◌+◌, ◌-◌, ◌≤◌, Bool, true, false, ◌&&◌, IsTrue, List, length, take, drop, Option, Some, None, refl, sym, ◌∙◌, ap, le_refl, arith, length-take-le, length-drop}
-use Rattle.lapd_seq.specs.declared.numbers.Seq.{Seq}
-use Rattle.lapd_seq.specs.Circle.{named}
-use Rattle.lapd_frame.specs.declared.controls.Control.{Control}
-use Rattle.lapd_frame.specs.declared.controls.Control.TheVariants.{ReceiveReady, ReceiveNotReady, Reject, Sabme, Ua, Dm}
-use Rattle.lapd_frame.specs.declared.notes.ErrorCode.{ErrorCode}
+use Rattle.model_link.proofs.Vocabulary.{◌≡◌, ℕ, ◌+◌, ◌-◌, ◌≤◌, Bool, true, false, ◌&&◌, IsTrue, List, length, take, drop, Option, Some, None, refl, sym, ◌∙◌, ap, le_refl, arith, length-take-le, length-drop, Seq, named, Control, ReceiveReady, ReceiveNotReady, Reject, Sabme, Ua, Dm, ErrorCode, State, TeiAssigned, AwaitingEstablishment, AwaitingRelease, Established, TimerRecovery, LinkTimer, T200, T203, Terms, is_multiple_frame, is_peer_busy, window_back, IsInRange, Course, Step, ◌then◌, frame_in_4, establish_in_4, frame_in_5, t200_in_5, frame_in_6, t200_in_6}
 use Rattle.lapd_frame.specs.declared.notes.ErrorCode.TheVariants as code
-use Rattle.model_link.specs.declared.states.State.{State}
-use Rattle.model_link.specs.declared.states.State.TheVariants.{TeiAssigned, AwaitingEstablishment, AwaitingRelease, Established, TimerRecovery}
-use Rattle.model_link.specs.declared.timers.LinkTimer.{LinkTimer}
-use Rattle.model_link.specs.declared.timers.LinkTimer.TheVariants.{T200, T203}
-use Rattle.model_link.specs.declared.terms.Terms.{Terms}
-use Rattle.model_link.specs.Link.{is_multiple_frame, is_peer_busy}
-use Rattle.model_link.specs.Rises.{window_back}
-use Rattle.model_link.specs.Sound.{IsInRange}
-use Rattle.model_link.specs.Steps.{Course, Step, ◌then◌}
 use Rattle.model_link.specs.Words
-use Rattle.model_link.specs.TeiAssigned.{frame_in_4, establish_in_4}
-use Rattle.model_link.specs.AwaitingEstablishment.{frame_in_5, t200_in_5}
-use Rattle.model_link.specs.AwaitingRelease.{frame_in_6, t200_in_6}
 use Rattle.model_link.specs.MultipleFrame
 use Rattle.model_link.specs.Established
 use Rattle.model_link.specs.TimerRecovery

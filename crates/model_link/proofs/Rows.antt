@@ -1,26 +1,9 @@
 -- What a row does, said once: a claim that every word of the tables leads on is led on by every row, and by every event.
-use Rattle.std.proofs.Common.{ℕ, Bool, true, false, List, [], ◌∷◌, Option, Some, None}
+use Rattle.model_link.proofs.Vocabulary.{ℕ, Bool, true, false, List, [], ◌∷◌, Option, Some, None, Seq, named, Control, Information, ReceiveReady, ReceiveNotReady, Reject, Sabme, Disc, Ui, Ua, Dm, Frmr, Xid, ErrorCode, Refusal, State, TeiAssigned, AwaitingEstablishment, AwaitingRelease, Established, TimerRecovery, LinkTimer, T200, T203, ControlFrame, Terms, has_outstanding, is_asked, is_peer_busy, is_own_busy, Course, Step, ◌then◌, nothing, depending_on, frame_in_4, establish_in_4, frame_in_5, frame_in_6}
 use Rattle.std.specs.Prelude.{◌&&◌}
-use Rattle.lapd_seq.specs.declared.numbers.Seq.{Seq}
-use Rattle.lapd_seq.specs.Circle.{named}
-use Rattle.lapd_frame.specs.declared.controls.Control.{Control}
-use Rattle.lapd_frame.specs.declared.controls.Control.TheVariants.{Information, ReceiveReady, ReceiveNotReady, Reject, Sabme, Disc, Ui, Ua, Dm, Frmr, Xid}
-use Rattle.lapd_frame.specs.declared.notes.ErrorCode.{ErrorCode}
 use Rattle.lapd_frame.specs.declared.notes.ErrorCode.TheVariants as code
-use Rattle.lapd_frame.specs.declared.refusals.Refusal.{Refusal}
-use Rattle.model_link.specs.declared.states.State.{State}
-use Rattle.model_link.specs.declared.states.State.TheVariants.{TeiAssigned, AwaitingEstablishment, AwaitingRelease, Established, TimerRecovery}
-use Rattle.model_link.specs.declared.timers.LinkTimer.{LinkTimer}
-use Rattle.model_link.specs.declared.timers.LinkTimer.TheVariants.{T200, T203}
-use Rattle.model_link.specs.declared.frames.ControlFrame.{ControlFrame}
-use Rattle.model_link.specs.declared.terms.Terms.{Terms}
-use Rattle.model_link.specs.Link.{has_outstanding, is_asked, is_peer_busy, is_own_busy}
 use Rattle.model_link.specs.Events
-use Rattle.model_link.specs.Steps.{Course, Step, ◌then◌, nothing, depending_on}
 use Rattle.model_link.specs.Words
-use Rattle.model_link.specs.TeiAssigned.{frame_in_4, establish_in_4}
-use Rattle.model_link.specs.AwaitingEstablishment.{frame_in_5}
-use Rattle.model_link.specs.AwaitingRelease.{frame_in_6}
 use Rattle.model_link.specs.MultipleFrame
 use Rattle.model_link.specs.Established
 use Rattle.model_link.specs.TimerRecovery

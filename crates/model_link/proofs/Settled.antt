@@ -1,12 +1,5 @@
 -- Each row of the tables leads from a sound link to a sound link.
-use Rattle.std.proofs.Common.{◌≡◌, ℕ, ◌+◌, ◌-◌, ◌≤◌, Bool, false, IsTrue, List, length, take, drop, sym, subst, true≢false, arith, length-take-le, length-drop}
-use Rattle.std.proofs.lemmas.List.Elements.{All-take, All-drop}
-use Rattle.model_link.specs.declared.states.State.{State}
-use Rattle.model_link.specs.declared.states.State.TheVariants.{TeiAssigned, AwaitingEstablishment, AwaitingRelease, Established, TimerRecovery}
-use Rattle.model_link.specs.declared.frames.ControlFrame.{ControlFrame}
-use Rattle.model_link.specs.declared.terms.Terms.{Terms}
-use Rattle.model_link.specs.Link.{is_multiple_frame}
-use Rattle.model_link.specs.Steps.{Course, Step, ◌then◌}
+use Rattle.model_link.proofs.Vocabulary.{◌≡◌, ℕ, ◌+◌, ◌-◌, ◌≤◌, Bool, false, IsTrue, List, length, take, drop, sym, subst, true≢false, arith, length-take-le, length-drop, All-take, All-drop, State, TeiAssigned, AwaitingEstablishment, AwaitingRelease, Established, TimerRecovery, ControlFrame, Terms, is_multiple_frame, Course, Step, ◌then◌}
 use Rattle.model_link.specs.Words
 use Rattle.model_link.proofs.Leads.{Leads, to_less}
 use Rattle.model_link.proofs.Numbers.{Bounded, Claim, Bound}

@@ -1,22 +1,7 @@
 -- By how much an event lets the queue grow.
-use Rattle.std.proofs.Common.{◌≡◌, ℕ, ◌+◌, ◌-◌, ◌≤◌, Bool, true, false, cond, List, [], ◌∷◌, ◌++◌, length, drop, Option, Some, None, is_some, refl, ap, subst, le_refl, arith, length-append, length-drop}
-use Rattle.lapd_frame.specs.declared.notes.ErrorCode.{ErrorCode}
+use Rattle.model_link.proofs.Vocabulary.{◌≡◌, ℕ, ◌+◌, ◌-◌, ◌≤◌, Bool, true, false, cond, List, [], ◌∷◌, ◌++◌, length, drop, Option, Some, None, is_some, refl, ap, subst, le_refl, arith, length-append, length-drop, ErrorCode, Refusal, All-weaker, Control, Information, ReceiveReady, ReceiveNotReady, Reject, Sabme, Disc, Ui, Ua, Dm, Frmr, Xid, State, TeiAssigned, AwaitingEstablishment, AwaitingRelease, Established, TimerRecovery, LinkTimer, T200, T203, Terms, Link, queue_of, data_in_7_8, grows, IsSound, IsWaitingFrame, Course, begun}
 use Rattle.lapd_frame.specs.declared.notes.ErrorCode.TheVariants as code
-use Rattle.lapd_frame.specs.declared.refusals.Refusal.{Refusal}
-use Rattle.std.proofs.lemmas.List.Elements.{All-weaker}
-use Rattle.lapd_frame.specs.declared.controls.Control.{Control}
-use Rattle.lapd_frame.specs.declared.controls.Control.TheVariants.{Information, ReceiveReady, ReceiveNotReady, Reject, Sabme, Disc, Ui, Ua, Dm, Frmr, Xid}
-use Rattle.model_link.specs.declared.states.State.{State}
-use Rattle.model_link.specs.declared.states.State.TheVariants.{TeiAssigned, AwaitingEstablishment, AwaitingRelease, Established, TimerRecovery}
-use Rattle.model_link.specs.declared.timers.LinkTimer.{LinkTimer}
-use Rattle.model_link.specs.declared.timers.LinkTimer.TheVariants.{T200, T203}
-use Rattle.model_link.specs.declared.terms.Terms.{Terms}
-use Rattle.model_link.specs.Link.{Link, queue_of}
 use Rattle.model_link.specs.Events
-use Rattle.model_link.specs.MultipleFrame.{data_in_7_8}
-use Rattle.model_link.specs.Rises.{grows}
-use Rattle.model_link.specs.Sound.{IsSound, IsWaitingFrame}
-use Rattle.model_link.specs.Steps.{Course, begun}
 use Rattle.model_link.specs.Words
 use Rattle.model_link.specs.Requests
 use Rattle.model_link.specs.Machine

@@ -1,25 +1,8 @@
 -- Every event leads from a sound link to a sound link.
-use Rattle.std.proofs.Common.{◌≡◌, ℕ, ◌+◌, ◌-◌, ◌<◌, ◌≤◌, Bool, true, false, cond, IsTrue, not, ◌&&◌, List, [], ◌∷◌, ◌++◌, length, drop, Option, Some, None, refl, sym, ap, subst, true≢false, arith, length-append, length-drop}
-use Rattle.std.specs.Prelude.{All, nat_lt, nat_le}
-use Rattle.std.proofs.lemmas.Bool.{ltb-true, ltb-false, leb-false, and_parts}
-use Rattle.std.proofs.lemmas.List.Elements.{All-push, All-nil, All-tail}
-use Rattle.lapd_frame.specs.declared.controls.Control.{Control}
-use Rattle.lapd_frame.specs.declared.notes.ErrorCode.{ErrorCode}
+use Rattle.model_link.proofs.Vocabulary.{◌≡◌, ℕ, ◌+◌, ◌-◌, ◌<◌, ◌≤◌, Bool, true, false, cond, IsTrue, not, ◌&&◌, List, [], ◌∷◌, ◌++◌, length, drop, Option, Some, None, refl, sym, ap, subst, true≢false, arith, length-append, length-drop, All, nat_lt, nat_le, ltb-true, ltb-false, leb-false, and_parts, All-push, All-nil, All-tail, Control, ErrorCode, Refusal, WrongState, TooLong, QueueFull, State, TeiAssigned, AwaitingEstablishment, AwaitingRelease, Established, TimerRecovery, LinkTimer, T200, T203, ControlFrame, Terms, Link, fresh, queue_of, is_multiple_frame, IsInRange, IsSettledIn, IsSound, IsWaitingFrame, Course, begun, Step, ◌then◌, changed, data_in_7_8}
 use Rattle.lapd_frame.specs.declared.notes.ErrorCode.TheVariants as code
-use Rattle.lapd_frame.specs.declared.refusals.Refusal.{Refusal}
-use Rattle.lapd_frame.specs.declared.refusals.Refusal.TheVariants.{WrongState, TooLong, QueueFull}
-use Rattle.model_link.specs.declared.states.State.{State}
-use Rattle.model_link.specs.declared.states.State.TheVariants.{TeiAssigned, AwaitingEstablishment, AwaitingRelease, Established, TimerRecovery}
-use Rattle.model_link.specs.declared.timers.LinkTimer.{LinkTimer}
-use Rattle.model_link.specs.declared.timers.LinkTimer.TheVariants.{T200, T203}
-use Rattle.model_link.specs.declared.frames.ControlFrame.{ControlFrame}
-use Rattle.model_link.specs.declared.terms.Terms.{Terms}
-use Rattle.model_link.specs.Link.{Link, fresh, queue_of, is_multiple_frame}
 use Rattle.model_link.specs.Events
-use Rattle.model_link.specs.Sound.{IsInRange, IsSettledIn, IsSound, IsWaitingFrame}
-use Rattle.model_link.specs.Steps.{Course, begun, Step, ◌then◌, changed}
 use Rattle.model_link.specs.Words
-use Rattle.model_link.specs.MultipleFrame.{data_in_7_8}
 use Rattle.model_link.specs.Requests
 use Rattle.model_link.specs.Offers
 use Rattle.model_link.specs.Machine

@@ -1,31 +1,11 @@
 -- Each row of the tables tells at most two notes.
-use Rattle.std.proofs.Common.{◌≡◌, ℕ, ◌+◌, ◌≤◌, zero-add, Bool, true, false, cond, not, ◌&&◌, List, [], ◌∷◌, ◌++◌, length, Option, Some, None, is_some, ◌⊎◌, inl, inr, refl, sym, ap, ◌∙◌, arith, length-append}
-use Rattle.lapd_frame.specs.declared.controls.Control.{Control}
-use Rattle.lapd_frame.specs.declared.controls.Control.TheVariants.{Ui, Ua}
-use Rattle.lapd_frame.specs.declared.notes.Note.{Note}
-use Rattle.lapd_frame.specs.declared.notes.ErrorCode.{ErrorCode}
-use Rattle.model_link.specs.declared.states.State.{State}
-use Rattle.model_link.specs.declared.states.State.TheVariants.{TeiAssigned, AwaitingEstablishment, AwaitingRelease, Established, TimerRecovery}
-use Rattle.model_link.specs.declared.timers.LinkTimer.{LinkTimer}
-use Rattle.model_link.specs.declared.timers.LinkTimer.TheVariants.{T200, T203}
-use Rattle.model_link.specs.declared.terms.Terms.{Terms}
-use Rattle.model_link.specs.Link.{Link}
-use Rattle.model_link.specs.Steps.{Course, begun, Step, by_bit}
+use Rattle.model_link.proofs.Vocabulary.{◌≡◌, ℕ, ◌+◌, ◌≤◌, zero-add, Bool, true, false, cond, not, ◌&&◌, List, [], ◌∷◌, ◌++◌, length, Option, Some, None, is_some, ◌⊎◌, inl, inr, refl, sym, ap, ◌∙◌, arith, length-append, Control, Ui, Ua, Note, ErrorCode, State, TeiAssigned, AwaitingEstablishment, AwaitingRelease, Established, TimerRecovery, LinkTimer, T200, T203, Terms, Link, Course, begun, Step, by_bit, frame_in_4, frame_in_5, frame_in_6, list_any, Timer, Order, Start, Stop, is_data, is_unit, runs, timer_at, order_for, orders_for, starts}
 use Rattle.model_link.specs.Requests
-use Rattle.model_link.specs.TeiAssigned.{frame_in_4}
-use Rattle.model_link.specs.AwaitingEstablishment.{frame_in_5}
-use Rattle.model_link.specs.AwaitingRelease.{frame_in_6}
 use Rattle.model_link.specs.Established
 use Rattle.model_link.specs.TimerRecovery
 use Rattle.model_link.specs.Machine
 use Rattle.model_link.specs.Events
 use Rattle.model_link.specs.Words
-use Rattle.std.specs.List.{list_any}
-use Rattle.lapd_frame.specs.declared.timers.Timer.{Timer}
-use Rattle.lapd_frame.specs.declared.timers.Order.{Order}
-use Rattle.lapd_frame.specs.declared.timers.Order.TheVariants.{Start, Stop}
-use Rattle.model_link.specs.Notes.{is_data, is_unit}
-use Rattle.model_link.specs.Told.{runs, timer_at, order_for, orders_for, starts}
 use Rattle.model_link.proofs.Leads.{Leads}
 use Rattle.model_link.proofs.Telling.{Purse, no_more, another, how_many, Telling, HasTold, ToldWithin, untold, note_tells, words}
 use Rattle.model_link.proofs.Kept.{Fits}

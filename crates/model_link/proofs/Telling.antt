@@ -1,15 +1,9 @@
 -- What an event tells: at most two notes, and a note of data exactly where contents are delivered.
 pub use Rattle.model_link.proofs.Kept.{Purse, no_more, another}
 unfoldable pub use Rattle.model_link.proofs.Kept.{how_many}
-use Rattle.std.proofs.Common.{◌≡◌, ℕ, ◌+◌, ◌≤◌, Bool, true, false, ◌||◌, List, [], ◌∷◌, ◌++◌, length, Option, None, is_some, refl, ◌∙◌, arith, length-append}
-use Rattle.std.specs.List.{list_any}
-use Rattle.std.proofs.lemmas.List.Folds.{list_any-append}
-use Rattle.lapd_frame.specs.declared.notes.Note.{Note}
+use Rattle.model_link.proofs.Vocabulary.{◌≡◌, ℕ, ◌+◌, ◌≤◌, Bool, true, false, ◌||◌, List, [], ◌∷◌, ◌++◌, length, Option, None, is_some, refl, ◌∙◌, arith, length-append, list_any, list_any-append, Note, Terms, Course, is_data, is_unit}
 use Rattle.lapd_frame.specs.declared.notes.Note.TheVariants as notes
-use Rattle.model_link.specs.declared.terms.Terms.{Terms}
-use Rattle.model_link.specs.Steps.{Course}
 use Rattle.model_link.specs.Words
-use Rattle.model_link.specs.Notes.{is_data, is_unit}
 use Rattle.model_link.proofs.Leads.{Leads}
 use Rattle.model_link.proofs.Kept.{two, Kept}
 

@@ -1,9 +1,5 @@
 -- An event of a link that its state does not serve leaves the link as it is, and nothing else is told.
-use Rattle.std.proofs.Common.{◌≡◌, true, false, refl, sym, ap, ◌∙◌}
-use Rattle.std.proofs.lemmas.Bool.{false≢true}
-use Rattle.model_link.specs.declared.terms.Terms.{Terms}
-use Rattle.model_link.specs.Link.{Link}
-use Rattle.model_link.specs.Steps.{Course, begun}
+use Rattle.model_link.proofs.Vocabulary.{◌≡◌, true, false, refl, sym, ap, ◌∙◌, false≢true, Terms, Link, Course, begun}
 use Rattle.model_link.specs.Machine
 use Rattle.model_link.specs.Events
 use Rattle.model_link.specs.Words

@@ -1,18 +1,5 @@
 -- The frames that a link sends are frames of the exchange, of at most four octets.
-use Rattle.std.proofs.Common.{◌≡◌, ◌<◌, ◌≤◌, Bool, true, false, cond, IsTrue, length, refl, arith}
-use Rattle.lapd_seq.specs.declared.numbers.Seq.{Seq}
-use Rattle.lapd_seq.specs.Numbers.{seq}
-use Rattle.lapd_frame.specs.declared.addresses.Side.TheVariants.{Network}
-use Rattle.lapd_frame.specs.declared.controls.Control.TheVariants.{ReceiveReady, ReceiveNotReady, Reject, Sabme, Disc, Ua, Dm}
-use Rattle.lapd_frame.specs.declared.services.Service.{Service}
-use Rattle.lapd_frame.specs.declared.services.Service.TheVariants.{Call, Packet}
-use Rattle.lapd_frame.specs.Grammar.{IsFrame, allows, takes, row, spelling}
-use Rattle.lapd_frame.specs.Services.{sapi_of}
-use Rattle.model_link.specs.declared.terms.Terms.{Terms}
-use Rattle.model_link.specs.declared.frames.ControlFrame.{ControlFrame}
-use Rattle.model_link.specs.Link.{Link, frame_of}
-use Rattle.model_link.specs.Sound.{IsWaitingFrame, is_information}
-use Rattle.model_link.specs.Words.{command, response, ready_to_receive}
+use Rattle.model_link.proofs.Vocabulary.{◌≡◌, ◌<◌, ◌≤◌, Bool, true, false, cond, IsTrue, length, refl, arith, Seq, seq, Network, ReceiveReady, ReceiveNotReady, Reject, Sabme, Disc, Ua, Dm, Service, Call, Packet, IsFrame, allows, takes, row, spelling, sapi_of, Terms, ControlFrame, Link, frame_of, IsWaitingFrame, is_information, command, response, ready_to_receive}
 
 sapi-small : (service : Service) → sapi_of service < 64
 sapi-small Call = omega arith

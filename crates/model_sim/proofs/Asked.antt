@@ -1,26 +1,5 @@
 -- The ranges of the numbers of `limits` are those of a card's configuration.
-use Rattle.std.proofs.Common.{◌≡◌, ℕ, ◌<◌, ◌≤◌, ◌^◌, Bool, true, false, not, cond, ◌&&◌, ◌⊎◌, inl, inr, nat_lt, nat_le, List, [], ◌∷◌, length, Option, None, Some, Result, Ok, Err, refl, sym, ap, ◌∙◌, subst, arith}
-use Rattle.std.specs.Prelude.{codes, decimal, bytes_eq}
-use Rattle.std.specs.List.{list_all}
-use Rattle.std.specs.Char.{is_ascii_digit}
-use Rattle.std.specs.Str.{all_ascii_digits}
-use Rattle.std.specs.Str.Parse.{digits_value}
-use Rattle.std.proofs.lemmas.Bool.{leb-true, le-leb, lt-ltb}
-use Rattle.std.proofs.lemmas.Option.{none-some}
-use Rattle.std.proofs.lemmas.Fmt.{digits_decimal, digits_value-decimal, decimal_nonempty}
-use Rattle.std.proofs.lemmas.Str.Parse.{IsNumeralModel, numerals_by_value, tells_all_ascii_digits}
-use Rattle.model_line.specs.declared.config.Config.{Config}
-use Rattle.model_line.specs.declared.config.Field.TheVariants.{Lines, Terminals, Control, Slots, N201}
-use Rattle.model_line.specs.Config.{is_within}
-use Rattle.model_line.specs.Sound.{IsInRange}
-use Rattle.model_line.proofs.Ranges.{Within, ranges_of}
-use Rattle.lapd_frame.specs.declared.addresses.Side.TheVariants.{Network}
-use Rattle.lapd_script.specs.declared.kind.FaultKind.{FaultKind}
-use Rattle.lapd_script.specs.declared.kind.FaultKind.TheVariants.{BadNumber}
-use Rattle.lapd_script.specs.Job.{Job, job, job_or_none, limits, limits_of, run, frame}
-use Rattle.lapd_script.specs.Number.{number}
-use Rattle.lapd_script.specs.Read.{◌>>=◌}
-use Rattle.model_sim.specs.Asked.{limits_words, limits_of_card, LimitsAreOfCards}
+use Rattle.model_sim.proofs.Vocabulary.{◌≡◌, ℕ, ◌<◌, ◌≤◌, ◌^◌, Bool, true, false, not, cond, ◌&&◌, ◌⊎◌, inl, inr, nat_lt, nat_le, List, [], ◌∷◌, length, Option, None, Some, Result, Ok, Err, refl, sym, ap, ◌∙◌, subst, arith, codes, decimal, bytes_eq, list_all, is_ascii_digit, all_ascii_digits, digits_value, leb-true, le-leb, lt-ltb, none-some, digits_decimal, digits_value-decimal, decimal_nonempty, IsNumeralModel, numerals_by_value, tells_all_ascii_digits, Config, Lines, Terminals, Control, Slots, N201, is_within, IsInRange, Within, ranges_of, Network, FaultKind, BadNumber, Job, job, job_or_none, limits, limits_of, run, frame, number, ◌>>=◌, limits_words, limits_of_card, LimitsAreOfCards}
 
 own : IsNumeralModel (λ word. all_ascii_digits word ≡ true) (digits_value 10)
 own = numerals_by_value _ tells_all_ascii_digits

@@ -1,31 +1,9 @@
 -- On a card for frames, what comes, fails or goes is carried out and told as one answer.
-use Rattle.std.proofs.Common.{◌≡◌, ℕ, zero, suc, ◌<◌, true, List, [], ◌∷◌, ◌++◌, map, replicate, is_some, if◌then◌else◌, Option, Some, None, refl, sym, ap, ◌∙◌, subst, append_assoc, append-nil}
-use Rattle.std.specs.Prelude.{fold, flat_map}
-use Rattle.std.proofs.lemmas.List.Elements.{All-nil, All-cons}
-use Rattle.lapd_bits.specs.StuffingLaws.{AreOctets}
+use Rattle.model_sim.proofs.Vocabulary.{◌≡◌, ℕ, zero, suc, ◌<◌, true, List, [], ◌∷◌, ◌++◌, map, replicate, is_some, if◌then◌else◌, Option, Some, None, refl, sym, ap, ◌∙◌, subst, append_assoc, append-nil, fold, flat_map, All-nil, All-cons, AreOctets, Config, Answer, told, pulled, pull, nothing, orders_in, Line, Taken, taken, Card, line_at, at, answer, moments, after_all, answers_to, octet_alone, pulls_for, pulls_to_begin, Happening, comes, failed, goes, line_of, events_at, events_of, spelled, HappensAt, AreIdle, answer_in, happening_counted, Counters, Said, says, gives, next_of, said, Means, frames_are_of_lines, lines_stay_idle, frames_come_whole, frames_go_whole, Setup, ordered, Scene, answer_text, with_event, with_events, with_counters, after_happening}
 use Rattle.lapd_clock.specs.Timers as clocks
 use Rattle.lapd_frame.specs.declared.timers.Order.{Order}
-use Rattle.model_line.specs.declared.config.Config.{Config}
 use Rattle.model_line.specs.Event as line_event
-use Rattle.model_line.specs.Event.{Answer, told, pulled, pull, nothing}
-use Rattle.model_line.specs.Laws.{orders_in}
-use Rattle.model_line.specs.Line.{Line}
-use Rattle.model_line.specs.Pull.{Taken, taken}
-use Rattle.model_card.specs.Card.{Card, line_at}
-use Rattle.model_card.specs.Event.{at}
-use Rattle.model_card.specs.Machine.{answer}
-use Rattle.model_card.specs.Run.{moments, after_all}
 use Rattle.model_line.specs.declared.faults.Fault.{Fault}
-use Rattle.model_line.specs.WholeAtLine.{answers_to, octet_alone, pulls_for, pulls_to_begin}
-use Rattle.model_card.specs.Happening.{Happening, comes, failed, goes, line_of, events_at, events_of, spelled, HappensAt, AreIdle, answer_in}
-use Rattle.model_card.specs.HappeningsCounted.{happening_counted}
-use Rattle.lapd_count.specs.declared.counters.Counters.{Counters}
-use Rattle.model_card.specs.Said.{Said, says, gives, next_of, said, Means}
-use Rattle.model_card.proofs.Happening.{frames_are_of_lines, lines_stay_idle}
-use Rattle.model_line.proofs.FramesCome.{frames_come_whole}
-use Rattle.model_line.proofs.FramesGo.{frames_go_whole}
-use Rattle.model_sim.specs.Setup.{Setup, ordered}
-use Rattle.model_sim.specs.Steps.{Scene, answer_text, with_event, with_events, with_counters, after_happening}
 
 -- ---- events of one line, by their answers
 

@@ -1,35 +1,9 @@
 -- A script is a run of the card: each line's events lead the card as the line does.
-use Rattle.std.proofs.Common.{◌≡◌, ℕ, zero, suc, ◌+◌, ◌<◌, Bool, true, false, cond, List, [], ◌∷◌, ◌++◌, replicate, Option, Some, None, Result, Ok, Err, refl, sym, ap, ◌∙◌, subst, not, nat_lt, nat_le, arith, ◌≤◌}
-use Rattle.std.specs.Prelude.{fold, All}
-use Rattle.std.proofs.lemmas.Bool.{ltb-true}
-use Rattle.std.proofs.lemmas.Bool.Decides.{nat_tests}
-use Rattle.std.proofs.lemmas.List.Elements.{All-nil, All-cons, All-append, All-map, recursion_from_All}
-use Rattle.std.proofs.lemmas.Option.{none-some}
-use Rattle.lapd_frame.specs.declared.timers.Timer.{Timer}
-use Rattle.lapd_clock.specs.declared.fault.LengthFault.{LengthFault}
+use Rattle.model_sim.proofs.Vocabulary.{◌≡◌, ℕ, zero, suc, ◌+◌, ◌<◌, Bool, true, false, cond, List, [], ◌∷◌, ◌++◌, replicate, Option, Some, None, Result, Ok, Err, refl, sym, ap, ◌∙◌, subst, not, nat_lt, nat_le, arith, ◌≤◌, fold, All, ltb-true, nat_tests, All-nil, All-cons, All-append, All-map, recursion_from_All, none-some, Timer, LengthFault, Lengths, AreInRange, standard, is_length, first_out_of_range, Config, Field, pull, expiry, request, IsInRange, Event, at, Card, fresh, after_all, IsAtLine, AreAtLines, Happening, comes, failed, goes, line_of, events_at, events_of, CardKind, Octets, Frames, FaultKind, TooLong, BadNumber, BadCard, BadLine, BadFrame, TimeOver, read, pieces_of, line_in, Setup, begun, terminal_at, octets_sent, after_sending, with_terminal, Scene, with_event, with_events, octets_at, Pulls, one_pull, pulls, expired, expiries, after_rx, after_in, after_pull, after_happening, after_next, after_counters, after_coming, can_come, for_octets, for_frames, after_wait, after_timers, with_timers, with_card, without_card, last_moment, request_for, Fault, Played, not_begun, played, faulty, is_too_long, after_scene, after_bench, after_reading, unless_faulty, one_more, expiry_events, events_until, coming_events, meant_events, read_events, unless_fault, line_events, events_from, card_meant, first_card, ScriptsAreRuns}
 use Rattle.lapd_clock.specs.declared.fault.LengthFault.TheVariants as fault
-use Rattle.lapd_clock.specs.Timer.{Lengths, AreInRange, standard, is_length, first_out_of_range}
 use Rattle.lapd_clock.specs.Timers as clocks
-use Rattle.model_line.specs.declared.config.Config.{Config}
-use Rattle.model_line.specs.declared.config.Field.{Field}
 use Rattle.model_line.specs.Config as configs
-use Rattle.model_line.specs.Event.{pull, expiry, request}
-use Rattle.model_line.specs.Sound.{IsInRange}
-use Rattle.model_card.specs.Event.{Event, at}
-use Rattle.model_card.specs.Card.{Card, fresh}
-use Rattle.model_card.specs.Run.{after_all, IsAtLine, AreAtLines}
-use Rattle.model_card.specs.Happening.{Happening, comes, failed, goes, line_of, events_at, events_of}
-use Rattle.lapd_script.specs.declared.command.CardKind.{CardKind}
-use Rattle.lapd_script.specs.declared.command.CardKind.TheVariants.{Octets, Frames}
-use Rattle.lapd_script.specs.declared.kind.FaultKind.{FaultKind}
-use Rattle.lapd_script.specs.declared.kind.FaultKind.TheVariants.{TooLong, BadNumber, BadCard, BadLine, BadFrame, TimeOver}
 use Rattle.lapd_script.specs.Meaning as line
-use Rattle.lapd_script.specs.Read.{read}
-use Rattle.model_sim.specs.Pieces.{pieces_of, line_in}
-use Rattle.model_sim.specs.Setup.{Setup, begun, terminal_at, octets_sent, after_sending, with_terminal}
-use Rattle.model_sim.specs.Steps.{Scene, with_event, with_events, octets_at, Pulls, one_pull, pulls, expired, expiries, after_rx, after_in, after_pull, after_happening, after_next, after_counters, after_coming, can_come, for_octets, for_frames, after_wait, after_timers, with_timers, with_card, without_card, last_moment, request_for}
-use Rattle.model_sim.specs.Script.{Fault, Played, not_begun, played, faulty, is_too_long, after_scene, after_bench, after_reading, unless_faulty, one_more}
-use Rattle.model_sim.specs.Events.{expiry_events, events_until, coming_events, meant_events, read_events, unless_fault, line_events, events_from, card_meant, first_card, ScriptsAreRuns}
 use Rattle.model_sim.proofs.Expiries.{drained}
 use Rattle.model_sim.proofs.Runs.{after_all-append, config_stays, one_event, no_event, event_before}
 use Rattle.model_sim.proofs.Kept.{IsKept, events_kept, pulls_kept, octets_within, pulls_within, wait_ticks, none_later}

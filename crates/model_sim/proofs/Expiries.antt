@@ -1,18 +1,8 @@
 -- To wait ends: with each expiry, the time that is left until the end falls, and it is tried often enough.
-use Rattle.std.proofs.Common.{◌≡◌, ℕ, zero, suc, ◌+◌, ◌-◌, ◌<◌, ◌≤◌, Bool, true, false, cond, nat_le, List, [], ◌∷◌, ◌++◌, fold, Option, Some, None, refl, sym, ap, ◌∙◌, subst, arith, append_assoc, append-nil}
-use Rattle.std.proofs.lemmas.Bool.Decides.{nat_tests}
-use Rattle.model_card.specs.Event.{Event, at}
-use Rattle.model_card.specs.Machine.{answer}
-use Rattle.model_card.proofs.Starts.{expiry_starts}
-use Rattle.lapd_clock.proofs.TimeUntil.{time_until-due, time_until-stop, time_until-start}
-use Rattle.lapd_clock.specs.InOrder.{put_in_order}
-use Rattle.lapd_clock.specs.Timer.{Timer, Lengths, AreInRange, T200, T203, T201, Order, Start, Stop, duration}
-use Rattle.lapd_clock.specs.Timers.{Expiry, Timers, is_before, without, finds_place, with_order, first_due, due_at, after_due, next_moment, time_until}
+use Rattle.model_sim.proofs.Vocabulary.{◌≡◌, ℕ, zero, suc, ◌+◌, ◌-◌, ◌<◌, ◌≤◌, Bool, true, false, cond, nat_le, List, [], ◌∷◌, ◌++◌, Option, Some, None, refl, sym, ap, ◌∙◌, subst, arith, append_assoc, append-nil, nat_tests, Event, at, answer, expiry_starts, time_until-due, time_until-stop, time_until-start, put_in_order, Lengths, AreInRange, T200, T203, T201, Order, Start, Stop, duration, Expiry, Timers, is_before, without, finds_place, with_order, first_due, due_at, after_due, next_moment, time_until, orders_in, starts, Setup, ordered, happened, Scene, answer_text, at_expiry, expired, expiries, until, moment_of}
+use Rattle.std.proofs.Common.{fold}
+use Rattle.lapd_clock.specs.Timer.{Timer}
 use Rattle.model_line.specs.Event as line_event
-use Rattle.model_line.specs.Laws.{orders_in}
-use Rattle.model_link.specs.Told.{starts}
-use Rattle.model_sim.specs.Setup.{Setup, ordered, happened}
-use Rattle.model_sim.specs.Steps.{Scene, answer_text, at_expiry, expired, expiries, until, moment_of}
 
 -- ---- with each expiry, as it starts at most one timer, the time that is left falls
 

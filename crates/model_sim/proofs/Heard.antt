@@ -1,21 +1,8 @@
 -- What a terminal sends is heard, and what is found in pulls is what is heard in all of them.
-use Rattle.std.proofs.Common.{◌≡◌, ℕ, zero, suc, ◌+◌, ◌-◌, ◌*◌, ◌%◌, ◌==◌, ◌<◌, Bool, true, false, if◌then◌else◌, List, [], ◌∷◌, ◌++◌, length, take, drop, map, filter_map, Option, option_to_list, refl, sym, ap, ◌∙◌, arith, append_assoc, append-nil, length-append}
-use Rattle.std.specs.Prelude.{All}
-use Rattle.std.proofs.Math.Seq.{drop-append_seam, take-append_seam}
-use Rattle.std.proofs.lemmas.Bool.{eqb-true, true≢false, eq-eqb}
-use Rattle.std.proofs.lemmas.List.{drop_at}
-use Rattle.std.proofs.lemmas.List.Elements.{All-head, All-tail, filter_map-append}
-use Rattle.lapd_bits.specs.Bits.{bits, flag, octets_of}
-use Rattle.lapd_bits.specs.Sent.{Item, idle, frame, item_text, line_text}
+use Rattle.model_sim.proofs.Vocabulary.{◌≡◌, ℕ, zero, suc, ◌+◌, ◌-◌, ◌*◌, ◌%◌, ◌==◌, ◌<◌, Bool, true, false, if◌then◌else◌, List, [], ◌∷◌, ◌++◌, length, take, drop, map, filter_map, Option, option_to_list, refl, sym, ap, ◌∙◌, arith, append_assoc, append-nil, length-append, All, drop-append_seam, take-append_seam, eqb-true, true≢false, eq-eqb, drop_at, All-head, All-tail, filter_map-append, bits, flag, octets_of, Item, idle, item_text, line_text, heard_in, IsHeardWhole, AreHeardWhole, frames_of, bits-append, length-bits, low_bits-number_of_n, line_text-push, one_event_an_octet, frames_round_trip_lem, Terminal, with_frame, sending, octets_sent, after_sending, frame_in, found, all_sent, FramesAreHeard}
+use Rattle.lapd_bits.specs.Sent.{frame}
 use Rattle.lapd_bits.specs.Stream as stream
-use Rattle.lapd_bits.specs.Stream.{Event, heard_in}
-use Rattle.lapd_bits.specs.RoundTrip.{IsHeardWhole, AreHeardWhole, frames_of}
-use Rattle.lapd_bits.proofs.BitLemmas.{bits-append, length-bits, low_bits-number_of_n}
-use Rattle.lapd_bits.proofs.FramerStands.{line_text-push}
-use Rattle.lapd_bits.proofs.OneEvent.{one_event_an_octet}
-use Rattle.lapd_bits.proofs.RoundTripFrame.{frames_round_trip_lem}
-use Rattle.model_sim.specs.Setup.{Terminal, with_frame, sending, octets_sent, after_sending, frame_in, found}
-use Rattle.model_sim.specs.Heard.{all_sent, FramesAreHeard}
+use Rattle.lapd_bits.specs.Stream.{Event}
 
 -- ---- bits, cut into octets
 

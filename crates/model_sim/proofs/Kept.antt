@@ -1,25 +1,6 @@
 -- What each line of a script keeps: the timers that run are in order, of lines of the card, and later than the moment.
-use Rattle.std.proofs.Common.{◌≡◌, ℕ, zero, suc, ◌+◌, ◌<◌, Bool, true, false, cond, nat_le, List, [], ◌∷◌, replicate, Option, Some, None, refl, sym, ◌∙◌, subst, arith}
-use Rattle.std.specs.Prelude.{fold, All}
-use Rattle.std.specs.List.{AllByRecursion}
-use Rattle.std.proofs.lemmas.Bool.{leb-false}
-use Rattle.std.proofs.lemmas.Option.{none-some}
-use Rattle.std.proofs.lemmas.List.Elements.{All-nil, All-cons, All-head, All-tail, All-map, All-replicate}
-use Rattle.lapd_clock.specs.InOrder.{put_in_order, IsInOrder}
-use Rattle.lapd_clock.specs.Timer.{Timer, Lengths, AreInRange, Order, Start, Stop, duration}
-use Rattle.lapd_clock.specs.Timers.{Expiry, Timers, is_before, without, finds_place, with_order, first_due, after_first_due, due_at}
-use Rattle.lapd_clock.proofs.Calls.{all_later}
-use Rattle.lapd_clock.proofs.Ordered.{All-put_in_order, All-filter, IsInOrder-put_in_order, IsInOrder-filter}
-use Rattle.lapd_clock.proofs.TimerOrder.{before_order}
-use Rattle.model_line.specs.Event.{octet, pull, expiry}
-use Rattle.model_line.specs.Laws.{orders_in}
-use Rattle.model_card.specs.Card.{Card}
-use Rattle.model_card.specs.Event.{Event, at}
-use Rattle.model_card.specs.Machine.{answer}
-use Rattle.model_card.specs.Run.{IsAtLine, AreAtLines}
-use Rattle.model_sim.specs.Setup.{Setup, ordered, happened}
-use Rattle.model_sim.specs.Steps.{Scene, with_event, with_events, octets_at, Pulls, one_pull, pulls, at_expiry, expired, expiries}
-use Rattle.model_sim.specs.Events.{expiry_events}
+use Rattle.model_sim.proofs.Vocabulary.{◌≡◌, ℕ, zero, suc, ◌+◌, ◌<◌, Bool, true, false, cond, nat_le, List, [], ◌∷◌, replicate, Option, Some, None, refl, sym, ◌∙◌, subst, arith, fold, All, AllByRecursion, leb-false, none-some, All-nil, All-cons, All-head, All-tail, All-map, All-replicate, put_in_order, IsInOrder, Lengths, AreInRange, Order, Start, Stop, duration, Expiry, Timers, is_before, without, finds_place, with_order, first_due, after_first_due, due_at, all_later, All-put_in_order, All-filter, IsInOrder-put_in_order, IsInOrder-filter, before_order, octet, pull, expiry, orders_in, Card, Event, at, answer, IsAtLine, AreAtLines, Setup, ordered, happened, Scene, with_event, with_events, octets_at, Pulls, one_pull, pulls, at_expiry, expired, expiries, expiry_events}
+use Rattle.lapd_clock.specs.Timer.{Timer}
 use Rattle.model_sim.proofs.Expiries.{runs_long, order_lengths, happens_in_range}
 
 -- ---- orders

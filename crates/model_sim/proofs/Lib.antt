@@ -1,4 +1,5 @@
 -- Lemmas: expiries until a moment, and scripts as runs of a card.
+pub mod Vocabulary
 pub mod Expiries
 pub mod Kept
 pub mod Runs

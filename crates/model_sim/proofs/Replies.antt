@@ -1,30 +1,9 @@
 -- The text of a script is what the answers to its events say.
-use Rattle.std.proofs.Common.{◌≡◌, ℕ, zero, suc, ◌+◌, Bool, true, false, cond, List, [], ◌∷◌, ◌++◌, replicate, get_or, Option, Some, None, Result, Ok, Err, refl, sym, ap, ◌∙◌, subst, nat_lt, nat_le, append_assoc, append-nil}
-use Rattle.std.specs.Prelude.{fold, map}
-use Rattle.std.proofs.lemmas.Option.{none-some}
-use Rattle.lapd_frame.specs.declared.timers.Timer.{Timer}
-use Rattle.lapd_clock.specs.declared.fault.LengthFault.{LengthFault}
-use Rattle.lapd_clock.specs.Timer.{Lengths, first_out_of_range}
+use Rattle.model_sim.proofs.Vocabulary.{◌≡◌, ℕ, zero, suc, ◌+◌, Bool, true, false, cond, List, [], ◌∷◌, ◌++◌, replicate, get_or, Option, Some, None, Result, Ok, Err, refl, sym, ap, ◌∙◌, subst, nat_lt, nat_le, append_assoc, append-nil, fold, none-some, Timer, LengthFault, Lengths, first_out_of_range, Config, pull, expiry, Event, at, Card, fresh, after, answer, moments, after_all, comes, failed, events_of, CardKind, Octets, Frames, FaultKind, TooLong, BadNumber, BadLine, BadFrame, TimeOver, read, pieces_of, line_in, Setup, begun, terminal_at, octets_sent, Scene, answer_text, octet_in, pulled_text, with_event, with_events, octets_at, Pulls, one_pull, pulls, expired, expiries, after_rx, after_in, after_pull, after_happening, after_next, after_counters, after_coming, can_come, for_octets, for_frames, after_wait, after_timers, with_timers, with_card, without_card, last_moment, Fault, Played, not_begun, faulty, is_too_long, after_scene, after_bench, after_reading, one_more, expiry_events, coming_events, read_events, unless_fault, line_events, events_from, first_card, replies_text, octet_given, meant_moments, read_moments, read_text, line_moments, moments_from, text_from, TranscriptsAreReplies}
+use Rattle.std.specs.Prelude.{map}
 use Rattle.lapd_clock.specs.Timers as clocks
-use Rattle.model_line.specs.declared.config.Config.{Config}
-use Rattle.model_line.specs.Event.{pull, expiry}
-use Rattle.model_card.specs.Event.{Event, at}
-use Rattle.model_card.specs.Card.{Card, fresh}
-use Rattle.model_card.specs.Machine.{after, answer}
-use Rattle.model_card.specs.Run.{moments, after_all}
-use Rattle.model_card.specs.Happening.{comes, failed, events_of}
-use Rattle.lapd_script.specs.declared.command.CardKind.{CardKind}
-use Rattle.lapd_script.specs.declared.command.CardKind.TheVariants.{Octets, Frames}
-use Rattle.lapd_script.specs.declared.kind.FaultKind.{FaultKind}
-use Rattle.lapd_script.specs.declared.kind.FaultKind.TheVariants.{TooLong, BadNumber, BadLine, BadFrame, TimeOver}
 use Rattle.lapd_script.specs.Meaning as line
-use Rattle.lapd_script.specs.Read.{read}
-use Rattle.model_sim.specs.Pieces.{pieces_of, line_in}
-use Rattle.model_sim.specs.Setup.{Setup, begun, terminal_at, octets_sent}
-use Rattle.model_sim.specs.Steps.{Scene, answer_text, octet_in, pulled_text, with_event, with_events, octets_at, Pulls, one_pull, pulls, expired, expiries, after_rx, after_in, after_pull, after_happening, after_next, after_counters, after_coming, can_come, for_octets, for_frames, after_wait, after_timers, with_timers, with_card, without_card, last_moment}
-use Rattle.model_sim.specs.Script.{Fault, Played, not_begun, faulty, is_too_long, after_scene, after_bench, after_reading, one_more}
-use Rattle.model_sim.specs.Events.{expiry_events, coming_events, read_events, unless_fault, line_events, events_from, first_card}
-use Rattle.model_sim.specs.Replies.{replies_text, octet_given, said, meant_moments, read_moments, read_text, line_moments, line_text, moments_from, text_from, TranscriptsAreReplies}
+use Rattle.model_sim.specs.Replies.{said, line_text}
 use Rattle.model_sim.proofs.Events.{one_goes, Begins, waits, stops, begins, one_begins, nothing_brought, stopped}
 
 moments-append : (card : Card) (xs ys : List Event) → moments card (xs ++ ys) ≡ moments card xs ++ moments (after_all card xs) ys

@@ -1,9 +1,5 @@
 -- Runs of a card: no event, one, and one list of events after another.
-use Rattle.std.proofs.Common.{◌≡◌, List, [], ◌∷◌, ◌++◌, refl}
-use Rattle.model_card.specs.Event.{Event}
-use Rattle.model_card.specs.Card.{Card}
-use Rattle.model_card.specs.Machine.{after}
-use Rattle.model_card.specs.Run.{after_all}
+use Rattle.model_sim.proofs.Vocabulary.{◌≡◌, List, [], ◌∷◌, ◌++◌, refl, Event, Card, after, after_all}
 
 pub after_all-append : (card : Card) (xs ys : List Event) → after_all card (xs ++ ys) ≡ after_all (after_all card xs) ys
 unfolding after_all

@@ -1,11 +1,5 @@
 -- A wait leaves nothing that is due.
-use Rattle.std.proofs.Common.{◌≡◌, ℕ, ◌+◌, ◌<◌, None, refl, arith}
-use Rattle.std.proofs.lemmas.List.Elements.{All-from_recursion}
-use Rattle.lapd_clock.specs.InOrder.{IsInOrder}
-use Rattle.lapd_clock.specs.Timer.{AreInRange}
-use Rattle.lapd_clock.specs.Timers.{is_before, due_at, time_until}
-use Rattle.model_sim.specs.Steps.{Scene, after_wait}
-use Rattle.model_sim.specs.Waits.{AllLater, WaitsLeaveNothingDue}
+use Rattle.model_sim.proofs.Vocabulary.{◌≡◌, ℕ, ◌+◌, ◌<◌, None, refl, arith, All-from_recursion, IsInOrder, AreInRange, is_before, due_at, time_until, Scene, after_wait, AllLater, WaitsLeaveNothingDue}
 use Rattle.model_sim.proofs.Events.{script_ran}
 use Rattle.model_sim.proofs.Expiries.{drained}
 use Rattle.model_sim.proofs.Kept.{wait_sorts, none_later}

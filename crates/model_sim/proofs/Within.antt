@@ -1,20 +1,5 @@
 -- What a script's card stores is within its bound, as it is after every list of events.
-use Rattle.std.proofs.Common.{◌≡◌, ℕ, ◌≤◌, List, take, refl, sym, ap, ◌∙◌, subst, arith}
-use Rattle.std.proofs.lemmas.List.Elements.{All-take}
-use Rattle.model_line.specs.declared.config.Config.{Config}
-use Rattle.model_card.specs.Card.{Card, fresh}
-use Rattle.model_card.specs.Event.{Event}
-use Rattle.model_card.specs.Run.{after_all, IsAtLine, AreAtLines}
-use Rattle.model_card.specs.Stored.{stored}
-use Rattle.model_line.specs.Sound.{IsInRange}
-use Rattle.model_card.proofs.CardSound.{cards_stay_sound}
-use Rattle.model_card.proofs.Stored.{stored_within_limit}
-use Rattle.lapd_script.specs.declared.command.CardKind.{CardKind}
-use Rattle.lapd_script.specs.declared.command.CardKind.TheVariants.{Octets, Frames}
-use Rattle.model_sim.specs.Setup.{Setup}
-use Rattle.model_sim.specs.Steps.{held}
-use Rattle.model_sim.specs.Events.{script_events, HasRun}
-use Rattle.model_sim.specs.Within.{bound_of, ScriptsStayWithin}
+use Rattle.model_sim.proofs.Vocabulary.{◌≡◌, ℕ, ◌≤◌, List, take, refl, sym, ap, ◌∙◌, subst, arith, All-take, Config, Card, fresh, Event, after_all, IsAtLine, AreAtLines, stored, IsInRange, cards_stay_sound, stored_within_limit, CardKind, Octets, Frames, Setup, held, script_events, HasRun, bound_of, ScriptsStayWithin}
 use Rattle.model_sim.proofs.Events.{scripts_are_runs}
 use Rattle.model_sim.proofs.Runs.{config_stays}
 

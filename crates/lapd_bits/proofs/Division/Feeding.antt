@@ -1,11 +1,5 @@
 -- Many bits fed to a register at once.
-use Rattle.std.proofs.Common.{◌≡◌, ℕ, ◌+◌, Bool, false, not, List, [], ◌∷◌, ◌++◌, length, replicate, refl, sym, ap, ◌∙◌, append_assoc, append-nil, length-append, arith}
-use Rattle.std.specs.Bool.{beq}
-use Rattle.std.specs.List.{fold}
-use Rattle.std.proofs.Math.ListN.{length-replicate}
-use Rattle.std.proofs.lemmas.List.{replicate-append-replicate}
-use Rattle.std.proofs.lemmas.List.Sums.{fold-append}
-use Rattle.lapd_bits.specs.Check.{plus, brought_down, remainder}
+use Rattle.lapd_bits.proofs.Vocabulary.{◌≡◌, ℕ, ◌+◌, Bool, false, not, List, [], ◌∷◌, ◌++◌, length, replicate, refl, sym, ap, ◌∙◌, append_assoc, append-nil, length-append, arith, beq, fold, length-replicate, replicate-append-replicate, fold-append, plus, brought_down, remainder}
 use Rattle.lapd_bits.proofs.Division.Sums.{differ_self, plus-swap, plus-append, plus-zeros, plus_zeros_of, plus_twice, plus-comm, length-plus}
 use Rattle.lapd_bits.proofs.Division.Linear.{brought_down-plus, remainder-plus, length-remainder, divided_zeros}
 use Rattle.lapd_bits.proofs.Division.Register.{with_bit, length-with_bit, remainder-text_below}

@@ -1,11 +1,6 @@
 -- What a register holds, as bits are fed to it.
-use Rattle.std.proofs.Common.{◌≡◌, ℕ, ◌+◌, ◌-◌, ◌/◌, ◌^◌, ◌<◌, Bool, not, nat_eq, List, [], ◌∷◌, ◌++◌, length, take, get_or, map, refl, sym, ap, subst, ◌∙◌, append_assoc, arith}
+use Rattle.lapd_bits.proofs.Vocabulary.{◌≡◌, ℕ, ◌+◌, ◌-◌, ◌/◌, ◌^◌, ◌<◌, Bool, not, nat_eq, List, [], ◌∷◌, ◌++◌, length, take, get_or, map, refl, sym, ap, subst, ◌∙◌, append_assoc, arith, take_more, and_mask, low_bits, bits, same_bits, check, residue, is_good, HoldsDivision}
 use Rattle.std.specs.Prelude.{bit_and}
-use Rattle.std.proofs.lemmas.List.{take_more}
-use Rattle.std.proofs.lemmas.Nat.{and_mask}
-use Rattle.lapd_bits.specs.Bits.{low_bits, bits, same_bits}
-use Rattle.lapd_bits.specs.Check.{check, residue, is_good}
-use Rattle.lapd_bits.specs.Register.{HoldsDivision}
 use Rattle.lapd_bits.proofs.BitLemmas.{low_bits-add, bits-push, same_bits-low_bits}
 use Rattle.lapd_bits.proofs.Division.Word.{low_bits-not, low_bits-one}
 

@@ -1,9 +1,5 @@
 -- The long division is linear.
-use Rattle.std.proofs.Common.{◌≡◌, ℕ, suc, zero, ◌+◌, Bool, true, false, not, List, [], ◌∷◌, ◌++◌, length, replicate, refl, sym, ap, ◌∙◌, append_assoc, append-nil, length-append, arith}
-use Rattle.std.specs.Bool.{beq}
-use Rattle.std.specs.List.{fold}
-use Rattle.std.proofs.Math.ListN.{length-replicate}
-use Rattle.lapd_bits.specs.Check.{plus, generator, brought_down, remainder}
+use Rattle.lapd_bits.proofs.Vocabulary.{◌≡◌, ℕ, suc, zero, ◌+◌, Bool, true, false, not, List, [], ◌∷◌, ◌++◌, length, replicate, refl, sym, ap, ◌∙◌, append_assoc, append-nil, length-append, arith, beq, fold, length-replicate, plus, generator, brought_down, remainder}
 use Rattle.lapd_bits.proofs.Division.Sums.{plus-assoc, plus_last_two, plus-swap, plus-append, plus_zeros_of, length-plus}
 
 -- ---- one step

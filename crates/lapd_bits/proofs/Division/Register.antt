@@ -1,10 +1,5 @@
 -- The division with the bits fed in at the top: what a shift register does.
-use Rattle.std.proofs.Common.{◌≡◌, ◌+◌, Bool, true, false, not, List, [], ◌∷◌, ◌++◌, length, replicate, refl, sym, ap, ◌∙◌, append_assoc, append-nil, length-append, arith}
-use Rattle.std.specs.Bool.{beq}
-use Rattle.std.specs.List.{fold}
-use Rattle.std.proofs.Math.ListN.{length-replicate}
-use Rattle.std.proofs.lemmas.List.Sums.{fold-append}
-use Rattle.lapd_bits.specs.Check.{plus, generator, brought_down, remainder, dividend}
+use Rattle.lapd_bits.proofs.Vocabulary.{◌≡◌, ◌+◌, Bool, true, false, not, List, [], ◌∷◌, ◌++◌, length, replicate, refl, sym, ap, ◌∙◌, append_assoc, append-nil, length-append, arith, beq, fold, length-replicate, fold-append, plus, generator, brought_down, remainder, dividend}
 use Rattle.lapd_bits.proofs.Division.Sums.{differ-comm, plus-comm, plus-assoc, plus-append, plus_zeros_of, length-plus}
 use Rattle.lapd_bits.proofs.Division.Linear.{length-brought_down, remainder_few, remainder-one}
 

@@ -1,7 +1,5 @@
 -- Sums of polynomials over two values.
-use Rattle.std.proofs.Common.{◌≡◌, ℕ, suc, Bool, true, false, not, List, [], ◌∷◌, ◌++◌, length, replicate, map, refl, sym, ap, ◌∙◌, arith}
-use Rattle.std.specs.Bool.{beq}
-use Rattle.lapd_bits.specs.Check.{plus}
+use Rattle.lapd_bits.proofs.Vocabulary.{◌≡◌, ℕ, suc, Bool, true, false, not, List, [], ◌∷◌, ◌++◌, length, replicate, map, refl, sym, ap, ◌∙◌, arith, beq, plus}
 
 -- ---- two coefficients
 

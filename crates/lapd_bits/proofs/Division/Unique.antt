@@ -1,11 +1,5 @@
 -- The check of a text is the only one.
-use Rattle.std.proofs.Common.{◌≡◌, ℕ, suc, zero, Bool, true, false, not, List, [], ◌∷◌, ◌++◌, length, replicate, map, refl, sym, ap, ◌∙◌, arith}
-use Rattle.std.specs.List.{fold}
-use Rattle.std.proofs.lemmas.List.{same_from_push, length-map}
-use Rattle.std.proofs.lemmas.List.Sums.{fold-append}
-use Rattle.lapd_bits.specs.Bits.{same_bits}
-use Rattle.lapd_bits.specs.Check.{plus, generator, brought_down, remainder, dividend, check, residue, is_good}
-use Rattle.lapd_bits.specs.CheckLaws.{OnlyCheck}
+use Rattle.lapd_bits.proofs.Vocabulary.{◌≡◌, ℕ, suc, zero, Bool, true, false, not, List, [], ◌∷◌, ◌++◌, length, replicate, map, refl, sym, ap, ◌∙◌, arith, fold, same_from_push, length-map, fold-append, same_bits, plus, generator, brought_down, remainder, dividend, check, residue, is_good, OnlyCheck}
 use Rattle.lapd_bits.proofs.BitLemmas.{same_from_test}
 use Rattle.lapd_bits.proofs.Division.Sums.{plus-append, plus_twice, plus-injective, length-plus, plus-ones, plus-not}
 use Rattle.lapd_bits.proofs.Division.Linear.{length-brought_down, length-remainder, remainder_few}

@@ -1,11 +1,5 @@
 -- A register as a number: its bits, the lowest first, against sums and shifts of polynomials.
-use Rattle.std.proofs.Common.{◌≡◌, ℕ, suc, zero, ◌-◌, ◌/◌, ◌%◌, ◌^◌, ◌<◌, not, nat_eq, [], ◌∷◌, map, refl, arith}
-use Rattle.std.specs.Prelude.{bit_xor}
-use Rattle.std.specs.Bool.{beq}
-use Rattle.std.proofs.Math.Nat.{pow-suc}
-use Rattle.std.proofs.lemmas.Nat.{xor_shr, xor_mod}
-use Rattle.lapd_bits.specs.Bits.{low_bits}
-use Rattle.lapd_bits.specs.Check.{plus}
+use Rattle.lapd_bits.proofs.Vocabulary.{◌≡◌, ℕ, suc, zero, ◌-◌, ◌/◌, ◌%◌, ◌^◌, ◌<◌, not, nat_eq, [], ◌∷◌, map, refl, arith, bit_xor, beq, pow-suc, xor_shr, xor_mod, low_bits, plus}
 
 -- ---- sums
 

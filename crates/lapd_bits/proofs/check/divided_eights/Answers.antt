@@ -1,7 +1,5 @@
 -- No octets, and eight more.
-use Rattle.std.proofs.Common.{◌*◌, ◌+◌, ◌++◌, take, drop, subst, sym, append-nil, arith}
-use Rattle.lapd_bits.specs.Bits.{bits}
-use Rattle.lapd_bits.specs.Register.{HoldsDivision}
+use Rattle.lapd_bits.proofs.Vocabulary.{◌*◌, ◌+◌, ◌++◌, take, drop, subst, sym, append-nil, arith, bits, HoldsDivision}
 use Rattle.lapd_bits.proofs.Division.Holds.{HoldsDivision-behind}
 use Rattle.lapd_bits.proofs.Division.Tables.{bits-take_step}
 use Rattle.lapd_bits.proofs.check.divided_eights.Goals as goal

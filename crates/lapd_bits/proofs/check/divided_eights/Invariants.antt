@@ -1,7 +1,5 @@
 -- The register stands for the octets so far, behind what it stood for.
-use Rattle.std.proofs.Common.{◌*◌, ◌++◌, List, Bool, take}
-use Rattle.lapd_bits.specs.Bits.{bits}
-use Rattle.lapd_bits.specs.Register.{HoldsDivision}
+use Rattle.lapd_bits.proofs.Vocabulary.{◌*◌, ◌++◌, List, Bool, take, bits, HoldsDivision}
 use Rattle.lapd_bits.proofs.check.divided_eights.Given as goal
 
 abbrev pub invariant-loop-eight : goal.invariant-loop-eight

@@ -1,8 +1,5 @@
 -- The octets by twos, and then the last of an odd number.
-use Rattle.std.proofs.Common.{◌≡◌, ◌+◌, ◌*◌, ◌/◌, ◌-◌, ◌++◌, subst, length, take, get_or, arith}
-use Rattle.std.proofs.lemmas.List.{take_all}
-use Rattle.lapd_bits.specs.Bits.{bits, low_bits}
-use Rattle.lapd_bits.specs.Register.{HoldsDivision}
+use Rattle.lapd_bits.proofs.Vocabulary.{◌≡◌, ◌+◌, ◌*◌, ◌/◌, ◌-◌, ◌++◌, subst, length, take, get_or, arith, take_all, bits, low_bits, HoldsDivision}
 use Rattle.lapd_bits.proofs.Division.Holds.{HoldsDivision-behind, bits-take_more}
 use Rattle.lapd_bits.proofs.check.divided_more.Goals as goal
 

@@ -1,7 +1,5 @@
 -- The octets in eights, and then two more.
-use Rattle.std.proofs.Common.{◌≡◌, ◌*◌, ◌+◌, ◌/◌, ◌++◌, subst, length, take, drop, arith}
-use Rattle.lapd_bits.specs.Bits.{bits}
-use Rattle.lapd_bits.specs.Register.{HoldsDivision}
+use Rattle.lapd_bits.proofs.Vocabulary.{◌≡◌, ◌*◌, ◌+◌, ◌/◌, ◌++◌, subst, length, take, drop, arith, bits, HoldsDivision}
 use Rattle.lapd_bits.proofs.Division.Holds.{HoldsDivision-behind}
 use Rattle.lapd_bits.proofs.Division.Tables.{bits-take_step}
 use Rattle.lapd_bits.proofs.check.divided_twos.Goals as goal

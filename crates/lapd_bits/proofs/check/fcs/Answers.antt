@@ -1,6 +1,5 @@
 -- The complement of the register is the check.
-use Rattle.std.proofs.Common.{arith}
-use Rattle.lapd_bits.specs.Bits.{bits}
+use Rattle.lapd_bits.proofs.Vocabulary.{arith, bits}
 use Rattle.lapd_bits.proofs.Division.Holds.{HoldsDivision-check}
 use Rattle.lapd_bits.proofs.check.fcs.Goals as goal
 

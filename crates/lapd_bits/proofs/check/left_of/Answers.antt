@@ -1,7 +1,5 @@
 -- The table's entry.
-use Rattle.std.proofs.Common.{◌+◌, ◌*◌, ◌∙◌, ap, get_or, arith}
-use Rattle.lapd_bits.specs.Bits.{low_bits}
-use Rattle.lapd_bits.specs.declared.check.TheConstants.{LEFT}
+use Rattle.lapd_bits.proofs.Vocabulary.{◌+◌, ◌*◌, ◌∙◌, ap, get_or, arith, low_bits, LEFT}
 use Rattle.lapd_bits.proofs.Division.Tables.{left-at}
 use Rattle.lapd_bits.proofs.check.left_of.Goals as goal
 

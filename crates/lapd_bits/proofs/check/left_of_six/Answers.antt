@@ -1,5 +1,5 @@
 -- The sum of what is left of each, the last first.
-use Rattle.std.proofs.Common.{◌+◌, arith}
+use Rattle.lapd_bits.proofs.Vocabulary.{◌+◌, arith}
 use Rattle.lapd_bits.proofs.Division.Tables.{left-next, left-last}
 use Rattle.lapd_bits.proofs.check.left_of_six.Goals as goal
 

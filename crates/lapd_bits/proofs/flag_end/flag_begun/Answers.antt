@@ -1,5 +1,5 @@
 -- Hand-written answers for `flag_begun`.
-use Rattle.std.proofs.Common.{arith}
+use Rattle.lapd_bits.proofs.Vocabulary.{arith}
 use Rattle.lapd_bits.proofs.FlagEnd.{begun-whole, begun-stuffed}
 use Rattle.lapd_bits.proofs.flag_end.flag_begun.Goals as goal
 

@@ -1,7 +1,5 @@
 -- The entries in the tables, or none where they give no six 1s.
-use Rattle.std.proofs.Common.{◌≡◌, ◌+◌, get_or, refl, sym, ◌∙◌, arith}
-use Rattle.std.proofs.lemmas.Bool.{false≢true, eq-eqb, ne_eqb}
-use Rattle.lapd_bits.specs.declared.flag_end.TheConstants.{ONES_BEFORE}
+use Rattle.lapd_bits.proofs.Vocabulary.{◌≡◌, ◌+◌, get_or, refl, sym, ◌∙◌, arith, false≢true, eq-eqb, ne_eqb, ONES_BEFORE}
 use Rattle.lapd_bits.proofs.FlagEndTables.{mark-at, fits, entry}
 use Rattle.lapd_bits.proofs.flag_end.flag_end.Goals as goal
 

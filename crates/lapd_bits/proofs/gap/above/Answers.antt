@@ -1,6 +1,5 @@
 -- Hand-written answers for `above`.
-use Rattle.std.proofs.Common.{◌+◌, ◌<◌, ◌^◌, ap, sym, subst, ◌∙◌, arith}
-use Rattle.lapd_bits.specs.Bits.{low_bits}
+use Rattle.lapd_bits.proofs.Vocabulary.{◌+◌, ◌<◌, ◌^◌, ap, sym, subst, ◌∙◌, arith, low_bits}
 use Rattle.lapd_bits.proofs.Joining.{above_is, above_bits, above_below}
 use Rattle.lapd_bits.proofs.gap.above.Goals as goal
 

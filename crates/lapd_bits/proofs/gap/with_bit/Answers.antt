@@ -1,6 +1,5 @@
 -- Hand-written answers for `with_bit`.
-use Rattle.std.proofs.Common.{◌+◌, ◌++◌, ◌∷◌, [], ap, sym, ◌∙◌}
-use Rattle.lapd_bits.specs.Bits.{low_bits}
+use Rattle.lapd_bits.proofs.Vocabulary.{◌+◌, ◌++◌, ◌∷◌, [], ap, sym, ◌∙◌, low_bits}
 use Rattle.lapd_bits.proofs.Assembly.{low_bits-with_one, low_bits-with_zero, bit_weight}
 use Rattle.lapd_bits.proofs.gap.with_bit.Goals as goal
 

@@ -1,6 +1,5 @@
 -- The bits of the number are those of the octets so far.
-use Rattle.std.proofs.Common.{◌≡◌, ◌*◌, ◌<◌, ◌^◌, take}
-use Rattle.lapd_bits.specs.Bits.{bits, low_bits}
+use Rattle.lapd_bits.proofs.Vocabulary.{◌≡◌, ◌*◌, ◌<◌, ◌^◌, take, bits, low_bits}
 use Rattle.lapd_bits.proofs.stuffed_text.number_of.Given as goal
 
 abbrev pub invariant-loop-octet : goal.invariant-loop-octet

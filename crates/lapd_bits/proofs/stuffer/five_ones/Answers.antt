@@ -1,6 +1,5 @@
 -- The bits are those above the latest four, and no bit is lost.
-use Rattle.std.proofs.Common.{◌≡◌, ◌<◌, ◌+◌, ◌*◌, ◌/◌, bit_and, ap, ◌∙◌, arith}
-use Rattle.std.proofs.Math.Nat.{mod-eq_of_lt}
+use Rattle.lapd_bits.proofs.Vocabulary.{◌≡◌, ◌<◌, ◌+◌, ◌*◌, ◌/◌, bit_and, ap, ◌∙◌, arith, mod-eq_of_lt}
 use Rattle.lapd_bits.proofs.Fives.{fives-twos}
 use Rattle.lapd_bits.proofs.stuffer.five_ones.Goals as goal
 

@@ -1,8 +1,5 @@
 -- No five 1s begin in the latest four bits and those of the four octets.
-use Rattle.std.proofs.Common.{◌+◌, ◌*◌, ◌/◌, ◌^◌, [], ap, sym, ◌∙◌, subst, arith}
-use Rattle.std.proofs.lemmas.Bool.{eqb-true}
-use Rattle.lapd_bits.specs.Bits.{low_bits}
-use Rattle.lapd_bits.specs.Stuffer.{Goes, last_ones, fives}
+use Rattle.lapd_bits.proofs.Vocabulary.{◌+◌, ◌*◌, ◌/◌, ◌^◌, [], ap, sym, ◌∙◌, subst, arith, eqb-true, low_bits, Goes, last_ones, fives}
 use Rattle.lapd_bits.proofs.Underway.{calm}
 use Rattle.lapd_bits.proofs.stuffer.go_as_they_are.Goals as goal
 

@@ -1,7 +1,5 @@
 -- The entry in the tables, or none where it is marked.
-use Rattle.std.proofs.Common.{◌+◌, ◌*◌, nat_eq, get_or, refl, sym, ap, ◌∙◌, arith}
-use Rattle.std.proofs.lemmas.Bool.{false≢true, eqb-true, ne_eqb}
-use Rattle.lapd_bits.specs.declared.unstuffer.TheConstants.{TABLES}
+use Rattle.lapd_bits.proofs.Vocabulary.{◌+◌, ◌*◌, nat_eq, get_or, refl, sym, ap, ◌∙◌, arith, false≢true, eqb-true, ne_eqb, TABLES}
 use Rattle.lapd_bits.proofs.UnstuffingTables.{mark-at, IsContent-at, below-at, counts-fit, runs-fit}
 use Rattle.lapd_bits.proofs.unstuffer.at_once.Goals as goal
 

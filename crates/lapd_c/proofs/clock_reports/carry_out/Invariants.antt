@@ -1,6 +1,5 @@
 -- What is left to carry out.
-use Rattle.std.proofs.Common.{◌≡◌, ◌&&◌, drop}
-use Rattle.lapd_c.specs.Orders.{all_placed, after_orders}
+use Rattle.lapd_c.proofs.Vocabulary.{◌≡◌, ◌&&◌, drop, all_placed, after_orders}
 use Rattle.lapd_c.proofs.clock_reports.carry_out.Given as goal
 
 abbrev pub invariant-loop-i : goal.invariant-loop-i

@@ -1,6 +1,5 @@
 -- Nothing was wrong so far.
-use Rattle.std.proofs.Common.{◌≡◌, drop}
-use Rattle.lapd_c.specs.Orders.{first_fault_in}
+use Rattle.lapd_c.proofs.Vocabulary.{◌≡◌, drop, first_fault_in}
 use Rattle.lapd_c.proofs.clock_reports.first_fault_in.Given as goal
 
 abbrev pub invariant-loop-i : goal.invariant-loop-i

@@ -1,12 +1,6 @@
 -- Hand-written answers for `ask`.
-use Rattle.std.proofs.Common.{refl, sym, ap, subst, ◌∙◌}
-use Rattle.std.proofs.lemmas.Option.{none-some}
+use Rattle.lapd_c.proofs.Vocabulary.{refl, sym, ap, subst, ◌∙◌, none-some, request_of, read_of, answer_of_result, at, AnyStands}
 use Rattle.model_line.specs.Event as line_event
-use Rattle.model_line.specs.Request.{request_of}
-use Rattle.lapd_plain.specs.Requests.{read_of}
-use Rattle.lapd_card.specs.Reply.{answer_of_result}
-use Rattle.model_card.specs.Event.{at}
-use Rattle.lapd_c.specs.Kinds.{AnyStands}
 use Rattle.lapd_c.proofs.Kinded.{reached_of}
 use Rattle.lapd_c.proofs.Served.{if_ok, if_some, shown}
 use Rattle.lapd_c.proofs.events.ask.Goals as goal

@@ -1,7 +1,6 @@
 -- Hand-written answers for `expire_timer`.
-use Rattle.std.proofs.Common.{refl, sym, ◌∙◌}
+use Rattle.lapd_c.proofs.Vocabulary.{refl, sym, ◌∙◌, at}
 use Rattle.model_line.specs.Event as line_event
-use Rattle.model_card.specs.Event.{at}
 use Rattle.lapd_c.proofs.Kinded.{reached_of}
 use Rattle.lapd_c.proofs.Served.{if_ok, shown}
 use Rattle.lapd_c.proofs.events.expire_timer.Goals as goal

@@ -1,8 +1,6 @@
 -- Hand-written answers for `take_octet`.
-use Rattle.std.proofs.Common.{refl, ap, subst, ◌∙◌}
+use Rattle.lapd_c.proofs.Vocabulary.{refl, ap, subst, ◌∙◌, at, ShowsAnswer}
 use Rattle.model_line.specs.Event as line_event
-use Rattle.model_card.specs.Event.{at}
-use Rattle.lapd_c.specs.Cards.{ShowsAnswer}
 use Rattle.lapd_c.proofs.Served.{shown}
 use Rattle.lapd_c.proofs.events.take_octet.Goals as goal
 

@@ -1,10 +1,5 @@
 -- Hand-written answers for `exchange`.
-use Rattle.std.proofs.Common.{◌≡◌, ℕ, suc, ◌+◌, ◌*◌, ◌<◌, ◌≤◌, length, refl, sym, subst, ◌∙◌, arith, inl, inr}
-use Rattle.std.proofs.lemmas.Bool.{and_parts, eqb-true, leb-true}
-use Rattle.model_line.specs.declared.config.Config.{Config}
-use Rattle.lapd_card.specs.Counted.{counters_in}
-use Rattle.lapd_c.specs.Kinds.{CardStands}
-use Rattle.lapd_c.specs.Exchange.{card_after}
+use Rattle.lapd_c.proofs.Vocabulary.{◌≡◌, ℕ, suc, ◌+◌, ◌*◌, ◌<◌, ◌≤◌, length, refl, sym, subst, ◌∙◌, arith, inl, inr, and_parts, eqb-true, leb-true, Config, counters_in, CardStands, card_after}
 use Rattle.lapd_c.proofs.Exchanging.{card-made, counted-made, counted-none, counted-to, octets-made, quiet-made, quiet-none, given-none, card-none, tells-made, shown-made}
 use Rattle.lapd_c.proofs.exchange.exchange.Goals as goal
 

@@ -1,9 +1,6 @@
 -- So many steps were made, and none had anything to tell.
-use Rattle.std.proofs.Common.{◌≡◌, ℕ, ◌+◌, ◌<◌, ◌≤◌, length}
+use Rattle.lapd_c.proofs.Vocabulary.{◌≡◌, ℕ, ◌+◌, ◌<◌, ◌≤◌, length, counters_in, Card, CardStands}
 use Rattle.lapd_card.specs.Card.{line_count}
-use Rattle.lapd_card.specs.Counted.{counters_in}
-use Rattle.model_card.specs.Card.{Card}
-use Rattle.lapd_c.specs.Kinds.{CardStands}
 use Rattle.lapd_c.proofs.Exchanging.{Through}
 use Rattle.lapd_c.proofs.exchange.exchange.Given as goal
 

@@ -1,5 +1,5 @@
 -- Hand-written answers for `tells_ended`.
-use Rattle.lapd_card.specs.Lines.{told_at}
+use Rattle.lapd_c.proofs.Vocabulary.{told_at}
 use Rattle.lapd_c.proofs.Served.{shown_told}
 use Rattle.lapd_c.proofs.exchange.tells_ended.Goals as goal
 

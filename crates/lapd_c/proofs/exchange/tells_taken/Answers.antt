@@ -1,9 +1,6 @@
 -- Hand-written answers for `tells_taken`.
-use Rattle.std.proofs.Common.{not, ap, subst, ◌∙◌}
+use Rattle.lapd_c.proofs.Vocabulary.{not, ap, subst, ◌∙◌, at, ShowsAnswer, is_quiet}
 use Rattle.model_line.specs.Event as line_event
-use Rattle.model_card.specs.Event.{at}
-use Rattle.lapd_c.specs.Cards.{ShowsAnswer}
-use Rattle.lapd_c.specs.Exchange.{is_quiet}
 use Rattle.lapd_c.proofs.Served.{small}
 use Rattle.lapd_c.proofs.exchange.tells_taken.Goals as goal
 

@@ -1,5 +1,5 @@
 -- Hand-written answers for `give_frame`.
-use Rattle.std.proofs.Common.{refl, ◌∙◌}
+use Rattle.lapd_c.proofs.Vocabulary.{refl, ◌∙◌}
 use Rattle.lapd_c.proofs.Kinded.{none_goes, none_counts, unwritten}
 use Rattle.lapd_c.proofs.frames.give_frame.Goals as goal
 

@@ -1,7 +1,5 @@
 -- Hand-written answers for `take_frame`.
-use Rattle.std.proofs.Common.{refl}
-use Rattle.model_line.specs.Whole.{came}
-use Rattle.model_card.specs.Card.{line_at}
+use Rattle.lapd_c.proofs.Vocabulary.{refl, came, line_at}
 use Rattle.lapd_c.proofs.Served.{shown_heard}
 use Rattle.lapd_c.proofs.frames.take_frame.Goals as goal
 

@@ -1,8 +1,5 @@
 -- Hand-written answers for `tell_fault`.
-use Rattle.std.proofs.Common.{refl, sym, ◌∙◌}
-use Rattle.lapd_bits.specs.Stream.{dropped}
-use Rattle.model_line.specs.Whole.{cause_of}
-use Rattle.model_card.specs.Card.{line_at}
+use Rattle.lapd_c.proofs.Vocabulary.{refl, sym, ◌∙◌, dropped, cause_of, line_at}
 use Rattle.lapd_c.proofs.Served.{if_ok, shown_heard}
 use Rattle.lapd_c.proofs.frames.tell_fault.Goals as goal
 

@@ -1,8 +1,6 @@
 -- No link was met so far.
-use Rattle.std.proofs.Common.{◌≤◌}
+use Rattle.lapd_c.proofs.Vocabulary.{◌≤◌, AnyStands, AreFree}
 use Rattle.model_card.specs.Card as machine
-use Rattle.lapd_c.specs.Kinds.{AnyStands}
-use Rattle.lapd_c.specs.Links.{AreFree}
 use Rattle.lapd_c.proofs.links.first_link.Given as goal
 
 abbrev pub invariant-loop-place : goal.invariant-loop-place

@@ -1,5 +1,5 @@
 -- Hand-written answers for `tell_next`: what was found is what is told.
-use Rattle.std.proofs.Common.{refl}
+use Rattle.lapd_c.proofs.Vocabulary.{refl}
 use Rattle.lapd_c.proofs.links.tell_next.Goals as goal
 
 pub returns-in-Some-clause-told : goal.returns-in-Some-clause-told

@@ -1,7 +1,5 @@
 -- Hand-written answers for `line_count`.
-use Rattle.std.proofs.Common.{◌≡◌, ◌≤◌, arith}
-use Rattle.model_line.proofs.Ranges.{ranges_of}
-use Rattle.lapd_c.specs.Kinds.{line_count}
+use Rattle.lapd_c.proofs.Vocabulary.{◌≡◌, ◌≤◌, arith, ranges_of, line_count}
 use Rattle.lapd_c.proofs.Kinded.{lines_of, reached_of}
 use Rattle.lapd_c.proofs.questions.line_count.Goals as goal
 

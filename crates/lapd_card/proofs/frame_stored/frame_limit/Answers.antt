@@ -1,6 +1,5 @@
 -- Hand-written answers for `frame_limit`.
-use Rattle.std.proofs.Common.{◌≡◌, ◌+◌, ◌*◌, sym, subst, Fits, w32}
-use Rattle.lapd_card.specs.FrameCard.{frame_limit}
+use Rattle.lapd_card.proofs.Vocabulary.{◌≡◌, ◌+◌, ◌*◌, sym, subst, Fits, w32, frame_limit}
 use Rattle.lapd_card.proofs.Amounts.{fits_32}
 use Rattle.lapd_card.proofs.FrameAmounts.{frame_limit_small}
 use Rattle.lapd_card.proofs.frame_stored.frame_limit.Goals as goal

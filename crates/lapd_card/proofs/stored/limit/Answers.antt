@@ -1,6 +1,5 @@
 -- Hand-written answers for `limit`.
-use Rattle.std.proofs.Common.{◌≡◌, ◌+◌, ◌*◌, sym, subst, Fits, w32}
-use Rattle.model_card.specs.Stored.{limit}
+use Rattle.lapd_card.proofs.Vocabulary.{◌≡◌, ◌+◌, ◌*◌, sym, subst, Fits, w32, limit}
 use Rattle.lapd_card.proofs.Amounts.{limit_small, fits_32}
 use Rattle.lapd_card.proofs.stored.limit.Goals as goal
 

@@ -1,11 +1,5 @@
 -- Hand-written answers for `put_in`.
-use Rattle.std.proofs.Common.{◌≡◌, ℕ, ◌≤◌, true, cond, not, Some, None, unwrap_or, is_ok, length, ltb, ap, ◌∙◌, arith, rules}
-use Rattle.std.specs.List.{insert, position_or_len}
-use Rattle.std.proofs.lemmas.Bool.Decides.{nat_tests}
-use Rattle.std.proofs.lemmas.Iterator.{YieldsList-from_slice}
-use Rattle.std.proofs.lemmas.Iterator.Search.{position_from_yields_List}
-use Rattle.std.proofs.lemmas.List.Sums.{prefix_len-le-length}
-use Rattle.lapd_clock.specs.Places.{held_before}
+use Rattle.lapd_clock.proofs.Vocabulary.{◌≡◌, ℕ, ◌≤◌, true, cond, not, Some, None, unwrap_or, is_ok, length, ltb, ap, ◌∙◌, arith, rules, insert, position_or_len, nat_tests, YieldsList-from_slice, position_from_yields_List, prefix_len-le-length, held_before}
 use Rattle.lapd_clock.proofs.Ordered.{insert-place}
 use Rattle.lapd_clock.proofs.line.put_in.Goals as goal
 

@@ -1,6 +1,5 @@
 -- Without the timer the line has no more timers than before, and with it at most one more.
-use Rattle.std.proofs.Common.{length, ap, arith}
-use Rattle.lapd_clock.specs.Places.{all_but, held_before}
+use Rattle.lapd_clock.proofs.Vocabulary.{length, ap, arith, all_but, held_before}
 use Rattle.lapd_clock.proofs.Ordered.{length-put_in_order}
 use Rattle.lapd_clock.proofs.Calls.{length-all_but}
 use Rattle.lapd_clock.proofs.line.start.Goals as goal

@@ -1,7 +1,5 @@
 -- Hand-written answers for `stop`.
-use Rattle.std.proofs.Common.{rules, not}
-use Rattle.std.proofs.lemmas.Fn.{filter_same}
-use Rattle.lapd_clock.specs.Timer.{is_same}
+use Rattle.lapd_clock.proofs.Vocabulary.{rules, not, filter_same, is_same}
 use Rattle.lapd_clock.proofs.line.stop.Goals as goal
 
 pub returns-clause-items : goal.returns-clause-items

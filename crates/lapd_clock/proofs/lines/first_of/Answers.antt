@@ -1,6 +1,5 @@
 -- One more line.
-use Rattle.std.proofs.Common.{◌+◌, take, sym, ap, ◌∙◌, subst}
-use Rattle.lapd_clock.specs.Places.{earlier_of, IsFirst}
+use Rattle.lapd_clock.proofs.Vocabulary.{◌+◌, take, sym, ap, ◌∙◌, subst, earlier_of, IsFirst}
 use Rattle.lapd_clock.proofs.First.{IsFirst-more}
 use Rattle.lapd_clock.proofs.lines.first_of.Goals as goal
 

@@ -1,6 +1,5 @@
 -- The invariants of the loops of `first_of`.
-use Rattle.std.proofs.Common.{take}
-use Rattle.lapd_clock.specs.Places.{IsFirst}
+use Rattle.lapd_clock.proofs.Vocabulary.{take, IsFirst}
 use Rattle.lapd_clock.proofs.lines.first_of.Given as goal
 
 -- what is first in the lines so far

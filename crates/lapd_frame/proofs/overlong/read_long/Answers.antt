@@ -1,6 +1,5 @@
 -- Hand-written answers for `read_long`.
-use Rattle.std.proofs.Common.{◌≡◌, ◌+◌, ◌<◌, ◌++◌, length, length-append, arith}
-use Rattle.std.proofs.lemmas.List.Elements.{All-append}
+use Rattle.lapd_frame.proofs.Vocabulary.{◌≡◌, ◌+◌, ◌<◌, ◌++◌, length, length-append, arith, All-append}
 use Rattle.lapd_frame.proofs.Spelling.{are-octets, long-is}
 use Rattle.lapd_frame.proofs.overlong.read_long.Goals as goal
 

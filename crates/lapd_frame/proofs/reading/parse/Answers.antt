@@ -1,6 +1,5 @@
 -- Hand-written answers for `parse`.
-use Rattle.std.proofs.Common.{◌≡◌, slice_index, Ok, ap, sym, ◌∙◌, arith, unwrap_or}
-use Rattle.lapd_frame.specs.Reading.{header_of}
+use Rattle.lapd_frame.proofs.Vocabulary.{◌≡◌, slice_index, Ok, ap, sym, ◌∙◌, arith, unwrap_or, header_of}
 use Rattle.lapd_frame.proofs.Spelling.{are-octets, start-within}
 use Rattle.lapd_frame.proofs.reading.parse.Goals as goal
 

@@ -1,5 +1,5 @@
 -- Hand-written answers for `read`.
-use Rattle.std.proofs.Common.{arith}
+use Rattle.lapd_frame.proofs.Vocabulary.{arith}
 use Rattle.lapd_frame.proofs.Spelling.{are-octets, outcome-spelled, outcome-only, outcome-fault}
 use Rattle.lapd_frame.proofs.reading.read.Goals as goal
 

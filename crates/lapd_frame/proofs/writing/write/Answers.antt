@@ -1,6 +1,5 @@
 -- Hand-written answers for `write`.
-use Rattle.std.proofs.Common.{◌≡◌, ◌+◌, ◌++◌, length, length-append, take, ap, ◌∙◌, arith}
-use Rattle.lapd_frame.specs.Grammar.{parts_of, head_of}
+use Rattle.lapd_frame.proofs.Vocabulary.{◌≡◌, ◌+◌, ◌++◌, length, length-append, take, ap, ◌∙◌, arith, parts_of, head_of}
 use Rattle.lapd_frame.proofs.Spelling.{reading-again}
 use Rattle.lapd_frame.proofs.Written.{written, front-of}
 use Rattle.lapd_frame.proofs.writing.write.Goals as goal

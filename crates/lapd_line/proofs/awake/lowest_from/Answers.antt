@@ -1,5 +1,5 @@
 -- Hand-written answers for `lowest_from`.
-use Rattle.std.proofs.Common.{arith}
+use Rattle.lapd_line.proofs.Vocabulary.{arith}
 use Rattle.lapd_line.proofs.AwakeBits.{none_from, lowest_from}
 use Rattle.lapd_line.proofs.awake.lowest_from.Goals as goal
 

@@ -1,7 +1,6 @@
 -- Hand-written answers for `load`.
-use Rattle.std.proofs.Common.{◌++◌, ap, ◌∙◌, subst}
+use Rattle.lapd_line.proofs.Vocabulary.{◌++◌, ap, ◌∙◌, subst, Loads}
 use Rattle.lapd_frame.specs.Grammar.{head_of}
-use Rattle.lapd_line.specs.Loading.{Loads}
 use Rattle.lapd_line.proofs.PullTakes.{append_none}
 use Rattle.lapd_line.proofs.pulls.load.Goals as goal
 

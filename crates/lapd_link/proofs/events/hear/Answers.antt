@@ -1,9 +1,5 @@
 -- Hand-written answers for `hear`.
-use Rattle.std.proofs.Common.{[], refl, sym, subst}
-use Rattle.model_link.specs.Machine.{received_step}
-use Rattle.lapd_link_steps.specs.Does.{Does}
-use Rattle.lapd_link.specs.declared.received.Received.{Received}
-use Rattle.lapd_link.specs.Events.{info_of, received_of}
+use Rattle.lapd_link.proofs.Vocabulary.{[], refl, sym, subst, received_step, Does, Received, info_of, received_of}
 use Rattle.lapd_link.proofs.events.hear.Goals as goal
 
 pub returns-in-Frame : goal.returns-in-Frame

@@ -1,9 +1,5 @@
 -- Hand-written answers for `take`.
-use Rattle.std.proofs.Common.{[], sym, subst}
-use Rattle.model_link.specs.Machine.{step}
-use Rattle.lapd_link_steps.specs.Done.{Took}
-use Rattle.lapd_link.specs.declared.events.Happening.{Happening}
-use Rattle.lapd_link.specs.Events.{info_at, event_of}
+use Rattle.lapd_link.proofs.Vocabulary.{[], sym, subst, step, Took, Happening, info_at, event_of}
 use Rattle.lapd_link.proofs.events.take.Goals as goal
 
 pub returns-in-Received : goal.returns-in-Received

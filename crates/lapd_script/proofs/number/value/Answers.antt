@@ -1,6 +1,5 @@
 -- Hand-written answers for `value`.
-use Rattle.std.proofs.Common.{sym, subst, List, ℕ}
-use Rattle.std.specs.Str.Parse.{ParsesUnsigned}
+use Rattle.lapd_script.proofs.Vocabulary.{sym, subst, List, ℕ, ParsesUnsigned}
 use Rattle.lapd_script.proofs.NumberLemmas.{parsed, digits_text}
 use Rattle.lapd_script.proofs.number.value.Goals as goal
 

@@ -1,8 +1,5 @@
 -- Hand-written answers for `card_numbers`.
-use Rattle.std.proofs.Common.{Err, cond, take, sym, ap, ◌∙◌}
-use Rattle.lapd_script.specs.declared.kind.FaultKind.TheVariants.{BadNumberOfWords}
-use Rattle.lapd_script.specs.Words.{texts}
-use Rattle.lapd_script.specs.Read.{for_user, nine_numbers, ten_numbers}
+use Rattle.lapd_script.proofs.Vocabulary.{Err, cond, take, sym, ap, ◌∙◌, BadNumberOfWords, texts, for_user, nine_numbers, ten_numbers}
 use Rattle.lapd_script.proofs.ReadLemmas.{at, with_tenth, with_eleventh}
 use Rattle.lapd_script.proofs.read.card_numbers.Goals as goal
 

@@ -1,5 +1,5 @@
 -- Hand-written answers for `nine_numbers`.
-use Rattle.std.proofs.Common.{arith, refl, ◌∙◌, Ok, Err}
+use Rattle.lapd_script.proofs.Vocabulary.{arith, refl, ◌∙◌, Ok, Err}
 use Rattle.lapd_script.proofs.ReadLemmas.{nine_grouped, err_is}
 use Rattle.lapd_script.proofs.read.nine_numbers.Goals as goal
 

@@ -1,5 +1,5 @@
 -- Hand-written answers for `read_as`.
-use Rattle.std.proofs.Common.{length}
+use Rattle.lapd_script.proofs.Vocabulary.{length}
 use Rattle.lapd_script.proofs.read.read_as.Goals as goal
 
 pub returns-in-Failed-clause-counted : goal.returns-in-Failed-clause-counted

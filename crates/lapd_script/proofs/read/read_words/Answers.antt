@@ -1,8 +1,5 @@
 -- Hand-written answers for `read_words`.
-use Rattle.std.proofs.Common.{Some, sym, ap, subst, ◌∙◌, length, ◌≤◌}
-use Rattle.std.specs.Prelude.{All}
-use Rattle.std.proofs.lemmas.List.Elements.{All-tail}
-use Rattle.lapd_script.specs.Words.{texts}
+use Rattle.lapd_script.proofs.Vocabulary.{Some, sym, ap, subst, ◌∙◌, length, ◌≤◌, All, All-tail, texts}
 use Rattle.lapd_script.proofs.ReadLemmas.{read_taken}
 use Rattle.lapd_script.proofs.read.read_words.Goals as goal
 

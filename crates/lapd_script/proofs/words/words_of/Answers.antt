@@ -1,7 +1,5 @@
 -- Hand-written answers for `words_of`.
-use Rattle.std.proofs.Common.{ℕ, ◌≤◌, ◌++◌, List, [], ◌∷◌, length, Bor, arith, ap, sym, ◌∙◌}
-use Rattle.std.proofs.lemmas.List.Elements.{All-push}
-use Rattle.lapd_script.specs.Words.{words_of, texts}
+use Rattle.lapd_script.proofs.Vocabulary.{ℕ, ◌≤◌, ◌++◌, List, [], ◌∷◌, length, Bor, arith, ap, sym, ◌∙◌, All-push, words_of, texts}
 use Rattle.lapd_script.proofs.WordLemmas.{texts_push, texts_last, texts_full, texts_all, thirteen, fewer}
 use Rattle.lapd_script.proofs.words.words_of.Goals as goal
 

@@ -1,7 +1,5 @@
 -- The invariants of the loops of `words_of`.
-use Rattle.std.proofs.Common.{◌≡◌, ◌≤◌, ◌++◌, List, ℕ, Bor, length}
-use Rattle.std.specs.Prelude.{All}
-use Rattle.lapd_script.specs.Words.{words_of, texts}
+use Rattle.lapd_script.proofs.Vocabulary.{◌≡◌, ◌≤◌, ◌++◌, List, ℕ, Bor, length, All, words_of, texts}
 use Rattle.lapd_script.proofs.words.words_of.Given as goal
 
 -- the words so far, and those of the rest, are those of the line

@@ -1,8 +1,7 @@
 -- Hand-written answers for `distance`.
-use Rattle.lapd_seq.specs.Circle.{distance_of}
+use Rattle.lapd_seq.proofs.Vocabulary.{distance_of, refl}
 use Rattle.lapd_seq.proofs.Callers.{distance-plain, distance-named}
 use Rattle.lapd_seq.proofs.circle.distance.Goals as goal
-use Rattle.std.proofs.Common.{refl}
 
 pub returns-clause-circle : goal.returns-clause-circle
 unfolding distance_of

@@ -1,7 +1,5 @@
 -- Hand-written answers for `valid`.
-use Rattle.std.proofs.Common.{◌+◌, arith}
-use Rattle.std.proofs.lemmas.Bool.{leb-true, le-leb}
-use Rattle.lapd_seq.specs.Circle.{distance_of, IsValid}
+use Rattle.lapd_seq.proofs.Vocabulary.{◌+◌, arith, leb-true, le-leb, distance_of, IsValid}
 use Rattle.lapd_seq.proofs.Callers.{named-valid, valid_from-named}
 use Rattle.lapd_seq.proofs.Remainders.{named-finds}
 use Rattle.lapd_seq.proofs.circle.valid.Goals as goal

@@ -1,6 +1,5 @@
 -- The invariants of the loops of `order`.
-use Rattle.std.proofs.Common.{◌≡◌, fold, take}
-use Rattle.model_sim.specs.Setup.{ordered}
+use Rattle.lapd_sim.proofs.Vocabulary.{◌≡◌, fold, take, ordered}
 use Rattle.lapd_sim.proofs.exchange.order.Given as goal
 
 -- the orders so far have been applied

@@ -1,5 +1,5 @@
 -- Hand-written answers for `play_octets`.
-use Rattle.std.proofs.Common.{refl}
+use Rattle.lapd_sim.proofs.Vocabulary.{refl}
 use Rattle.lapd_sim.proofs.Octets.{in_memory}
 use Rattle.lapd_sim.proofs.memory.play_octets.Goals as goal
 

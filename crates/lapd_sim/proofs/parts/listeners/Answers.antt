@@ -1,7 +1,6 @@
 -- Hand-written answers for `listeners`.
-use Rattle.std.proofs.Common.{[], arith, sym}
+use Rattle.lapd_sim.proofs.Vocabulary.{[], arith, sym, Hears}
 use Rattle.lapd_sim.proofs.Eachs.{each_pushed}
-use Rattle.lapd_sim.specs.Stands.{Hears}
 use Rattle.lapd_sim.proofs.parts.listeners.Goals as goal
 
 pub loop-preserved : goal.loop-preserved

@@ -1,6 +1,5 @@
 -- The invariants of the loops of `listeners`.
-use Rattle.std.proofs.Common.{◌≡◌, [], vec_len, replicate}
-use Rattle.lapd_sim.specs.Stands.{Each, Hears}
+use Rattle.lapd_sim.proofs.Vocabulary.{◌≡◌, [], vec_len, replicate, Each, Hears}
 use Rattle.lapd_sim.proofs.parts.listeners.Given as goal
 
 -- one for each line so far

@@ -1,7 +1,6 @@
 -- Hand-written answers for `terminals`.
-use Rattle.std.proofs.Common.{[], arith, sym}
+use Rattle.lapd_sim.proofs.Vocabulary.{[], arith, sym, Sends}
 use Rattle.lapd_sim.proofs.Eachs.{each_pushed}
-use Rattle.lapd_sim.specs.Stands.{Sends}
 use Rattle.lapd_sim.proofs.parts.terminals.Goals as goal
 
 pub loop-preserved : goal.loop-preserved

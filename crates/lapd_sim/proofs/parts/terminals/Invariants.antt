@@ -1,6 +1,5 @@
 -- The invariants of the loops of `terminals`.
-use Rattle.std.proofs.Common.{◌≡◌, [], vec_len, replicate}
-use Rattle.lapd_sim.specs.Stands.{Each, Sends}
+use Rattle.lapd_sim.proofs.Vocabulary.{◌≡◌, [], vec_len, replicate, Each, Sends}
 use Rattle.lapd_sim.proofs.parts.terminals.Given as goal
 
 -- one for each line so far

@@ -1,9 +1,5 @@
 -- Hand-written answers for `advance`.
-use Rattle.std.proofs.Common.{Ok, [], sym, subst}
-use Rattle.lapd_transcript.specs.Streams.{output}
-use Rattle.lapd_transcript.proofs.Known.{puts_stuck}
-use Rattle.lapd_sim.specs.ScriptLines.{IsReady, AreLeft}
-use Rattle.lapd_sim.specs.declared.lines.ScriptLines.{ScriptLines}
+use Rattle.lapd_sim.proofs.Vocabulary.{Ok, [], sym, subst, output, puts_stuck, IsReady, AreLeft, ScriptLines}
 use Rattle.lapd_sim.proofs.Ending.{ready_puts, ready_reaches, read_puts, read_grows, read_reaches}
 use Rattle.lapd_sim.proofs.player.advance.Goals as goal
 

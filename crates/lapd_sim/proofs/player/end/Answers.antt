@@ -1,5 +1,5 @@
 -- Hand-written answers for `end`.
-use Rattle.std.proofs.Common.{sym, ◌∙◌}
+use Rattle.lapd_sim.proofs.Vocabulary.{sym, ◌∙◌}
 use Rattle.lapd_sim.proofs.Ending.{cut_failures, cut_ends, sent_failures, sent_ends, unsent_failures, unsent_ends}
 use Rattle.lapd_sim.proofs.player.end.Goals as goal
 

@@ -1,6 +1,5 @@
 -- Hand-written answers for `refuse_digits`.
-use Rattle.std.proofs.Common.{List, ℕ, subst}
-use Rattle.lapd_transcript.specs.Streams.{Writes}
+use Rattle.lapd_sim.proofs.Vocabulary.{List, ℕ, subst, Writes}
 use Rattle.lapd_sim.proofs.program.refuse_digits.Goals as goal
 
 pub returns-clause-told : goal.returns-clause-told

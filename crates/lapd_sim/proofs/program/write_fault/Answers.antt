@@ -1,8 +1,5 @@
 -- Hand-written answers for `write_fault`.
-use Rattle.std.proofs.Common.{sym, subst}
-use Rattle.lapd_transcript.specs.Streams.{Writes}
-use Rattle.lapd_sim.specs.declared.faults.PlayFault.{PlayFault}
-use Rattle.lapd_sim.specs.FaultLines.{play_line}
+use Rattle.lapd_sim.proofs.Vocabulary.{sym, subst, Writes, PlayFault, play_line}
 use Rattle.lapd_sim.proofs.program.write_fault.Goals as goal
 
 pub returns-in-Read : goal.returns-in-Read

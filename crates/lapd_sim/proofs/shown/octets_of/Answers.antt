@@ -1,5 +1,5 @@
 -- Hand-written answers for `octets_of`.
-use Rattle.std.proofs.Common.{sym, ◌∙◌, arith}
+use Rattle.lapd_sim.proofs.Vocabulary.{sym, ◌∙◌, arith}
 use Rattle.lapd_sim.proofs.LongDigits.{long_digits, long_odd, long_others}
 use Rattle.lapd_sim.proofs.shown.octets_of.Goals as goal
 use Rattle.lapd_sim.proofs.shown.octets_of.Goals.{else-digits-eq0-via-then-digits-eq0+else-are_hex, else-digits-eq0-via-else-digits-eq0}

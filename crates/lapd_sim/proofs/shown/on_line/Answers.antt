@@ -1,7 +1,5 @@
 -- Hand-written answers for `on_line`.
-use Rattle.std.proofs.Common.{[], ◌∷◌, length, arith, subst, sym, ◌∙◌}
-use Rattle.lapd_bits.specs.Sent.{frame}
-use Rattle.lapd_sim.specs.OnLine.{HasPut}
+use Rattle.lapd_sim.proofs.Vocabulary.{[], ◌∷◌, length, arith, subst, sym, ◌∙◌, frame, HasPut}
 use Rattle.lapd_sim.proofs.OneFrame.{frame_fits, fresh_put, has_room, loaded_put, whole_line, rest_line}
 use Rattle.lapd_sim.proofs.Terminals.{none_left}
 use Rattle.lapd_sim.proofs.shown.on_line.Goals as goal

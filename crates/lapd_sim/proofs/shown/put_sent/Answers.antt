@@ -1,7 +1,5 @@
 -- Hand-written answers for `put_sent`.
-use Rattle.std.proofs.Common.{List, arith, subst, sym}
-use Rattle.lapd_bits.specs.Sent.{Item}
-use Rattle.lapd_sim.specs.OnLine.{HasPut}
+use Rattle.lapd_sim.proofs.Vocabulary.{List, arith, subst, sym, Item, HasPut}
 use Rattle.lapd_sim.proofs.OneFrame.{has_room, put_more}
 use Rattle.lapd_sim.proofs.shown.put_sent.Goals as goal
 

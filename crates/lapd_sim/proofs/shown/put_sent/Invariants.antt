@@ -1,7 +1,5 @@
 -- The invariants of the loops of `put_sent`.
-use Rattle.std.proofs.Common.{◌*◌, ◌≤◌, List, length}
-use Rattle.lapd_bits.specs.Sent.{Item, line_text}
-use Rattle.lapd_sim.specs.OnLine.{HasPut}
+use Rattle.lapd_sim.proofs.Vocabulary.{◌*◌, ◌≤◌, List, length, Item, line_text, HasPut}
 use Rattle.lapd_sim.proofs.shown.put_sent.Given as goal
 
 -- the octets so far were put, and there is room for what is left

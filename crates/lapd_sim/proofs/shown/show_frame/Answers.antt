@@ -1,9 +1,6 @@
 -- Hand-written answers for `show_frame`.
-use Rattle.std.proofs.Common.{take, refl, ◌∙◌}
-use Rattle.lapd_frame.specs.Grammar.{parts_of}
-use Rattle.lapd_transcript.specs.Shown.{shown_text, on_line_text}
+use Rattle.lapd_sim.proofs.Vocabulary.{take, refl, ◌∙◌, parts_of, shown_text, on_line_text, on_line}
 use Rattle.lapd_sim.specs.declared.shown.FrameFault.TheVariants.{Write, OutOfMemory}
-use Rattle.lapd_sim.specs.Shown.{on_line}
 use Rattle.lapd_sim.proofs.Showing.{exit_is, unshown, shown_is, without_memory, broken_first, broken_second, written_both}
 use Rattle.lapd_sim.proofs.shown.show_frame.Goals as goal
 

@@ -1,8 +1,6 @@
 -- Hand-written answers for `give`.
-use Rattle.std.proofs.Common.{refl, ◌∙◌, Ok, Err}
-use Rattle.lapd_sim.specs.Stands.{Holds}
+use Rattle.lapd_sim.proofs.Vocabulary.{refl, ◌∙◌, Ok, Err, Holds, output}
 use Rattle.lapd_sim.proofs.Terminals.{gives_none, gives_more}
-use Rattle.lapd_transcript.specs.Streams.{output}
 use Rattle.lapd_sim.proofs.traffic.give.Goals as goal
 
 pub loop-terminal-init : goal.loop-terminal-init

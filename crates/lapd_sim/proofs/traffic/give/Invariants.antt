@@ -1,10 +1,6 @@
 -- The invariants of the loops of `give`.
-use Rattle.std.proofs.Common.{◌≡◌, ℕ, List, Ok, length}
+use Rattle.lapd_sim.proofs.Vocabulary.{◌≡◌, ℕ, List, Ok, length, Item, Gives, Holds, output}
 use Rattle.lapd_bits.specs.Framer as framing
-use Rattle.lapd_bits.specs.Sent.{Item}
-use Rattle.lapd_sim.specs.Gives.{Gives}
-use Rattle.lapd_sim.specs.Stands.{Holds}
-use Rattle.lapd_transcript.specs.Streams.{output}
 use Rattle.lapd_sim.proofs.traffic.give.Given as goal
 
 -- the lines are the same, and the octets so far have come

@@ -1,6 +1,5 @@
 -- Hand-written answers for `pull`.
-use Rattle.std.proofs.Common.{◌+◌, ◌∙◌, sym, subst, arith}
-use Rattle.std.proofs.lemmas.List.{take_more_set}
+use Rattle.lapd_sim.proofs.Vocabulary.{◌+◌, ◌∙◌, sym, subst, arith, take_more_set}
 use Rattle.lapd_sim.proofs.Pulls.{Pulled, pulled_on}
 use Rattle.lapd_sim.proofs.traffic.pull.Goals as goal
 

@@ -1,6 +1,5 @@
 -- The invariants of the loops of `pull`.
-use Rattle.std.proofs.Common.{◌≡◌, take}
-use Rattle.lapd_sim.specs.Stands.{Holds}
+use Rattle.lapd_sim.proofs.Vocabulary.{◌≡◌, take, Holds}
 use Rattle.lapd_sim.proofs.Pulls.{Pulled}
 use Rattle.model_sim.specs.Setup as machine
 use Rattle.lapd_sim.proofs.traffic.pull.Given as goal

@@ -1,12 +1,5 @@
 -- Hand-written answers for `receive`.
-use Rattle.std.proofs.Common.{◌+◌, Ok, Err, sym, subst, take, take_all, get_or, ◌∙◌}
-use Rattle.model_line.specs.Event.{octet}
-use Rattle.model_card.specs.Event.{at}
-use Rattle.lapd_transcript.specs.Streams.{IsPut, IsStuck, output}
-use Rattle.lapd_transcript.proofs.Known.{puts_then}
-use Rattle.model_sim.specs.Steps.{Scene, after_rx, with_event}
-use Rattle.lapd_sim.specs.Obeyed.{scene}
-use Rattle.lapd_sim.specs.Stands.{Holds}
+use Rattle.lapd_sim.proofs.Vocabulary.{◌+◌, Ok, Err, sym, subst, take, take_all, get_or, ◌∙◌, octet, at, IsPut, IsStuck, output, puts_then, Scene, after_rx, with_event, scene, Holds}
 use Rattle.lapd_sim.proofs.Scenes.{rx_more, broken_rx}
 use Rattle.lapd_sim.proofs.traffic.receive.Goals as goal
 

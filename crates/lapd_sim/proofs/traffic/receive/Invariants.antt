@@ -1,11 +1,6 @@
 -- The invariants of the loops of `receive`.
-use Rattle.std.proofs.Common.{◌≡◌, Ok, take}
+use Rattle.lapd_sim.proofs.Vocabulary.{◌≡◌, Ok, take, after_rx, WriteFailed, scene, Tells, Holds, output}
 use Rattle.model_sim.specs.Setup as machine
-use Rattle.model_sim.specs.Steps.{after_rx}
-use Rattle.lapd_transcript.specs.declared.streams.WriteFailed.{WriteFailed}
-use Rattle.lapd_sim.specs.Obeyed.{scene, Tells}
-use Rattle.lapd_sim.specs.Stands.{Holds}
-use Rattle.lapd_transcript.specs.Streams.{output}
 use Rattle.lapd_sim.proofs.traffic.receive.Given as goal
 
 -- the lines are the same, and the octets so far have come

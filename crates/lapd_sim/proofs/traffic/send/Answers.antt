@@ -1,9 +1,6 @@
 -- Hand-written answers for `send`.
-use Rattle.std.proofs.Common.{◌++◌, length, Ok, Err}
-use Rattle.model_sim.specs.Setup.{with_frame}
-use Rattle.lapd_sim.specs.Stands.{Holds}
+use Rattle.lapd_sim.proofs.Vocabulary.{◌++◌, length, Ok, Err, with_frame, Holds, output}
 use Rattle.lapd_sim.proofs.Terminals.{items_tail, frame_tail, gives_loaded, gives_whole, gives_rest, none_left, rest_stays, sent_told, sent_after, sent_broken, on_ok}
-use Rattle.lapd_transcript.specs.Streams.{output}
 use Rattle.lapd_sim.proofs.traffic.send.Goals as goal
 
 pub returns-in-Err-clause-told : goal.returns-in-Err-clause-told

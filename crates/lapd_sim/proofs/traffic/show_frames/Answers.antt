@@ -1,13 +1,6 @@
 -- Hand-written answers for `show_frames`.
-use Rattle.std.proofs.Common.{◌≡◌, [], ◌∷◌, ◌++◌, ◌+◌, take, drop, get_or, sym, ap, ◌∙◌, subst, option_to_list}
-use Rattle.std.proofs.lemmas.List.{take_more, take-append-drop}
-use Rattle.std.specs.List.{flat_map}
-use Rattle.lapd_bits.specs.Deframer.{latest_of}
-use Rattle.lapd_bits.specs.Heard.{heard_of}
+use Rattle.lapd_sim.proofs.Vocabulary.{◌≡◌, [], ◌∷◌, ◌++◌, ◌+◌, take, drop, get_or, sym, ap, ◌∙◌, subst, option_to_list, take_more, take-append-drop, flat_map, latest_of, heard_of, found, IsPut, IsStuck, output, frame_text}
 use Rattle.lapd_sim.proofs.Listeners.{events_text, Shown, shown_on, shown_in_vain, frame_told, frame_in_vain, nothing_told}
-use Rattle.model_sim.specs.Setup.{found}
-use Rattle.lapd_transcript.specs.Streams.{IsPut, IsStuck, output}
-use Rattle.lapd_transcript.specs.Text.{frame_text}
 use Rattle.lapd_sim.proofs.traffic.show_frames.Goals.{in-Frame+in_default-put_frame, in_default}
 use Rattle.lapd_sim.proofs.traffic.show_frames.Goals as goal
 

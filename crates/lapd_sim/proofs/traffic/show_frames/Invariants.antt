@@ -1,8 +1,6 @@
 -- The invariants of the loops of `show_frames`.
-use Rattle.std.proofs.Common.{ℕ, List, take}
-use Rattle.lapd_sim.specs.Stands.{Hears}
+use Rattle.lapd_sim.proofs.Vocabulary.{ℕ, List, take, Hears, output}
 use Rattle.lapd_sim.proofs.Listeners.{Shown}
-use Rattle.lapd_transcript.specs.Streams.{output}
 use Rattle.lapd_sim.proofs.traffic.show_frames.Given as goal
 
 -- the octets so far have been heard, and the frames in them told

@@ -1,9 +1,5 @@
 -- Hand-written answers for `tell`.
-use Rattle.std.specs.List.{flat_map}
-use Rattle.lapd_transcript.proofs.Known.{puts_then, stuck_more}
-use Rattle.lapd_transcript.specs.Text.{sent_text, frame_text}
-use Rattle.model_sim.specs.Setup.{found}
-use Rattle.lapd_transcript.specs.Streams.{output}
+use Rattle.lapd_sim.proofs.Vocabulary.{flat_map, puts_then, stuck_more, sent_text, frame_text, found, output}
 use Rattle.lapd_sim.proofs.traffic.tell.Goals as goal
 
 pub returns-in-Err-clause-told : goal.returns-in-Err-clause-told

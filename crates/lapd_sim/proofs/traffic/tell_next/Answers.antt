@@ -1,6 +1,5 @@
 -- Hand-written answers for `tell_next`.
-use Rattle.std.proofs.Common.{subst}
-use Rattle.lapd_sim.specs.Boards.{IsTaken}
+use Rattle.lapd_sim.proofs.Vocabulary.{subst, IsTaken}
 use Rattle.lapd_sim.proofs.Happened.{told_frame, told_nothing}
 use Rattle.lapd_sim.proofs.traffic.tell_next.Goals as goal
 

@@ -1,8 +1,5 @@
 -- `give_back` makes one room of the octets, and hands it back with the token.
-use Rattle.std.proofs.Common.{◌≡◌, ℕ, ◌*◌, ◌^◌, ◌<◌, List, [], ◌∷◌, ◌++◌, length, refl, sym, ap, subst, ◌∙◌, arith, lit<, w64}
-use Rattle.std.proofs.raw_atomic.Walks.{proved_at, leaves}
-use Rattle.std.proofs.alloc.Calls.{Al, seen, Goes-blank, Gives, at_gives, Gives-goes, Gives-Gives}
-use Rattle.std.proofs.alloc.Shapes.{after}
+use Rattle.lapd_store.proofs.Vocabulary.{◌≡◌, ℕ, ◌*◌, ◌^◌, ◌<◌, List, [], ◌∷◌, ◌++◌, length, refl, sym, ap, subst, ◌∙◌, arith, lit<, w64, proved_at, leaves, Al, seen, Goes-blank, Gives, at_gives, Gives-goes, Gives-Gives, after, block_of, octets_own, ended, clauses, name}
 use base.Logic.{SProp, never, emp, id⊢}
 use base.Fml.{Lft, Share, ftrue, flft, froom}
 use contract.BorrowLft.{◌⊑◌, ⊑_trans}
@@ -26,9 +23,6 @@ use types.ByLocal.{alloc_all, pass_all, free_all, look_at, get, get_in, sets, la
 use types.Kit.{‵, raw, ◌⊛◌, given, later, prop, at_ret, ◌$◌, ◌∵◌, !, qed, by, move, drop, use0, use1, split, join, group, learn, rewrite, regoal, fsplit, fsplit3, fjoin, feq_i, await}
 use types.Part.{whole, sub}
 use types.Run.{stop, fld, lit, unit_lit, of_opd, no_more, and_then, first, blocks, exec, returns, enter}
-use Rattle.lapd_store.specs.Memory.{block_of, octets_own}
-use Rattle.lapd_store.specs.contracts.octets.give_back.{ended, clauses}
-use Rattle.lapd_store.specs.contracts.octets.give_back.Key.{name}
 use Rattle.lapd_store.proofs.Memory.{to_room}
 use Rattle.lapd_store.proofs.Values.{Typed, slot_at, base_val, base_told, base_typed, octets_val, octets_told, deed_val, deed_told}
 use Rattle.lapd_store.proofs.octets.give_back.Statement.{statement}

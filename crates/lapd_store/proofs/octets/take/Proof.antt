@@ -1,12 +1,6 @@
 -- `take` is given a block and cuts it into octets that were not written.
-use Rattle.std.proofs.Common.{◌≡◌, ℕ, ◌*◌, ◌^◌, ◌<◌, List, [], ◌∷◌, ◌++◌, replicate, None, true, false, refl, ◌∙◌, arith, lit<, w64}
-use Rattle.std.specs.Prelude.{Ok, Err}
+use Rattle.lapd_store.proofs.Vocabulary.{◌≡◌, ℕ, ◌*◌, ◌^◌, ◌<◌, List, [], ◌∷◌, ◌++◌, replicate, None, true, false, refl, ◌∙◌, arith, lit<, w64, Ok, Err, proved_at, leaves, Al, seen, Takes, at_takes, Answered, Answer-typed, Takes-goes, Takes-gives, answers, after, head, arm_body, first_Good, ok_of, err_of, block_of, octets}
 use Rattle.std.specs.contracts.alloc.AllocError as error
-use Rattle.std.proofs.raw_atomic.Walks.{proved_at, leaves}
-use Rattle.std.proofs.alloc.Calls.{Al, seen, Takes, at_takes, Answered, Answer-typed, Takes-goes, Takes-gives, answers}
-use Rattle.std.proofs.alloc.Shapes.{after, head, arm_body}
-use Rattle.std.proofs.RcSteps.{first_Good}
-use Rattle.std.proofs.ResultValues.{ok_of, err_of}
 use base.Logic.{SProp, emp, id⊢}
 use base.Fml.{Lft, Share, ftrue, flft}
 use contract.BorrowLft.{◌⊑◌, ⊑_trans}
@@ -35,7 +29,6 @@ use types.Kit.{Post as After, any_q, ‵, raw, ◌⊛◌, later, prop, at_ret, �
 use types.Match.{live, vrt, in_variant}
 use types.Part.{whole, agg}
 use types.Run.{stop, fld, lit, of_opd, no_more, and_then, first, switches_on, exec, returns, enter}
-use Rattle.lapd_store.specs.Memory.{block_of, octets}
 use Rattle.lapd_store.specs.contracts.octets.Base as begin
 use Rattle.lapd_store.specs.contracts.octets.Octets as octs
 use Rattle.lapd_store.specs.contracts.octets.Deed as deed

@@ -1,8 +1,5 @@
 -- Hand-written answers for `link_all`.
-use Rattle.std.proofs.Common.{◌+◌, ◌*◌, sym, subst, ◌∙◌, inl, inr, arith}
-use Rattle.std.proofs.lemmas.Bool.{cases_eq}
-use Rattle.lapd_store.specs.Region.{Holds}
-use Rattle.lapd_store.specs.RawStore.{link, or_end}
+use Rattle.lapd_store.proofs.Vocabulary.{◌+◌, ◌*◌, sym, subst, ◌∙◌, inl, inr, arith, cases_eq, Holds, link, or_end}
 use Rattle.lapd_store.proofs.RawLemmas.{kept}
 use Rattle.lapd_store.proofs.raw_shelf.link_all.Goals as goal
 

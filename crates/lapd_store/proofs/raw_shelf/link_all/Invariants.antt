@@ -1,7 +1,5 @@
 -- The invariants of the loops of `link_all`.
-use Rattle.std.proofs.Common.{◌≡◌, ℕ, ◌+◌, ◌*◌, ◌<◌, length}
-use Rattle.lapd_store.specs.Region.{Holds}
-use Rattle.lapd_store.specs.RawStore.{link, or_end}
+use Rattle.lapd_store.proofs.Vocabulary.{◌≡◌, ℕ, ◌+◌, ◌*◌, ◌<◌, length, Holds, link, or_end}
 use Rattle.lapd_store.proofs.raw_shelf.link_all.Given as goal
 
 -- each of the first slots names the next

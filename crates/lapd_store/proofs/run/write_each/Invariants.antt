@@ -1,6 +1,5 @@
 -- The invariants of the loops of `write_each`.
-use Rattle.std.proofs.Common.{◌≡◌, ℕ, ◌+◌, ◌<◌, get_or, slice_get, None}
-use Rattle.lapd_store.specs.Region.{SameOutside}
+use Rattle.lapd_store.proofs.Vocabulary.{◌≡◌, ℕ, ◌+◌, ◌<◌, get_or, slice_get, None, SameOutside}
 use Rattle.lapd_store.proofs.run.write_each.Given as goal
 
 -- the first octets are there, and nothing else changed

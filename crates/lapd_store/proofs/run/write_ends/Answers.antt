@@ -1,5 +1,5 @@
 -- Hand-written answers for `write_ends`.
-use Rattle.std.proofs.Common.{◌-◌, length, arith}
+use Rattle.lapd_store.proofs.Vocabulary.{◌-◌, length, arith}
 use Rattle.lapd_store.proofs.Blocks.{both_ends}
 use Rattle.lapd_store.proofs.run.write_ends.Goals as goal
 

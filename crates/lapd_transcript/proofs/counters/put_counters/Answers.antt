@@ -1,9 +1,6 @@
 -- Hand-written answers for `put_counters`.
-use Rattle.std.proofs.Common.{flat_map, if◌then◌else◌, sym, ap, subst, ◌∙◌}
-use Rattle.std.specs.List.{list_all}
-use Rattle.lapd_transcript.specs.Counted.{all_counters, is_zero, counter_text}
-use Rattle.lapd_transcript.specs.Streams.{Puts, output}
-use Rattle.lapd_transcript.specs.Text.{nothing_text}
+use Rattle.lapd_transcript.proofs.Vocabulary.{if◌then◌else◌, sym, ap, subst, ◌∙◌, list_all, all_counters, is_zero, counter_text, Puts, output, nothing_text}
+use Rattle.std.proofs.Common.{flat_map}
 use Rattle.lapd_transcript.proofs.counters.put_counters.Goals as goal
 
 pub returns-then-are_zero : goal.returns-then-are_zero

@@ -1,6 +1,5 @@
 -- Hand-written answers for `put_each`.
-use Rattle.lapd_transcript.specs.Counted.{counter_text}
-use Rattle.lapd_transcript.specs.Streams.{output}
+use Rattle.lapd_transcript.proofs.Vocabulary.{counter_text, output}
 use Rattle.lapd_transcript.proofs.Known.{puts_stop}
 use Rattle.lapd_transcript.proofs.counters.put_each.Goals as goal
 

@@ -1,8 +1,5 @@
 -- The invariants of the loops of `put_each`.
-use Rattle.std.proofs.Common.{take}
-use Rattle.std.specs.List.{flat_map}
-use Rattle.lapd_transcript.specs.Streams.{output, IsPut}
-use Rattle.lapd_transcript.specs.Counted.{counter_text}
+use Rattle.lapd_transcript.proofs.Vocabulary.{take, flat_map, output, IsPut, counter_text}
 use Rattle.lapd_transcript.proofs.counters.put_each.Given as goal
 
 -- the counters so far were put

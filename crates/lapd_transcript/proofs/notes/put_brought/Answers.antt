@@ -1,8 +1,5 @@
 -- Hand-written answers for `put_brought`.
-use Rattle.std.proofs.Common.{Ok, Err, ◌++◌}
-use Rattle.std.specs.List.{flat_map}
-use Rattle.lapd_transcript.specs.Text.{note_text, dropped_text, lost_text}
-use Rattle.lapd_transcript.specs.Streams.{output}
+use Rattle.lapd_transcript.proofs.Vocabulary.{Ok, Err, ◌++◌, flat_map, note_text, dropped_text, lost_text, output}
 use Rattle.lapd_transcript.proofs.Known.{puts_then, stuck_more}
 use Rattle.lapd_transcript.proofs.notes.put_brought.Goals as goal
 

@@ -1,8 +1,5 @@
 -- Hand-written answers for `put_note`.
-use Rattle.std.proofs.Common.{sym, subst}
-use Rattle.lapd_frame.specs.declared.notes.Note.{Note}
-use Rattle.lapd_transcript.specs.Streams.{Puts, output}
-use Rattle.lapd_transcript.specs.Text.{note_text}
+use Rattle.lapd_transcript.proofs.Vocabulary.{sym, subst, Note, Puts, output, note_text}
 use Rattle.lapd_transcript.proofs.notes.put_note.Goals as goal
 
 pub returns-in-EstablishConfirm : goal.returns-in-EstablishConfirm

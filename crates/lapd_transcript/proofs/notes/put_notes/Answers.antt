@@ -1,6 +1,5 @@
 -- Hand-written answers for `put_notes`.
-use Rattle.lapd_transcript.specs.Text.{note_text}
-use Rattle.lapd_transcript.specs.Streams.{output}
+use Rattle.lapd_transcript.proofs.Vocabulary.{note_text, output}
 use Rattle.lapd_transcript.proofs.Known.{puts_stop}
 use Rattle.lapd_transcript.proofs.notes.put_notes.Goals as goal
 

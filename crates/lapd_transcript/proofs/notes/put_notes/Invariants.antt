@@ -1,8 +1,5 @@
 -- The invariants of the loops of `put_notes`.
-use Rattle.std.proofs.Common.{take}
-use Rattle.std.specs.List.{flat_map}
-use Rattle.lapd_transcript.specs.Streams.{output, IsPut}
-use Rattle.lapd_transcript.specs.Text.{note_text}
+use Rattle.lapd_transcript.proofs.Vocabulary.{take, flat_map, output, IsPut, note_text}
 use Rattle.lapd_transcript.proofs.notes.put_notes.Given as goal
 
 -- the notes so far were put

@@ -1,5 +1,5 @@
 -- Hand-written answers for `+decimal`.
-use Rattle.std.proofs.Common.{◌∙◌, arith, ap, ◌∷◌, [], ◌++◌, ◌+◌, lit<, List, ℕ}
+use Rattle.lapd_transcript.proofs.Vocabulary.{◌∙◌, arith, ap, ◌∷◌, [], ◌++◌, ◌+◌, lit<, List, ℕ}
 use Rattle.lapd_transcript.proofs.Numerals.{one_digit, last_digit, few_digits}
 use Rattle.lapd_transcript.proofs.output.+decimal.Goals as goal
 

@@ -1,7 +1,5 @@
 -- Hand-written answers for `digits_of`.
-use Rattle.std.proofs.Common.{refl, ap, ◌∙◌, List, ℕ, [], ◌∷◌, arith}
-use Rattle.std.specs.Prelude.{slice_index}
-use Rattle.std.specs.Char.{to_ascii_uppercase}
+use Rattle.lapd_transcript.proofs.Vocabulary.{refl, ap, ◌∙◌, List, ℕ, [], ◌∷◌, arith, slice_index, to_ascii_uppercase}
 use Rattle.lapd_transcript.proofs.Known.{ok_gives}
 use Rattle.lapd_transcript.proofs.Digits.{upper_pair}
 use Rattle.lapd_transcript.proofs.output.digits_of.Goals as goal

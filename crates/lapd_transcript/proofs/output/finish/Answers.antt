@@ -1,7 +1,5 @@
 -- Hand-written answers for `finish`.
-use Rattle.std.proofs.Common.{List, ℕ, [], Result, subst}
-use Rattle.lapd_transcript.specs.declared.streams.WriteFailed.{WriteFailed}
-use Rattle.lapd_transcript.specs.Streams.{Writes, Puts, output}
+use Rattle.lapd_transcript.proofs.Vocabulary.{List, ℕ, [], Result, subst, WriteFailed, Writes, Puts, output}
 use Rattle.lapd_transcript.proofs.Known.{puts_written, puts_unwritten}
 use Rattle.lapd_transcript.proofs.output.finish.Goals as goal
 

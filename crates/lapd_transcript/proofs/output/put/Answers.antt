@@ -1,6 +1,5 @@
 -- Hand-written answers for `put`.
-use Rattle.std.proofs.Common.{◌++◌, ℕ, List, ap, sym, subst, ◌∙◌}
-use Rattle.lapd_transcript.specs.Streams.{IsWritten, IsBroken, IsPut, Puts, output}
+use Rattle.lapd_transcript.proofs.Vocabulary.{◌++◌, ℕ, List, ap, sym, subst, ◌∙◌, IsWritten, IsBroken, IsPut, Puts, output}
 use Rattle.lapd_transcript.proofs.Known.{puts_out, puts_behind, puts_stuck, ok_gives, err_gives}
 use Rattle.lapd_transcript.proofs.output.put.Goals as goal
 

@@ -1,6 +1,5 @@
 -- Hand-written answers for `put_all`.
-use Rattle.std.proofs.Common.{ℕ, List, Bor}
-use Rattle.lapd_transcript.specs.Streams.{output}
+use Rattle.lapd_transcript.proofs.Vocabulary.{ℕ, List, Bor, output}
 use Rattle.lapd_transcript.proofs.Known.{puts_stop, nowhere}
 use Rattle.lapd_transcript.proofs.output.put_all.Goals as goal
 

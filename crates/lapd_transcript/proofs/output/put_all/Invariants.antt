@@ -1,6 +1,5 @@
 -- The invariants of the loops of `put_all`.
-use Rattle.std.proofs.Common.{take}
-use Rattle.lapd_transcript.specs.Streams.{joined, output, IsPut}
+use Rattle.lapd_transcript.proofs.Vocabulary.{take, joined, output, IsPut}
 use Rattle.lapd_transcript.proofs.output.put_all.Given as goal
 
 -- the pieces so far were put

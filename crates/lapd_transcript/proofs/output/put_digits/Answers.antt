@@ -1,8 +1,5 @@
 -- Hand-written answers for `put_digits`.
-use Rattle.std.proofs.Common.{ℕ, List, [], ◌∷◌, subst, take_all, ap, ◌∙◌}
-use Rattle.std.specs.List.{flat_map}
-use Rattle.hex.specs.Hex.{encode_upper}
-use Rattle.lapd_transcript.specs.Streams.{output, IsPut, IsStuck}
+use Rattle.lapd_transcript.proofs.Vocabulary.{ℕ, List, [], ◌∷◌, subst, take_all, ap, ◌∙◌, flat_map, encode_upper, output, IsPut, IsStuck}
 use Rattle.lapd_transcript.proofs.Known.{puts_stop}
 use Rattle.lapd_transcript.proofs.Digits.{encoded_singly}
 use Rattle.lapd_transcript.proofs.output.put_digits.Goals as goal

@@ -1,8 +1,5 @@
 -- The invariants of the loops of `put_digits`.
-use Rattle.std.proofs.Common.{take, [], ◌∷◌}
-use Rattle.std.specs.List.{flat_map}
-use Rattle.hex.specs.Hex.{encode_upper}
-use Rattle.lapd_transcript.specs.Streams.{output, IsPut}
+use Rattle.lapd_transcript.proofs.Vocabulary.{take, [], ◌∷◌, flat_map, encode_upper, output, IsPut}
 use Rattle.lapd_transcript.proofs.output.put_digits.Given as goal
 
 -- the digits of the octets so far were put

@@ -1,7 +1,5 @@
 -- Hand-written answers for `put_octets_line`.
-use Rattle.std.proofs.Common.{Ok, Err, ◌++◌, codes}
-use Rattle.lapd_transcript.specs.Streams.{joined, output}
-use Rattle.lapd_transcript.specs.Text.{octets_text}
+use Rattle.lapd_transcript.proofs.Vocabulary.{Ok, Err, ◌++◌, codes, joined, output, octets_text}
 use Rattle.lapd_transcript.proofs.Known.{puts_then, stuck_more}
 use Rattle.lapd_transcript.proofs.output.put_octets_line.Goals as goal
 

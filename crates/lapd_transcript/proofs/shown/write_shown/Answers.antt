@@ -1,9 +1,5 @@
 -- Hand-written answers for `write_shown`.
-use Rattle.std.proofs.Common.{◌≡◌, [], ◌∷◌, ◌++◌, codes, decimal, if◌then◌else◌, refl, ◌∙◌, ap, append_assoc}
-use Rattle.std.specs.List.{flat_map}
-use Rattle.lapd_frame.specs.Grammar.{parts_of}
-use Rattle.lapd_transcript.specs.Shown.{fields, shown_text}
-use Rattle.lapd_transcript.specs.Text.{octets_text}
+use Rattle.lapd_transcript.proofs.Vocabulary.{◌≡◌, [], ◌∷◌, ◌++◌, codes, decimal, if◌then◌else◌, refl, ◌∙◌, ap, append_assoc, flat_map, parts_of, fields, shown_text, octets_text}
 use Rattle.lapd_transcript.proofs.Pieces.{joined_before, piece_is, number_is, written_as}
 use Rattle.lapd_transcript.proofs.shown.write_shown.Goals as goal
 

@@ -1,6 +1,5 @@
 -- Hand-written answers for `numbered`.
-use Rattle.model_link.specs.Link.{fresh}
-use Rattle.model_link.specs.Numbered.{nothing_yet}
+use Rattle.model_link.proofs.Vocabulary.{fresh, nothing_yet}
 use Rattle.model_link.proofs.Numbering.{numbered-after, numbered-fresh, numbered-all, delivered-at_once}
 use Rattle.model_link.proofs.laws.numbered.Goals as goal
 

@@ -1,5 +1,5 @@
 -- Hand-written answers for `stays_sound`.
-use Rattle.model_link.specs.Link.{fresh}
+use Rattle.model_link.proofs.Vocabulary.{fresh}
 use Rattle.model_link.proofs.SoundEvents.{sound-after, sound-fresh, sound-all}
 use Rattle.model_link.proofs.Slots.{queue-after}
 use Rattle.model_link.proofs.Giving.{given_is_frame}

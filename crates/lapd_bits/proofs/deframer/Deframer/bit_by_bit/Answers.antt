@@ -1,10 +1,5 @@
 -- Hand-written answers for `Deframer::bit_by_bit`.
-use Rattle.std.proofs.Common.{◌≡◌, ◌++◌, ◌∷◌, ◌/◌, ◌^◌, nat_eq, bit_and, ◌+◌, sym, ◌∙◌, ap, subst, refl, inl, inr, arith, length, vec_len, option_to_list, append-nil}
-use Rattle.lapd_bits.specs.Stream.{heard_until, heard_at}
-use Rattle.lapd_bits.specs.Deframer.{HoldsPast}
-use Rattle.lapd_bits.specs.Ended.{FitsIn}
-use Rattle.lapd_bits.specs.Heard.{event_in}
-use Rattle.lapd_bits.specs.Steps.{with_bits}
+use Rattle.lapd_bits.proofs.Vocabulary.{◌≡◌, ◌++◌, ◌∷◌, ◌/◌, ◌^◌, nat_eq, bit_and, ◌+◌, sym, ◌∙◌, ap, subst, refl, inl, inr, arith, length, vec_len, option_to_list, append-nil, heard_until, heard_at, HoldsPast, FitsIn, event_in, with_bits}
 use Rattle.lapd_bits.proofs.BitSteps.{with_bits-none, with_bits-more, told_nothing_more, told_event_more, IsYoung-le, EndedEarlier, event_stays, ended_still, nothing_before}
 use Rattle.lapd_bits.proofs.deframer.Deframer.bit_by_bit.Goals as goal
 use Rattle.lapd_bits.proofs.deframer.Deframer.bit_by_bit.Goals.{in-Nothing, in_default}

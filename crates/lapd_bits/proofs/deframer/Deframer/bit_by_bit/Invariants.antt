@@ -1,10 +1,5 @@
 -- The invariants of the loops of `Deframer::bit_by_bit`.
-use Rattle.std.proofs.Common.{◌≡◌, ◌⊎◌, Bool, List, ◌++◌, length, vec_len, option_to_list}
-use Rattle.lapd_bits.specs.Stream.{heard_until}
-use Rattle.lapd_bits.specs.Deframer.{HoldsPast}
-use Rattle.lapd_bits.specs.Ended.{FitsIn}
-use Rattle.lapd_bits.specs.Heard.{event_in}
-use Rattle.lapd_bits.specs.Steps.{IsYoung, with_bits}
+use Rattle.lapd_bits.proofs.Vocabulary.{◌≡◌, ◌⊎◌, Bool, List, ◌++◌, length, vec_len, option_to_list, heard_until, HoldsPast, FitsIn, event_in, IsYoung, with_bits}
 use Rattle.lapd_bits.specs.declared.heard.Ended.TheVariants as ended
 use Rattle.lapd_bits.proofs.deframer.Deframer.bit_by_bit.Given as goal
 

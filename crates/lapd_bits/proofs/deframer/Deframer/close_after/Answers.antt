@@ -1,9 +1,5 @@
 -- No gap is open, or one of too few bits; or the 1s go on it, and it is closed.
-use Rattle.std.proofs.Common.{◌≡◌, Option, Some, None, length, refl, ap, sym, subst, ◌∙◌, arith}
-use Rattle.lapd_bits.specs.Deframer.{HoldsGap, open_gap}
-use Rattle.lapd_bits.specs.Ended.{ended_of}
-use Rattle.lapd_bits.specs.Heard.{event_in}
-use Rattle.lapd_bits.specs.declared.gap.Gap.{Gap}
+use Rattle.lapd_bits.proofs.Vocabulary.{◌≡◌, Option, Some, None, length, refl, ap, sym, subst, ◌∙◌, arith, HoldsGap, open_gap, ended_of, event_in, Gap}
 use Rattle.lapd_bits.proofs.FlagEnd.{told-none, told-young, told-closed}
 use Rattle.lapd_bits.proofs.deframer.Deframer.close_after.Goals as goal
 

@@ -1,7 +1,5 @@
 -- Hand-written answers for `Deframer::closed`.
-use Rattle.std.proofs.Common.{subst, arith, ◌≤◌}
-use Rattle.lapd_bits.specs.Deframer.{HoldsGap, open_gap}
-use Rattle.lapd_bits.specs.Heard.{event_in}
+use Rattle.lapd_bits.proofs.Vocabulary.{subst, arith, ◌≤◌, HoldsGap, open_gap, event_in}
 use Rattle.lapd_bits.proofs.BitSteps.{closed_told}
 use Rattle.lapd_bits.proofs.deframer.Deframer.closed.Goals as goal
 

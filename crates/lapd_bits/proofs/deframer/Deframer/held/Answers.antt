@@ -1,8 +1,5 @@
 -- Hand-written answers for `Deframer::held`.
-use Rattle.std.proofs.Common.{subst}
-use Rattle.std.proofs.Common.{reverse}
-use Rattle.lapd_bits.specs.Bits.{bits}
-use Rattle.lapd_bits.specs.Deframer.{HoldsGap, open_gap}
+use Rattle.lapd_bits.proofs.Vocabulary.{subst, reverse, bits, HoldsGap, open_gap}
 use Rattle.lapd_bits.proofs.BitSteps.{held_of_gap}
 use Rattle.lapd_bits.proofs.deframer.Deframer.held.Goals as goal
 

@@ -1,10 +1,5 @@
 -- The open gap is the beginning of a flag, and the octet goes on with it; or 1s have given a gap up, and go on.
-use Rattle.std.proofs.Common.{◌≡◌, ◌-◌, ◌<◌, Option, Some, None, get_or, refl, sym, ap, subst, ◌∙◌, arith}
-use Rattle.std.proofs.lemmas.Bool.{eqb-true}
-use Rattle.lapd_bits.specs.Deframer.{HoldsPast}
-use Rattle.lapd_bits.specs.Unstuffer.{StaysIdle}
-use Rattle.lapd_bits.specs.declared.deframer.TheConstants.{IDLE}
-use Rattle.lapd_bits.specs.declared.gap.Gap.{Gap}
+use Rattle.lapd_bits.proofs.Vocabulary.{◌≡◌, ◌-◌, ◌<◌, Option, Some, None, get_or, refl, sym, ap, subst, ◌∙◌, arith, eqb-true, HoldsPast, StaysIdle, IDLE, Gap}
 use Rattle.lapd_bits.proofs.Idle.{stays_idle, stays_given_up}
 use Rattle.lapd_bits.proofs.deframer.Deframer.is_idle.Goals as goal
 

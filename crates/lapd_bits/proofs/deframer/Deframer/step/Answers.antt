@@ -1,11 +1,5 @@
 -- An octet in which no six 1s come ends nothing, and goes on the open gap all at once; one of an idle line brings nothing.
-use Rattle.std.proofs.Common.{◌++◌, None, true, replicate, refl, sym, ◌∙◌, subst, reverse, length, append-nil}
-use Rattle.std.proofs.lemmas.Bool.{false≢true, false_from_ne_true}
-use Rattle.lapd_bits.specs.Bits.{bits, low_bits}
-use Rattle.lapd_bits.specs.Deframer.{HoldsPast}
-use Rattle.lapd_bits.specs.Ended.{FitsIn, ended_of}
-use Rattle.lapd_bits.specs.Heard.{event_in}
-use Rattle.lapd_bits.specs.Unstuffer.{has_six}
+use Rattle.lapd_bits.proofs.Vocabulary.{◌++◌, None, true, replicate, refl, sym, ◌∙◌, subst, reverse, length, append-nil, false≢true, false_from_ne_true, bits, low_bits, HoldsPast, FitsIn, ended_of, event_in, has_six}
 use Rattle.lapd_bits.proofs.AtOnce.{HoldsPast-octet, heard-octet}
 use Rattle.lapd_bits.proofs.BitSteps.{with_bits-octet}
 use Rattle.lapd_bits.proofs.Lent.{heard_more, latest_more, told_is}

@@ -1,7 +1,5 @@
 -- Hand-written answers for `Deframer::take_content`.
-use Rattle.std.proofs.Common.{subst}
-use Rattle.lapd_bits.specs.Bits.{low_bits}
-use Rattle.lapd_bits.specs.Deframer.{HoldsGap}
+use Rattle.lapd_bits.proofs.Vocabulary.{subst, low_bits, HoldsGap}
 use Rattle.lapd_bits.proofs.Joining.{HoldsGap-joined}
 use Rattle.lapd_bits.proofs.deframer.Deframer.take_content.Goals as goal
 

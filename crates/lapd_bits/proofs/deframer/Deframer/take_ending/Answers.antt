@@ -1,5 +1,5 @@
 -- All of a flag but its last bit ends nothing, and goes on the open gap all at once.
-use Rattle.std.proofs.Common.{length}
+use Rattle.lapd_bits.proofs.Vocabulary.{length}
 use Rattle.lapd_bits.proofs.FlagEnd.{heard-flag_begun, HoldsPast-flag_begun}
 use Rattle.lapd_bits.proofs.deframer.Deframer.take_ending.Goals as goal
 

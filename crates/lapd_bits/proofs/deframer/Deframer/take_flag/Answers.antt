@@ -1,10 +1,5 @@
 -- The first 0 goes on the gap, and the 1s behind it; then it is closed, and the next has no bits yet.
-use Rattle.std.proofs.Common.{◌≡◌, ◌≢◌, ◌∷◌, ◌++◌, false, length, option_to_list, refl, sym, subst, ◌∙◌, arith}
-use Rattle.lapd_bits.specs.Stream.{heard_until}
-use Rattle.lapd_bits.specs.Deframer.{run_of, open_gap, HoldsGap}
-use Rattle.lapd_bits.specs.Steps.{with_bits}
-use Rattle.lapd_bits.specs.Ended.{ended_of}
-use Rattle.lapd_bits.specs.Heard.{event_in}
+use Rattle.lapd_bits.proofs.Vocabulary.{◌≡◌, ◌≢◌, ◌∷◌, ◌++◌, false, length, option_to_list, refl, sym, subst, ◌∙◌, arith, heard_until, run_of, open_gap, HoldsGap, with_bits, ended_of, event_in}
 use Rattle.lapd_bits.proofs.BitSteps.{kept_zero}
 use Rattle.lapd_bits.proofs.Hearing.{open_gap-zero}
 use Rattle.lapd_bits.proofs.FlagOctet.{heard-flag, HoldsPast-flag}

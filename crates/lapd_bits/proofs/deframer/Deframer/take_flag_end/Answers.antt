@@ -1,7 +1,5 @@
 -- Hand-written answers for `Deframer::take_flag_end`.
-use Rattle.std.proofs.Common.{length, refl}
-use Rattle.lapd_bits.specs.Ended.{ended_of}
-use Rattle.lapd_bits.specs.Heard.{event_in}
+use Rattle.lapd_bits.proofs.Vocabulary.{length, refl, ended_of, event_in}
 use Rattle.lapd_bits.proofs.FlagEnd.{flag_six, heard-flag_end, HoldsPast-flag_end}
 use Rattle.lapd_bits.proofs.deframer.Deframer.take_flag_end.Goals as goal
 

@@ -1,5 +1,5 @@
 -- Octets are left, or only the bits after them.
-use Rattle.std.proofs.Common.{length, ap, sym, ◌∙◌, arith}
+use Rattle.lapd_bits.proofs.Vocabulary.{length, ap, sym, ◌∙◌, arith}
 use Rattle.lapd_bits.proofs.FramerGiven.{length-to_give, busy_is}
 use Rattle.lapd_bits.proofs.framer.Framer.busy.Goals as goal
 

@@ -1,6 +1,5 @@
 -- Where fewer than eight bits are left, they are those after the octets.
-use Rattle.std.proofs.Common.{◌<◌, length, ap, arith, ⊎_elim}
-use Rattle.std.proofs.lemmas.Bool.{cases_lt, false≢true}
+use Rattle.lapd_bits.proofs.Vocabulary.{◌<◌, length, ap, arith, ⊎_elim, cases_lt, false≢true}
 use Rattle.lapd_bits.proofs.FramerGiven.{length-to_give}
 use Rattle.lapd_bits.proofs.framer.Framer.left.Goals as goal
 

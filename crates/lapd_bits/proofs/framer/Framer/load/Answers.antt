@@ -1,9 +1,5 @@
 -- The text of the frame has been made after the bits that were left.
-use Rattle.std.proofs.Common.{◌≡◌, ◌+◌, ◌≤◌, ◌++◌, length, take, sym, ap, ◌∙◌, subst, length-append, refl, arith}
-use Rattle.lapd_bits.specs.Bits.{bits, flag}
-use Rattle.lapd_bits.specs.Sent.{frame_text}
-use Rattle.lapd_bits.specs.Stuffer.{Goes, last_ones}
-use Rattle.lapd_bits.specs.FramerText.{waits, made, to_give}
+use Rattle.lapd_bits.proofs.Vocabulary.{◌≡◌, ◌+◌, ◌≤◌, ◌++◌, length, take, sym, ap, ◌∙◌, subst, length-append, refl, arith, bits, flag, frame_text, Goes, last_ones, waits, made, to_give}
 use Rattle.lapd_bits.proofs.FramerGiven.{length-to_give, to_give-none}
 use Rattle.lapd_bits.proofs.FramerLoad.{frame_made, written_back}
 use Rattle.lapd_bits.proofs.FramerStands.{Stands-load, begun_by}

@@ -1,9 +1,5 @@
 -- One flag lies in the buffer.
-use Rattle.std.proofs.Common.{◌≡◌, ◌<◌, None, [], ◌∷◌, ◌++◌, vec_len, rules, refl, sym, ap, ◌∙◌, arith}
-use Rattle.std.proofs.lemmas.Grind.{take-set_at}
-use Rattle.lapd_bits.specs.Bits.{bits, low_bits, flag}
-use Rattle.lapd_bits.specs.Framer.{still_held}
-use Rattle.lapd_bits.specs.FramerText.{waits, to_give}
+use Rattle.lapd_bits.proofs.Vocabulary.{◌≡◌, ◌<◌, None, [], ◌∷◌, ◌++◌, vec_len, rules, refl, sym, ap, ◌∙◌, arith, take-set_at, bits, low_bits, flag, still_held, waits, to_give}
 use Rattle.lapd_bits.proofs.framer.Framer.start.Goals as goal
 
 left_is : (c : goal.After-none) → to_give (Rattle.std.specs.Prelude.slice_set c.in_ok-octets.octets.items 0 126) 0 1 c.none.result ≡ flag

@@ -1,6 +1,5 @@
 -- Hand-written answers for `Gap::closed`.
-use Rattle.std.proofs.Common.{ap, sym, ◌∙◌, Some, vec_len, length}
-use Rattle.lapd_bits.specs.Bits.{bits}
+use Rattle.lapd_bits.proofs.Vocabulary.{ap, sym, ◌∙◌, Some, vec_len, length, bits}
 use Rattle.lapd_bits.proofs.Assembly.{over_by_count, over_by_value, over_flag_front, closing-ragged, closing-judged, judged-short, judged-wrong, told-overlong, told-frame, short_is, room_of}
 use Rattle.lapd_bits.proofs.gap.Gap.closed.Goals as goal
 use Rattle.lapd_bits.proofs.gap.Gap.closed.Goals.{then-self-ne-FLAG_BEGUN_BITS-via-then-self-ne-FLAG_BEGUN_BITS, then-self-ne-FLAG_BEGUN_BITS-via-else-self-ne-FLAG_BEGUN_BITS+then-self-ne-FLAG_BEGUN}

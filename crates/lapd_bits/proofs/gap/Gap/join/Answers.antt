@@ -1,5 +1,5 @@
 -- Hand-written answers for `Gap::join`.
-use Rattle.std.proofs.Common.{◌+◌, arith}
+use Rattle.lapd_bits.proofs.Vocabulary.{◌+◌, arith}
 use Rattle.lapd_bits.proofs.Joining.{left_below, Assembles-joined_octet}
 use Rattle.lapd_bits.proofs.gap.Gap.join.Goals as goal
 

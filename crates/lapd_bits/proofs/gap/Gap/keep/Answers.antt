@@ -1,5 +1,5 @@
 -- Hand-written answers for `Gap::keep`.
-use Rattle.std.proofs.Common.{arith}
+use Rattle.lapd_bits.proofs.Vocabulary.{arith}
 use Rattle.lapd_bits.proofs.Assembly.{Keeps-more}
 use Rattle.lapd_bits.proofs.gap.Gap.keep.Goals as goal
 

@@ -1,6 +1,5 @@
 -- Hand-written answers for `Gap::pass_over`.
-use Rattle.std.proofs.Common.{◌∙◌}
-use Rattle.lapd_bits.specs.Bits.{bits}
+use Rattle.lapd_bits.proofs.Vocabulary.{◌∙◌, bits}
 use Rattle.lapd_bits.proofs.Assembly.{Keeps-beyond}
 use Rattle.lapd_bits.proofs.gap.Gap.pass_over.Goals as goal
 

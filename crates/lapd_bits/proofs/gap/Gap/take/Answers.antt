@@ -1,5 +1,5 @@
 -- Hand-written answers for `Gap::take`.
-use Rattle.std.proofs.Common.{◌≡◌, arith}
+use Rattle.lapd_bits.proofs.Vocabulary.{◌≡◌, arith}
 use Rattle.lapd_bits.proofs.Assembly.{Assembles-bit, Assembles-octet, Keeps_same}
 use Rattle.lapd_bits.proofs.gap.Gap.take.Goals as goal
 

@@ -1,8 +1,5 @@
 -- What is left after the fours, the check and the flag go on after them.
-use Rattle.std.proofs.Common.{◌≡◌, ◌+◌, ◌*◌, ◌/◌, ◌%◌, ◌^◌, ◌<◌, ◌++◌, length, take, drop, subst, sym, ap, ◌∙◌, append_assoc, arith}
-use Rattle.lapd_bits.specs.Bits.{bits, low_bits, flag}
-use Rattle.lapd_bits.specs.Stuffer.{Goes, last_ones, text_after}
-use Rattle.lapd_bits.specs.FramerText.{waits, made}
+use Rattle.lapd_bits.proofs.Vocabulary.{◌≡◌, ◌+◌, ◌*◌, ◌/◌, ◌%◌, ◌^◌, ◌<◌, ◌++◌, length, take, drop, subst, sym, ap, ◌∙◌, append_assoc, arith, bits, low_bits, flag, Goes, last_ones, text_after, waits, made}
 use Rattle.lapd_bits.proofs.Joining.{above_bits, above_below, above_is_word}
 use Rattle.lapd_bits.proofs.StuffedText.{Goes-then, Goes-made, Goes-ended, bits-parts}
 use Rattle.lapd_bits.proofs.stuffed_text.StuffedText.end_with.Goals as goal

@@ -1,5 +1,5 @@
 -- An octet more lies in the buffer.
-use Rattle.lapd_bits.specs.FramerText.{waits}
+use Rattle.lapd_bits.proofs.Vocabulary.{waits}
 use Rattle.lapd_bits.proofs.StuffedText.{made-given}
 use Rattle.lapd_bits.proofs.stuffed_text.StuffedText.give.Goals as goal
 

@@ -1,6 +1,5 @@
 -- The text is the same, with as many bits, and some of those that waited lie in the buffer.
-use Rattle.std.proofs.Common.{◌≡◌, ◌+◌, ◌*◌, length}
-use Rattle.lapd_bits.specs.FramerText.{made}
+use Rattle.lapd_bits.proofs.Vocabulary.{◌≡◌, ◌+◌, ◌*◌, length, made}
 use Rattle.lapd_bits.proofs.stuffed_text.StuffedText.give_all.Given as goal
 
 abbrev pub invariant-loop-self : goal.invariant-loop-self

@@ -1,5 +1,5 @@
 -- At most 48 bits more wait, after fewer than eight.
-use Rattle.std.proofs.Common.{arith}
+use Rattle.lapd_bits.proofs.Vocabulary.{arith}
 use Rattle.lapd_bits.proofs.StuffingAtOnce.{last_ones-few}
 use Rattle.lapd_bits.proofs.stuffed_text.StuffedText.push.Goals as goal
 

@@ -1,8 +1,5 @@
 -- What is left after the fours goes on after them.
-use Rattle.std.proofs.Common.{◌*◌, ◌/◌, length, take, drop, subst, sym, ap, ◌∙◌}
-use Rattle.lapd_bits.specs.Bits.{bits}
-use Rattle.lapd_bits.specs.Stuffer.{Goes, last_ones}
-use Rattle.lapd_bits.specs.FramerText.{waits, made}
+use Rattle.lapd_bits.proofs.Vocabulary.{◌*◌, ◌/◌, length, take, drop, subst, sym, ap, ◌∙◌, bits, Goes, last_ones, waits, made}
 use Rattle.lapd_bits.proofs.StuffedText.{Goes-then, Goes-made, bits-parts}
 use Rattle.lapd_bits.proofs.stuffed_text.StuffedText.stuff.Goals as goal
 

@@ -1,5 +1,5 @@
 -- At most 39 bits more, so a fifth octet at most.
-use Rattle.std.proofs.Common.{arith}
+use Rattle.lapd_bits.proofs.Vocabulary.{arith}
 use Rattle.lapd_bits.proofs.StuffingAtOnce.{last_ones-few}
 use Rattle.lapd_bits.proofs.stuffed_text.StuffedText.stuff_four.Goals as goal
 

@@ -1,8 +1,5 @@
 -- Four octets more have gone into the buffer.
-use Rattle.std.proofs.Common.{◌≡◌, ◌+◌, ◌*◌, ◌/◌, ◌++◌, ◌≤◌, [], length, get_or, take, drop, subst, ap, ◌∙◌, arith}
-use Rattle.lapd_bits.specs.Bits.{bits, low_bits}
-use Rattle.lapd_bits.specs.Stuffer.{Goes, last_ones}
-use Rattle.lapd_bits.specs.FramerText.{made}
+use Rattle.lapd_bits.proofs.Vocabulary.{◌≡◌, ◌+◌, ◌*◌, ◌/◌, ◌++◌, ◌≤◌, [], length, get_or, take, drop, subst, ap, ◌∙◌, arith, bits, low_bits, Goes, last_ones, made}
 use Rattle.lapd_bits.proofs.StuffedText.{Goes-then, four_at, four_bits_at}
 use Rattle.lapd_bits.proofs.stuffed_text.StuffedText.stuff_fours.Goals as goal
 

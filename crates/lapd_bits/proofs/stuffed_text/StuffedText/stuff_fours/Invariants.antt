@@ -1,8 +1,5 @@
 -- The text goes on with the fours so far.
-use Rattle.std.proofs.Common.{◌≡◌, ◌+◌, ◌*◌, ◌<◌, ◌≤◌, take, length}
-use Rattle.lapd_bits.specs.Bits.{bits}
-use Rattle.lapd_bits.specs.Stuffer.{Goes, last_ones}
-use Rattle.lapd_bits.specs.FramerText.{made, fifths}
+use Rattle.lapd_bits.proofs.Vocabulary.{◌≡◌, ◌+◌, ◌*◌, ◌<◌, ◌≤◌, take, length, bits, Goes, last_ones, made, fifths}
 use Rattle.lapd_bits.proofs.stuffed_text.StuffedText.stuff_fours.Given as goal
 
 abbrev pub invariant-loop-four : goal.invariant-loop-four

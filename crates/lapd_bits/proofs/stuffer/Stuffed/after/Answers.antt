@@ -1,10 +1,5 @@
 -- Nothing is due any more when all 0s have been put in.
-use Rattle.std.proofs.Common.{◌<◌, ◌≤◌, ◌+◌, ◌*◌, ◌/◌, ◌^◌, [], length, ap, sym, subst, arith}
-use Rattle.std.proofs.lemmas.Nat.{pow-add}
-use Rattle.std.proofs.Math.Nat.{mod-eq_of_lt, mod-le, div-mul-le_self}
-use Rattle.std.proofs.Math.Pow.{shr_lt, pow_mono}
-use Rattle.lapd_bits.specs.Bits.{low_bits}
-use Rattle.lapd_bits.specs.Stuffer.{last_ones}
+use Rattle.lapd_bits.proofs.Vocabulary.{◌<◌, ◌≤◌, ◌+◌, ◌*◌, ◌/◌, ◌^◌, [], length, ap, sym, subst, arith, pow-add, mod-eq_of_lt, mod-le, div-mul-le_self, shr_lt, pow_mono, low_bits, last_ones}
 use Rattle.lapd_bits.proofs.BitLemmas.{length-low_bits}
 use Rattle.lapd_bits.proofs.StuffingAtOnce.{Goes-sent, last_ones-few, stuffed_after-pays}
 use Rattle.lapd_bits.proofs.Underway.{Underway, begin, total_few, none_due, place_fits, text_fits, next_word}

@@ -1,7 +1,5 @@
 -- So many bits are there, and what is due is put in.
-use Rattle.std.proofs.Common.{◌≤◌, ◌-◌}
-use Rattle.lapd_bits.specs.Bits.{low_bits}
-use Rattle.lapd_bits.specs.Stuffer.{last_ones}
+use Rattle.lapd_bits.proofs.Vocabulary.{◌≤◌, ◌-◌, low_bits, last_ones}
 use Rattle.lapd_bits.proofs.Underway.{Underway}
 use Rattle.lapd_bits.proofs.stuffer.Stuffed.after.Given as goal
 

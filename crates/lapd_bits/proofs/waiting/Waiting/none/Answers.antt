@@ -1,6 +1,5 @@
 -- No bits.
-use Rattle.std.proofs.Common.{refl}
-use Rattle.lapd_bits.specs.Bits.{low_bits}
+use Rattle.lapd_bits.proofs.Vocabulary.{refl, low_bits}
 use Rattle.lapd_bits.proofs.waiting.Waiting.none.Goals as goal
 
 pub returns-clause-bits : goal.returns-clause-bits

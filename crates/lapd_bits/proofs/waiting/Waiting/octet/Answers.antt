@@ -1,5 +1,5 @@
 -- The low octet of the bits that wait.
-use Rattle.std.proofs.Common.{arith}
+use Rattle.lapd_bits.proofs.Vocabulary.{arith}
 use Rattle.lapd_bits.proofs.Joining.{split_octet, left_below}
 use Rattle.lapd_bits.proofs.waiting.Waiting.octet.Goals as goal
 

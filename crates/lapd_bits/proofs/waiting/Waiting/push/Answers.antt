@@ -1,6 +1,5 @@
 -- More bits above those that wait.
-use Rattle.std.proofs.Common.{◌+◌, ◌<◌, ◌^◌, ap, sym, subst, ◌∙◌, arith}
-use Rattle.lapd_bits.specs.Bits.{low_bits}
+use Rattle.lapd_bits.proofs.Vocabulary.{◌+◌, ◌<◌, ◌^◌, ap, sym, subst, ◌∙◌, arith, low_bits}
 use Rattle.lapd_bits.proofs.Joining.{above_bits, above_below, above_fits_word, above_is_word}
 use Rattle.lapd_bits.proofs.waiting.Waiting.push.Goals as goal
 

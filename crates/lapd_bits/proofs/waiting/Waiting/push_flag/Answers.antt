@@ -1,7 +1,5 @@
 -- The number of a flag's bits.
-use Rattle.std.proofs.Common.{◌≡◌, ◌++◌, refl, ap, ◌∙◌}
-use Rattle.lapd_bits.specs.Bits.{low_bits, flag}
-use Rattle.lapd_bits.specs.FramerText.{waits}
+use Rattle.lapd_bits.proofs.Vocabulary.{◌≡◌, ◌++◌, refl, ap, ◌∙◌, low_bits, flag, waits}
 use Rattle.lapd_bits.proofs.waiting.Waiting.push_flag.Goals as goal
 
 bits_of_flag : low_bits 8 126 ≡ flag

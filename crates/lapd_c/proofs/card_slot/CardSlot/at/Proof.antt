@@ -1,5 +1,5 @@
 -- The word of the two is kept, with what it owns.
-use Rattle.std.proofs.Common.{◌≡◌, List, [], ◌∷◌, ◌++◌, refl, sym, subst}
+use Rattle.lapd_c.proofs.Vocabulary.{◌≡◌, List, [], ◌∷◌, ◌++◌, refl, sym, subst, ghosts, Some, proved_at, leaves, HeldCard, card_row}
 use mir.Val.{Val, vptr}
 use base.Logic.{SProp, ent, emp, id⊢}
 use prog.Wp.{WpFn}
@@ -18,10 +18,6 @@ use denote.Triple.Entry.{alive}
 use denote.Triple.Walked.{Stays, stay_dropped, walk_of, Goes-dropped}
 use Rattle.std.specs.contracts.alloc.Global as heap
 use Rattle.std.proofs.alloc.Global.TheLaws as heap_laws
-use Rattle.std.specs.contracts.impls.GlobalAllocator.TheImpl.{ghosts}
-use Rattle.std.specs.declared.option.Option.TheVariants.{Some}
-use Rattle.std.proofs.raw_atomic.Walks.{proved_at, leaves}
-use Rattle.lapd_c.specs.CardSlots.{HeldCard, card_row}
 use Rattle.lapd_c.proofs.Places.{two, Place, two_good, place_opens}
 use Rattle.lapd_c.proofs.ClockPlaces.{word}
 use Rattle.lapd_c.proofs.CardPlaces.{slot_made}

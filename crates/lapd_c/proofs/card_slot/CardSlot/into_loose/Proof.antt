@@ -1,5 +1,5 @@
 -- The word and the allocator stand side by side.
-use Rattle.std.proofs.Common.{◌≡◌, List, [], ◌∷◌, ◌++◌, IsSome, refl, sym, subst}
+use Rattle.lapd_c.proofs.Vocabulary.{◌≡◌, List, [], ◌∷◌, ◌++◌, IsSome, refl, sym, subst, one, ghosts, Some, proved_at, leaves, HeldCard, card_row}
 use mir.Val.{Val, vptr}
 use base.Logic.{SProp, ent, emp, id⊢}
 use prog.Wp.{WpFn}
@@ -17,13 +17,8 @@ use denote.Steps.{nothing, heard}
 use denote.Param.{layout}
 use denote.Triple.Entry.{alive}
 use denote.Triple.Walked.{Stays, stay_dropped, walk_of, Goes-dropped}
-use Rattle.core.proofs.cell.Inside.{one}
 use Rattle.std.specs.contracts.alloc.Global as heap
 use Rattle.std.proofs.alloc.Global.TheLaws as heap_laws
-use Rattle.std.specs.contracts.impls.GlobalAllocator.TheImpl.{ghosts}
-use Rattle.std.specs.declared.option.Option.TheVariants.{Some}
-use Rattle.std.proofs.raw_atomic.Walks.{proved_at, leaves}
-use Rattle.lapd_c.specs.CardSlots.{HeldCard, card_row}
 use Rattle.lapd_c.specs.contracts.card_slot.CardSlot as slot
 use Rattle.lapd_c.proofs.Places.{two, two_good, place_made}
 use Rattle.lapd_c.proofs.ClockPlaces.{word}

@@ -1,5 +1,5 @@
 -- The word of the two is kept, with what it owns.
-use Rattle.std.proofs.Common.{◌≡◌, List, [], ◌∷◌, ◌++◌, refl, sym, subst}
+use Rattle.lapd_c.proofs.Vocabulary.{◌≡◌, List, [], ◌∷◌, ◌++◌, refl, sym, subst, ghosts, Some, proved_at, leaves, HeldClock}
 use mir.Val.{Val, vptr}
 use base.Logic.{SProp, ent, emp, id⊢}
 use prog.Wp.{WpFn}
@@ -18,11 +18,7 @@ use denote.Triple.Entry.{alive}
 use denote.Triple.Walked.{Stays, stay_dropped, walk_of, Goes-dropped}
 use Rattle.std.specs.contracts.alloc.Global as heap
 use Rattle.std.proofs.alloc.Global.TheLaws as heap_laws
-use Rattle.std.specs.contracts.impls.GlobalAllocator.TheImpl.{ghosts}
-use Rattle.std.specs.declared.option.Option.TheVariants.{Some}
-use Rattle.std.proofs.raw_atomic.Walks.{proved_at, leaves}
 use Rattle.lapd_clock.specs.contracts.clock.Clock as clock
-use Rattle.lapd_c.specs.ClockSlots.{HeldClock}
 use Rattle.lapd_c.proofs.Places.{two, Place, two_good, place_opens}
 use Rattle.lapd_c.proofs.ClockPlaces.{word, slot_made}
 use Rattle.lapd_c.specs.contracts.clock_slot.ClockSlot.at as f

@@ -1,5 +1,5 @@
 -- A null word owns nothing.
-use Rattle.std.proofs.Common.{◌≡◌, List, [], ◌∷◌, refl, lit<}
+use Rattle.lapd_c.proofs.Vocabulary.{◌≡◌, List, [], ◌∷◌, refl, lit<, None, proved_at, leaves, HeldClock}
 use mir.Val.{Val, vnull, vstruct, vcons, vnil}
 use base.Logic.{SProp, emp}
 use types.Kit.{‵, raw, ◌⊛◌, ◌$◌, ◌∵◌, !, qed, by, move, keep, drop, fjoin, fpack, use0, feq_i}
@@ -16,9 +16,6 @@ use denote.Struct.Struct.{within}
 use denote.Struct.Owning.{shape}
 use denote.Triple.Entry.{on_entry}
 use denote.Triple.Walked.{Stays, walk_of}
-use Rattle.std.specs.declared.option.Option.TheVariants.{None}
-use Rattle.std.proofs.raw_atomic.Walks.{proved_at, leaves}
-use Rattle.lapd_c.specs.ClockSlots.{HeldClock}
 use Rattle.lapd_c.specs.contracts.clock_slot.ClockSlot as slot
 use Rattle.lapd_c.specs.contracts.clock_slot.ClockSlot.none as f
 use Rattle.lapd_c.proofs.clock_slot.ClockSlot.none.Statement.{statement}

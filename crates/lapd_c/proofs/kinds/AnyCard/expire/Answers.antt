@@ -1,10 +1,6 @@
 -- Hand-written answers for `AnyCard::expire`.
-use Rattle.std.proofs.Common.{sym, refl, subst}
-use Rattle.model_card.specs.Event.{at}
-use Rattle.model_card.specs.Happening.{expires}
+use Rattle.lapd_c.proofs.Vocabulary.{sym, refl, subst, at, expires, Frames, AnyLeads}
 use Rattle.model_line.specs.Event as line_event
-use Rattle.lapd_c.specs.declared.kinds.AnyCard.TheVariants.{Frames}
-use Rattle.lapd_c.specs.Kinds.{AnyLeads}
 use Rattle.lapd_c.proofs.Kinded.{leads_by_one}
 use Rattle.lapd_c.proofs.kinds.AnyCard.expire.Goals as goal
 

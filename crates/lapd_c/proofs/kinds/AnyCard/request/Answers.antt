@@ -1,11 +1,6 @@
 -- Hand-written answers for `AnyCard::request`.
-use Rattle.std.proofs.Common.{sym, refl, subst}
-use Rattle.model_card.specs.Event.{at}
-use Rattle.model_card.specs.Happening.{asks}
+use Rattle.lapd_c.proofs.Vocabulary.{sym, refl, subst, at, asks, request_of, Frames, AnyLeads}
 use Rattle.model_line.specs.Event as line_event
-use Rattle.model_line.specs.Request.{request_of}
-use Rattle.lapd_c.specs.declared.kinds.AnyCard.TheVariants.{Frames}
-use Rattle.lapd_c.specs.Kinds.{AnyLeads}
 use Rattle.lapd_c.proofs.Kinded.{leads_by_one}
 use Rattle.lapd_c.proofs.kinds.AnyCard.request.Goals as goal
 

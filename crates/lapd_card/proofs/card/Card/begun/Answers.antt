@@ -1,9 +1,5 @@
 -- Hand-written answers for `Card::begun`.
-use Rattle.std.proofs.Common.{◌<◌, sym, subst, ap, ◌∙◌}
-use Rattle.model_line.specs.Begun.{head_begun}
-use Rattle.lapd_card.specs.Card.{line_count}
-use Rattle.lapd_card.specs.Lines.{line_in}
-use Rattle.lapd_card.specs.Stands.{Stands}
+use Rattle.lapd_card.proofs.Vocabulary.{◌<◌, sym, subst, ap, ◌∙◌, head_begun, line_count, line_in, Stands}
 use Rattle.lapd_card.proofs.OneEvent.{line-there}
 use Rattle.lapd_card.proofs.card.Card.begun.Goals as goal
 

@@ -1,8 +1,5 @@
 -- Hand-written answers for `Card::counters`.
-use Rattle.std.proofs.Common.{◌<◌, sym, subst, ap, get_or, ◌∙◌}
-use Rattle.lapd_count.specs.Counters.{none_counted}
-use Rattle.lapd_card.specs.Card.{line_count}
-use Rattle.lapd_card.specs.Counted.{counters_in}
+use Rattle.lapd_card.proofs.Vocabulary.{◌<◌, sym, subst, ap, get_or, ◌∙◌, none_counted, line_count, counters_in}
 use Rattle.lapd_card.proofs.OneEvent.{line-there}
 use Rattle.lapd_card.proofs.card.Card.counters.Goals as goal
 

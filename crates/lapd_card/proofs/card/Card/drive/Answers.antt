@@ -1,24 +1,7 @@
 -- Hand-written answers for `Card::drive`.
-use Rattle.std.proofs.Common.{refl, sym, ◌∙◌}
-use Rattle.std.proofs.lemmas.Option.{slice_get-get_or}
-use Rattle.model_card.specs.declared.events.Event.TheVariants.{Octet}
+use Rattle.lapd_card.proofs.Vocabulary.{refl, sym, ◌∙◌, slice_get-get_or, Octet, ArePriced, AreDropsWithoutCost, AreDropsWithoutEffect, frames_amortised, run_is_moments, lines_isolated, frames_linear, pool_never_full, deliveries_numbered, stored_within_limit, text_goes_on, refused_by_the_table, frames_by_event, drops_cost_nothing, drops_change_nothing, IsWithinLimit, IsAmortised, IsAmortisedFromZero, HasSixOctetsAFrame, HasSevenOctetsAReject, IsLinear, IsIsolated, IsNeverFull, IsNumbered, IsNumberedFromZero, IsTextual, counters_in}
 use Rattle.lapd_card.proofs.Taken.{ran-more, taken-more, missed-at, at_ok, at_err}
 use Rattle.lapd_card.proofs.Counting.{none-counted, counted-more, numbers_in_runs}
-use Rattle.model_card.specs.ByEvent.{ArePriced}
-use Rattle.model_card.specs.Drops.{AreDropsWithoutCost, AreDropsWithoutEffect}
-use Rattle.model_card.proofs.Amortised.{frames_amortised}
-use Rattle.model_card.proofs.Fold.{run_is_moments}
-use Rattle.model_card.proofs.Isolated.{lines_isolated}
-use Rattle.model_card.proofs.Linear.{frames_linear}
-use Rattle.model_card.proofs.NeverFull.{pool_never_full}
-use Rattle.model_card.proofs.Numbering.{deliveries_numbered}
-use Rattle.model_card.proofs.Stored.{stored_within_limit}
-use Rattle.model_card.proofs.TextGoesOn.{text_goes_on}
-use Rattle.model_card.proofs.Refusals.{refused_by_the_table}
-use Rattle.model_card.proofs.ByEvent.{frames_by_event}
-use Rattle.model_card.proofs.Drops.{drops_cost_nothing, drops_change_nothing}
-use Rattle.model_card.specs.Promises.{IsWithinLimit, IsAmortised, IsAmortisedFromZero, HasSixOctetsAFrame, HasSevenOctetsAReject, IsLinear, IsIsolated, IsNeverFull, IsNumbered, IsNumberedFromZero, IsTextual}
-use Rattle.lapd_card.specs.Counted.{counters_in}
 use Rattle.lapd_card.proofs.Headline.{whole_list, each_front, fresh_front}
 use Rattle.lapd_card.proofs.card.Card.drive.Goals as goal
 

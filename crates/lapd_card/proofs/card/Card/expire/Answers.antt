@@ -1,12 +1,6 @@
 -- Hand-written answers for `Card::expire`.
-use Rattle.std.proofs.Common.{◌<◌, sym, subst}
+use Rattle.lapd_card.proofs.Vocabulary.{◌<◌, sym, subst, RisesByExpiry, at, frames_by_event, line_count, Stands, Leads, report_told}
 use Rattle.model_line.specs.Event as line_event
-use Rattle.model_card.specs.ByEvent.{RisesByExpiry}
-use Rattle.model_card.specs.Event.{at}
-use Rattle.model_card.proofs.ByEvent.{frames_by_event}
-use Rattle.lapd_card.specs.Card.{line_count}
-use Rattle.lapd_card.specs.Stands.{Stands, Leads}
-use Rattle.lapd_line.specs.Reports.{report_told}
 use Rattle.lapd_card.proofs.AnswerLaws.{starts_one}
 use Rattle.lapd_card.proofs.Headline.{at_line}
 use Rattle.lapd_card.proofs.OneEvent.{line-there, event_leads, event_told, past_after, has_room, expiry_takes}

@@ -1,6 +1,5 @@
 -- Hand-written answers for `Card::lend`.
-use Rattle.std.proofs.Common.{◌<◌, sym, subst}
-use Rattle.lapd_card.specs.Card.{line_count}
+use Rattle.lapd_card.proofs.Vocabulary.{◌<◌, sym, subst, line_count}
 use Rattle.lapd_card.proofs.OneEvent.{line-there}
 use Rattle.lapd_card.proofs.card.Card.lend.Goals as goal
 

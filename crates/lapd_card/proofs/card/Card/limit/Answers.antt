@@ -1,8 +1,5 @@
 -- Hand-written answers for `Card::limit`.
-use Rattle.std.proofs.Common.{sym, subst, ap, ◌∙◌}
-use Rattle.model_line.specs.Sound.{IsInRange}
-use Rattle.model_card.specs.Stored.{limit}
-use Rattle.lapd_card.specs.Stands.{Stands}
+use Rattle.lapd_card.proofs.Vocabulary.{sym, subst, ap, ◌∙◌, IsInRange, limit, Stands}
 use Rattle.lapd_card.proofs.card.Card.limit.Goals as goal
 
 pub limit-requires : goal.limit-requires

@@ -1,7 +1,5 @@
 -- Hand-written answers for `Card::octet`.
-use Rattle.std.proofs.Common.{refl, ap, ◌∙◌}
-use Rattle.model_line.specs.Event.{told}
-use Rattle.lapd_line.specs.Reports.{report_told}
+use Rattle.lapd_card.proofs.Vocabulary.{refl, ap, ◌∙◌, told, report_told}
 use Rattle.lapd_card.proofs.AnswerLaws.{drop_leaves}
 use Rattle.lapd_card.proofs.card.Card.octet.Goals as goal
 

@@ -1,13 +1,6 @@
 -- Hand-written answers for `Card::request`.
-use Rattle.std.proofs.Common.{◌<◌, sym, subst, Some, None}
-use Rattle.std.proofs.lemmas.Result.{IfOk-weaker, IfErr-weaker}
+use Rattle.lapd_card.proofs.Vocabulary.{◌<◌, sym, subst, Some, None, IfOk-weaker, IfErr-weaker, request_of, RisesByRequest, at, frames_by_event, line_count, Stands, Leads}
 use Rattle.model_line.specs.Event as line_event
-use Rattle.model_line.specs.Request.{request_of}
-use Rattle.model_card.specs.ByEvent.{RisesByRequest}
-use Rattle.model_card.specs.Event.{at}
-use Rattle.model_card.proofs.ByEvent.{frames_by_event}
-use Rattle.lapd_card.specs.Card.{line_count}
-use Rattle.lapd_card.specs.Stands.{Stands, Leads}
 use Rattle.lapd_card.proofs.Headline.{at_line}
 use Rattle.lapd_card.proofs.OneEvent.{line-there, refusal_is, request_told, request_leads, past_after}
 use Rattle.lapd_card.proofs.card.Card.request.Goals as goal

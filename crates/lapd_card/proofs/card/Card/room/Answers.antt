@@ -1,7 +1,5 @@
 -- Hand-written answers for `Card::room`.
-use Rattle.std.proofs.Common.{◌<◌, sym, subst}
-use Rattle.lapd_card.specs.Card.{line_count}
-use Rattle.lapd_card.specs.Stands.{Stands}
+use Rattle.lapd_card.proofs.Vocabulary.{◌<◌, sym, subst, line_count, Stands}
 use Rattle.lapd_card.proofs.OneEvent.{line-there}
 use Rattle.lapd_card.proofs.RoomOfCard.{room_is, refuses_so}
 use Rattle.lapd_card.proofs.card.Card.room.Goals as goal

@@ -1,6 +1,5 @@
 -- Hand-written answers for `Card::start`.
-use Rattle.std.proofs.Common.{sym, ◌∙◌}
-use Rattle.model_card.specs.Card.{fresh}
+use Rattle.lapd_card.proofs.Vocabulary.{sym, ◌∙◌, fresh}
 use Rattle.lapd_card.proofs.Begins.{fresh_stands, none_is_counted}
 use Rattle.lapd_card.proofs.card.Card.start.Goals as goal
 

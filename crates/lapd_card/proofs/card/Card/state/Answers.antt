@@ -1,7 +1,5 @@
 -- Hand-written answers for `Card::state`.
-use Rattle.std.proofs.Common.{◌<◌, sym, subst, ap, ◌∙◌}
-use Rattle.lapd_card.specs.Card.{line_count}
-use Rattle.lapd_card.specs.Stands.{Stands}
+use Rattle.lapd_card.proofs.Vocabulary.{◌<◌, sym, subst, ap, ◌∙◌, line_count, Stands}
 use Rattle.lapd_card.proofs.OneEvent.{line-there, state_is}
 use Rattle.lapd_card.proofs.card.Card.state.Goals as goal
 

@@ -1,6 +1,5 @@
 -- Hand-written answers for `Card::stored`.
-use Rattle.std.proofs.Common.{sym, subst, Fits, w32, w64}
-use Rattle.lapd_card.specs.Stands.{Stands}
+use Rattle.lapd_card.proofs.Vocabulary.{sym, subst, Fits, w32, w64, Stands}
 use Rattle.lapd_card.proofs.Amounts.{stored_is, stored_small, fits_32, fits_64}
 use Rattle.lapd_card.proofs.OneEvent.{few-lines}
 use Rattle.lapd_card.proofs.card.Card.stored.Goals as goal

@@ -1,8 +1,6 @@
 -- Hand-written answers for `FrameCard::counters`.
-use Rattle.std.proofs.Common.{◌<◌, sym, subst, ap, get_or, ◌∙◌}
-use Rattle.lapd_count.specs.Counters.{none_counted}
+use Rattle.lapd_card.proofs.Vocabulary.{◌<◌, sym, subst, ap, get_or, ◌∙◌, none_counted, frame_counters_in}
 use Rattle.lapd_card.specs.FrameCard.{line_count}
-use Rattle.lapd_card.specs.Counted.{frame_counters_in}
 use Rattle.lapd_card.proofs.OneHappening.{line-there}
 use Rattle.lapd_card.proofs.frame_card.FrameCard.counters.Goals as goal
 

@@ -1,10 +1,6 @@
 -- The invariants of the loops of `FrameCard::drive`.
-use Rattle.std.proofs.Common.{◌≡◌, take}
+use Rattle.lapd_card.proofs.Vocabulary.{◌≡◌, take, replies, frame_counters_in, happenings_counted, all_of, after_happenings, Taken}
 use Rattle.model_card.specs.Card as machine
-use Rattle.model_card.specs.Said.{replies}
-use Rattle.lapd_card.specs.Counted.{frame_counters_in}
-use Rattle.model_card.specs.HappeningsCounted.{happenings_counted}
-use Rattle.lapd_card.specs.FrameDrive.{all_of, after_happenings, Taken}
 use Rattle.lapd_card.specs.FrameStands.{Stands}
 use Rattle.lapd_card.proofs.frame_card.FrameCard.drive.Given as goal
 

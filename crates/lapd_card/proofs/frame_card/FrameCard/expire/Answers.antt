@@ -1,14 +1,8 @@
 -- Hand-written answers for `FrameCard::expire`.
-use Rattle.std.proofs.Common.{◌<◌, sym, subst}
-use Rattle.model_card.proofs.ByEvent.{frames_by_event}
-use Rattle.model_card.proofs.Reaching.{reached-sound}
-use Rattle.model_card.specs.Happening.{expires}
-use Rattle.lapd_line.specs.Reports.{report_told}
+use Rattle.lapd_card.proofs.Vocabulary.{◌<◌, sym, subst, frames_by_event, reached-sound, expires, report_told, answer, told_in_answer}
 use Rattle.lapd_card.specs.FrameCard.{line_count}
 use Rattle.lapd_card.specs.FrameStands.{Stands, Leads}
 use Rattle.model_line.specs.Event as line_event
-use Rattle.model_line.specs.Machine.{answer}
-use Rattle.model_line.specs.Counted.{told_in_answer}
 use Rattle.lapd_card.proofs.OneHappening.{line-there, lines-serve, happening_leads, past_after, expiry_alone, expiry_said, expiry_shown, starts_one}
 use Rattle.lapd_card.proofs.frame_card.FrameCard.expire.Goals as goal
 

@@ -1,14 +1,7 @@
 -- Hand-written answers for `FrameCard::failed`.
-use Rattle.std.proofs.Common.{◌<◌, refl, sym, subst, ap}
-use Rattle.lapd_bits.specs.Stream.{dropped}
-use Rattle.model_line.specs.Event.{told}
-use Rattle.model_card.specs.Happening.{failed}
-use Rattle.model_line.specs.WholeAtLine.{of_heard}
-use Rattle.model_card.specs.Said.{says}
-use Rattle.model_line.specs.Whole.{cause_of}
+use Rattle.lapd_card.proofs.Vocabulary.{◌<◌, refl, sym, subst, ap, dropped, told, failed, of_heard, says, cause_of, heard_counted}
 use Rattle.lapd_card.specs.FrameCard.{line_count}
 use Rattle.lapd_card.specs.FrameStands.{Stands, Leads}
-use Rattle.model_line.specs.Counted.{heard_counted}
 use Rattle.lapd_card.proofs.OneHappening.{line-there, happening_leads, past_after, line_says, fault_alone}
 use Rattle.lapd_card.proofs.frame_card.FrameCard.failed.Goals as goal
 

@@ -1,15 +1,7 @@
 -- Hand-written answers for `FrameCard::frame`.
-use Rattle.std.proofs.Common.{◌<◌, refl, sym, subst, ap}
-use Rattle.model_line.specs.Event.{told}
-use Rattle.model_card.proofs.ByEvent.{frames_by_event}
-use Rattle.model_card.proofs.Reaching.{reached-sound}
-use Rattle.model_card.specs.Happening.{comes, events_of}
-use Rattle.model_line.specs.WholeAtLine.{of_heard}
-use Rattle.model_card.specs.Said.{says}
-use Rattle.model_line.specs.Whole.{came}
+use Rattle.lapd_card.proofs.Vocabulary.{◌<◌, refl, sym, subst, ap, told, frames_by_event, reached-sound, comes, events_of, of_heard, says, came, heard_counted}
 use Rattle.lapd_card.specs.FrameCard.{line_count}
 use Rattle.lapd_card.specs.FrameStands.{Stands, Leads}
-use Rattle.model_line.specs.Counted.{heard_counted}
 use Rattle.lapd_card.proofs.OneHappening.{line-there, lines-serve, happening_leads, past_after, line_says, frame_alone, at_lines}
 use Rattle.lapd_card.proofs.frame_card.FrameCard.frame.Goals as goal
 

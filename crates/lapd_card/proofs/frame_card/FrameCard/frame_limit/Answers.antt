@@ -1,6 +1,5 @@
 -- Hand-written answers for `FrameCard::frame_limit`.
-use Rattle.std.proofs.Common.{subst}
-use Rattle.model_line.specs.Sound.{IsInRange}
+use Rattle.lapd_card.proofs.Vocabulary.{subst, IsInRange}
 use Rattle.lapd_card.proofs.frame_card.FrameCard.frame_limit.Goals as goal
 
 pub frame_limit-requires : goal.frame_limit-requires

@@ -1,13 +1,7 @@
 -- Hand-written answers for `FrameCard::give`.
-use Rattle.std.proofs.Common.{◌≤◌, ◌<◌, [], length, refl, sym, subst}
-use Rattle.model_line.specs.Pull.{taken}
-use Rattle.model_card.specs.Happening.{goes}
-use Rattle.model_line.specs.WholeAtLine.{pulls_for}
-use Rattle.lapd_line.specs.FrameStands.{IsNext}
-use Rattle.lapd_card.specs.FrameCard.{line_count, room_for_frames}
+use Rattle.lapd_card.proofs.Vocabulary.{◌≤◌, ◌<◌, [], length, refl, sym, subst, taken, goes, pulls_for, IsNext, room_for_frames, option_map_or, taken_shown}
+use Rattle.lapd_card.specs.FrameCard.{line_count}
 use Rattle.lapd_card.specs.FrameStands.{Stands, Leads}
-use Rattle.std.specs.Option.{option_map_or}
-use Rattle.model_line.specs.Counted.{taken_shown}
 use Rattle.lapd_card.proofs.OneHappening.{line-there, lines-serve, happening_leads, past_after, line_holds, call_alone, room_at}
 use Rattle.lapd_card.proofs.frame_card.FrameCard.give.Goals as goal
 

@@ -1,7 +1,5 @@
 -- Hand-written answers for `FrameCard::limit`.
-use Rattle.std.proofs.Common.{sym, subst, ap, ◌∙◌}
-use Rattle.model_line.specs.Sound.{IsInRange}
-use Rattle.model_card.specs.Stored.{limit}
+use Rattle.lapd_card.proofs.Vocabulary.{sym, subst, ap, ◌∙◌, IsInRange, limit}
 use Rattle.lapd_card.specs.FrameStands.{Stands}
 use Rattle.lapd_card.proofs.frame_card.FrameCard.limit.Goals as goal
 

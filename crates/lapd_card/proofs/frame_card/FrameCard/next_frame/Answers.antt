@@ -1,7 +1,5 @@
 -- Hand-written answers for `FrameCard::next_frame`.
-use Rattle.model_card.proofs.ByEvent.{frames_by_event}
-use Rattle.model_card.proofs.Reaching.{reached-sound}
-use Rattle.model_card.specs.Happening.{goes, events_of}
+use Rattle.lapd_card.proofs.Vocabulary.{frames_by_event, reached-sound, goes, events_of}
 use Rattle.lapd_card.proofs.OneHappening.{at_lines}
 use Rattle.lapd_card.proofs.frame_card.FrameCard.next_frame.Goals as goal
 

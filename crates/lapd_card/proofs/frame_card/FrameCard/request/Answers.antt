@@ -1,12 +1,7 @@
 -- Hand-written answers for `FrameCard::request`.
-use Rattle.std.proofs.Common.{◌<◌, sym, subst, Some, None}
-use Rattle.std.proofs.lemmas.Result.{IfOk-weaker, IfErr-weaker}
-use Rattle.model_line.specs.Request.{request_of}
-use Rattle.model_card.specs.Happening.{asks}
-use Rattle.model_card.proofs.ByEvent.{frames_by_event}
+use Rattle.lapd_card.proofs.Vocabulary.{◌<◌, sym, subst, Some, None, IfOk-weaker, IfErr-weaker, request_of, asks, frames_by_event, reached-sound}
 use Rattle.lapd_card.specs.FrameCard.{line_count}
 use Rattle.lapd_card.specs.FrameStands.{Stands, Leads}
-use Rattle.model_card.proofs.Reaching.{reached-sound}
 use Rattle.lapd_card.proofs.OneHappening.{line-there, lines-serve, refusal_is, request_told, request_leads, past_after}
 use Rattle.lapd_card.proofs.frame_card.FrameCard.request.Goals as goal
 

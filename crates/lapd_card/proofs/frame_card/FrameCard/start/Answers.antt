@@ -1,6 +1,5 @@
 -- Hand-written answers for `FrameCard::start`.
-use Rattle.std.proofs.Common.{sym, ◌∙◌}
-use Rattle.model_card.specs.Card.{fresh}
+use Rattle.lapd_card.proofs.Vocabulary.{sym, ◌∙◌, fresh}
 use Rattle.lapd_card.proofs.FrameBegins.{fresh_stands, none_is_counted}
 use Rattle.lapd_card.proofs.frame_card.FrameCard.start.Goals as goal
 

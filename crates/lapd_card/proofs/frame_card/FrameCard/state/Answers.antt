@@ -1,5 +1,5 @@
 -- Hand-written answers for `FrameCard::state`.
-use Rattle.std.proofs.Common.{◌<◌, sym, subst, ap, ◌∙◌}
+use Rattle.lapd_card.proofs.Vocabulary.{◌<◌, sym, subst, ap, ◌∙◌}
 use Rattle.lapd_card.specs.FrameCard.{line_count}
 use Rattle.lapd_card.specs.FrameStands.{Stands}
 use Rattle.lapd_card.proofs.OneHappening.{line-there, state_is}

@@ -1,6 +1,5 @@
 -- Hand-written answers for `FrameCard::stored`.
-use Rattle.std.proofs.Common.{◌+◌, ◌≤◌, sym, subst}
-use Rattle.lapd_card.specs.FrameCard.{frame_limit}
+use Rattle.lapd_card.proofs.Vocabulary.{◌+◌, ◌≤◌, sym, subst, frame_limit}
 use Rattle.lapd_card.specs.FrameStands.{Stands}
 use Rattle.lapd_card.proofs.Amounts.{fits_32, fits_64}
 use Rattle.lapd_card.proofs.FrameAmounts.{stored_is, frames_small, within_frame_limit}

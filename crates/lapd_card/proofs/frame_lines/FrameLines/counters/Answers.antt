@@ -1,5 +1,5 @@
 -- Hand-written answers for `FrameLines::counters`.
-use Rattle.std.proofs.Common.{◌∙◌}
+use Rattle.lapd_card.proofs.Vocabulary.{◌∙◌}
 use Rattle.lapd_card.proofs.OneFrameLine.{counters_at}
 use Rattle.lapd_card.proofs.frame_lines.FrameLines.counters.Goals as goal
 

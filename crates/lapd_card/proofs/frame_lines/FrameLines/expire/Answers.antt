@@ -1,8 +1,6 @@
 -- Hand-written answers for `FrameLines::expire`.
-use Rattle.std.proofs.Common.{[], ◌∷◌}
+use Rattle.lapd_card.proofs.Vocabulary.{[], ◌∷◌, answer, told_in_answer}
 use Rattle.model_line.specs.Event as line_event
-use Rattle.model_line.specs.Machine.{answer}
-use Rattle.model_line.specs.Counted.{told_in_answer}
 use Rattle.lapd_card.proofs.OneFrameLine.{one_counts, one_serves, one_leads, one_says}
 use Rattle.lapd_card.proofs.frame_lines.FrameLines.expire.Goals as goal
 

@@ -1,10 +1,6 @@
 -- Hand-written answers for `FrameLines::failed`.
-use Rattle.std.proofs.Common.{map}
-use Rattle.lapd_bits.specs.Stream.{dropped}
+use Rattle.lapd_card.proofs.Vocabulary.{map, dropped, fault_octets, cause_of, of_heard, heard_counted}
 use Rattle.model_line.specs.Event as line_event
-use Rattle.model_line.specs.Whole.{fault_octets, cause_of}
-use Rattle.model_line.specs.WholeAtLine.{of_heard}
-use Rattle.model_line.specs.Counted.{heard_counted}
 use Rattle.lapd_card.proofs.OneFrameLine.{one_counts, one_leads, one_says}
 use Rattle.lapd_card.proofs.frame_lines.FrameLines.failed.Goals as goal
 

@@ -1,9 +1,6 @@
 -- Hand-written answers for `FrameLines::frame`.
-use Rattle.std.proofs.Common.{map}
+use Rattle.lapd_card.proofs.Vocabulary.{map, line_octets, came, of_heard, heard_counted}
 use Rattle.model_line.specs.Event as line_event
-use Rattle.model_line.specs.Whole.{line_octets, came}
-use Rattle.model_line.specs.WholeAtLine.{of_heard}
-use Rattle.model_line.specs.Counted.{heard_counted}
 use Rattle.lapd_card.proofs.OneFrameLine.{one_counts, one_serves, one_leads, one_says}
 use Rattle.lapd_card.proofs.frame_lines.FrameLines.frame.Goals as goal
 

@@ -1,9 +1,5 @@
 -- Hand-written answers for `FrameLines::held`.
-use Rattle.std.proofs.Common.{◌≡◌, ◌+◌, ◌<◌, length, sym, ap, ◌∙◌, arith}
-use Rattle.std.proofs.lemmas.List.{take_all}
-use Rattle.std.specs.List.{sum_by}
-use Rattle.model_line.specs.Stored.{held_in, held_sent}
-use Rattle.lapd_card.specs.Lines.{line_in}
+use Rattle.lapd_card.proofs.Vocabulary.{◌≡◌, ◌+◌, ◌<◌, length, sym, ap, ◌∙◌, arith, take_all, sum_by, held_in, held_sent, line_in}
 use Rattle.lapd_card.proofs.OneFrameLine.{IsAt, one_serves, one_holds}
 use Rattle.lapd_card.proofs.FrameAmounts.{held_more}
 use Rattle.lapd_card.proofs.frame_lines.FrameLines.held.Goals as goal

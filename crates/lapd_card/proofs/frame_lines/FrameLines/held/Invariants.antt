@@ -1,10 +1,6 @@
 -- The invariants of the loops of `FrameLines::held`.
-use Rattle.std.proofs.Common.{◌≡◌, ◌+◌, ◌*◌, ◌≤◌, List, take}
-use Rattle.std.specs.List.{sum_by}
-use Rattle.model_line.specs.declared.config.Config.{Config}
+use Rattle.lapd_card.proofs.Vocabulary.{◌≡◌, ◌+◌, ◌*◌, ◌≤◌, List, take, sum_by, Config, held_in, held_sent, Store}
 use Rattle.model_line.specs.Line as machine
-use Rattle.model_line.specs.Stored.{held_in, held_sent}
-use Rattle.lapd_store.specs.Store.{Store}
 use Rattle.lapd_card.specs.FrameLines.{Stand}
 use Rattle.lapd_card.proofs.frame_lines.FrameLines.held.Given as goal
 

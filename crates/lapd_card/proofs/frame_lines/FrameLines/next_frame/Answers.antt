@@ -1,10 +1,5 @@
 -- Hand-written answers for `FrameLines::next_frame`.
-use Rattle.std.proofs.Common.{[], ◌+◌, ◌≤◌, length, sym, subst}
-use Rattle.model_line.specs.Pull.{taken}
-use Rattle.model_line.specs.WholeAtLine.{pulls_for}
-use Rattle.lapd_line.specs.FrameStands.{IsNext}
-use Rattle.std.specs.Option.{option_map_or}
-use Rattle.model_line.specs.Counted.{taken_shown}
+use Rattle.lapd_card.proofs.Vocabulary.{[], ◌+◌, ◌≤◌, length, sym, subst, taken, pulls_for, IsNext, option_map_or, taken_shown}
 use Rattle.lapd_card.proofs.OneFrameLine.{one_counts, one_serves, one_leads, one_holds, focused_at}
 use Rattle.lapd_card.proofs.frame_lines.FrameLines.next_frame.Goals as goal
 

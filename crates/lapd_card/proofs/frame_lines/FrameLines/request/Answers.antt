@@ -1,12 +1,6 @@
 -- Hand-written answers for `FrameLines::request`.
-use Rattle.std.proofs.Common.{sym, nat_le, Some, None, [], ◌∷◌}
-use Rattle.std.proofs.lemmas.Result.{IfOk-weaker, IfErr-weaker}
+use Rattle.lapd_card.proofs.Vocabulary.{sym, nat_le, Some, None, [], ◌∷◌, IfOk-weaker, IfErr-weaker, answer, refusal, request_of, used_slots, told_in_answer}
 use Rattle.model_line.specs.Event as line_event
-use Rattle.model_line.specs.Machine.{answer}
-use Rattle.model_line.specs.Refusal.{refusal}
-use Rattle.model_line.specs.Request.{request_of}
-use Rattle.lapd_store.specs.Store.{used_slots}
-use Rattle.model_line.specs.Counted.{told_in_answer}
 use Rattle.lapd_card.proofs.OneFrameLine.{one_counts, one_serves, one_leads, one_says}
 use Rattle.lapd_card.proofs.frame_lines.FrameLines.request.Goals as goal
 

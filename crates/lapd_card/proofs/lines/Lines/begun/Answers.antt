@@ -1,5 +1,5 @@
 -- Hand-written answers for `Lines::begun`.
-use Rattle.model_line.specs.Begun.{head_begun}
+use Rattle.lapd_card.proofs.Vocabulary.{head_begun}
 use Rattle.lapd_card.proofs.OneLine.{one_says}
 use Rattle.lapd_card.proofs.lines.Lines.begun.Goals as goal
 

@@ -1,5 +1,5 @@
 -- Hand-written answers for `Lines::counters`.
-use Rattle.std.proofs.Common.{◌∙◌}
+use Rattle.lapd_card.proofs.Vocabulary.{◌∙◌}
 use Rattle.lapd_card.proofs.OneLine.{counters_at}
 use Rattle.lapd_card.proofs.lines.Lines.counters.Goals as goal
 

@@ -1,7 +1,6 @@
 -- Hand-written answers for `Lines::hear`.
-use Rattle.std.proofs.Common.{ap, ◌∙◌}
+use Rattle.lapd_card.proofs.Vocabulary.{ap, ◌∙◌, answer}
 use Rattle.model_line.specs.Event as line_event
-use Rattle.model_line.specs.Machine.{answer}
 use Rattle.lapd_card.proofs.OneLine.{one_serves, one_leads, one_says, told_if_there}
 use Rattle.lapd_card.proofs.lines.Lines.hear.Goals as goal
 

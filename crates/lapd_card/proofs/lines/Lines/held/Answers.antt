@@ -1,8 +1,5 @@
 -- Hand-written answers for `Lines::held`.
-use Rattle.std.proofs.Common.{◌<◌, length, ap, ◌∙◌, arith}
-use Rattle.std.proofs.lemmas.List.{take_all}
-use Rattle.std.specs.List.{sum_by}
-use Rattle.model_line.specs.Stored.{held_in}
+use Rattle.lapd_card.proofs.Vocabulary.{◌<◌, length, ap, ◌∙◌, arith, take_all, sum_by, held_in}
 use Rattle.lapd_card.proofs.OneLine.{IsAt, one_serves, one_says}
 use Rattle.lapd_card.proofs.Amounts.{held_more}
 use Rattle.lapd_card.proofs.lines.Lines.held.Goals as goal

@@ -1,11 +1,6 @@
 -- The invariants of the loops of `Lines::held`.
-use Rattle.std.proofs.Common.{◌≡◌, ◌*◌, ◌≤◌, List, take}
-use Rattle.std.specs.List.{sum_by}
-use Rattle.model_line.specs.declared.config.Config.{Config}
+use Rattle.lapd_card.proofs.Vocabulary.{◌≡◌, ◌*◌, ◌≤◌, List, take, sum_by, Config, held_in, Store, Stand}
 use Rattle.model_line.specs.Line as machine
-use Rattle.model_line.specs.Stored.{held_in}
-use Rattle.lapd_store.specs.Store.{Store}
-use Rattle.lapd_card.specs.Lines.{Stand}
 use Rattle.lapd_card.proofs.lines.Lines.held.Given as goal
 
 -- what the lines so far hold

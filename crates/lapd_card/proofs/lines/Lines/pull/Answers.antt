@@ -1,6 +1,6 @@
 -- Hand-written answers for `Lines::pull`.
 use Rattle.model_line.specs.Event as line_event
-use Rattle.model_line.specs.Machine.{answer}
+use Rattle.lapd_card.proofs.Vocabulary.{answer}
 use Rattle.lapd_card.proofs.OneLine.{one_serves, one_leads, one_says}
 use Rattle.lapd_card.proofs.lines.Lines.pull.Goals as goal
 

@@ -1,11 +1,6 @@
 -- Hand-written answers for `Lines::request`.
-use Rattle.std.proofs.Common.{sym, nat_le, Some, None}
-use Rattle.std.proofs.lemmas.Result.{IfOk-weaker, IfErr-weaker}
+use Rattle.lapd_card.proofs.Vocabulary.{sym, nat_le, Some, None, IfOk-weaker, IfErr-weaker, answer, refusal, request_of, used_slots}
 use Rattle.model_line.specs.Event as line_event
-use Rattle.model_line.specs.Machine.{answer}
-use Rattle.model_line.specs.Refusal.{refusal}
-use Rattle.model_line.specs.Request.{request_of}
-use Rattle.lapd_store.specs.Store.{used_slots}
 use Rattle.lapd_card.proofs.OneLine.{one_serves, one_leads, one_says}
 use Rattle.lapd_card.proofs.lines.Lines.request.Goals as goal
 

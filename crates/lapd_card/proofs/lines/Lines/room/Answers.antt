@@ -1,7 +1,5 @@
 -- Hand-written answers for `Lines::room`.
-use Rattle.std.proofs.Common.{◌-◌}
-use Rattle.lapd_store.specs.Store.{used_slots}
-use Rattle.model_line.specs.Room.{room_in}
+use Rattle.lapd_card.proofs.Vocabulary.{◌-◌, used_slots, room_in}
 use Rattle.lapd_card.proofs.OneLine.{one_says}
 use Rattle.lapd_card.proofs.lines.Lines.room.Goals as goal
 

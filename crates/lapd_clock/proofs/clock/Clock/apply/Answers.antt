@@ -1,11 +1,5 @@
 -- A timer of one line changes: so does the set, and the clock keeps what it keeps.
-use Rattle.std.proofs.Common.{◌+◌, ◌<◌, length, sym, ap, ◌∙◌, subst, arith}
-use Rattle.lapd_clock.specs.InOrder.{IsInOrder}
-use Rattle.lapd_clock.specs.Timer.{Start, Stop}
-use Rattle.lapd_clock.specs.Given.{lengths_of}
-use Rattle.lapd_clock.specs.Timers.{Timers, with_order, finds_place}
-use Rattle.lapd_clock.specs.Sound.{IsSound}
-use Rattle.lapd_clock.specs.Places.{held_before, IsLineKept, timers_in}
+use Rattle.lapd_clock.proofs.Vocabulary.{◌+◌, ◌<◌, length, sym, ap, ◌∙◌, subst, arith, IsInOrder, Start, Stop, lengths_of, Timers, with_order, finds_place, IsSound, held_before, IsLineKept, timers_in}
 use Rattle.lapd_clock.proofs.Running.{with_order_sound, refused_unchanged}
 use Rattle.lapd_clock.proofs.Calls.{length-all_but, All-at, IsInOrder-restarted, IsInOrder-stopped, kept_with, timers_in-restarted, timers_in-stopped, finds_place-restarted}
 use Rattle.lapd_clock.proofs.clock.Clock.apply.Goals as goal

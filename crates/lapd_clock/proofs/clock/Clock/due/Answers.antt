@@ -1,13 +1,5 @@
 -- The first of the set is the first timer of the line that was found: it is due, or none is.
-use Rattle.std.proofs.Common.{◌≡◌, ◌<◌, [], All, length, sym, ap, ◌∙◌, subst, arith, length-set}
-use Rattle.std.specs.List.{AllByRecursion}
-use Rattle.std.proofs.lemmas.List.Elements.{All-nil}
-use Rattle.std.specs.Option.{IfNone}
-use Rattle.lapd_clock.specs.InOrder.{IsInOrder}
-use Rattle.lapd_clock.specs.Given.{lengths_of}
-use Rattle.lapd_clock.specs.Timers.{Expiry, Timers, is_before, due_at, first_due, after_due, after_first_due}
-use Rattle.lapd_clock.specs.Sound.{IsSound, IsLeastDue}
-use Rattle.lapd_clock.specs.Places.{Line, IsLineKept, held_before, expiry_on, timers_in}
+use Rattle.lapd_clock.proofs.Vocabulary.{◌≡◌, ◌<◌, [], All, length, sym, ap, ◌∙◌, subst, arith, length-set, AllByRecursion, All-nil, IfNone, IsInOrder, lengths_of, Expiry, Timers, is_before, due_at, first_due, after_due, after_first_due, IsSound, IsLeastDue, Line, IsLineKept, held_before, expiry_on, timers_in}
 use Rattle.lapd_clock.proofs.First.{found_leads}
 use Rattle.lapd_clock.proofs.Running.{after_due_sound}
 use Rattle.lapd_clock.proofs.Calls.{All-at, IsInOrder-drop_first, kept_with, same_timers, timers_in-none, none_due, none_taken, one_due, one_taken, all_later, first_is_least}

@@ -1,10 +1,5 @@
 -- The first of the set is the first timer of the line that was found.
-use Rattle.std.proofs.Common.{◌≡◌, ◌≤◌, [], All, sym, ap, ◌∙◌, subst}
-use Rattle.std.specs.List.{AllByRecursion}
-use Rattle.lapd_clock.specs.InOrder.{IsInOrder}
-use Rattle.lapd_clock.specs.Given.{lengths_of}
-use Rattle.lapd_clock.specs.Timers.{Expiry, Timers, is_before, next_moment, first_moment}
-use Rattle.lapd_clock.specs.Places.{Line, expiry_on}
+use Rattle.lapd_clock.proofs.Vocabulary.{◌≡◌, ◌≤◌, [], All, sym, ap, ◌∙◌, subst, AllByRecursion, IsInOrder, lengths_of, Expiry, Timers, is_before, next_moment, first_moment, Line, expiry_on}
 use Rattle.lapd_clock.proofs.First.{found_leads}
 use Rattle.lapd_clock.proofs.Calls.{timers_in-none, all_no_earlier}
 use Rattle.lapd_clock.proofs.clock.Clock.next.Goals as goal

@@ -1,7 +1,5 @@
 -- Lines without a timer stand for an idle clock.
-use Rattle.std.proofs.Common.{◌≡◌, ◌+◌, ◌*◌, [], length, sym, ap, ◌∙◌, subst, arith}
-use Rattle.lapd_clock.specs.Given.{lengths_of}
-use Rattle.lapd_clock.specs.Sound.{IsSound}
+use Rattle.lapd_clock.proofs.Vocabulary.{◌≡◌, ◌+◌, ◌*◌, [], length, sym, ap, ◌∙◌, subst, arith, lengths_of, IsSound}
 use Rattle.lapd_clock.proofs.Ranges.{range_of}
 use Rattle.lapd_clock.proofs.Running.{none_sound}
 use Rattle.lapd_clock.proofs.Calls.{timers_in-none}

@@ -1,7 +1,5 @@
 -- The invariants of the loops of `Clock::start_with`.
-use Rattle.std.proofs.Common.{◌≡◌, [], vec_len}
-use Rattle.std.specs.List.{AllByRecursion}
-use Rattle.lapd_clock.specs.Places.{IsLineKept}
+use Rattle.lapd_clock.proofs.Vocabulary.{◌≡◌, [], vec_len, AllByRecursion, IsLineKept}
 use Rattle.lapd_clock.proofs.clock.Clock.start_with.Given as goal
 
 -- so many lines without a timer

@@ -1,7 +1,5 @@
 -- The invariants of the loops of `Counters::notes`.
-use Rattle.std.proofs.Common.{◌≡◌, map, take}
-use Rattle.lapd_count.specs.Counters.{with_all}
-use Rattle.lapd_count.specs.Shown.{note_shown}
+use Rattle.lapd_count.proofs.Vocabulary.{◌≡◌, map, take, with_all, note_shown}
 use Rattle.lapd_count.proofs.counters.Counters.notes.Given as goal
 
 -- the notes so far are counted

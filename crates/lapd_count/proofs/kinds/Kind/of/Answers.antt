@@ -1,6 +1,5 @@
 -- Hand-written answers for `Kind::of`.
-use Rattle.std.proofs.Common.{arith}
-use Rattle.lapd_count.specs.declared.kinds.Kind.TheVariants.{Information}
+use Rattle.lapd_count.proofs.Vocabulary.{arith, Information}
 use Rattle.lapd_count.proofs.KindTable.{kind_at}
 use Rattle.lapd_count.proofs.kinds.Kind.of.Goals as goal
 

@@ -1,6 +1,5 @@
 -- Hand-written answers for `Awake::sleep`.
-use Rattle.std.proofs.Common.{w32}
-use Rattle.std.proofs.lemmas.Nat.Bits.{bit_at_clear_same, bit_at_clear_other}
+use Rattle.lapd_line.proofs.Vocabulary.{w32, bit_at_clear_same, bit_at_clear_other}
 use Rattle.lapd_line.proofs.awake.Awake.sleep.Goals as goal
 
 pub returns : goal.returns

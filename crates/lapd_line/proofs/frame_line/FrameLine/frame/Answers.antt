@@ -1,14 +1,7 @@
 -- Hand-written answers for `FrameLine::frame`.
-use Rattle.std.proofs.Common.{◌++◌, Some, refl, sym, ap, subst, ◌∙◌, arith}
-use Rattle.lapd_bits.specs.Heard.{heard_of}
-use Rattle.lapd_count.specs.Shown.{heard_shown}
-use Rattle.lapd_frame.proofs.Spelling.{are-octets}
-use Rattle.model_line.specs.Counted.{heard_counted, told_in_report}
-use Rattle.model_line.specs.Whole.{came}
-use Rattle.lapd_line.specs.Counted.{bare_shown}
+use Rattle.lapd_line.proofs.Vocabulary.{◌++◌, Some, refl, sym, ap, subst, ◌∙◌, arith, heard_of, heard_shown, are-octets, heard_counted, told_in_report, came, bare_shown, Serves, aim_of_event, told_in}
 use Rattle.lapd_line.specs.FrameStands.{config_of}
-use Rattle.lapd_line.specs.LinkLayer.{Serves, aim_of_event}
-use Rattle.lapd_line.specs.Reports.{octets_of, told_in}
+use Rattle.lapd_line.specs.Reports.{octets_of}
 use Rattle.lapd_line.proofs.FrameCounting.{leads_on, counts_on}
 use Rattle.lapd_line.proofs.FrameSteps.{frame_leads, heard_told}
 use Rattle.lapd_line.proofs.frame_line.FrameLine.frame.Goals as goal

@@ -1,5 +1,5 @@
 -- Hand-written answers for `FrameLine::held`.
-use Rattle.std.proofs.Common.{arith}
+use Rattle.lapd_line.proofs.Vocabulary.{arith}
 use Rattle.lapd_line.specs.FrameStands.{config_of}
 use Rattle.lapd_line.proofs.FrameSteps.{none_received}
 use Rattle.lapd_line.proofs.frame_line.FrameLine.held.Goals as goal

@@ -1,7 +1,5 @@
 -- Hand-written answers for `FrameLine::serve_request`.
-use Rattle.std.proofs.Common.{nat_le}
-use Rattle.lapd_store.specs.Store.{used_slots}
-use Rattle.model_line.specs.Request.{request_of}
+use Rattle.lapd_line.proofs.Vocabulary.{nat_le, used_slots, request_of}
 use Rattle.lapd_line.proofs.FrameSteps.{requested, request_told}
 use Rattle.lapd_line.proofs.frame_line.FrameLine.serve_request.Goals as goal
 

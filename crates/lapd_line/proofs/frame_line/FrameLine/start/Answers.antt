@@ -1,5 +1,5 @@
 -- Hand-written answers for `FrameLine::start`.
-use Rattle.model_line.proofs.FramesHeard.{frames_are_heard}
+use Rattle.lapd_line.proofs.Vocabulary.{frames_are_heard}
 use Rattle.lapd_line.proofs.frame_line.FrameLine.start.Goals as goal
 
 pub returns-clause-fresh : goal.returns-clause-fresh

@@ -1,8 +1,5 @@
 -- Hand-written answers for `FrameLine::take`.
-use Rattle.std.proofs.Common.{subst, arith}
-use Rattle.model_line.specs.Pull.{taken}
-use Rattle.lapd_line.specs.Loading.{in_octets}
-use Rattle.lapd_line.specs.Pulls.{Takes, orders_taken}
+use Rattle.lapd_line.proofs.Vocabulary.{subst, arith, taken, in_octets, Takes, orders_taken}
 use Rattle.lapd_line.proofs.FrameSteps.{next_leads, taken_few}
 use Rattle.lapd_line.proofs.frame_line.FrameLine.take.Goals as goal
 

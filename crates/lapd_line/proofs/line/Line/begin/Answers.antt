@@ -1,8 +1,5 @@
 -- Hand-written answers for `Line::begin`.
-use Rattle.std.proofs.Common.{◌≡◌, Bool, true, false, not, Option, Some, None, is_some, refl}
-use Rattle.lapd_frame.specs.declared.short_lists.ShortList.{ShortList}
-use Rattle.lapd_frame.specs.declared.timers.Order.{Order}
-use Rattle.lapd_line.specs.Pulls.{orders_taken}
+use Rattle.lapd_line.proofs.Vocabulary.{◌≡◌, Bool, true, false, not, Option, Some, None, is_some, refl, ShortList, Order, orders_taken}
 use Rattle.lapd_line.proofs.PullSteps.{due_taken}
 use Rattle.lapd_line.proofs.line.Line.begin.Goals as goal
 

@@ -1,5 +1,5 @@
 -- Hand-written answers for `Line::begins_nothing`.
-use Rattle.std.proofs.Common.{◌≡◌, ◌≤◌, true, false, length, refl, arith}
+use Rattle.lapd_line.proofs.Vocabulary.{◌≡◌, ◌≤◌, true, false, length, refl, arith}
 use Rattle.lapd_line.proofs.PullSteps.{none_due, none_waits}
 use Rattle.lapd_line.proofs.line.Line.begins_nothing.Goals as goal
 

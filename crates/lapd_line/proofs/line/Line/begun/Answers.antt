@@ -1,5 +1,5 @@
 -- Hand-written answers for `Line::begun`.
-use Rattle.std.proofs.Common.{◌∙◌}
+use Rattle.lapd_line.proofs.Vocabulary.{◌∙◌}
 use Rattle.lapd_line.proofs.line.Line.begun.Goals as goal
 
 pub returns : goal.returns

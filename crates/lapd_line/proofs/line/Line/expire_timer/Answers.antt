@@ -1,7 +1,6 @@
 -- Hand-written answers for `Line::expire_timer`.
 use Rattle.lapd_line.proofs.AnswerLaws.{starts_one}
-use Rattle.lapd_line.specs.Reports.{report_told}
-use Rattle.lapd_line.specs.Stands.{config_of}
+use Rattle.lapd_line.proofs.Vocabulary.{report_told, config_of}
 use Rattle.lapd_line.proofs.LineSteps.{expired, expiry_told}
 use Rattle.lapd_line.proofs.line.Line.expire_timer.Goals as goal
 

@@ -1,16 +1,8 @@
 -- Hand-written answers for `Line::hear`.
-use Rattle.std.proofs.Common.{◌≡◌, ◌++◌, Some, None, false, refl, sym, subst, ◌∙◌}
-use Rattle.std.proofs.lemmas.Bool.{false≢true}
-use Rattle.lapd_bits.specs.Deframer.{latest_of}
+use Rattle.lapd_line.proofs.Vocabulary.{◌≡◌, ◌++◌, Some, None, false, refl, sym, subst, ◌∙◌, false≢true, latest_of, heard_shown, told, nothing, answer, bare_shown, told_in, config_of, latest_frame}
 use Rattle.lapd_bits.specs.Stream as stream
-use Rattle.lapd_count.specs.Shown.{heard_shown}
 use Rattle.model_line.specs.Event as line_event
-use Rattle.model_line.specs.Event.{told, nothing}
-use Rattle.model_line.specs.Machine.{answer}
-use Rattle.lapd_line.specs.Counted.{bare_shown}
 use Rattle.lapd_line.specs.declared.line.Line.{Line}
-use Rattle.lapd_line.specs.Reports.{told_in}
-use Rattle.lapd_line.specs.Stands.{config_of, latest_frame}
 use Rattle.lapd_line.proofs.CountSteps.{counted_on, none_counted, octet_shown}
 use Rattle.lapd_line.proofs.LineSteps.{stepped, step_told, unheard, nothing_heard, is_dropped, dropped_served, gained_is}
 use Rattle.lapd_line.proofs.line.Line.hear.Goals as goal

@@ -1,11 +1,6 @@
 -- Hand-written answers for `Line::held`.
-use Rattle.std.proofs.Common.{sym, ap, ◌∙◌, arith}
-use Rattle.lapd_bits.specs.Framer.{still_held, last_octets}
-use Rattle.model_line.specs.Stored.{held_received, held_sent, held_by_link, sum_of_links}
-use Rattle.model_line.proofs.Ranges.{ranges_of}
-use Rattle.model_line.proofs.TextGoesOn.{left_is}
+use Rattle.lapd_line.proofs.Vocabulary.{sym, ap, ◌∙◌, arith, still_held, last_octets, held_received, held_sent, held_by_link, sum_of_links, ranges_of, left_is, config_of}
 use Rattle.lapd_tei.specs.Machine.{held}
-use Rattle.lapd_line.specs.Stands.{config_of}
 use Rattle.lapd_line.proofs.HeldSteps.{received_few, four}
 use Rattle.lapd_line.proofs.line.Line.held.Goals as goal
 

@@ -1,8 +1,5 @@
 -- Hand-written answers for `Line::octet`.
-use Rattle.std.proofs.Common.{refl, ap, ◌∙◌}
-use Rattle.model_line.specs.Event.{told}
-use Rattle.lapd_line.specs.Reports.{report_told}
-use Rattle.lapd_line.specs.Stands.{config_of}
+use Rattle.lapd_line.proofs.Vocabulary.{refl, ap, ◌∙◌, told, report_told, config_of}
 use Rattle.lapd_line.proofs.AnswerLaws.{drop_leaves}
 use Rattle.lapd_line.proofs.line.Line.octet.Goals as goal
 

@@ -1,7 +1,6 @@
 -- Hand-written answers for `Line::pull`.
-use Rattle.std.proofs.Common.{[], None, refl, ◌∙◌}
+use Rattle.lapd_line.proofs.Vocabulary.{[], None, refl, ◌∙◌, config_of}
 use Rattle.lapd_frame.specs.declared.short_lists.ShortList.TheVariants as short
-use Rattle.lapd_line.specs.Stands.{config_of}
 use Rattle.lapd_line.proofs.CountSteps.{none_counted, begins_none}
 use Rattle.lapd_line.proofs.PullSteps.{Gives, pulls, pull_told}
 use Rattle.lapd_line.proofs.line.Line.pull.Goals as goal

@@ -1,10 +1,5 @@
 -- Hand-written answers for `Line::pull_next`.
-use Rattle.std.proofs.Common.{[], sym, ap, ◌∙◌}
-use Rattle.std.specs.Option.{option_map_or}
-use Rattle.lapd_count.specs.Shown.{head_shown}
-use Rattle.lapd_frame.specs.ShortLists.{listed}
-use Rattle.model_line.specs.Event.{pulled}
-use Rattle.lapd_line.specs.Stands.{config_of}
+use Rattle.lapd_line.proofs.Vocabulary.{[], sym, ap, ◌∙◌, option_map_or, head_shown, listed, pulled, config_of}
 use Rattle.lapd_line.proofs.CountSteps.{counted_on, none_counted, begins_shown, begins_none}
 use Rattle.lapd_line.proofs.line.Line.pull_next.Goals as goal
 

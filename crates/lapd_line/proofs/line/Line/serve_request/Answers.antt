@@ -1,7 +1,5 @@
 -- Hand-written answers for `Line::serve_request`.
-use Rattle.std.proofs.Common.{ap, nat_le}
-use Rattle.lapd_store.specs.Store.{used_slots}
-use Rattle.model_line.specs.Request.{request_of}
+use Rattle.lapd_line.proofs.Vocabulary.{ap, nat_le, used_slots, request_of}
 use Rattle.lapd_line.proofs.RequestSteps.{requested, request_told}
 use Rattle.lapd_line.proofs.line.Line.serve_request.Goals as goal
 

@@ -1,6 +1,5 @@
 -- Hand-written answers for `Line::start`.
-use Rattle.std.proofs.Common.{[], sym, ap, subst, ◌∙◌}
-use Rattle.std.proofs.lemmas.Bool.{false≢true}
+use Rattle.lapd_line.proofs.Vocabulary.{[], sym, ap, subst, ◌∙◌, false≢true}
 use Rattle.lapd_bits.specs.Deframer as deframer
 use Rattle.lapd_line.proofs.line.Line.start.Goals as goal
 

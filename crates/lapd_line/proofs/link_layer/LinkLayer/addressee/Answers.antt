@@ -1,6 +1,5 @@
 -- Hand-written answers for `LinkLayer::addressee`.
-use Rattle.std.proofs.Common.{sym}
-use Rattle.lapd_tei.proofs.Tables.{place_of-is}
+use Rattle.lapd_line.proofs.Vocabulary.{sym, place_of-is}
 use Rattle.lapd_line.proofs.link_layer.LinkLayer.addressee.Goals as goal
 
 pub returns-in-Some-place-clause-at : goal.returns-in-Some-place-clause-at

@@ -1,8 +1,6 @@
 -- Hand-written answers for `LinkLayer::ask`.
-use Rattle.std.proofs.Common.{[], nat_le, sym, arith}
-use Rattle.lapd_store.specs.Store.{used_slots}
+use Rattle.lapd_line.proofs.Vocabulary.{[], nat_le, sym, arith, used_slots, place_of-is}
 use Rattle.lapd_link.specs.Events as link
-use Rattle.lapd_tei.proofs.Tables.{place_of-is}
 use Rattle.lapd_line.proofs.LayerSteps.{beside_links, links_part, low_number}
 use Rattle.lapd_line.proofs.LayerRequests.{no_link, asked, asked_serves}
 use Rattle.lapd_line.proofs.link_layer.LinkLayer.ask.Goals as goal

@@ -1,15 +1,8 @@
 -- Hand-written answers for `LinkLayer::clear`.
-use Rattle.std.proofs.Common.{◌≡◌, ◌<◌, [], length, set, slice_get, Some, sym, ap, subst, ◌∙◌, arith}
-use Rattle.lapd_frame.specs.declared.services.Service.TheVariants.{Call, Packet}
+use Rattle.lapd_line.proofs.Vocabulary.{◌≡◌, ◌<◌, [], length, set, slice_get, Some, sym, ap, subst, ◌∙◌, arith, Call, Packet, cleared-tells, cleared-orders, terms, told_of_link, with_cleared, told_with, with_management, HasTerms, LinksStand, machine_at, terms_in}
 use Rattle.model_link.specs.Events as event
 use Rattle.model_link.specs.Machine.{after}
-use Rattle.model_link.proofs.TellRows.{cleared-tells, cleared-orders}
-use Rattle.model_line.specs.Line.{terms}
-use Rattle.model_line.specs.Effect.{told_of_link, with_cleared}
-use Rattle.lapd_link.specs.Outcome.{told_with}
-use Rattle.lapd_line.specs.TeiChanges.{with_management}
 use Rattle.lapd_line.specs.Links as links
-use Rattle.lapd_line.specs.Links.{HasTerms, LinksStand, machine_at, terms_in}
 use Rattle.lapd_line.proofs.LayerSteps.{beside_links, links_part, named}
 use Rattle.lapd_line.proofs.TeiChangeSteps.{has_left, left, as_many, link_within, exact}
 use Rattle.lapd_line.proofs.link_layer.LinkLayer.clear.Goals as goal

@@ -1,8 +1,5 @@
 -- Hand-written answers for `LinkLayer::expire_at`.
-use Rattle.std.proofs.Common.{[], sym, ap, ◌∙◌}
-use Rattle.lapd_tei.specs.Table.{place_of}
-use Rattle.lapd_tei.proofs.Tables.{place_of-is}
-use Rattle.model_line.specs.Expiry.{at_timer}
+use Rattle.lapd_line.proofs.Vocabulary.{[], sym, ap, ◌∙◌, place_of, place_of-is, at_timer}
 use Rattle.lapd_line.proofs.AddressSteps.{serves_as, serves_none}
 use Rattle.lapd_line.proofs.link_layer.LinkLayer.expire_at.Goals as goal
 

@@ -1,5 +1,5 @@
 -- Hand-written answers for `LinkLayer::expire_check`.
-use Rattle.std.proofs.Common.{[]}
+use Rattle.lapd_line.proofs.Vocabulary.{[]}
 use Rattle.lapd_tei.specs.Events as teis
 use Rattle.lapd_line.proofs.link_layer.LinkLayer.expire_check.Goals as goal
 

@@ -1,7 +1,6 @@
 -- Hand-written answers for `LinkLayer::expire_link`.
-use Rattle.std.proofs.Common.{[], refl, ◌<◌, length, subst, sym}
+use Rattle.lapd_line.proofs.Vocabulary.{[], refl, ◌<◌, length, subst, sym, Wakes}
 use Rattle.model_link.specs.Events as event
-use Rattle.lapd_line.specs.Awake.{Wakes}
 use Rattle.lapd_line.specs.Links as links
 use Rattle.lapd_line.proofs.LayerSteps.{beside_links, links_part, named, numbered, at_link_serves, told_from, low_number}
 use Rattle.lapd_line.proofs.link_layer.LinkLayer.expire_link.Goals as goal

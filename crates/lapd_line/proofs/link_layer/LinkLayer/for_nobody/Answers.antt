@@ -1,7 +1,5 @@
 -- Hand-written answers for `LinkLayer::for_nobody`.
-use Rattle.std.proofs.Common.{Some, drop, sym, ap, ◌∙◌}
-use Rattle.lapd_frame.specs.Grammar.{parts_of}
-use Rattle.model_line.specs.Event.{dropped}
+use Rattle.lapd_line.proofs.Vocabulary.{Some, drop, sym, ap, ◌∙◌, parts_of, dropped}
 use Rattle.lapd_line.proofs.AddressSteps.{group_reported, told_is}
 use Rattle.lapd_line.proofs.link_layer.LinkLayer.for_nobody.Goals as goal
 

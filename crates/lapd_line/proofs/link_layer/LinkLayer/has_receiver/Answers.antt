@@ -1,8 +1,6 @@
 -- Hand-written answers for `LinkLayer::has_receiver`.
-use Rattle.std.proofs.Common.{◌||◌, sym, ap, ◌∙◌}
-use Rattle.std.proofs.lemmas.Bool.{ne_eqb}
+use Rattle.lapd_line.proofs.Vocabulary.{◌||◌, sym, ap, ◌∙◌, ne_eqb, is_on}
 use Rattle.std.specs.Option.{is_some}
-use Rattle.lapd_tei.specs.Table.{is_on}
 use Rattle.lapd_line.proofs.UnitSteps.{has_place}
 use Rattle.lapd_line.proofs.link_layer.LinkLayer.has_receiver.Goals as goal
 

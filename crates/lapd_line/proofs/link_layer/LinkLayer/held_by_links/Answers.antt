@@ -1,8 +1,5 @@
 -- Hand-written answers for `LinkLayer::held_by_links`.
-use Rattle.std.proofs.Common.{◌≡◌, ◌<◌, refl, ap, ◌∙◌, arith}
-use Rattle.std.specs.List.{sum_by, range_with_len}
-use Rattle.model_line.specs.Line.{link_count}
-use Rattle.model_line.specs.Stored.{held_by_link}
+use Rattle.lapd_line.proofs.Vocabulary.{◌≡◌, ◌<◌, refl, ap, ◌∙◌, arith, sum_by, range_with_len, link_count, held_by_link}
 use Rattle.lapd_line.proofs.LayerSteps.{beside_links, links_part}
 use Rattle.lapd_line.proofs.HeldSteps.{held_place, held_more, few_links}
 use Rattle.lapd_line.proofs.link_layer.LinkLayer.held_by_links.Goals as goal

@@ -1,8 +1,5 @@
 -- Hand-written answers for `LinkLayer::malformed`.
-use Rattle.std.proofs.Common.{◌∙◌}
-use Rattle.lapd_bits.specs.declared.heard.Cause.TheVariants.{Unserved}
-use Rattle.lapd_link.specs.Events.{received_of}
-use Rattle.model_line.specs.Octet.{drop_for}
+use Rattle.lapd_line.proofs.Vocabulary.{◌∙◌, Unserved, received_of, drop_for}
 use Rattle.lapd_line.proofs.AddressSteps.{aimed, serves_as, serves_none, nothing_after}
 use Rattle.lapd_line.proofs.link_layer.LinkLayer.malformed.Goals as goal
 

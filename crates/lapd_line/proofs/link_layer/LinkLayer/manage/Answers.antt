@@ -1,6 +1,5 @@
 -- Hand-written answers for `LinkLayer::manage`.
-use Rattle.std.proofs.Common.{[], sym, ◌∙◌, arith}
-use Rattle.lapd_line.specs.Requests.{event_of}
+use Rattle.lapd_line.proofs.Vocabulary.{[], sym, ◌∙◌, arith, event_of}
 use Rattle.lapd_line.proofs.LayerRequests.{managed}
 use Rattle.lapd_line.proofs.link_layer.LinkLayer.manage.Goals as goal
 

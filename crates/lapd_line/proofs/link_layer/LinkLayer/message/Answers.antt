@@ -1,11 +1,6 @@
 -- Hand-written answers for `LinkLayer::message`.
-use Rattle.std.proofs.Common.{◌≡◌, true, sym, ◌∙◌}
+use Rattle.lapd_line.proofs.Vocabulary.{◌≡◌, true, sym, ◌∙◌, Unserved, dropped, drop_for, has_management, is_ui, message_at}
 use Rattle.lapd_tei.specs.Events as teis
-use Rattle.lapd_bits.specs.declared.heard.Cause.TheVariants.{Unserved}
-use Rattle.model_line.specs.Event.{dropped}
-use Rattle.model_line.specs.Octet.{drop_for}
-use Rattle.model_line.specs.Sides.{has_management}
-use Rattle.lapd_line.specs.Addressing.{is_ui, message_at}
 use Rattle.lapd_line.proofs.AddressSteps.{serves_as, serves_none, message_of_ui, no_ui, not_ours}
 use Rattle.lapd_line.proofs.link_layer.LinkLayer.message.Goals as goal
 use Rattle.lapd_line.proofs.link_layer.LinkLayer.message.Goals.{then-not-is_ui-via-then-not-is_ui, then-not-is_ui-via-else-not-is_ui+then-not-has_management}

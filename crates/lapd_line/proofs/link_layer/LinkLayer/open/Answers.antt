@@ -1,11 +1,6 @@
 -- Hand-written answers for `LinkLayer::open`.
-use Rattle.std.proofs.Common.{◌≡◌, ◌<◌, length, set, sym, ap, subst, ◌∙◌, arith}
-use Rattle.std.proofs.lemmas.List.{get_or-set_other, length-set}
-use Rattle.lapd_frame.specs.declared.services.Service.TheVariants.{Call, Packet}
+use Rattle.lapd_line.proofs.Vocabulary.{◌≡◌, ◌<◌, length, set, sym, ap, subst, ◌∙◌, arith, get_or-set_other, length-set, Call, Packet, link_number, terms, with_management, LinksStand, machine_at, terms_in}
 use Rattle.model_link.specs.Link as machine
-use Rattle.model_line.specs.Line.{link_number, terms}
-use Rattle.lapd_line.specs.TeiChanges.{with_management}
-use Rattle.lapd_line.specs.Links.{LinksStand, machine_at, terms_in}
 use Rattle.lapd_line.proofs.LayerSteps.{beside_links, links_part}
 use Rattle.lapd_line.proofs.TeiChangeSteps.{has_joined, joined, free_link, link_within, exact}
 use Rattle.lapd_line.proofs.link_layer.LinkLayer.open.Goals as goal

@@ -1,7 +1,5 @@
 -- Hand-written answers for `LinkLayer::overlong`.
-use Rattle.std.proofs.Common.{[], sym, ap, ◌∙◌, Ok, arith}
-use Rattle.lapd_frame.specs.Reading.{long_reading}
-use Rattle.model_line.specs.Octet.{aim_of_long}
+use Rattle.lapd_line.proofs.Vocabulary.{[], sym, ap, ◌∙◌, Ok, arith, long_reading, aim_of_long}
 use Rattle.lapd_line.proofs.AddressSteps.{serves_as, long_fault}
 use Rattle.lapd_line.proofs.link_layer.LinkLayer.overlong.Goals as goal
 

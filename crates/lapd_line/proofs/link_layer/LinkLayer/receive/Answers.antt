@@ -1,8 +1,6 @@
 -- Hand-written answers for `LinkLayer::receive`.
-use Rattle.std.proofs.Common.{◌<◌, length, subst, sym}
+use Rattle.lapd_line.proofs.Vocabulary.{◌<◌, length, subst, sym, received_of, info_of, Wakes}
 use Rattle.model_link.specs.Events as event
-use Rattle.lapd_link.specs.Events.{received_of, info_of}
-use Rattle.lapd_line.specs.Awake.{Wakes}
 use Rattle.lapd_line.specs.Links as links
 use Rattle.lapd_line.proofs.LayerSteps.{beside_links, links_part, named, numbered, at_link_serves, told_from, low_number}
 use Rattle.lapd_line.proofs.link_layer.LinkLayer.receive.Goals as goal

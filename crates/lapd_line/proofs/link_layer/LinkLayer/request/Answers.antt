@@ -1,7 +1,5 @@
 -- Hand-written answers for `LinkLayer::request`.
-use Rattle.std.proofs.Common.{nat_le, refl, ap}
-use Rattle.lapd_store.specs.Store.{used_slots}
-use Rattle.model_line.specs.Request.{request_of}
+use Rattle.lapd_line.proofs.Vocabulary.{nat_le, refl, ap, used_slots, request_of}
 use Rattle.lapd_line.proofs.LayerRequests.{assign_rows, remove_rows, check_rows}
 use Rattle.lapd_line.proofs.RequestSteps.{refused_as, granted_as, aimed_as, Asks, asks_as, establish_asks, release_asks, data_asks, set_busy_asks, clear_busy_asks}
 use Rattle.lapd_line.proofs.link_layer.LinkLayer.request.Goals as goal

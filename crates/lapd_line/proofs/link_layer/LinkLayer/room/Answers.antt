@@ -1,6 +1,5 @@
 -- Hand-written answers for `LinkLayer::room`.
-use Rattle.std.proofs.Common.{◌-◌, sym, ◌∙◌, arith}
-use Rattle.lapd_store.specs.Store.{used_slots}
+use Rattle.lapd_line.proofs.Vocabulary.{◌-◌, sym, ◌∙◌, arith, used_slots}
 use Rattle.lapd_line.proofs.RoomSteps.{room_none, room_there}
 use Rattle.lapd_line.proofs.link_layer.LinkLayer.room.Goals as goal
 

@@ -1,9 +1,6 @@
 -- Hand-written answers for `LinkLayer::spelled`.
-use Rattle.std.proofs.Common.{drop, sym, ap, ◌∙◌}
-use Rattle.lapd_frame.specs.Grammar.{parts_of}
+use Rattle.lapd_line.proofs.Vocabulary.{drop, sym, ap, ◌∙◌, parts_of, message_of, at_side}
 use Rattle.model_link.specs.Events as link
-use Rattle.model_line.specs.Octet.{message_of}
-use Rattle.model_line.specs.Sides.{at_side}
 use Rattle.lapd_line.proofs.AddressSteps.{aimed, serves_as, serves_none, message_sided, managed_sapi}
 use Rattle.lapd_line.proofs.link_layer.LinkLayer.spelled.Goals as goal
 

@@ -1,7 +1,5 @@
 -- Hand-written answers for `LinkLayer::start`.
-use Rattle.std.proofs.Common.{ap, ◌∙◌}
-use Rattle.lapd_tei.specs.Machine.{empty}
-use Rattle.lapd_line.specs.Units.{empty_ring}
+use Rattle.lapd_line.proofs.Vocabulary.{ap, ◌∙◌, empty, empty_ring}
 use Rattle.lapd_line.proofs.StartSteps.{layer_fresh}
 use Rattle.lapd_line.proofs.link_layer.LinkLayer.start.Goals as goal
 

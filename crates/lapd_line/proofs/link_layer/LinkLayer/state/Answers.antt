@@ -1,5 +1,5 @@
 -- Hand-written answers for `LinkLayer::state`.
-use Rattle.std.proofs.Common.{sym}
+use Rattle.lapd_line.proofs.Vocabulary.{sym}
 use Rattle.lapd_line.proofs.LayerSteps.{state_is, beside_links}
 use Rattle.lapd_line.proofs.link_layer.LinkLayer.state.Goals as goal
 

@@ -1,9 +1,5 @@
 -- Hand-written answers for `LinkLayer::take`.
-use Rattle.std.proofs.Common.{◌≤◌, ap, sym, subst, ◌∙◌, arith}
-use Rattle.std.specs.Option.{option_or}
-use Rattle.model_line.specs.Line.{link_count}
-use Rattle.model_line.specs.Pull.{message_taken, unit_taken, first_taken, round}
-use Rattle.lapd_line.specs.Loading.{IsFree}
+use Rattle.lapd_line.proofs.Vocabulary.{◌≤◌, ap, sym, subst, ◌∙◌, arith, option_or, link_count, message_taken, unit_taken, first_taken, round, IsFree}
 use Rattle.lapd_line.proofs.PullTakes.{takes_or, takes_first}
 use Rattle.lapd_line.proofs.PullTakesLinks.{none_stands, round_found, round_ends}
 use Rattle.lapd_line.proofs.link_layer.LinkLayer.take.Goals as goal

@@ -1,7 +1,5 @@
 -- Hand-written answers for `LinkLayer::take_first`.
-use Rattle.std.proofs.Common.{◌<◌, ap, sym, subst, arith}
-use Rattle.model_line.specs.Line.{link_count}
-use Rattle.lapd_line.specs.Loading.{IsFree}
+use Rattle.lapd_line.proofs.Vocabulary.{◌<◌, ap, sym, subst, arith, link_count, IsFree}
 use Rattle.lapd_line.proofs.PullTakesLinks.{none_among, one_more, found, passed, none_stands}
 use Rattle.lapd_line.proofs.link_layer.LinkLayer.take_first.Goals as goal
 

@@ -1,6 +1,5 @@
 -- The invariants of the loops of `LinkLayer::take_first`.
-use Rattle.std.proofs.Common.{◌≤◌, ◌-◌, None}
-use Rattle.lapd_line.specs.Pulls.{Takes}
+use Rattle.lapd_line.proofs.Vocabulary.{◌≤◌, ◌-◌, None, Takes}
 use Rattle.lapd_line.proofs.PullTakesLinks.{among}
 use Rattle.lapd_line.proofs.link_layer.LinkLayer.take_first.Given as goal
 

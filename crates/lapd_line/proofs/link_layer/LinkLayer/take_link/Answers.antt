@@ -1,5 +1,5 @@
 -- Hand-written answers for `LinkLayer::take_link`.
-use Rattle.std.proofs.Common.{arith}
+use Rattle.lapd_line.proofs.Vocabulary.{arith}
 use Rattle.lapd_line.proofs.LayerSteps.{beside_links, links_part}
 use Rattle.lapd_line.proofs.PullTakesLinks.{no_link, low_link, given_used, loads, link_loaded, still_many}
 use Rattle.lapd_line.proofs.link_layer.LinkLayer.take_link.Goals as goal

@@ -1,7 +1,5 @@
 -- Hand-written answers for `LinkLayer::take_message`.
-use Rattle.std.proofs.Common.{[], Some, sym, subst}
-use Rattle.model_line.specs.Pull.{message_taken}
-use Rattle.lapd_line.specs.Pulls.{Takes}
+use Rattle.lapd_line.proofs.Vocabulary.{[], Some, sym, subst, message_taken, Takes}
 use Rattle.lapd_line.proofs.PullTakes.{message_loaded}
 use Rattle.lapd_line.proofs.link_layer.LinkLayer.take_message.Goals as goal
 

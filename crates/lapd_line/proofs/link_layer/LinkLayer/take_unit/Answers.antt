@@ -1,8 +1,5 @@
 -- Hand-written answers for `LinkLayer::take_unit`.
-use Rattle.std.proofs.Common.{◌≡◌, [], Some, length, ap, sym, subst, ◌∙◌, arith}
-use Rattle.std.proofs.lemmas.Option.{same_Some}
-use Rattle.model_line.specs.Pull.{unit_taken}
-use Rattle.lapd_line.specs.Pulls.{Takes, orders_taken}
+use Rattle.lapd_line.proofs.Vocabulary.{◌≡◌, [], Some, length, ap, sym, subst, ◌∙◌, arith, same_Some, unit_taken, Takes, orders_taken}
 use Rattle.lapd_line.proofs.PullTakesUnits.{oldest, is_frame, no_unit, unit_loaded}
 use Rattle.lapd_line.proofs.link_layer.LinkLayer.take_unit.Goals as goal
 

@@ -1,5 +1,5 @@
 -- Hand-written answers for `LinkLayer::unit`.
-use Rattle.std.proofs.Common.{[], refl, arith}
+use Rattle.lapd_line.proofs.Vocabulary.{[], refl, arith}
 use Rattle.lapd_line.proofs.UnitSteps.{refused_so, placed, unit_serves}
 use Rattle.lapd_line.proofs.link_layer.LinkLayer.unit.Goals as goal
 

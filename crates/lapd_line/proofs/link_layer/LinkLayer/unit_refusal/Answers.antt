@@ -1,5 +1,5 @@
 -- Hand-written answers for `LinkLayer::unit_refusal`.
-use Rattle.std.proofs.Common.{◌≡◌, false, nat_lt, subst, sym, ◌∙◌, arith}
+use Rattle.lapd_line.proofs.Vocabulary.{◌≡◌, false, nat_lt, subst, sym, ◌∙◌, arith}
 use Rattle.lapd_line.proofs.UnitSteps.{room_is_left}
 use Rattle.lapd_line.proofs.link_layer.LinkLayer.unit_refusal.Goals as goal
 

@@ -1,9 +1,6 @@
 -- Hand-written answers for `LinkLayer::unserved`.
-use Rattle.std.proofs.Common.{◌≡◌, [], inl, inr, ap, ◌∙◌}
-use Rattle.lapd_bits.specs.declared.heard.Cause.TheVariants.{Unserved}
+use Rattle.lapd_line.proofs.Vocabulary.{◌≡◌, [], inl, inr, ap, ◌∙◌, Unserved, drop_for, unless_at_link, aim_at}
 use Rattle.model_link.specs.Events as link
-use Rattle.model_line.specs.Octet.{drop_for, unless_at_link}
-use Rattle.lapd_line.specs.Addressing.{aim_at}
 use Rattle.lapd_line.proofs.AddressSteps.{aimed, serves_as, serves_none}
 use Rattle.lapd_line.proofs.link_layer.LinkLayer.unserved.Goals as goal
 

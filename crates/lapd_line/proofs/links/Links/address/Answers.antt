@@ -1,6 +1,5 @@
 -- Hand-written answers for `Links::address`.
-use Rattle.std.proofs.Common.{◌≡◌, get_or, ap, subst, ◌∙◌}
-use Rattle.model_link.specs.Link.{address_at}
+use Rattle.lapd_line.proofs.Vocabulary.{◌≡◌, get_or, ap, subst, ◌∙◌, address_at}
 use Rattle.lapd_line.proofs.LinkSteps.{terms_at}
 use Rattle.lapd_line.proofs.links.Links.address.Goals as goal
 

@@ -1,7 +1,7 @@
 -- Hand-written answers for `Links::expire`.
-use Rattle.std.proofs.Common.{◌≡◌, [], get_or, set, sym, subst}
+use Rattle.lapd_line.proofs.Vocabulary.{◌≡◌, [], get_or, set, sym, subst, machine_at}
 use Rattle.model_link.specs.Events as event
-use Rattle.lapd_line.specs.Links.{Serves, machine_at}
+use Rattle.lapd_line.specs.Links.{Serves}
 use Rattle.lapd_line.proofs.LinkSteps.{take_link, serves}
 use Rattle.lapd_line.proofs.links.Links.expire.Goals as goal
 

@@ -1,7 +1,5 @@
 -- Hand-written answers for `Links::held`.
-use Rattle.std.proofs.Common.{◌≡◌, get_or, ap, subst, ◌∙◌, arith}
-use Rattle.model_link.specs.Rises.{held}
-use Rattle.lapd_line.specs.Links.{machine_at}
+use Rattle.lapd_line.proofs.Vocabulary.{◌≡◌, get_or, ap, subst, ◌∙◌, arith, held, machine_at}
 use Rattle.lapd_line.proofs.HeldSteps.{link_few}
 use Rattle.lapd_line.proofs.LinkSteps.{take_link, terms_at}
 use Rattle.lapd_line.proofs.links.Links.held.Goals as goal

@@ -1,6 +1,5 @@
 -- Hand-written answers for `Links::offer`.
-use Rattle.std.proofs.Common.{◌≡◌, get_or, set, sym, subst}
-use Rattle.lapd_line.specs.Links.{Offers, machine_at}
+use Rattle.lapd_line.proofs.Vocabulary.{◌≡◌, get_or, set, sym, subst, Offers, machine_at}
 use Rattle.lapd_line.proofs.LinkSteps.{take_link, offers}
 use Rattle.lapd_line.proofs.links.Links.offer.Goals as goal
 

@@ -1,9 +1,5 @@
 -- Hand-written answers for `Links::open`.
-use Rattle.std.proofs.Common.{◌≡◌, ◌≤◌, get_or, set, refl, sym, ap, subst, ◌∙◌, arith}
-use Rattle.std.proofs.lemmas.List.{map-set}
-use Rattle.lapd_link.specs.Stands.{terms_of}
-use Rattle.model_link.specs.Link.{fresh}
-use Rattle.lapd_line.specs.Links.{LinksStand, machine_at, terms_in}
+use Rattle.lapd_line.proofs.Vocabulary.{◌≡◌, ◌≤◌, get_or, set, refl, sym, ap, subst, ◌∙◌, arith, map-set, terms_of, fresh, LinksStand, machine_at, terms_in}
 use Rattle.lapd_line.proofs.LinkSteps.{take_link, opened_terms}
 use Rattle.lapd_line.proofs.links.Links.open.Goals as goal
 

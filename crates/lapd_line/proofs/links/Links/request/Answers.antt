@@ -1,10 +1,9 @@
 -- Hand-written answers for `Links::request`.
-use Rattle.std.proofs.Common.{◌≡◌, [], get_or, set, nat_le, Some, None, IfOk, sym, ap, subst, ◌∙◌}
-use Rattle.lapd_store.specs.Store.{used_slots}
+use Rattle.lapd_line.proofs.Vocabulary.{◌≡◌, [], get_or, set, nat_le, Some, None, IfOk, sym, ap, subst, ◌∙◌, used_slots, machine_at}
 use Rattle.model_link.specs.Events as event
 use Rattle.model_link.specs.Requests.{refusal}
 use Rattle.lapd_link.specs.Events.{request_of}
-use Rattle.lapd_line.specs.Links.{Serves, machine_at}
+use Rattle.lapd_line.specs.Links.{Serves}
 use Rattle.lapd_line.proofs.LinkSteps.{take_link, serves, terms_at, if_err, on_err, on_ok, both_ok, put_same}
 use Rattle.lapd_line.proofs.links.Links.request.Goals as goal
 

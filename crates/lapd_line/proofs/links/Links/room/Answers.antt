@@ -1,8 +1,5 @@
 -- Hand-written answers for `Links::room`.
-use Rattle.std.proofs.Common.{◌≡◌, ◌-◌, Some, get_or, ap, subst, ◌∙◌}
-use Rattle.lapd_store.specs.Store.{used_slots}
-use Rattle.model_link.specs.Room.{room_of}
-use Rattle.lapd_line.specs.Links.{machine_at}
+use Rattle.lapd_line.proofs.Vocabulary.{◌≡◌, ◌-◌, Some, get_or, ap, subst, ◌∙◌, used_slots, room_of, machine_at}
 use Rattle.lapd_line.proofs.LinkSteps.{take_link, terms_at}
 use Rattle.lapd_line.proofs.links.Links.room.Goals as goal
 

@@ -1,8 +1,5 @@
 -- Hand-written answers for `Links::start`.
-use Rattle.std.proofs.Common.{[], ◌∷◌, ◌+◌, sym, ap, subst, ◌∙◌}
-use Rattle.std.proofs.lemmas.List.Elements.{All-nil, All-cons, All-append}
-use Rattle.std.specs.List.{All}
-use Rattle.lapd_line.specs.Starts.{IsBegun}
+use Rattle.lapd_line.proofs.Vocabulary.{[], ◌∷◌, ◌+◌, sym, ap, subst, ◌∙◌, All-nil, All-cons, All-append, All, IsBegun}
 use Rattle.lapd_line.proofs.StartSteps.{begun}
 use Rattle.lapd_line.proofs.links.Links.start.Goals as goal
 

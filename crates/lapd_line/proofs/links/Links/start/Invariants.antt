@@ -1,8 +1,5 @@
 -- The invariants of the loops of `Links::start`.
-use Rattle.std.proofs.Common.{◌≡◌, vec_len}
-use Rattle.std.specs.List.{All}
-use Rattle.std.specs.Prelude.{vec_capacity}
-use Rattle.lapd_line.specs.Starts.{IsBegun}
+use Rattle.lapd_line.proofs.Vocabulary.{◌≡◌, vec_len, All, vec_capacity, IsBegun}
 use Rattle.lapd_line.proofs.links.Links.start.Given as goal
 
 abbrev pub invariant-loop : goal.invariant-loop

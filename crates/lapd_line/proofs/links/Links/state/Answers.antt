@@ -1,6 +1,5 @@
 -- Hand-written answers for `Links::state`.
-use Rattle.std.proofs.Common.{◌≡◌, Some, get_or, ap, subst, ◌∙◌}
-use Rattle.lapd_line.specs.Links.{machine_at}
+use Rattle.lapd_line.proofs.Vocabulary.{◌≡◌, Some, get_or, ap, subst, ◌∙◌, machine_at}
 use Rattle.lapd_line.proofs.LinkSteps.{take_link}
 use Rattle.lapd_line.proofs.links.Links.state.Goals as goal
 

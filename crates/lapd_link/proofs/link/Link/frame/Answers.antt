@@ -1,6 +1,5 @@
 -- Hand-written answers for `Link::frame`.
-use Rattle.std.proofs.Common.{sym, ap, ◌∙◌}
-use Rattle.model_link.specs.Told.{LinkTold}
+use Rattle.lapd_link.proofs.Vocabulary.{sym, ap, ◌∙◌, LinkTold}
 use Rattle.lapd_link.proofs.link.Link.frame.Goals as goal
 
 pub returns-clause-unserved : goal.returns-clause-unserved

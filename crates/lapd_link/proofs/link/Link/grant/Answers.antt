@@ -1,11 +1,5 @@
 -- Hand-written answers for `Link::grant`.
-use Rattle.std.proofs.Common.{[], ap, subst, ◌∙◌}
-use Rattle.model_link.specs.Requests.{granted}
-use Rattle.model_link.specs.Steps.{begun}
-use Rattle.lapd_link.specs.declared.requests.LinkRequest.{LinkRequest}
-use Rattle.lapd_link.specs.declared.requests.LinkRequest.TheVariants.{Establish, Release, Data, SetBusy, ClearBusy}
-use Rattle.lapd_link.specs.Events.{request_of}
-use Rattle.lapd_link.specs.Stands.{HasPlace, terms_of}
+use Rattle.lapd_link.proofs.Vocabulary.{[], ap, subst, ◌∙◌, granted, begun, LinkRequest, Establish, Release, Data, SetBusy, ClearBusy, request_of, HasPlace, terms_of}
 use Rattle.lapd_link.proofs.Asking.{Granted, granted_as, by_rows, by_contents}
 use Rattle.lapd_link.proofs.Ending.{running-at}
 use Rattle.lapd_link.proofs.link.Link.grant.Goals as goal

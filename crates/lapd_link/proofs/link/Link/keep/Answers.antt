@@ -1,8 +1,5 @@
 -- Hand-written answers for `Link::keep`.
-use Rattle.std.proofs.Common.{ℕ, List, [], ◌∷◌, ◌++◌, sym, ap, subst}
-use Rattle.lapd_store.specs.Ownership.{Keeps}
-use Rattle.lapd_store.specs.SlotRing.{SlotRing}
-use Rattle.lapd_store.proofs.Queues.{Keeps-put}
+use Rattle.lapd_link.proofs.Vocabulary.{ℕ, List, [], ◌∷◌, ◌++◌, sym, ap, subst, Keeps, SlotRing, Keeps-put}
 use Rattle.lapd_link.proofs.link.Link.keep.Goals as goal
 
 pub returns-in-Some-clause-kept : goal.returns-in-Some-clause-kept

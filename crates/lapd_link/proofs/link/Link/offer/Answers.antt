@@ -1,13 +1,6 @@
 -- Hand-written answers for `Link::offer`.
-use Rattle.std.proofs.Common.{Option, sym, ap, ◌∙◌}
-use Rattle.model_link.specs.declared.timers.LinkTimer.{LinkTimer}
-use Rattle.model_link.specs.Link.{queue_of}
-use Rattle.model_link.specs.Events.{offer}
-use Rattle.model_link.specs.Told.{orders_for}
-use Rattle.model_link.specs.Steps.{Sent}
-use Rattle.model_link.specs.Machine.{course, given_of}
+use Rattle.lapd_link.proofs.Vocabulary.{Option, sym, ap, ◌∙◌, LinkTimer, queue_of, offer, orders_for, Sent, course, given_of, terms_of}
 use Rattle.lapd_link_steps.specs.Done as rows
-use Rattle.lapd_link.specs.Stands.{terms_of}
 use Rattle.lapd_link.proofs.Ending.{running-at}
 use Rattle.lapd_link.proofs.Offering.{offered, offered-sent, slot-used, slot-message, frame-offered, stands-offered, given-offered, slot-contents}
 use Rattle.lapd_link.proofs.link.Link.offer.Goals as goal

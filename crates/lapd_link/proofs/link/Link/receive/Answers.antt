@@ -1,9 +1,5 @@
 -- Hand-written answers for `Link::receive`.
-use Rattle.std.proofs.Common.{sym, ap, ◌∙◌}
-use Rattle.model_link.specs.Told.{LinkTold}
-use Rattle.model_link.proofs.Unserved.{unserved-stays}
-use Rattle.lapd_link.specs.Stands.{terms_of}
-use Rattle.lapd_link.specs.Events.{received_of}
+use Rattle.lapd_link.proofs.Vocabulary.{sym, ap, ◌∙◌, LinkTold, unserved-stays, terms_of, received_of}
 use Rattle.lapd_link.proofs.link.Link.receive.Goals as goal
 
 pub returns-clause-unserved : goal.returns-clause-unserved

@@ -1,12 +1,6 @@
 -- Hand-written answers for `Link::refusal`.
-use Rattle.std.proofs.Common.{◌≡◌, true, refl, sym, ap, subst, ◌∙◌}
-use Rattle.std.specs.Prelude.{IfNone}
-use Rattle.model_link.specs.declared.states.State.{State}
+use Rattle.lapd_link.proofs.Vocabulary.{◌≡◌, true, refl, sym, ap, subst, ◌∙◌, IfNone, State, serves, refusal_for_room, LinkRequest, request_of, HasRoom, terms_of}
 use Rattle.model_link.specs.Link.{Link}
-use Rattle.model_link.specs.Requests.{serves, refusal_for_room}
-use Rattle.lapd_link.specs.declared.requests.LinkRequest.{LinkRequest}
-use Rattle.lapd_link.specs.Events.{request_of}
-use Rattle.lapd_link.specs.Stands.{HasRoom, terms_of}
 use Rattle.lapd_link.proofs.Asking.{served}
 use Rattle.lapd_link.proofs.link.Link.refusal.Goals as goal
 

@@ -1,14 +1,5 @@
 -- Hand-written answers for `Link::request`.
-use Rattle.model_link.proofs.RiseEvents.{event-rises}
-use Rattle.std.proofs.Common.{◌≡◌, ℕ, [], None, sym, ap, subst, ◌∙◌}
-use Rattle.std.specs.Prelude.{nat_le}
-use Rattle.lapd_store.specs.Store.{used_slots}
-use Rattle.model_link.specs.Events.{requested}
-use Rattle.model_link.specs.Steps.{Course}
-use Rattle.model_link.specs.Requests.{refusal}
-use Rattle.model_link.specs.Machine.{course}
-use Rattle.lapd_link.specs.Events.{request_of}
-use Rattle.lapd_link.specs.Stands.{Reaches, terms_of}
+use Rattle.lapd_link.proofs.Vocabulary.{event-rises, ◌≡◌, ℕ, [], None, sym, ap, subst, ◌∙◌, nat_le, used_slots, requested, Course, refusal, course, request_of, Reaches, terms_of}
 use Rattle.lapd_link.proofs.Ending.{stands-after, told-after}
 use Rattle.lapd_link.proofs.Asking.{granted-course}
 use Rattle.lapd_link.proofs.link.Link.request.Goals as goal

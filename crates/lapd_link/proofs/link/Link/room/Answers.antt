@@ -1,5 +1,5 @@
 -- Hand-written answers for `Link::room`.
-use Rattle.std.proofs.Common.{◌-◌, ap, ◌∙◌}
+use Rattle.lapd_link.proofs.Vocabulary.{◌-◌, ap, ◌∙◌}
 use Rattle.lapd_link.proofs.Rooming.{room_is}
 use Rattle.lapd_link.proofs.link.Link.room.Goals as goal
 

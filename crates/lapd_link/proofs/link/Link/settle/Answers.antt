@@ -1,8 +1,5 @@
 -- Hand-written answers for `Link::settle`.
-use Rattle.std.proofs.Common.{ℕ, ◌≤◌, List, sym, subst}
-use Rattle.lapd_frame.specs.declared.timers.Order.{Order}
-use Rattle.model_link.specs.Told.{starts}
-use Rattle.model_link.proofs.TellRows.{one-start}
+use Rattle.lapd_link.proofs.Vocabulary.{ℕ, ◌≤◌, List, sym, subst, Order, starts, one-start}
 use Rattle.lapd_link.proofs.link.Link.settle.Goals as goal
 
 pub returns-clause-starts : goal.returns-clause-starts

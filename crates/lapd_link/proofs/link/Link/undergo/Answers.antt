@@ -1,10 +1,5 @@
 -- Hand-written answers for `Link::undergo`.
-use Rattle.model_link.proofs.RiseEvents.{event-rises}
-use Rattle.std.proofs.Common.{◌∙◌}
-use Rattle.model_link.specs.Link.{queue_of}
-use Rattle.model_link.specs.Machine.{course}
-use Rattle.lapd_link.specs.Stands.{terms_of}
-use Rattle.lapd_link.specs.Events.{info_at, event_of}
+use Rattle.lapd_link.proofs.Vocabulary.{event-rises, ◌∙◌, queue_of, course, terms_of, info_at, event_of}
 use Rattle.lapd_link.proofs.Ending.{running-at, reached, stands-after, told-after}
 use Rattle.lapd_link.proofs.link.Link.undergo.Goals as goal
 

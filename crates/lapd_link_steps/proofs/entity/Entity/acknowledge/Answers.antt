@@ -1,5 +1,5 @@
 -- Hand-written answers for `Entity::acknowledge`.
-use Rattle.std.proofs.Common.{refl, ap, drop, ◌∙◌}
+use Rattle.lapd_link_steps.proofs.Vocabulary.{refl, ap, drop, ◌∙◌}
 use Rattle.lapd_link_steps.proofs.Queue.{released_more}
 use Rattle.lapd_link_steps.proofs.entity.Entity.acknowledge.Goals as goal
 

@@ -1,6 +1,5 @@
 -- Hand-written answers for `Entity::acknowledged_by_information_in_7`.
-use Rattle.model_link.specs.Link.{is_peer_busy}
-use Rattle.model_link.specs.Words.{acknowledge}
+use Rattle.lapd_link_steps.proofs.Vocabulary.{is_peer_busy, acknowledge}
 use Rattle.model_link.specs.Established as row
 use Rattle.lapd_link_steps.proofs.Steps.{by_where_yes, by_where_no}
 use Rattle.lapd_link_steps.proofs.entity.Entity.acknowledged_by_information_in_7.Goals as goal

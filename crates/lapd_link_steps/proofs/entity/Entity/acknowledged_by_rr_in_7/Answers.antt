@@ -1,8 +1,5 @@
 -- Hand-written answers for `Entity::acknowledged_by_rr_in_7`.
-use Rattle.std.proofs.Common.{sym, ◌∙◌, true≢false, arith}
-use Rattle.std.proofs.lemmas.Bool.{eq-eqb, lt-ltb, le-ltb}
-use Rattle.model_link.specs.declared.timers.LinkTimer.TheVariants.{T200, T203}
-use Rattle.model_link.specs.Steps.{◌then◌, nothing, depending_on}
+use Rattle.lapd_link_steps.proofs.Vocabulary.{sym, ◌∙◌, true≢false, arith, eq-eqb, lt-ltb, le-ltb, T200, T203, ◌then◌, nothing, depending_on}
 use Rattle.model_link.specs.Words as word
 use Rattle.model_link.specs.Established as row
 use Rattle.lapd_link_steps.proofs.Tests.{ne-eqb}

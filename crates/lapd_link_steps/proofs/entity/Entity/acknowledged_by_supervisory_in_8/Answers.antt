@@ -1,5 +1,5 @@
 -- Hand-written answers for `Entity::acknowledged_by_supervisory_in_8`.
-use Rattle.model_link.specs.Words.{acknowledge}
+use Rattle.lapd_link_steps.proofs.Vocabulary.{acknowledge}
 use Rattle.model_link.specs.TimerRecovery as row
 use Rattle.lapd_link_steps.proofs.Steps.{acknowledged_then, by_bit_yes, by_bit_no}
 use Rattle.lapd_link_steps.proofs.entity.Entity.acknowledged_by_supervisory_in_8.Goals as goal

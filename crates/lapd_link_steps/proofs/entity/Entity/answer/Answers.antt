@@ -1,9 +1,6 @@
 -- Hand-written answers for `Entity::answer`.
-use Rattle.std.proofs.Common.{false, ap}
-use Rattle.lapd_frame.specs.declared.controls.Control.{Control}
-use Rattle.model_link.specs.Steps.{◌then◌}
+use Rattle.lapd_link_steps.proofs.Vocabulary.{false, ap, Control, ◌then◌, course_of}
 use Rattle.model_link.specs.Words as word
-use Rattle.lapd_link_steps.specs.Past.{course_of}
 use Rattle.lapd_link_steps.proofs.Steps.{◌▹◌, same_step}
 use Rattle.lapd_link_steps.proofs.entity.Entity.answer.Goals as goal
 

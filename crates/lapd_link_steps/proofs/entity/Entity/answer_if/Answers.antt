@@ -1,5 +1,5 @@
 -- Hand-written answers for `Entity::answer_if`.
-use Rattle.model_link.specs.Steps.{nothing}
+use Rattle.lapd_link_steps.proofs.Vocabulary.{nothing}
 use Rattle.lapd_link_steps.proofs.Steps.{bit_yes}
 use Rattle.lapd_link_steps.proofs.entity.Entity.answer_if.Goals as goal
 

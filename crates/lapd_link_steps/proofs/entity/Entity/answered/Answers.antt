@@ -1,5 +1,5 @@
 -- Hand-written answers for `Entity::answered`.
-use Rattle.model_link.specs.Steps.{nothing}
+use Rattle.lapd_link_steps.proofs.Vocabulary.{nothing}
 use Rattle.lapd_link_steps.proofs.Steps.{bit_yes}
 use Rattle.lapd_link_steps.proofs.entity.Entity.answered.Goals as goal
 

@@ -1,7 +1,5 @@
 -- Hand-written answers for `Entity::await_acknowledgement`.
-use Rattle.std.proofs.Common.{sym, ◌∙◌}
-use Rattle.model_link.specs.Steps.{nothing}
-use Rattle.model_link.specs.Offers.{is_awaiting_acknowledgement}
+use Rattle.lapd_link_steps.proofs.Vocabulary.{sym, ◌∙◌, nothing, is_awaiting_acknowledgement}
 use Rattle.lapd_link_steps.proofs.Steps.{where_no}
 use Rattle.lapd_link_steps.proofs.entity.Entity.await_acknowledgement.Goals as goal
 

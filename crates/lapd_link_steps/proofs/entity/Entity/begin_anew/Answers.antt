@@ -1,8 +1,5 @@
 -- Hand-written answers for `Entity::begin_anew`.
-use Rattle.std.proofs.Common.{[], ap, ◌∙◌}
-use Rattle.model_link.specs.Link.{Link}
-use Rattle.model_link.specs.Words.{begin_anew}
-use Rattle.lapd_link_steps.specs.Past.{course_of}
+use Rattle.lapd_link_steps.proofs.Vocabulary.{[], ap, ◌∙◌, Link, begin_anew, course_of}
 use Rattle.lapd_link_steps.proofs.Queue.{discarded}
 use Rattle.lapd_link_steps.proofs.entity.Entity.begin_anew.Goals as goal
 

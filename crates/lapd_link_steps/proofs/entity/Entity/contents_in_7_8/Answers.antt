@@ -1,11 +1,6 @@
 -- Hand-written answers for `Entity::contents_in_7_8`.
-use Rattle.std.proofs.Common.{sym, ap, ◌∙◌}
-use Rattle.std.proofs.lemmas.Bool.{eq-eqb}
-use Rattle.lapd_seq.specs.declared.numbers.Seq.{Seq}
-use Rattle.lapd_seq.specs.Numbers.{seq}
+use Rattle.lapd_link_steps.proofs.Vocabulary.{sym, ap, ◌∙◌, eq-eqb, Seq, seq, is_own_busy, depending_on}
 use Rattle.lapd_link_steps.proofs.Tests.{ne-eqb}
-use Rattle.model_link.specs.Link.{is_own_busy}
-use Rattle.model_link.specs.Steps.{depending_on}
 use Rattle.model_link.specs.MultipleFrame as row
 use Rattle.lapd_link_steps.proofs.Steps.{where_yes, where_no}
 use Rattle.lapd_link_steps.proofs.entity.Entity.contents_in_7_8.Goals as goal

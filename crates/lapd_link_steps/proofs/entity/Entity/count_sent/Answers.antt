@@ -1,5 +1,5 @@
 -- Hand-written answers for `Entity::count_sent`.
-use Rattle.std.proofs.Common.{refl}
+use Rattle.lapd_link_steps.proofs.Vocabulary.{refl}
 use Rattle.lapd_link_steps.proofs.entity.Entity.count_sent.Goals as goal
 
 pub returns : goal.returns

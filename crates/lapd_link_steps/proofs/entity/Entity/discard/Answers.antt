@@ -1,5 +1,5 @@
 -- Hand-written answers for `Entity::discard`.
-use Rattle.std.proofs.Common.{refl, arith}
+use Rattle.lapd_link_steps.proofs.Vocabulary.{refl, arith}
 use Rattle.lapd_link_steps.proofs.Queue.{discarded}
 use Rattle.lapd_link_steps.proofs.entity.Entity.discard.Goals as goal
 

@@ -1,7 +1,5 @@
 -- Hand-written answers for `Entity::discard_outstanding`.
-use Rattle.std.proofs.Common.{sym, ◌∙◌, true≢false}
-use Rattle.model_link.specs.Link.{has_outstanding}
-use Rattle.model_link.specs.Steps.{nothing}
+use Rattle.lapd_link_steps.proofs.Vocabulary.{sym, ◌∙◌, true≢false, has_outstanding, nothing}
 use Rattle.lapd_link_steps.proofs.Tests.{not_same}
 use Rattle.lapd_link_steps.proofs.Steps.{◌▹◌, where_yes}
 use Rattle.lapd_link_steps.proofs.entity.Entity.discard_outstanding.Goals as goal

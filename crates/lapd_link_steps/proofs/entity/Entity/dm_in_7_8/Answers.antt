@@ -1,6 +1,5 @@
 -- Hand-written answers for `Entity::dm_in_7_8`.
-use Rattle.std.proofs.Common.{true, false}
-use Rattle.lapd_link_steps.specs.Parts.{particulars}
+use Rattle.lapd_link_steps.proofs.Vocabulary.{true, false, particulars}
 use Rattle.lapd_link_steps.proofs.Steps.{with_known}
 use Rattle.lapd_link_steps.proofs.entity.Entity.dm_in_7_8.Goals as goal
 

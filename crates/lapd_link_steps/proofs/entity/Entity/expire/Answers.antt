@@ -1,7 +1,5 @@
 -- Hand-written answers for `Entity::expire`.
-use Rattle.std.proofs.Common.{sym, ◌∙◌}
-use Rattle.model_link.specs.Steps.{nothing}
-use Rattle.model_link.specs.Machine.{is_running}
+use Rattle.lapd_link_steps.proofs.Vocabulary.{sym, ◌∙◌, nothing, is_running}
 use Rattle.lapd_link_steps.proofs.Steps.{where_yes}
 use Rattle.lapd_link_steps.proofs.entity.Entity.expire.Goals as goal
 

@@ -1,7 +1,5 @@
 -- Hand-written answers for `Entity::expire_running`.
-use Rattle.model_link.specs.declared.states.State.TheVariants.{AwaitingEstablishment, AwaitingRelease, Established, TimerRecovery}
-use Rattle.model_link.specs.declared.timers.LinkTimer.TheVariants.{T200}
-use Rattle.model_link.specs.Machine.{expired_in}
+use Rattle.lapd_link_steps.proofs.Vocabulary.{AwaitingEstablishment, AwaitingRelease, Established, TimerRecovery, T200, expired_in}
 use Rattle.lapd_link_steps.proofs.Steps.{by_state, with_known}
 use Rattle.lapd_link_steps.proofs.entity.Entity.expire_running.Goals as goal
 

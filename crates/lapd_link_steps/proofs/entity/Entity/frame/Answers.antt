@@ -1,6 +1,5 @@
 -- Hand-written answers for `Entity::frame`.
-use Rattle.model_link.specs.declared.states.State.TheVariants.{TeiAssigned, AwaitingEstablishment, AwaitingRelease, Established, TimerRecovery}
-use Rattle.model_link.specs.Machine.{frame_in}
+use Rattle.lapd_link_steps.proofs.Vocabulary.{TeiAssigned, AwaitingEstablishment, AwaitingRelease, Established, TimerRecovery, frame_in}
 use Rattle.lapd_link_steps.proofs.Steps.{by_state}
 use Rattle.lapd_link_steps.proofs.entity.Entity.frame.Goals as goal
 

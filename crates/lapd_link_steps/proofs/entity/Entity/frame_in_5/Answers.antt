@@ -1,6 +1,5 @@
 -- Hand-written answers for `Entity::frame_in_5`.
-use Rattle.std.proofs.Common.{ap, ◌∙◌, true}
-use Rattle.lapd_frame.specs.declared.controls.Control.TheVariants.{Ua}
+use Rattle.lapd_link_steps.proofs.Vocabulary.{ap, ◌∙◌, true, Ua}
 use Rattle.model_link.specs.AwaitingEstablishment as row
 use Rattle.lapd_link_steps.proofs.Steps.{with_known}
 use Rattle.lapd_link_steps.proofs.entity.Entity.frame_in_5.Goals as goal

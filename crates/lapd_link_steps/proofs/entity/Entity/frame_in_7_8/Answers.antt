@@ -1,13 +1,7 @@
 -- Hand-written answers for `Entity::frame_in_7_8`.
-use Rattle.std.proofs.Common.{ap, sym, ◌∙◌, false, length, arith}
-use Rattle.std.proofs.lemmas.Bool.{lt-ltb, le-ltb}
-use Rattle.lapd_frame.specs.declared.controls.Control.TheVariants.{Dm}
+use Rattle.lapd_link_steps.proofs.Vocabulary.{ap, sym, ◌∙◌, false, length, arith, lt-ltb, le-ltb, Dm, ◌then◌, by_number, particulars, effect_of, Information, Rr, Rnr, Rej}
 use Rattle.lapd_frame.specs.declared.notes.ErrorCode.TheVariants as code
-use Rattle.model_link.specs.Steps.{◌then◌}
-use Rattle.model_link.specs.Words.{by_number}
 use Rattle.model_link.specs.MultipleFrame as row
-use Rattle.lapd_link_steps.specs.Parts.{particulars, effect_of}
-use Rattle.lapd_link_steps.specs.declared.states.multiple_frame.Bearer.TheVariants.{Information, Rr, Rnr, Rej}
 use Rattle.lapd_link_steps.proofs.Steps.{◌▹◌, bit_yes, bit_no, with_known}
 use Rattle.lapd_link_steps.proofs.entity.Entity.frame_in_7_8.Goals as goal
 

@@ -1,5 +1,5 @@
 -- Hand-written answers for `Entity::held`.
-use Rattle.std.proofs.Common.{arith}
+use Rattle.lapd_link_steps.proofs.Vocabulary.{arith}
 use Rattle.lapd_link_steps.proofs.Sizes.{octets-of_next, octets-of_whole}
 use Rattle.lapd_link_steps.proofs.entity.Entity.held.Goals as goal
 

@@ -1,7 +1,5 @@
 -- The invariants of the loops of `Entity::held`.
-use Rattle.std.proofs.Common.{◌≡◌, ◌*◌, ◌≤◌, take}
-use Rattle.std.specs.Prelude.{sum_by}
-use Rattle.lapd_frame.specs.Reading.{start_of}
+use Rattle.lapd_link_steps.proofs.Vocabulary.{◌≡◌, ◌*◌, ◌≤◌, take, sum_by, start_of}
 use Rattle.lapd_link_steps.proofs.entity.Entity.held.Given as goal
 
 abbrev pub invariant-loop-place : goal.invariant-loop-place

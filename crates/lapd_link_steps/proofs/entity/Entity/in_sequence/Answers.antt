@@ -1,5 +1,5 @@
 -- Hand-written answers for `Entity::in_sequence`.
-use Rattle.std.proofs.Common.{true}
+use Rattle.lapd_link_steps.proofs.Vocabulary.{true}
 use Rattle.model_link.specs.Words as word
 use Rattle.lapd_link_steps.proofs.Steps.{◌▹◌, bit_yes, bit_no}
 use Rattle.lapd_link_steps.proofs.entity.Entity.in_sequence.Goals as goal

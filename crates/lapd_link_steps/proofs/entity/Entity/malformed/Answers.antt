@@ -1,6 +1,5 @@
 -- Hand-written answers for `Entity::malformed`.
-use Rattle.model_link.specs.declared.states.State.TheVariants.{TeiAssigned, AwaitingEstablishment, AwaitingRelease, Established, TimerRecovery}
-use Rattle.model_link.specs.Machine.{malformed_in}
+use Rattle.lapd_link_steps.proofs.Vocabulary.{TeiAssigned, AwaitingEstablishment, AwaitingRelease, Established, TimerRecovery, malformed_in}
 use Rattle.lapd_link_steps.proofs.Steps.{by_state}
 use Rattle.lapd_link_steps.proofs.entity.Entity.malformed.Goals as goal
 

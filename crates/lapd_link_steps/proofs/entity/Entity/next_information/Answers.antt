@@ -1,10 +1,6 @@
 -- Hand-written answers for `Entity::next_information`.
-use Rattle.std.proofs.Common.{ℕ, ◌+◌, List, Option, Some, false, ap, ◌∙◌}
-use Rattle.std.specs.List.{slice_get}
-use Rattle.lapd_seq.specs.declared.numbers.Seq.{Seq}
-use Rattle.lapd_seq.specs.Numbers.{seq}
+use Rattle.lapd_link_steps.proofs.Vocabulary.{ℕ, ◌+◌, List, Option, Some, false, ap, ◌∙◌, slice_get, Seq, seq, command}
 use Rattle.lapd_frame.specs.declared.controls.Control.TheVariants.{Information}
-use Rattle.model_link.specs.Words.{command}
 use Rattle.lapd_link_steps.proofs.Queue.{contents_at-queue}
 use Rattle.lapd_link_steps.proofs.entity.Entity.next_information.Goals as goal
 

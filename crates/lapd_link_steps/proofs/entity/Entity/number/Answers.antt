@@ -1,7 +1,5 @@
 -- Hand-written answers for `Entity::number`.
-use Rattle.std.proofs.Common.{true, false}
-use Rattle.model_link.specs.Words.{by_number}
-use Rattle.lapd_link_steps.specs.Parts.{particulars, effect_of}
+use Rattle.lapd_link_steps.proofs.Vocabulary.{true, false, by_number, particulars, effect_of}
 use Rattle.lapd_link_steps.proofs.Steps.{number_yes, number_no, with_known}
 use Rattle.lapd_link_steps.proofs.entity.Entity.number.Goals as goal
 

@@ -1,5 +1,5 @@
 -- Hand-written answers for `Entity::offer`.
-use Rattle.std.proofs.Common.{sym, ◌∙◌}
+use Rattle.lapd_link_steps.proofs.Vocabulary.{sym, ◌∙◌}
 use Rattle.lapd_link_steps.proofs.Giving.{gives_empty}
 use Rattle.lapd_link_steps.proofs.Queue.{nothing_first}
 use Rattle.lapd_link_steps.proofs.entity.Entity.offer.Goals as goal

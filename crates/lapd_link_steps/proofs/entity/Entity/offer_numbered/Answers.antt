@@ -1,7 +1,5 @@
 -- Hand-written answers for `Entity::offer_numbered`.
-use Rattle.std.proofs.Common.{sym, ◌∙◌}
-use Rattle.model_link.specs.Steps.{nothing, depending_on}
-use Rattle.model_link.specs.Offers.{may_send_information, is_pending, send_acknowledgement}
+use Rattle.lapd_link_steps.proofs.Vocabulary.{sym, ◌∙◌, nothing, depending_on, may_send_information, is_pending, send_acknowledgement}
 use Rattle.lapd_link_steps.proofs.Giving.{gives_where}
 use Rattle.lapd_link_steps.proofs.entity.Entity.offer_numbered.Goals as goal
 

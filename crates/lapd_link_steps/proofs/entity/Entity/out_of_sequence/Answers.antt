@@ -1,7 +1,5 @@
 -- Hand-written answers for `Entity::out_of_sequence`.
-use Rattle.std.proofs.Common.{true}
-use Rattle.model_link.specs.Link.{is_rejecting}
-use Rattle.model_link.specs.Steps.{◌then◌}
+use Rattle.lapd_link_steps.proofs.Vocabulary.{true, is_rejecting, ◌then◌}
 use Rattle.model_link.specs.Words as word
 use Rattle.model_link.specs.MultipleFrame as row
 use Rattle.lapd_link_steps.proofs.Steps.{◌▹◌, where_yes, where_no}

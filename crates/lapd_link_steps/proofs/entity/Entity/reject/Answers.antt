@@ -1,10 +1,6 @@
 -- Hand-written answers for `Entity::reject`.
-use Rattle.std.proofs.Common.{false, ap}
-use Rattle.lapd_seq.specs.declared.numbers.Seq.{Seq}
-use Rattle.lapd_frame.specs.declared.controls.Control.TheVariants.{Reject}
-use Rattle.model_link.specs.Steps.{◌then◌}
+use Rattle.lapd_link_steps.proofs.Vocabulary.{false, ap, Seq, Reject, ◌then◌, course_of}
 use Rattle.model_link.specs.Words as word
-use Rattle.lapd_link_steps.specs.Past.{course_of}
 use Rattle.lapd_link_steps.proofs.Steps.{◌▹◌, same_step}
 use Rattle.lapd_link_steps.proofs.entity.Entity.reject.Goals as goal
 

@@ -1,6 +1,5 @@
 -- Hand-written answers for `Entity::release`.
-use Rattle.model_link.specs.declared.states.State.TheVariants.{TeiAssigned, AwaitingEstablishment, AwaitingRelease, Established, TimerRecovery}
-use Rattle.model_link.specs.Requests.{release_in}
+use Rattle.lapd_link_steps.proofs.Vocabulary.{TeiAssigned, AwaitingEstablishment, AwaitingRelease, Established, TimerRecovery, release_in}
 use Rattle.lapd_link_steps.proofs.Steps.{by_state, does_nothing}
 use Rattle.lapd_link_steps.proofs.entity.Entity.release.Goals as goal
 

@@ -1,7 +1,6 @@
 -- Hand-written answers for `Entity::send_information`.
-use Rattle.std.proofs.Common.{Some, sym, ◌∙◌}
+use Rattle.lapd_link_steps.proofs.Vocabulary.{Some, sym, ◌∙◌, course_of}
 use Rattle.model_link.specs.Offers as offers
-use Rattle.lapd_link_steps.specs.Past.{course_of}
 use Rattle.lapd_link_steps.proofs.Steps.{◌▹◌, gives, sent-information}
 use Rattle.lapd_link_steps.proofs.entity.Entity.send_information.Goals as goal
 

@@ -1,7 +1,5 @@
 -- Hand-written answers for `Entity::supervised`.
-use Rattle.std.proofs.Common.{true, false, sym}
-use Rattle.model_link.specs.Established.{unsolicited}
-use Rattle.lapd_link_steps.specs.Parts.{particulars, supervised}
+use Rattle.lapd_link_steps.proofs.Vocabulary.{true, false, sym, unsolicited, particulars, supervised}
 use Rattle.lapd_link_steps.proofs.Steps.{◌▹◌, does_nothing, with_known}
 use Rattle.lapd_link_steps.proofs.entity.Entity.supervised.Goals as goal
 

@@ -1,12 +1,6 @@
 -- Hand-written answers for `Entity::t200_in_6`.
-use Rattle.std.proofs.Common.{true}
-use Rattle.std.proofs.lemmas.Bool.{lt-ltb, le-ltb}
-use Rattle.lapd_frame.specs.declared.controls.Control.TheVariants.{Disc}
+use Rattle.lapd_link_steps.proofs.Vocabulary.{true, lt-ltb, le-ltb, Disc, TeiAssigned, T200, may_repeat, ◌then◌}
 use Rattle.lapd_frame.specs.declared.notes.ErrorCode.TheVariants as code
-use Rattle.model_link.specs.declared.states.State.TheVariants.{TeiAssigned}
-use Rattle.model_link.specs.declared.timers.LinkTimer.TheVariants.{T200}
-use Rattle.model_link.specs.Link.{may_repeat}
-use Rattle.model_link.specs.Steps.{◌then◌}
 use Rattle.model_link.specs.Words as word
 use Rattle.lapd_link_steps.proofs.Steps.{◌▹◌, where_yes, where_no}
 use Rattle.lapd_link_steps.proofs.entity.Entity.t200_in_6.Goals as goal

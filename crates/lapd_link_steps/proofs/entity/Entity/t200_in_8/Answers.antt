@@ -1,11 +1,7 @@
 -- Hand-written answers for `Entity::t200_in_8`.
-use Rattle.std.proofs.lemmas.Bool.{lt-ltb, le-ltb}
+use Rattle.lapd_link_steps.proofs.Vocabulary.{lt-ltb, le-ltb, T200, may_repeat, ◌then◌, failed}
 use Rattle.lapd_frame.specs.declared.notes.ErrorCode.TheVariants as code
-use Rattle.model_link.specs.declared.timers.LinkTimer.TheVariants.{T200}
-use Rattle.model_link.specs.Link.{may_repeat}
-use Rattle.model_link.specs.Steps.{◌then◌}
 use Rattle.model_link.specs.Words as word
-use Rattle.model_link.specs.MultipleFrame.{failed}
 use Rattle.lapd_link_steps.proofs.Steps.{◌▹◌, where_yes, where_no}
 use Rattle.lapd_link_steps.proofs.entity.Entity.t200_in_8.Goals as goal
 

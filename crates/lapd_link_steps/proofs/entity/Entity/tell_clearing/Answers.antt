@@ -1,6 +1,5 @@
 -- Hand-written answers for `Entity::tell_clearing`.
-use Rattle.model_link.specs.declared.states.State.TheVariants.{TeiAssigned, AwaitingEstablishment, AwaitingRelease, Established, TimerRecovery}
-use Rattle.model_link.specs.Machine.{told_of_clearing}
+use Rattle.lapd_link_steps.proofs.Vocabulary.{TeiAssigned, AwaitingEstablishment, AwaitingRelease, Established, TimerRecovery, told_of_clearing}
 use Rattle.lapd_link_steps.proofs.Steps.{by_state, does_nothing}
 use Rattle.lapd_link_steps.proofs.entity.Entity.tell_clearing.Goals as goal
 

@@ -1,7 +1,6 @@
 -- Hand-written answers for `Entity::tell_establishment`.
-use Rattle.model_link.specs.Link.{is_asked}
+use Rattle.lapd_link_steps.proofs.Vocabulary.{is_asked, renewed}
 use Rattle.model_link.specs.Words as word
-use Rattle.lapd_link_steps.specs.Parts.{renewed}
 use Rattle.lapd_link_steps.proofs.Steps.{where_yes, where_no}
 use Rattle.lapd_link_steps.proofs.entity.Entity.tell_establishment.Goals as goal
 

@@ -1,5 +1,5 @@
 -- Hand-written answers for `Entity::zero_numbers`.
-use Rattle.std.proofs.Common.{refl, ap, drop, ◌∙◌}
+use Rattle.lapd_link_steps.proofs.Vocabulary.{refl, ap, drop, ◌∙◌}
 use Rattle.lapd_link_steps.proofs.Queue.{released_more}
 use Rattle.lapd_link_steps.proofs.entity.Entity.zero_numbers.Goals as goal
 

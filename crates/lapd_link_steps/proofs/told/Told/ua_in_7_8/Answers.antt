@@ -1,6 +1,6 @@
 -- Hand-written answers for `Told::ua_in_7_8`.
 use Rattle.lapd_frame.specs.declared.notes.ErrorCode.TheVariants as code
-use Rattle.model_link.specs.Words.{error}
+use Rattle.lapd_link_steps.proofs.Vocabulary.{error}
 use Rattle.lapd_link_steps.proofs.Steps.{bit_yes, bit_no}
 use Rattle.lapd_link_steps.proofs.told.Told.ua_in_7_8.Goals as goal
 

@@ -1,7 +1,5 @@
 -- Hand-written answers for `Told::unit_data`.
-use Rattle.std.proofs.Common.{length, arith}
-use Rattle.std.proofs.lemmas.Bool.{lt-ltb, le-ltb}
-use Rattle.model_link.specs.Words.{deliver_unit, leave_unserved}
+use Rattle.lapd_link_steps.proofs.Vocabulary.{length, arith, lt-ltb, le-ltb, deliver_unit, leave_unserved}
 use Rattle.lapd_link_steps.proofs.Steps.{bit_yes, bit_no}
 use Rattle.lapd_link_steps.proofs.told.Told.unit_data.Goals as goal
 

@@ -1,7 +1,6 @@
 -- Hand-written answers for `Told::unsolicited`.
 use Rattle.lapd_frame.specs.declared.notes.ErrorCode.TheVariants as code
-use Rattle.model_link.specs.Steps.{nothing}
-use Rattle.model_link.specs.Words.{error}
+use Rattle.lapd_link_steps.proofs.Vocabulary.{nothing, error}
 use Rattle.lapd_link_steps.proofs.Steps.{bit_yes, bit_no, does_nothing}
 use Rattle.lapd_link_steps.proofs.told.Told.unsolicited.Goals as goal
 

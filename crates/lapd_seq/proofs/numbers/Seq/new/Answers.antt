@@ -1,5 +1,5 @@
 -- Hand-written answers for `Seq::new`.
-use Rattle.std.proofs.Common.{arith}
+use Rattle.lapd_seq.proofs.Vocabulary.{arith}
 use Rattle.lapd_seq.proofs.Callers.{is_seq}
 use Rattle.lapd_seq.proofs.numbers.Seq.new.Goals as goal
 

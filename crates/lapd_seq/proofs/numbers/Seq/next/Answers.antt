@@ -1,5 +1,5 @@
 -- Hand-written answers for `Seq::next`.
-use Rattle.std.proofs.Common.{refl}
+use Rattle.lapd_seq.proofs.Vocabulary.{refl}
 use Rattle.lapd_seq.proofs.Callers.{is_seq}
 use Rattle.lapd_seq.proofs.Remainders.{seq-next}
 use Rattle.lapd_seq.proofs.numbers.Seq.next.Goals as goal

@@ -1,6 +1,5 @@
 -- Hand-written answers for `Window::names_next`.
-use Rattle.std.proofs.Common.{◌∙◌, sym}
-use Rattle.std.proofs.lemmas.Bool.{eqb-true, eq-eqb}
+use Rattle.lapd_seq.proofs.Vocabulary.{◌∙◌, sym, eqb-true, eq-eqb}
 use Rattle.lapd_seq.proofs.Remainders.{named-next}
 use Rattle.lapd_seq.proofs.windows.Window.names_next.Goals as goal
 

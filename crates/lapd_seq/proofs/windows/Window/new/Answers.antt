@@ -1,6 +1,5 @@
 -- Hand-written answers for `Window::new`.
-use Rattle.std.proofs.Common.{◌≡◌, ◌+◌, arith}
-use Rattle.lapd_seq.specs.Circle.{distance_of}
+use Rattle.lapd_seq.proofs.Vocabulary.{◌≡◌, ◌+◌, arith, distance_of}
 use Rattle.lapd_seq.proofs.Callers.{distance-plain}
 use Rattle.lapd_seq.proofs.windows.Window.new.Goals as goal
 

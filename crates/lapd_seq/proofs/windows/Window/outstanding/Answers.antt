@@ -1,6 +1,5 @@
 -- Hand-written answers for `Window::outstanding`.
-use Rattle.std.proofs.Common.{◌+◌, subst, sym, arith}
-use Rattle.lapd_seq.specs.Circle.{AreNumbers}
+use Rattle.lapd_seq.proofs.Vocabulary.{◌+◌, subst, sym, arith, AreNumbers}
 use Rattle.lapd_seq.proofs.Remainders.{numbers-of}
 use Rattle.lapd_seq.proofs.windows.Window.outstanding.Goals as goal
 

@@ -1,9 +1,5 @@
 -- Hand-written answers for `Board::expire`.
-use Rattle.std.proofs.Common.{◌<◌, sym, subst}
-use Rattle.model_card.specs.Event.{at}
-use Rattle.model_line.specs.Event.{expiry}
-use Rattle.lapd_sim.specs.Boards.{line_count, Leads}
-use Rattle.lapd_sim.specs.declared.board.Board.TheVariants.{Frames}
+use Rattle.lapd_sim.proofs.Vocabulary.{◌<◌, sym, subst, at, expiry, line_count, Leads, Frames}
 use Rattle.lapd_sim.proofs.Boards.{expiry_leads}
 use Rattle.lapd_sim.proofs.board.Board.expire.Goals as goal
 

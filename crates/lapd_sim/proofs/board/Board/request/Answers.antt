@@ -1,10 +1,5 @@
 -- Hand-written answers for `Board::request`.
-use Rattle.std.proofs.Common.{◌<◌, sym, subst}
-use Rattle.model_card.specs.Event.{at}
-use Rattle.model_line.specs.Event.{request}
-use Rattle.model_line.specs.Request.{request_of}
-use Rattle.lapd_sim.specs.Boards.{line_count, Leads}
-use Rattle.lapd_sim.specs.declared.board.Board.TheVariants.{Frames}
+use Rattle.lapd_sim.proofs.Vocabulary.{◌<◌, sym, subst, at, request, request_of, line_count, Leads, Frames}
 use Rattle.lapd_sim.proofs.Boards.{request_leads}
 use Rattle.lapd_sim.proofs.board.Board.request.Goals as goal
 

@@ -1,10 +1,6 @@
 -- Hand-written answers for `Exchange::ask`.
-use Rattle.std.proofs.Common.{◌∙◌, sym, ap, subst}
-use Rattle.lapd_clock.specs.Timer.{AreInRange}
-use Rattle.model_card.specs.Counted.{moment_counted, moment_of}
-use Rattle.model_card.specs.Event.{at}
+use Rattle.lapd_sim.proofs.Vocabulary.{◌∙◌, sym, ap, subst, AreInRange, moment_counted, moment_of, at, request_of}
 use Rattle.model_line.specs.Event as line_event
-use Rattle.model_line.specs.Request.{request_of}
 use Rattle.lapd_sim.proofs.Exchanges.{past_on}
 use Rattle.lapd_sim.proofs.Refusing.{refused-told, refused-clock}
 use Rattle.lapd_sim.proofs.exchange.Exchange.ask.Goals as goal

@@ -1,7 +1,5 @@
 -- Hand-written answers for `Exchange::expire`.
-use Rattle.std.proofs.Common.{◌∙◌, sym, subst}
-use Rattle.lapd_clock.specs.Timer.{AreInRange}
-use Rattle.model_card.specs.Event.{at}
+use Rattle.lapd_sim.proofs.Vocabulary.{◌∙◌, sym, subst, AreInRange, at}
 use Rattle.model_line.specs.Event as line_event
 use Rattle.lapd_sim.proofs.Exchanges.{past_on}
 use Rattle.lapd_sim.proofs.exchange.Exchange.expire.Goals as goal

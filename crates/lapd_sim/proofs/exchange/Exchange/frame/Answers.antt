@@ -1,17 +1,5 @@
 -- Hand-written answers for `Exchange::frame`.
-use Rattle.std.proofs.Common.{◌<◌, ◌∙◌, refl, sym, subst, arith}
-use Rattle.lapd_clock.specs.Timer.{AreInRange}
-use Rattle.lapd_frame.proofs.Spelling.{are-octets}
-use Rattle.lapd_line.specs.Reports.{report_told}
-use Rattle.model_line.specs.declared.config.Config.{Config}
-use Rattle.model_line.specs.Event.{told}
-use Rattle.model_line.specs.Laws.{orders_in}
-use Rattle.model_card.specs.Happening.{comes}
-use Rattle.model_sim.specs.Steps.{answer_text}
-use Rattle.model_sim.proofs.AtOnce.{frame_at_once}
-use Rattle.lapd_sim.specs.declared.board.Board.TheVariants.{Frames}
-use Rattle.lapd_sim.specs.Obeyed.{scene}
-use Rattle.lapd_sim.specs.Stands.{Holds}
+use Rattle.lapd_sim.proofs.Vocabulary.{◌<◌, ◌∙◌, refl, sym, subst, arith, AreInRange, are-octets, report_told, Config, told, orders_in, comes, answer_text, frame_at_once, Frames, scene, Holds}
 use Rattle.lapd_sim.proofs.Boards.{exchange_leads, on_frames, holds_once, told_as}
 use Rattle.lapd_sim.proofs.Exchanges.{past_by}
 use Rattle.lapd_sim.proofs.exchange.Exchange.frame.Goals as goal

@@ -1,16 +1,5 @@
 -- Hand-written answers for `Exchange::next`.
-use Rattle.std.proofs.Common.{◌<◌, ◌∙◌, [], fold, refl, sym, ap, subst}
-use Rattle.lapd_clock.specs.Timer.{AreInRange}
-use Rattle.lapd_line.specs.FrameStands.{IsNext}
-use Rattle.model_line.specs.declared.config.Config.{Config}
-use Rattle.model_line.specs.Pull.{taken}
-use Rattle.model_card.specs.Card.{line_at}
-use Rattle.model_card.specs.Happening.{goes}
-use Rattle.model_sim.specs.Setup.{ordered}
-use Rattle.model_sim.proofs.AtOnce.{orders_of, next_at_once}
-use Rattle.lapd_sim.specs.declared.board.Board.TheVariants.{Frames}
-use Rattle.lapd_sim.specs.Obeyed.{scene}
-use Rattle.lapd_sim.specs.Stands.{Holds}
+use Rattle.lapd_sim.proofs.Vocabulary.{◌<◌, ◌∙◌, [], fold, refl, sym, ap, subst, AreInRange, IsNext, Config, taken, line_at, goes, ordered, orders_of, next_at_once, Frames, scene, Holds}
 use Rattle.lapd_sim.proofs.Boards.{exchange_leads, on_frames, room_is, fits_is, holds_once, taken_is, orders_are, none_is}
 use Rattle.lapd_sim.proofs.Exchanges.{past_by}
 use Rattle.lapd_sim.proofs.exchange.Exchange.next.Goals as goal

@@ -1,9 +1,6 @@
 -- Hand-written answers for `Exchange::octet`.
-use Rattle.std.proofs.Common.{◌∙◌, sym, subst}
-use Rattle.lapd_clock.specs.Timer.{AreInRange}
-use Rattle.model_card.specs.Event.{at}
+use Rattle.lapd_sim.proofs.Vocabulary.{◌∙◌, sym, subst, AreInRange, at, Octets}
 use Rattle.model_line.specs.Event as line_event
-use Rattle.lapd_sim.specs.declared.board.Board.TheVariants.{Octets}
 use Rattle.lapd_sim.proofs.Boards.{exchange_leads_octets}
 use Rattle.lapd_sim.proofs.Exchanges.{past_on}
 use Rattle.lapd_sim.proofs.exchange.Exchange.octet.Goals as goal

@@ -1,10 +1,5 @@
 -- Hand-written answers for `Exchange::show_counters`.
-use Rattle.std.proofs.Common.{get_or, sym, ap, ◌∙◌}
-use Rattle.lapd_count.specs.Counters.{none_counted}
-use Rattle.lapd_transcript.specs.Counted.{counters_text}
-use Rattle.model_sim.specs.Steps.{after_counters}
-use Rattle.lapd_sim.specs.Obeyed.{scene}
-use Rattle.lapd_sim.specs.Stands.{Holds}
+use Rattle.lapd_sim.proofs.Vocabulary.{get_or, sym, ap, ◌∙◌, none_counted, counters_text, after_counters, scene, Holds}
 use Rattle.lapd_sim.proofs.Boards.{told_as}
 use Rattle.lapd_sim.proofs.exchange.Exchange.show_counters.Goals as goal
 

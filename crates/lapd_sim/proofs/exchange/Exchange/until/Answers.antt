@@ -1,9 +1,6 @@
 -- Hand-written answers for `Exchange::until`.
-use Rattle.std.proofs.Common.{refl, ap, ◌∙◌}
+use Rattle.lapd_sim.proofs.Vocabulary.{refl, ap, ◌∙◌, Exchange, at_expiry, output}
 use Rattle.lapd_sim.proofs.Waits.{waits_begins, waits_on, waits_in_vain, waits_over, wait_lowers}
-use Rattle.lapd_sim.specs.declared.exchange.Exchange.{Exchange}
-use Rattle.model_sim.specs.Steps.{at_expiry}
-use Rattle.lapd_transcript.specs.Streams.{output}
 use Rattle.lapd_sim.proofs.exchange.Exchange.until.Goals as goal
 
 pub loop-line-init : goal.loop-line-init

@@ -1,10 +1,7 @@
 -- The invariants of the loops of `Exchange::until`.
-use Rattle.std.proofs.Common.{◌≡◌}
-use Rattle.lapd_clock.specs.Timers.{time_until}
-use Rattle.lapd_sim.specs.Stands.{Holds}
+use Rattle.lapd_sim.proofs.Vocabulary.{◌≡◌, time_until, Holds, output}
 use Rattle.lapd_sim.proofs.Waits.{Waits}
 use Rattle.model_sim.specs.Setup as machine
-use Rattle.lapd_transcript.specs.Streams.{output}
 use Rattle.lapd_sim.proofs.exchange.Exchange.until.Given as goal
 
 -- from every setup for which the exchange stood, some timers have expired

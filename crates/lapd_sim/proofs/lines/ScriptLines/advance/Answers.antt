@@ -1,5 +1,5 @@
 -- Hand-written answers for `ScriptLines::advance`.
-use Rattle.std.proofs.Common.{◌∙◌, arith}
+use Rattle.lapd_sim.proofs.Vocabulary.{◌∙◌, arith}
 use Rattle.lapd_sim.proofs.Reading.{open_front, within_joined}
 use Rattle.lapd_sim.proofs.Advancing.{advances_cut, advances_found, advances_last, advances_overlong}
 use Rattle.lapd_sim.proofs.lines.ScriptLines.advance.Goals as goal

@@ -1,7 +1,5 @@
 -- The invariants of the loops of `ScriptLines::advance`.
-use Rattle.std.proofs.Common.{◌≡◌, ◌≢◌, ◌≤◌, false, List, ℕ}
-use Rattle.std.specs.List.{AllWithin}
-use Rattle.lapd_sim.specs.ScriptLines.{left_to_read, AreLeft}
+use Rattle.lapd_sim.proofs.Vocabulary.{◌≡◌, ◌≢◌, ◌≤◌, false, List, ℕ, AllWithin, left_to_read, AreLeft}
 use Rattle.lapd_sim.proofs.lines.ScriptLines.advance.Given as goal
 
 -- the line that is sought begins at `start`, has no line feed before `unsought`, and is not counted yet; the text that

@@ -1,8 +1,5 @@
 -- Hand-written answers for `ScriptLines::fill`.
-use Rattle.std.proofs.Common.{◌+◌, ◌-◌, [], arith, refl, sym, take, ◌∙◌}
-use Rattle.std.proofs.lemmas.Bool.{false≢true}
-use Rattle.std.proofs.lemmas.List.{append-nil}
-use Rattle.lapd_sim.specs.ScriptLines.{held}
+use Rattle.lapd_sim.proofs.Vocabulary.{◌+◌, ◌-◌, [], arith, refl, sym, take, ◌∙◌, false≢true, append-nil, held}
 use Rattle.lapd_sim.proofs.Reading.{filled_held, held_first, left_kept, keeps_none}
 use Rattle.lapd_sim.proofs.lines.ScriptLines.fill.Goals as goal
 

@@ -1,6 +1,5 @@
 -- Hand-written answers for `ScriptLines::line_feed`.
-use Rattle.std.proofs.Common.{◌≡◌, List, None, Some, ℕ, arith, subst, sym, ◌∙◌}
-use Rattle.std.specs.List.{position}
+use Rattle.lapd_sim.proofs.Vocabulary.{◌≡◌, List, None, Some, ℕ, arith, subst, sym, ◌∙◌, position}
 use Rattle.lapd_sim.proofs.Reading.{is_line_feed, line_feed_at, line_feed_first, no_line_feed, part}
 use Rattle.lapd_sim.proofs.lines.ScriptLines.line_feed.Goals as goal
 

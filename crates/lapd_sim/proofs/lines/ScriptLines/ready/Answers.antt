@@ -1,6 +1,5 @@
 -- Hand-written answers for `ScriptLines::ready`.
-use Rattle.std.proofs.Common.{refl, arith, Ok, Err, ◌≡◌, false}
-use Rattle.std.specs.Prelude.{IfOk}
+use Rattle.lapd_sim.proofs.Vocabulary.{refl, arith, Ok, Err, ◌≡◌, false, IfOk}
 use Rattle.lapd_sim.proofs.Advancing.{ready_found, ready_is}
 use Rattle.lapd_sim.proofs.lines.ScriptLines.ready.Goals as goal
 

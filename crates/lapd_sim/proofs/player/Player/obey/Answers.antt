@@ -1,8 +1,5 @@
 -- Hand-written answers for `Player::obey`.
-use Rattle.std.proofs.Common.{◌≡◌, ◌∙◌, Ok, length, sym, subst, arith}
-use Rattle.std.proofs.lemmas.List.{take_at}
-use Rattle.lapd_script.specs.Meaning.{meant}
-use Rattle.lapd_script.specs.Read.{read}
+use Rattle.lapd_sim.proofs.Vocabulary.{◌≡◌, ◌∙◌, Ok, length, sym, subst, arith, take_at, meant, read}
 use Rattle.lapd_sim.proofs.Playing.{starts, goes}
 use Rattle.lapd_sim.proofs.player.Player.obey.Goals as goal
 

@@ -1,15 +1,7 @@
 -- Hand-written answers for `Player::play`.
-use Rattle.std.proofs.Common.{[], ◌++◌, ◌∙◌, None, Ok, Err, refl, sym, ap, subst}
-use Rattle.model_sim.specs.Script.{played}
-use Rattle.lapd_sim.specs.Faults.{fault_at}
-use Rattle.lapd_sim.specs.Obeyed.{Does, said}
-use Rattle.lapd_sim.specs.Pages.{PutsSome}
-use Rattle.lapd_sim.specs.Plays.{PlaysOn}
-use Rattle.lapd_sim.specs.Stands.{Has}
+use Rattle.lapd_sim.proofs.Vocabulary.{[], ◌++◌, ◌∙◌, None, Ok, Err, refl, sym, ap, subst, played, fault_at, Does, said, PutsSome, PlaysOn, Has, puts_nothing, puts_then, output}
 use Rattle.lapd_sim.proofs.Paging.{played_on, put_before, stops_before}
 use Rattle.lapd_sim.proofs.Playing.{begins, ends, stops, does_fail, does_ok, goes_on, over, next}
-use Rattle.lapd_transcript.proofs.Known.{puts_nothing, puts_then}
-use Rattle.lapd_transcript.specs.Streams.{output}
 use Rattle.lapd_sim.proofs.player.Player.play.Goals as goal
 
 pub loop-fault-init : goal.loop-fault-init

@@ -1,10 +1,7 @@
 -- The invariants of the loops of `Player::play`.
-use Rattle.std.proofs.Common.{◌≡◌, ◌-◌, ◌^◌, ℕ, List, Option}
+use Rattle.lapd_sim.proofs.Vocabulary.{◌≡◌, ◌-◌, ◌^◌, ℕ, List, Option, AreLeft, Has, output, IsPut}
 use Rattle.model_sim.specs.Setup as machine
-use Rattle.lapd_sim.specs.ScriptLines.{AreLeft}
-use Rattle.lapd_sim.specs.Stands.{Has}
 use Rattle.lapd_sim.proofs.Playing.{IsPlayed}
-use Rattle.lapd_transcript.specs.Streams.{output, IsPut}
 use Rattle.lapd_sim.proofs.player.Player.play.Given as goal
 
 -- no read has failed; some text has been put; there is a setup that is stood for; and these lines of the text that was

@@ -1,8 +1,5 @@
 -- Hand-written answers for `Setup::frame`.
-use Rattle.std.proofs.Common.{◌<◌, ◌∙◌, sym, subst, ap}
-use Rattle.model_card.specs.Happening.{comes, events_of}
-use Rattle.lapd_sim.specs.Obeyed.{scene}
-use Rattle.lapd_sim.specs.Stands.{Each, Hears, Sends}
+use Rattle.lapd_sim.proofs.Vocabulary.{◌<◌, ◌∙◌, sym, subst, ap, comes, events_of, scene, Each, Hears, Sends}
 use Rattle.lapd_sim.proofs.Scenes.{events_keep}
 use Rattle.lapd_sim.proofs.Happened.{frame_came}
 use Rattle.lapd_sim.proofs.setup.Setup.frame.Goals as goal

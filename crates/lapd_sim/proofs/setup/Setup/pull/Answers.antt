@@ -1,10 +1,5 @@
 -- Hand-written answers for `Setup::pull`.
-use Rattle.std.proofs.Common.{◌≡◌, ◌<◌, ◌++◌, [], length, take, get_or, sym, ap, ◌∙◌, subst, arith}
-use Rattle.std.proofs.lemmas.List.{length-take}
-use Rattle.lapd_transcript.specs.Streams.{IsPut, IsStuck, output}
-use Rattle.model_sim.specs.Setup.{taken_at}
-use Rattle.model_sim.specs.Steps.{pulls, pulled_text}
-use Rattle.lapd_sim.specs.Stands.{Stands, Holds, Each, Hears, Sends}
+use Rattle.lapd_sim.proofs.Vocabulary.{◌≡◌, ◌<◌, ◌++◌, [], length, take, get_or, sym, ap, ◌∙◌, subst, arith, length-take, IsPut, IsStuck, output, taken_at, pulls, pulled_text, Stands, Holds, Each, Hears, Sends}
 use Rattle.lapd_sim.proofs.Eachs.{each_at, each_set}
 use Rattle.lapd_sim.proofs.Scenes.{pulls_keep, pull_obeyed, pull_broken}
 use Rattle.lapd_sim.proofs.setup.Setup.pull.Goals as goal

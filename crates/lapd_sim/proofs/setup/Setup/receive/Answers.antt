@@ -1,8 +1,5 @@
 -- Hand-written answers for `Setup::receive`.
-use Rattle.std.proofs.Common.{◌<◌, ◌∙◌, sym, subst, ap}
-use Rattle.model_sim.specs.Steps.{octets_at}
-use Rattle.lapd_sim.specs.Obeyed.{scene}
-use Rattle.lapd_sim.specs.Stands.{Each, Hears, Sends}
+use Rattle.lapd_sim.proofs.Vocabulary.{◌<◌, ◌∙◌, sym, subst, ap, octets_at, scene, Each, Hears, Sends}
 use Rattle.lapd_sim.proofs.Scenes.{rx_obeyed, events_keep}
 use Rattle.lapd_sim.proofs.setup.Setup.receive.Goals as goal
 

@@ -1,9 +1,5 @@
 -- Hand-written answers for `Setup::send`.
-use Rattle.std.proofs.Common.{◌<◌, ◌∙◌, [], length, set, sym, ap, subst, arith}
-use Rattle.model_sim.specs.Setup.{terminal_at, octets_sent, after_sending, with_terminal}
-use Rattle.model_sim.specs.Steps.{octets_at}
-use Rattle.lapd_sim.specs.Obeyed.{scene}
-use Rattle.lapd_sim.specs.Stands.{Stands, Holds, Each, Hears, Sends}
+use Rattle.lapd_sim.proofs.Vocabulary.{◌<◌, ◌∙◌, [], length, set, sym, ap, subst, arith, terminal_at, octets_sent, after_sending, with_terminal, octets_at, scene, Stands, Holds, Each, Hears, Sends}
 use Rattle.lapd_sim.proofs.Eachs.{each_at, each_set}
 use Rattle.lapd_sim.proofs.Scenes.{events_keep, frame_obeyed, frame_broken}
 use Rattle.lapd_sim.proofs.setup.Setup.send.Goals as goal

@@ -1,8 +1,5 @@
 -- Hand-written answers for `Setup::set_timers`.
-use Rattle.lapd_clock.specs.Timer.{Lengths, first_out_of_range}
-use Rattle.model_sim.specs.Steps.{after_timers}
-use Rattle.lapd_sim.specs.Obeyed.{scene}
-use Rattle.lapd_sim.specs.Stands.{Stands, Holds}
+use Rattle.lapd_sim.proofs.Vocabulary.{Lengths, first_out_of_range, after_timers, scene, Stands, Holds}
 use Rattle.lapd_sim.proofs.Scenes.{obeyed_by}
 use Rattle.lapd_sim.proofs.setup.Setup.set_timers.Goals as goal
 

@@ -1,6 +1,5 @@
 -- Hand-written answers for `Setup::show_counters`.
-use Rattle.std.proofs.Common.{◌<◌, sym, subst, ap}
-use Rattle.lapd_sim.specs.Stands.{Stands}
+use Rattle.lapd_sim.proofs.Vocabulary.{◌<◌, sym, subst, ap, Stands}
 use Rattle.lapd_sim.proofs.Scenes.{counters_obeyed, counters_broken}
 use Rattle.lapd_sim.proofs.setup.Setup.show_counters.Goals as goal
 

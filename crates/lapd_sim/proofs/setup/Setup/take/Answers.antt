@@ -1,10 +1,5 @@
 -- Hand-written answers for `Setup::take`.
-use Rattle.std.proofs.Common.{◌<◌, ◌∙◌, sym, subst, ap}
-use Rattle.model_card.specs.Card.{line_at}
-use Rattle.model_card.specs.Happening.{goes, events_of}
-use Rattle.model_line.specs.Pull.{taken}
-use Rattle.lapd_sim.specs.Obeyed.{scene}
-use Rattle.lapd_sim.specs.Stands.{Stands, Each, Hears, Sends}
+use Rattle.lapd_sim.proofs.Vocabulary.{◌<◌, ◌∙◌, sym, subst, ap, line_at, goes, events_of, taken, scene, Stands, Each, Hears, Sends}
 use Rattle.lapd_sim.proofs.Scenes.{events_keep}
 use Rattle.lapd_sim.proofs.Happened.{next_obeyed, next_broken}
 use Rattle.lapd_sim.proofs.setup.Setup.take.Goals as goal

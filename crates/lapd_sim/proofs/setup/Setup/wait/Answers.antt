@@ -1,10 +1,5 @@
 -- Hand-written answers for `Setup::wait`.
-use Rattle.std.proofs.Common.{◌+◌, sym, subst, nat_le}
-use Rattle.lapd_clock.specs.Timers.{time_until}
-use Rattle.lapd_script.specs.declared.kind.FaultKind.TheVariants.{TimeOver}
-use Rattle.model_sim.specs.Steps.{after_wait, last_moment}
-use Rattle.lapd_sim.specs.Obeyed.{scene}
-use Rattle.lapd_sim.specs.Stands.{Stands, Each, Hears, Holds, Sends}
+use Rattle.lapd_sim.proofs.Vocabulary.{◌+◌, sym, subst, nat_le, time_until, TimeOver, after_wait, last_moment, scene, Stands, Each, Hears, Holds, Sends}
 use Rattle.lapd_sim.proofs.Scenes.{obeyed_at, expiries_keep}
 use Rattle.lapd_sim.proofs.setup.Setup.wait.Goals as goal
 

@@ -1,6 +1,5 @@
 -- Hand-written answers for `Terminal::load`.
-use Rattle.std.proofs.Common.{◌≡◌, ◌∷◌, [], ◌++◌, take, ap, ◌∙◌, subst}
-use Rattle.std.proofs.lemmas.List.{take-append-drop}
+use Rattle.lapd_sim.proofs.Vocabulary.{◌≡◌, ◌∷◌, [], ◌++◌, take, ap, ◌∙◌, subst, take-append-drop}
 use Rattle.lapd_bits.specs.Framer as framing
 use Rattle.lapd_bits.specs.Sent as sent
 use Rattle.lapd_sim.proofs.terminal.Terminal.load.Goals as goal

@@ -1,9 +1,5 @@
 -- `lend` shows a run of written octets as a slice.
-use Rattle.std.proofs.Common.{◌≡◌, ℕ, ◌+◌, ◌*◌, ◌^◌, ◌<◌, ◌≤◌, List, [], ◌∷◌, ◌++◌, map, length, take, drop, Some, refl, sym, ap, ◌∙◌, arith, w64, length-take, length-drop}
-use Rattle.std.proofs.lemmas.List.{length-map}
-use Rattle.std.specs.Borrow.{full_share, u8}
-use Rattle.std.proofs.raw_atomic.Walks.{proved_at, leaves}
-use Rattle.std.proofs.alloc.Shapes.{after}
+use Rattle.lapd_store.proofs.Vocabulary.{◌≡◌, ℕ, ◌+◌, ◌*◌, ◌^◌, ◌<◌, ◌≤◌, List, [], ◌∷◌, ◌++◌, map, length, take, drop, Some, refl, sym, ap, ◌∙◌, arith, w64, length-take, length-drop, length-map, full_share, u8, proved_at, leaves, after, octets_lent}
 use base.Logic.{SProp, never, emp, id⊢}
 use base.Fml.{Lft, Share, fat}
 use contract.Monad.{fact, fact_i}
@@ -26,7 +22,6 @@ use types.ByLocal.{alloc_all, pass_all, free_all, look_at, get, get_in, sets, se
 use types.Kit.{‵, raw, ◌⊛◌, prop, at_ret, ◌$◌, ◌∵◌, !, qed, by, move, keep, drop as skip, use0, use1, split, rewrite, regoal, fsplit, fjoin, feq_i, flt_i}
 use types.Part.{whole, sub, agg}
 use types.Run.{stop, fld, bin, of_opd, and_then, no_more, first, blocks, exec, returns, enter}
-use Rattle.lapd_store.specs.Memory.{octets_lent}
 use Rattle.lapd_store.specs.contracts.octets.Octets.{the_row as R}
 use Rattle.lapd_store.specs.contracts.octets.Base.{the_row as B}
 use Rattle.lapd_store.specs.contracts.octets.Octets.lend as f

@@ -1,8 +1,5 @@
 -- `write` takes one octet out of the row, writes it and puts it back.
-use Rattle.std.proofs.Common.{◌≡◌, ℕ, ◌+◌, ◌<◌, List, [], ◌∷◌, ◌++◌, length, set, Some, refl, sym, ◌∙◌, w8, w64}
-use Rattle.std.specs.Borrow.{full_share, u8}
-use Rattle.std.proofs.raw_atomic.Walks.{proved_at, leaves}
-use Rattle.std.proofs.alloc.Shapes.{after}
+use Rattle.lapd_store.proofs.Vocabulary.{◌≡◌, ℕ, ◌+◌, ◌<◌, List, [], ◌∷◌, ◌++◌, length, set, Some, refl, sym, ◌∙◌, w8, w64, full_share, u8, proved_at, leaves, after, octet, octets, octets_own}
 use base.Logic.{SProp, wand, never, emp, id⊢, apply∗}
 use base.Fml.{Lft, Share, ftrue, fat, flft, froom}
 use contract.Monad.{fact, fact_i}
@@ -25,7 +22,6 @@ use types.ByLocal.{alloc_all, pass_all, free_all, look_at, get, get_in, through,
 use types.Kit.{‵, raw, ◌⊛◌, prop, at_ret, ◌$◌, ◌∵◌, !, qed, by, move, keep, use0, use1, use2, split, join, rewrite, regoal, fsplit, fsplit3, fjoin, fjoin3, feq_i, feq_l}
 use types.Part.{whole, sub}
 use types.Run.{stop, fld, init, bin, of_opd, unit_lit, assigns_last, first, blocks, exec, returns, enter}
-use Rattle.lapd_store.specs.Memory.{octet, octets, octets_own}
 use Rattle.lapd_store.specs.contracts.octets.Octets.{the_row as R}
 use Rattle.lapd_store.specs.contracts.octets.Base.{the_row as B}
 use Rattle.lapd_store.specs.contracts.octets.Octets.write as f

@@ -1,8 +1,5 @@
 -- Hand-written answers for `RawShelf::start`.
-use Rattle.std.proofs.Common.{◌+◌, ◌*◌, None, length, refl, ap, subst, ◌∙◌}
-use Rattle.std.proofs.lemmas.List.{length-replicate}
-use Rattle.lapd_store.specs.Region.{Holds}
-use Rattle.lapd_store.specs.RawStore.{link, or_end}
+use Rattle.lapd_store.proofs.Vocabulary.{◌+◌, ◌*◌, None, length, refl, ap, subst, ◌∙◌, length-replicate, Holds, link, or_end}
 use Rattle.lapd_store.proofs.RawSound.{start_store, start_sound}
 use Rattle.lapd_store.proofs.raw_shelf.RawShelf.start.Goals as goal
 

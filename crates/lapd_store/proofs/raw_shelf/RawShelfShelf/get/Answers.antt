@@ -1,6 +1,5 @@
 -- Hand-written answers for `RawShelfShelf::get`.
-use Rattle.std.proofs.Common.{◌+◌, ◌*◌, ◌^◌, ◌<◌, ◌≤◌, length, sym, subst, ◌∙◌, arith}
-use Rattle.lapd_store.specs.Region.{Holds}
+use Rattle.lapd_store.proofs.Vocabulary.{◌+◌, ◌*◌, ◌^◌, ◌<◌, ◌≤◌, length, sym, subst, ◌∙◌, arith, Holds}
 use Rattle.lapd_store.proofs.RawLemmas.{used_within, read_length}
 use Rattle.lapd_store.proofs.RawSound.{is_used, used_mark, slot_within, small, held}
 use Rattle.lapd_store.proofs.raw_shelf.RawShelfShelf.get.Goals as goal

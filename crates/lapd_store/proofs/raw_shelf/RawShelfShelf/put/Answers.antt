@@ -1,9 +1,5 @@
 -- Hand-written answers for `RawShelfShelf::put`.
-use Rattle.std.proofs.Common.{◌+◌, ◌*◌, ◌≤◌, length, refl, sym, ap, subst, ◌∙◌, arith}
-use Rattle.std.specs.Vec.{with_item}
-use Rattle.lapd_store.specs.Region.{Holds}
-use Rattle.lapd_store.specs.RawStore.{link}
-use Rattle.lapd_store.specs.Store.{IsFull, IsFree, contents_of}
+use Rattle.lapd_store.proofs.Vocabulary.{◌+◌, ◌*◌, ◌≤◌, length, refl, sym, ap, subst, ◌∙◌, arith, with_item, Holds, link, IsFull, IsFree, contents_of}
 use Rattle.lapd_store.proofs.RawSound.{first_slot, first_within, first_free, slot_within, full_at_end, octets_fit, put_stored, put_sound}
 use Rattle.lapd_store.proofs.StoreLemmas.{contents_of-with_contents}
 use Rattle.lapd_store.proofs.raw_shelf.RawShelfShelf.put.Goals as goal

@@ -1,7 +1,5 @@
 -- Hand-written answers for `RawShelfShelf::release`.
-use Rattle.std.proofs.Common.{◌≡◌, ◌+◌, ◌-◌, ◌*◌, ◌^◌, ◌<◌, ◌≤◌, length, get_or, refl, sym, subst, arith}
-use Rattle.std.specs.Vec.{with_item}
-use Rattle.lapd_store.specs.RawStore.{free_mark}
+use Rattle.lapd_store.proofs.Vocabulary.{◌≡◌, ◌+◌, ◌-◌, ◌*◌, ◌^◌, ◌<◌, ◌≤◌, length, get_or, refl, sym, subst, arith, with_item, free_mark}
 use Rattle.lapd_store.proofs.RawLemmas.{used_within, read_length}
 use Rattle.lapd_store.proofs.RawSound.{is_used, used_mark, used_counts, slot_within, small, release_stored, release_sound}
 use Rattle.lapd_store.proofs.raw_shelf.RawShelfShelf.release.Goals as goal

@@ -1,6 +1,5 @@
 -- Hand-written answers for `Region::lend`.
-use Rattle.std.proofs.Common.{◌≡◌, ◌+◌, ◌≤◌, map, length, take, drop, Some, sym, subst, arith}
-use Rattle.lapd_store.specs.Region.{Holds}
+use Rattle.lapd_store.proofs.Vocabulary.{◌≡◌, ◌+◌, ◌≤◌, map, length, take, drop, Some, sym, subst, arith, Holds}
 use Rattle.lapd_store.proofs.Runs.{run_of, holds_run}
 use Rattle.lapd_store.proofs.region.Region.lend.Goals as goal
 

@@ -1,5 +1,5 @@
 -- Hand-written answers for `SlabShelf::start`.
-use Rattle.std.proofs.Common.{arith}
+use Rattle.lapd_store.proofs.Vocabulary.{arith}
 use Rattle.lapd_store.proofs.SlabLemmas.{IsSound-start}
 use Rattle.lapd_store.proofs.slab_shelf.SlabShelf.start.Goals as goal
 

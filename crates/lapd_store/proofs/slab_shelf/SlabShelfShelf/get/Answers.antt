@@ -1,8 +1,5 @@
 -- Hand-written answers for `SlabShelfShelf::get`.
-use Rattle.std.proofs.Common.{◌≡◌, ◌≤◌, Some, length, sym, ap, subst, ◌∙◌}
-use Rattle.std.specs.Option.{option_map}
-use Rattle.lapd_store.specs.SlabStore.{slab_store}
-use Rattle.lapd_store.specs.Store.{contents_of, IsUsed}
+use Rattle.lapd_store.proofs.Vocabulary.{◌≡◌, ◌≤◌, Some, length, sym, ap, subst, ◌∙◌, option_map, slab_store, contents_of, IsUsed}
 use Rattle.lapd_store.proofs.SlabLemmas.{contents_of-slab, ContainsKey-slab}
 use Rattle.lapd_store.proofs.StoreLemmas.{length_within}
 use Rattle.lapd_store.proofs.slab_shelf.SlabShelfShelf.get.Goals as goal

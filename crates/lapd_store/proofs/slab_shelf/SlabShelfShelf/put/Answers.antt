@@ -1,7 +1,5 @@
 -- Hand-written answers for `SlabShelfShelf::put`.
-use Rattle.std.proofs.Common.{◌≡◌, ◌+◌, ◌≤◌, ◌<◌, length, sym, ap, subst, ◌∙◌, arith}
-use Rattle.lapd_store.specs.SlabStore.{slab_store, IsSound}
-use Rattle.lapd_store.specs.Store.{used_slots, contents_of, IsFree, with_contents}
+use Rattle.lapd_store.proofs.Vocabulary.{◌≡◌, ◌+◌, ◌≤◌, ◌<◌, length, sym, ap, subst, ◌∙◌, arith, slab_store, IsSound, used_slots, contents_of, IsFree, with_contents}
 use Rattle.lapd_store.proofs.SlabLemmas.{octets_fit, IsFree-slab, IsSound-put, slab_store-put}
 use Rattle.lapd_store.proofs.StoreLemmas.{contents_of-with_contents}
 use Rattle.lapd_store.proofs.slab_shelf.SlabShelfShelf.put.Goals as goal

@@ -1,8 +1,5 @@
 -- Hand-written answers for `SlabShelfShelf::release`.
-use Rattle.std.proofs.Common.{◌-◌, sym, ap, subst, ◌∙◌, arith}
-use Rattle.std.specs.Option.{option_map}
-use Rattle.lapd_store.specs.SlabStore.{slab_store, IsSound}
-use Rattle.lapd_store.specs.Store.{IsUsed}
+use Rattle.lapd_store.proofs.Vocabulary.{◌-◌, sym, ap, subst, ◌∙◌, arith, option_map, slab_store, IsSound, IsUsed}
 use Rattle.lapd_store.proofs.SlabLemmas.{contents_of-slab, ContainsKey-slab, IsSound-release, slab_store-release}
 use Rattle.lapd_store.proofs.StoreLemmas.{stored_octets-without}
 use Rattle.lapd_store.proofs.slab_shelf.SlabShelfShelf.release.Goals as goal

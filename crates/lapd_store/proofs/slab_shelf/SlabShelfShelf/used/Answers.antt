@@ -1,5 +1,5 @@
 -- Hand-written answers for `SlabShelfShelf::used`.
-use Rattle.std.proofs.Common.{arith}
+use Rattle.lapd_store.proofs.Vocabulary.{arith}
 use Rattle.lapd_store.proofs.slab_shelf.SlabShelfShelf.used.Goals as goal
 
 pub overflow_cast-result : goal.overflow_cast-result

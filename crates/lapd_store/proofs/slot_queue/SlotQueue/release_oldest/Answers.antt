@@ -1,5 +1,5 @@
 -- Hand-written answers for `SlotQueue::release_oldest`.
-use Rattle.std.proofs.Common.{drop, ◌∙◌}
+use Rattle.lapd_store.proofs.Vocabulary.{drop, ◌∙◌}
 use Rattle.lapd_store.proofs.Queues.{Keeps-one_less, without-one_less}
 use Rattle.lapd_store.proofs.slot_queue.SlotQueue.release_oldest.Goals as goal
 

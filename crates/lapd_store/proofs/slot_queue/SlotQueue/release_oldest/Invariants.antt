@@ -1,8 +1,5 @@
 -- The invariants of the loops of `SlotQueue::release_oldest`.
-use Rattle.std.proofs.Common.{◌≡◌, ℕ, List, drop}
-use Rattle.lapd_store.specs.Ownership.{Owned, Keeps}
-use Rattle.lapd_store.specs.SlotRing.{without_oldest_ones}
-use Rattle.lapd_store.specs.Store.{SameLimits}
+use Rattle.lapd_store.proofs.Vocabulary.{◌≡◌, ℕ, List, drop, Owned, Keeps, without_oldest_ones, SameLimits}
 use Rattle.lapd_store.proofs.slot_queue.SlotQueue.release_oldest.Given as goal
 
 -- so many are gone, and the others are kept

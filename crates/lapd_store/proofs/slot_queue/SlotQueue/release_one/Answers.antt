@@ -1,5 +1,5 @@
 -- Hand-written answers for `SlotQueue::release_one`.
-use Rattle.std.proofs.Common.{sym}
+use Rattle.lapd_store.proofs.Vocabulary.{sym}
 use Rattle.lapd_store.proofs.Queues.{Keeps-used, Keeps-release}
 use Rattle.lapd_store.proofs.slot_queue.SlotQueue.release_one.Goals as goal
 

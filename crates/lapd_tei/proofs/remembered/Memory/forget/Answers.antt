@@ -1,7 +1,5 @@
 -- Hand-written answers for `Memory::forget`.
-use Rattle.std.proofs.Common.{rules, ◌∙◌, ap}
-use Rattle.std.specs.List.{filter}
-use Rattle.lapd_tei.specs.Words.{is_of_other}
+use Rattle.lapd_tei.proofs.Vocabulary.{rules, ◌∙◌, ap, filter, is_of_other}
 use Rattle.lapd_tei.proofs.Lists.{retained}
 use Rattle.lapd_tei.proofs.remembered.Memory.forget.Goals as goal
 

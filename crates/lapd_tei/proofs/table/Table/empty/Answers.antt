@@ -1,6 +1,5 @@
 -- Hand-written answers for `Table::empty`.
-use Rattle.std.proofs.Common.{◌≡◌, rules, ◌∙◌, ap, take, replicate, None}
-use Rattle.std.proofs.lemmas.List.{take-replicate}
+use Rattle.lapd_tei.proofs.Vocabulary.{◌≡◌, rules, ◌∙◌, ap, take, replicate, None, take-replicate}
 use Rattle.lapd_tei.proofs.table.Table.empty.Goals as goal
 
 pub returns : goal.returns

@@ -1,6 +1,5 @@
 -- Hand-written answers for `Teis::ask_again`.
-use Rattle.std.proofs.Common.{◌≡◌, IfSome, Some, sym, subst, ap, ◌∙◌, arith}
-use Rattle.lapd_tei.specs.Sound.{IsSoundCheck, IsSoundQueue}
+use Rattle.lapd_tei.proofs.Vocabulary.{◌≡◌, IfSome, Some, sym, subst, ap, ◌∙◌, arith, IsSoundCheck, IsSoundQueue}
 use Rattle.lapd_tei.proofs.Tables.{on-range}
 use Rattle.lapd_tei.proofs.SoundWords.{queue-sent, check-again}
 use Rattle.lapd_tei.proofs.teis.Teis.ask_again.Goals as goal

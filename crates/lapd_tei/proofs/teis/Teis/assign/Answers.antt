@@ -1,6 +1,5 @@
 -- Hand-written answers for `Teis::assign`.
-use Rattle.std.proofs.Common.{IfSome, sym, subst, ◌∙◌}
-use Rattle.lapd_tei.specs.Sound.{IsSoundTable, IsSoundMemory, IsSoundCheck}
+use Rattle.lapd_tei.proofs.Vocabulary.{IfSome, sym, subst, ◌∙◌, IsSoundTable, IsSoundMemory, IsSoundCheck}
 use Rattle.lapd_tei.proofs.Tables.{table-put}
 use Rattle.lapd_tei.proofs.Memories.{memory-put}
 use Rattle.lapd_tei.proofs.SoundWords.{check-put}

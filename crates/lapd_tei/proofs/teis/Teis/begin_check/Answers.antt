@@ -1,7 +1,5 @@
 -- Hand-written answers for `Teis::begin_check`.
-use Rattle.std.proofs.Common.{◌≡◌, true, sym, subst, arith}
-use Rattle.lapd_tei.specs.Table.{is_on}
-use Rattle.lapd_tei.specs.Sound.{IsSoundCheck, IsSoundQueue}
+use Rattle.lapd_tei.proofs.Vocabulary.{◌≡◌, true, sym, subst, arith, is_on, IsSoundCheck, IsSoundQueue}
 use Rattle.lapd_tei.proofs.Tables.{on-range}
 use Rattle.lapd_tei.proofs.SoundWords.{queue-sent, check-begun}
 use Rattle.lapd_tei.proofs.teis.Teis.begin_check.Goals as goal

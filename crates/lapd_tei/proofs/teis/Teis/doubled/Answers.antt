@@ -1,7 +1,5 @@
 -- Hand-written answers for `Teis::doubled`.
-use Rattle.std.proofs.Common.{◌≡◌, true, sym, subst, arith}
-use Rattle.lapd_tei.specs.Table.{is_on}
-use Rattle.lapd_tei.specs.Sound.{IsSoundQueue}
+use Rattle.lapd_tei.proofs.Vocabulary.{◌≡◌, true, sym, subst, arith, is_on, IsSoundQueue}
 use Rattle.lapd_tei.proofs.Tables.{on-range}
 use Rattle.lapd_tei.proofs.SoundWords.{queue-sent}
 use Rattle.lapd_tei.proofs.teis.Teis.doubled.Goals as goal

@@ -1,7 +1,5 @@
 -- Hand-written answers for `Teis::leave`.
-use Rattle.std.proofs.Common.{◌≡◌, IfSome, false, sym, subst}
-use Rattle.lapd_tei.specs.Rows.{is_checked}
-use Rattle.lapd_tei.specs.Sound.{IsSoundTable, IsSoundMemory, IsSoundCheck}
+use Rattle.lapd_tei.proofs.Vocabulary.{◌≡◌, IfSome, false, sym, subst, is_checked, IsSoundTable, IsSoundMemory, IsSoundCheck}
 use Rattle.lapd_tei.proofs.Tables.{table-freed}
 use Rattle.lapd_tei.proofs.Memories.{memory-freed}
 use Rattle.lapd_tei.proofs.SoundWords.{check-freed}

@@ -1,6 +1,5 @@
 -- Hand-written answers for `Teis::request`.
-use Rattle.std.proofs.Common.{IfSome, sym, subst, ◌∙◌, arith}
-use Rattle.lapd_tei.specs.Sound.{IsSoundTable, IsSoundMemory, IsSoundCheck, IsSoundQueue}
+use Rattle.lapd_tei.proofs.Vocabulary.{IfSome, sym, subst, ◌∙◌, arith, IsSoundTable, IsSoundMemory, IsSoundCheck, IsSoundQueue}
 use Rattle.lapd_tei.proofs.Tables.{table-put, on-newcomer, free_tei-is}
 use Rattle.lapd_tei.proofs.Memories.{memory-put, memory-remember, remembered-range}
 use Rattle.lapd_tei.proofs.SoundWords.{queue-sent, check-put}

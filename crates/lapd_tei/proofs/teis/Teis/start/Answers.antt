@@ -1,6 +1,5 @@
 -- Hand-written answers for `Teis::start`.
-use Rattle.std.proofs.Common.{rules, sym, subst}
-use Rattle.lapd_tei.specs.Sound.{IsSoundTable, IsSoundMemory}
+use Rattle.lapd_tei.proofs.Vocabulary.{rules, sym, subst, IsSoundTable, IsSoundMemory}
 use Rattle.lapd_tei.proofs.SoundWords.{table-empty, memory-empty, queue-empty}
 use Rattle.lapd_tei.proofs.teis.Teis.start.Goals as goal
 

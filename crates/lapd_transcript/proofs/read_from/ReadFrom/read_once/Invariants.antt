@@ -1,6 +1,5 @@
 -- The invariants of the loops of `ReadFrom::read_once`.
-use Rattle.std.proofs.Common.{◌≡◌}
-use Rattle.std.specs.Io.KnownBytes.{Keeps}
+use Rattle.lapd_transcript.proofs.Vocabulary.{◌≡◌, Keeps}
 use Rattle.lapd_transcript.proofs.read_from.ReadFrom.read_once.Given as goal
 
 -- an interrupted read takes nothing and is not counted

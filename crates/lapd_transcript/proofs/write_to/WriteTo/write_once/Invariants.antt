@@ -1,6 +1,5 @@
 -- The invariants of the loops of `WriteTo::write_once`.
-use Rattle.std.proofs.Common.{◌≡◌}
-use Rattle.std.specs.Io.KnownBytes.{Keeps}
+use Rattle.lapd_transcript.proofs.Vocabulary.{◌≡◌, Keeps}
 use Rattle.lapd_transcript.proofs.write_to.WriteTo.write_once.Given as goal
 
 -- an interrupted write hands on nothing and is not counted

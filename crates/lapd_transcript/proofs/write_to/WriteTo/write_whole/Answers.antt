@@ -1,5 +1,5 @@
 -- Hand-written answers for `WriteTo::write_whole`.
-use Rattle.std.proofs.Common.{◌∙◌}
+use Rattle.lapd_transcript.proofs.Vocabulary.{◌∙◌}
 use Rattle.lapd_transcript.proofs.Known.{handed_more, handed_now, handed_on, handed_part, on_err}
 use Rattle.lapd_transcript.proofs.write_to.WriteTo.write_whole.Goals as goal
 

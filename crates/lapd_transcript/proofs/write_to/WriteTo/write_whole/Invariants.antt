@@ -1,5 +1,5 @@
 -- The invariants of the loops of `WriteTo::write_whole`.
-use Rattle.std.proofs.Common.{◌≡◌, length}
+use Rattle.lapd_transcript.proofs.Vocabulary.{◌≡◌, length}
 use Rattle.lapd_transcript.proofs.Known.{IsHanded}
 use Rattle.lapd_transcript.proofs.write_to.WriteTo.write_whole.Given as goal
 

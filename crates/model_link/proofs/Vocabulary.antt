@@ -1,0 +1,50 @@
+-- The words with which the proofs of this crate speak, from where they are defined.
+pub use Rattle.std.proofs.Common.{Bool, IsTrue, List, None, Option, Some, [], ap, append-nil, append_assoc, arith, cond, drop, eq-eqb, eqb-true, false, inl, inr, is_some, le_refl, length, length-append, length-drop, length-take-le, not, refl, subst, suc, sym, take, true, true≢false, zero, zero-add, ℕ, ◌%◌, ◌&&◌, ◌*◌, ◌++◌, ◌+◌, ◌-◌, ◌<◌, ◌==◌, ◌||◌, ◌∙◌, ◌∷◌, ◌≡◌, ◌≢◌, ◌≤◌, ◌⊎◌}
+pub use Rattle.std.proofs.lemmas.Bool.{and_from, and_parts, false_from_ne_true, false≢true, leb-false, leb-true, ltb-false, ltb-true, true_from_ne_false}
+pub use Rattle.std.proofs.lemmas.List.Elements.{All-drop, All-head, All-nil, All-push, All-tail, All-take, All-weaker}
+pub use Rattle.std.proofs.lemmas.List.Folds.{list_any-append}
+pub use Rattle.std.specs.List.{list_any}
+pub use Rattle.std.specs.Prelude.{All, IfSome, nat_le, nat_lt, option_to_list, slice_get}
+pub use Rattle.lapd_frame.specs.Grammar.{IsFrame, allows, row, spelling, takes}
+pub use Rattle.lapd_frame.specs.Services.{sapi_of}
+pub use Rattle.lapd_frame.specs.declared.addresses.Side.TheVariants.{Network}
+pub use Rattle.lapd_frame.specs.declared.controls.Control.{Control}
+pub use Rattle.lapd_frame.specs.declared.controls.Control.TheVariants.{Disc, Dm, Frmr, Information, ReceiveNotReady, ReceiveReady, Reject, Sabme, Ua, Ui, Xid}
+pub use Rattle.lapd_frame.specs.declared.notes.ErrorCode.{ErrorCode}
+pub use Rattle.lapd_frame.specs.declared.notes.Note.{Note}
+pub use Rattle.lapd_frame.specs.declared.refusals.Refusal.{Refusal}
+pub use Rattle.lapd_frame.specs.declared.refusals.Refusal.TheVariants.{QueueFull, TooLong, WrongState}
+pub use Rattle.lapd_frame.specs.declared.services.Service.{Service}
+pub use Rattle.lapd_frame.specs.declared.services.Service.TheVariants.{Call, Packet}
+pub use Rattle.lapd_frame.specs.declared.timers.Order.{Order}
+pub use Rattle.lapd_frame.specs.declared.timers.Order.TheVariants.{Start, Stop}
+pub use Rattle.lapd_frame.specs.declared.timers.Timer.{Timer}
+pub use Rattle.lapd_seq.specs.Circle.{distance_of}
+unfoldable pub use Rattle.lapd_seq.specs.Circle.{named}
+unfoldable pub use Rattle.lapd_seq.specs.Numbers.{seq}
+pub use Rattle.lapd_seq.specs.declared.numbers.Seq.{Seq}
+pub use Rattle.model_link.specs.AwaitingEstablishment.{frame_in_5, t200_in_5}
+pub use Rattle.model_link.specs.AwaitingRelease.{frame_in_6, t200_in_6}
+pub use Rattle.model_link.specs.Deliveries.{Arrived, eligible, eligible_of, information_of}
+pub use Rattle.model_link.specs.Events.{Event}
+pub use Rattle.model_link.specs.Link.{Link, frame_of, fresh, has_outstanding, is_asked, is_multiple_frame, is_own_busy, is_peer_busy, queue_of, unsent}
+pub use Rattle.model_link.specs.Machine.{after, course, told}
+unfoldable pub use Rattle.model_link.specs.Machine.{after_all}
+pub use Rattle.model_link.specs.MultipleFrame.{data_in_7_8}
+pub use Rattle.model_link.specs.Notes.{is_data, is_unit}
+pub use Rattle.model_link.specs.Numbered.{History, IsNumbered, Numbered, nothing_yet, with_event}
+unfoldable pub use Rattle.model_link.specs.Numbered.{with_all}
+pub use Rattle.model_link.specs.Rises.{grows, is_valid_reject, may_send, price, reject_number, sent, window_back}
+unfoldable pub use Rattle.model_link.specs.Rises.{price_of_all, sent_in_all}
+pub use Rattle.model_link.specs.Sound.{IsGiven, IsInRange, IsSettledIn, IsSound, IsWaitingFrame, is_information}
+pub use Rattle.model_link.specs.Steps.{Course, Sent, Step, begun, by_bit, changed, depending_on, nothing, ◌then◌}
+pub use Rattle.model_link.specs.TeiAssigned.{establish_in_4, frame_in_4}
+pub use Rattle.model_link.specs.Told.{order_for, orders_for, runs, timer_at}
+unfoldable pub use Rattle.model_link.specs.Told.{starts}
+pub use Rattle.model_link.specs.Words.{command, ready_to_receive, response}
+pub use Rattle.model_link.specs.declared.frames.ControlFrame.{ControlFrame}
+pub use Rattle.model_link.specs.declared.states.State.{State}
+pub use Rattle.model_link.specs.declared.states.State.TheVariants.{AwaitingEstablishment, AwaitingRelease, Established, TeiAssigned, TimerRecovery}
+pub use Rattle.model_link.specs.declared.terms.Terms.{Terms}
+pub use Rattle.model_link.specs.declared.timers.LinkTimer.{LinkTimer}
+pub use Rattle.model_link.specs.declared.timers.LinkTimer.TheVariants.{T200, T203}

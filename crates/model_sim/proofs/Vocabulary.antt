@@ -1,0 +1,80 @@
+-- The words with which the proofs of this crate speak, from where they are defined.
+pub use Rattle.std.proofs.Common.{Bool, Err, List, None, Ok, Option, Result, Some, [], ap, append-nil, append_assoc, arith, cond, drop, false, filter_map, get_or, if◌then◌else◌, inl, inr, is_some, length, length-append, map, nat_le, nat_lt, not, option_to_list, refl, replicate, subst, suc, sym, take, true, zero, ℕ, ◌%◌, ◌&&◌, ◌*◌, ◌++◌, ◌+◌, ◌-◌, ◌<◌, ◌==◌, ◌^◌, ◌∙◌, ◌∷◌, ◌≡◌, ◌≤◌, ◌⊎◌}
+pub use Rattle.std.proofs.Math.Seq.{drop-append_seam, take-append_seam}
+pub use Rattle.std.proofs.lemmas.Bool.{eq-eqb, eqb-true, le-leb, leb-false, leb-true, lt-ltb, ltb-true, true≢false}
+pub use Rattle.std.proofs.lemmas.Bool.Decides.{nat_tests}
+pub use Rattle.std.proofs.lemmas.Fmt.{decimal_nonempty, digits_decimal, digits_value-decimal}
+pub use Rattle.std.proofs.lemmas.List.{drop_at}
+pub use Rattle.std.proofs.lemmas.List.Elements.{All-append, All-cons, All-from_recursion, All-head, All-map, All-nil, All-replicate, All-tail, All-take, filter_map-append, recursion_from_All}
+pub use Rattle.std.proofs.lemmas.Option.{none-some}
+pub use Rattle.std.proofs.lemmas.Str.Parse.{IsNumeralModel, numerals_by_value, tells_all_ascii_digits}
+pub use Rattle.std.specs.Char.{is_ascii_digit}
+pub use Rattle.std.specs.List.{AllByRecursion, list_all}
+pub use Rattle.std.specs.Prelude.{All, bytes_eq, codes, decimal, flat_map, fold}
+pub use Rattle.std.specs.Str.{all_ascii_digits}
+pub use Rattle.std.specs.Str.Parse.{digits_value}
+pub use Rattle.lapd_bits.proofs.BitLemmas.{bits-append, length-bits, low_bits-number_of_n}
+pub use Rattle.lapd_bits.proofs.FramerStands.{line_text-push}
+pub use Rattle.lapd_bits.proofs.OneEvent.{one_event_an_octet}
+pub use Rattle.lapd_bits.proofs.RoundTripFrame.{frames_round_trip_lem}
+pub use Rattle.lapd_bits.specs.Bits.{bits, flag, octets_of}
+pub use Rattle.lapd_bits.specs.RoundTrip.{AreHeardWhole, IsHeardWhole, frames_of}
+pub use Rattle.lapd_bits.specs.Sent.{Item, idle, item_text, line_text}
+pub use Rattle.lapd_bits.specs.Stream.{heard_in}
+pub use Rattle.lapd_bits.specs.StuffingLaws.{AreOctets}
+pub use Rattle.lapd_clock.proofs.Calls.{all_later}
+pub use Rattle.lapd_clock.proofs.Ordered.{All-filter, All-put_in_order, IsInOrder-filter, IsInOrder-put_in_order}
+pub use Rattle.lapd_clock.proofs.TimeUntil.{time_until-due, time_until-start, time_until-stop}
+pub use Rattle.lapd_clock.proofs.TimerOrder.{before_order}
+pub use Rattle.lapd_clock.specs.InOrder.{IsInOrder, put_in_order}
+pub use Rattle.lapd_clock.specs.Timer.{AreInRange, Lengths, Order, Start, Stop, T200, T201, T203, duration, first_out_of_range, is_length, standard}
+pub use Rattle.lapd_clock.specs.Timers.{Expiry, Timers, after_due, after_first_due, due_at, finds_place, first_due, is_before, next_moment, time_until, without}
+unfoldable pub use Rattle.lapd_clock.specs.Timers.{with_order}
+pub use Rattle.lapd_clock.specs.declared.fault.LengthFault.{LengthFault}
+pub use Rattle.lapd_count.specs.declared.counters.Counters.{Counters}
+pub use Rattle.lapd_frame.specs.declared.addresses.Side.TheVariants.{Network}
+pub use Rattle.lapd_frame.specs.declared.timers.Timer.{Timer}
+pub use Rattle.lapd_script.specs.Job.{Job, frame, job, job_or_none, limits, limits_of, run}
+pub use Rattle.lapd_script.specs.Number.{number}
+pub use Rattle.lapd_script.specs.Read.{read, ◌>>=◌}
+pub use Rattle.lapd_script.specs.declared.command.CardKind.{CardKind}
+pub use Rattle.lapd_script.specs.declared.command.CardKind.TheVariants.{Frames, Octets}
+pub use Rattle.lapd_script.specs.declared.kind.FaultKind.{FaultKind}
+pub use Rattle.lapd_script.specs.declared.kind.FaultKind.TheVariants.{BadCard, BadFrame, BadLine, BadNumber, TimeOver, TooLong}
+pub use Rattle.model_card.proofs.CardSound.{cards_stay_sound}
+pub use Rattle.model_card.proofs.Happening.{frames_are_of_lines, lines_stay_idle}
+pub use Rattle.model_card.proofs.Starts.{expiry_starts}
+pub use Rattle.model_card.proofs.Stored.{stored_within_limit}
+pub use Rattle.model_card.specs.Card.{Card, fresh, line_at}
+pub use Rattle.model_card.specs.Event.{Event, at}
+pub use Rattle.model_card.specs.Happening.{AreIdle, Happening, HappensAt, answer_in, comes, events_at, events_of, failed, goes, line_of, spelled}
+pub use Rattle.model_card.specs.HappeningsCounted.{happening_counted}
+pub use Rattle.model_card.specs.Machine.{after, answer}
+pub use Rattle.model_card.specs.Run.{AreAtLines, IsAtLine}
+unfoldable pub use Rattle.model_card.specs.Run.{after_all, moments}
+pub use Rattle.model_card.specs.Said.{Means, Said, gives, next_of, said, says}
+pub use Rattle.model_card.specs.Stored.{stored}
+pub use Rattle.model_line.proofs.FramesCome.{frames_come_whole}
+pub use Rattle.model_line.proofs.FramesGo.{frames_go_whole}
+pub use Rattle.model_line.proofs.Ranges.{Within, ranges_of}
+pub use Rattle.model_line.specs.Config.{is_within}
+pub use Rattle.model_line.specs.Event.{Answer, expiry, nothing, octet, pull, pulled, request, told}
+pub use Rattle.model_line.specs.Laws.{orders_in}
+pub use Rattle.model_line.specs.Line.{Line}
+pub use Rattle.model_line.specs.Pull.{Taken, taken}
+pub use Rattle.model_line.specs.Sound.{IsInRange}
+pub use Rattle.model_line.specs.WholeAtLine.{answers_to, octet_alone, pulls_for, pulls_to_begin}
+pub use Rattle.model_line.specs.declared.config.Config.{Config}
+pub use Rattle.model_line.specs.declared.config.Field.{Field}
+pub use Rattle.model_line.specs.declared.config.Field.TheVariants.{Control, Lines, N201, Slots, Terminals}
+unfoldable pub use Rattle.model_link.specs.Told.{starts}
+pub use Rattle.model_sim.specs.Asked.{LimitsAreOfCards, limits_of_card, limits_words}
+pub use Rattle.model_sim.specs.Events.{HasRun, ScriptsAreRuns, card_meant, coming_events, events_from, events_until, expiry_events, first_card, line_events, meant_events, read_events, script_events, unless_fault}
+pub use Rattle.model_sim.specs.Heard.{FramesAreHeard, all_sent}
+pub use Rattle.model_sim.specs.Pieces.{line_in, pieces_of}
+pub use Rattle.model_sim.specs.Replies.{TranscriptsAreReplies, line_moments, meant_moments, moments_from, octet_given, read_moments, read_text, replies_text, text_from}
+pub use Rattle.model_sim.specs.Script.{Fault, Played, after_bench, after_reading, after_scene, faulty, is_too_long, not_begun, one_more, played, unless_faulty}
+pub use Rattle.model_sim.specs.Setup.{Setup, Terminal, after_sending, begun, found, frame_in, happened, octets_sent, ordered, sending, terminal_at, with_frame, with_terminal}
+pub use Rattle.model_sim.specs.Steps.{Pulls, Scene, after_coming, after_counters, after_happening, after_in, after_next, after_pull, after_rx, after_timers, after_wait, answer_text, at_expiry, can_come, expired, expiries, for_frames, for_octets, held, last_moment, moment_of, octet_in, octets_at, one_pull, pulled_text, pulls, request_for, until, with_card, with_counters, with_event, with_events, with_timers, without_card}
+pub use Rattle.model_sim.specs.Waits.{AllLater, WaitsLeaveNothingDue}
+pub use Rattle.model_sim.specs.Within.{ScriptsStayWithin, bound_of}

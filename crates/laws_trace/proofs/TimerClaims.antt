@@ -14,7 +14,7 @@ use Rattle.model_link.specs.declared.timers.LinkTimer.TheVariants.{T200, T203}
 use Rattle.model_link.specs.Link.{state_number}
 use Rattle.model_link.specs.Told.{runs}
 use Rattle.model_link.proofs.SoundRows.{named-within}
-use Rattle.laws_two_links.proofs.Taking.{named-is_seq}
+use Rattle.model_link.proofs.Taking.{named-is_seq}
 use Rattle.laws_trace.specs.TimersAreTimely.{Known, nothing_yet, number_heard, hears, is_state, renews, differ}
 use Rattle.laws_trace.proofs.TimerActs.{Timing, by_name, starts, begins, ends, awaits, fails, acknowledges, with_busy, informs, supervises, informed, recovers}
 use Rattle.laws_trace.proofs.TimerActs as acts

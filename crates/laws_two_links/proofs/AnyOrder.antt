@@ -12,7 +12,7 @@ use Rattle.model_link.specs.Link.{Link}
 use Rattle.model_link.specs.Events.{frame, received, offer}
 use Rattle.model_link.specs.Offers
 use Rattle.model_link.specs.Sound.{IsInRange, IsSound}
-use Rattle.laws_two_links.specs.TwoEnds.{End, with_link, with_sent, with_first_of}
+use Rattle.model_link.specs.TwoEnds.{End, with_link, with_sent, with_first_of}
 use Rattle.model_link.proofs.SoundEvents.{sound-after}
 use Rattle.laws_two_links.specs.Waits.{HasNothingToSend}
 use Rattle.laws_two_links.specs.AnyOrder.{load_of, load, weight_at}

@@ -3,7 +3,7 @@ use Rattle.std.proofs.Common.{◌≡◌, ℕ, suc, ◌+◌, ◌≤◌, false, Li
 use Rattle.std.specs.Prelude.{nat_lt}
 use Rattle.std.proofs.Math.Seq.{take-length}
 use Rattle.model_link.specs.Offers
-use Rattle.laws_two_links.specs.TwoEnds.{End, Ends, Act, asks, expires, sends, receives, loses, Doing, at_near, at_far, acting, turned, doing, doing_all}
+use Rattle.model_link.specs.TwoEnds.{End, Ends, Act, asks, expires, sends, receives, loses, Doing, at_near, at_far, acting, turned, doing, doing_all}
 use Rattle.laws_two_links.specs.Waits.{HasNothingToSend}
 use Rattle.laws_two_links.specs.Rounds.{IsReady, IsTaken, HasArrived}
 use Rattle.laws_two_links.specs.AnyOrder.{IsTurnOf, IsTurn, AreTurns, IsStill, weight_at, weight}

@@ -4,7 +4,7 @@ use Rattle.std.specs.Prelude.{nat_lt}
 use Rattle.std.proofs.lemmas.Bool.{lt-ltb, le-ltb, ltb-false, and_right}
 use Rattle.std.proofs.Math.Seq.{take-length}
 use Rattle.model_link.specs.Offers
-use Rattle.laws_two_links.specs.TwoEnds.{End, Ends}
+use Rattle.model_link.specs.TwoEnds.{End, Ends}
 use Rattle.laws_two_links.specs.Rounds.{IsReady, IsTaken, HasUnsent, HasArrived, rounds}
 use Rattle.laws_two_links.proofs.Plain.{plain}
 use Rattle.laws_two_links.proofs.Halves.{One, Nothing, giver_of, taker_of, moves, ready-giver, ready-taker, takes, taken}

@@ -17,7 +17,7 @@ use Rattle.model_link.specs.Words
 use Rattle.model_link.specs.MultipleFrame
 use Rattle.model_link.specs.Established
 use Rattle.model_link.specs.Offers
-use Rattle.laws_two_links.specs.TwoEnds.{End, Ends, with_link, with_first_of, with_first_lost}
+use Rattle.model_link.specs.TwoEnds.{End, Ends, with_link, with_first_of, with_first_lost}
 use Rattle.model_link.proofs.SoundEvents.{sound-after}
 use Rattle.laws_two_links.specs.Rounds.{IsReady, IsTaken, HasUnsent, rounds}
 use Rattle.laws_two_links.specs.OwnBusy.{GetsThrough, with_near_busy, with_far_busy}

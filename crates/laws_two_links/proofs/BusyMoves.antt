@@ -14,7 +14,7 @@ use Rattle.model_link.specs.Words
 use Rattle.model_link.specs.MultipleFrame
 use Rattle.model_link.specs.Established
 use Rattle.model_link.specs.Offers
-use Rattle.laws_two_links.specs.TwoEnds.{End, with_link, with_sent, with_first_of, with_first_lost}
+use Rattle.model_link.specs.TwoEnds.{End, with_link, with_sent, with_first_of, with_first_lost}
 use Rattle.laws_two_links.specs.Rounds.{IsTaken}
 use Rattle.laws_two_links.specs.OwnBusy.{IsBusyItself, IsOpenItself, IsDropped}
 use Rattle.laws_two_links.proofs.Plain.{plain, plain_with, plain_end_with, with_information_with, with_acknowledgement_with, information_frame, acknowledgement_frame, gives-information, gives-acknowledgement, gives-nothing}

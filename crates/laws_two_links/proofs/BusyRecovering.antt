@@ -9,7 +9,7 @@ use Rattle.model_link.specs.declared.timers.LinkTimer.{LinkTimer}
 use Rattle.model_link.specs.declared.timers.LinkTimer.TheVariants.{T200, T203}
 use Rattle.model_link.specs.Offers
 use Rattle.model_link.specs.Sound.{IsSound}
-use Rattle.laws_two_links.specs.TwoEnds.{End, Ends, with_first_of, with_first_lost}
+use Rattle.model_link.specs.TwoEnds.{End, Ends, with_first_of, with_first_lost}
 use Rattle.laws_two_links.proofs.Plain.{plain, plain_with, plain_end, plain_end_with, with_information_with, gives-information, gives-acknowledgement, gives-nothing}
 use Rattle.laws_two_links.proofs.Halves.{named-number, fits-at, take-one}
 use Rattle.laws_two_links.specs.Rounds.{HasUnsent}

@@ -8,7 +8,7 @@ use Rattle.model_link.specs.declared.timers.LinkTimer.{LinkTimer}
 use Rattle.model_link.specs.Events.{frame, received, offer}
 use Rattle.model_link.specs.Offers
 use Rattle.model_link.specs.Sound.{IsInRange, IsSound}
-use Rattle.laws_two_links.specs.TwoEnds.{End, Ends, with_sent, with_first_of}
+use Rattle.model_link.specs.TwoEnds.{End, Ends, with_sent, with_first_of}
 use Rattle.model_link.proofs.SoundEvents.{sound-after}
 use Rattle.laws_two_links.specs.Rounds.{IsTaken, HasUnsent, HasArrived, rounds}
 use Rattle.laws_two_links.specs.OwnBusy.{IsBusyItself, IsOpenItself, IsDropped, GetsThrough}

@@ -16,7 +16,7 @@ use Rattle.model_link.specs.Words
 use Rattle.model_link.specs.MultipleFrame
 use Rattle.model_link.specs.Established
 use Rattle.model_link.specs.TimerRecovery
-use Rattle.laws_two_links.specs.TwoEnds.{End, with_link}
+use Rattle.model_link.specs.TwoEnds.{End, with_link}
 use Rattle.laws_two_links.proofs.Plain.{information_frame}
 use Rattle.laws_two_links.proofs.Shapes.{enquiry_with, reply, reply_with, in_8, in_8_with, in_7_with, effect, having, replied}
 

@@ -7,7 +7,7 @@ use Rattle.model_link.specs.declared.timers.LinkTimer.TheVariants.{T200}
 use Rattle.model_link.specs.Link.{is_multiple_frame}
 use Rattle.model_link.specs.Events.{requested, ClearBusy}
 use Rattle.model_link.specs.Sound.{IsInRange, IsSound}
-use Rattle.laws_two_links.specs.TwoEnds.{End, Ends, asks, sends, receives, loses, at_near, at_far, with_first_of, turned, doing}
+use Rattle.model_link.specs.TwoEnds.{End, Ends, asks, sends, receives, loses, at_near, at_far, with_first_of, turned, doing}
 use Rattle.laws_link.specs.Timed.{IsTimedIn}
 use Rattle.model_link.proofs.SoundEvents.{sound-after}
 use Rattle.laws_two_links.specs.Rounds.{rounds, IsReady, IsTaken, HasUnsent}

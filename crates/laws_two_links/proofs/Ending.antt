@@ -16,7 +16,7 @@ use Rattle.model_link.specs.Events.{frame, received, requested, ClearBusy}
 use Rattle.model_link.specs.Sound.{IsInRange}
 use Rattle.model_link.specs.Steps.{Course, begun}
 use Rattle.model_link.specs.Words
-use Rattle.laws_two_links.specs.TwoEnds.{End, with_link, with_sent, with_first_lost}
+use Rattle.model_link.specs.TwoEnds.{End, with_link, with_sent, with_first_lost}
 use Rattle.laws_two_links.proofs.Plain.{acknowledgement_frame}
 use Rattle.laws_two_links.proofs.Shapes.{in_8_with, in_7_with, having, acknowledged-8}
 use Rattle.laws_two_links.proofs.Acknowledging.{Acknowledges, by-rr}

@@ -13,7 +13,7 @@ use Rattle.model_link.specs.Steps.{Course, begun}
 use Rattle.model_link.specs.Words
 use Rattle.model_link.specs.MultipleFrame
 use Rattle.laws_link.specs.Timed.{IsTimedIn}
-use Rattle.laws_two_links.specs.TwoEnds.{End, with_link}
+use Rattle.model_link.specs.TwoEnds.{End, with_link}
 use Rattle.laws_two_links.specs.Heeds.{HeedsIn}
 use Rattle.laws_two_links.specs.CutOff.{IsCutOffWith}
 use Rattle.laws_two_links.proofs.Shapes.{enquiry_with, in_8_with, in_7_with}

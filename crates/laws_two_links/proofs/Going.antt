@@ -22,8 +22,8 @@ use Rattle.model_link.specs.MultipleFrame
 use Rattle.model_link.specs.Requests
 use Rattle.model_link.specs.Offers
 use Rattle.model_link.specs.Machine
-use Rattle.laws_two_links.specs.TwoEnds.{frame_given}
-use Rattle.laws_two_links.proofs.Direction.{frames_of}
+use Rattle.model_link.specs.TwoEnds.{frame_given}
+use Rattle.model_link.proofs.Direction.{frames_of}
 use Rattle.laws_two_links.specs.Ahead.{IsMildRequest}
 use Rattle.laws_two_links.proofs.Staying.{refused}
 use Rattle.laws_two_links.proofs.Trains.{Kind, numbered, enquiry, report, kind_of, kinds_of, kinds-append}

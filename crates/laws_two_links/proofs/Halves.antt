@@ -11,7 +11,7 @@ use Rattle.model_link.specs.declared.states.State.TheVariants as state
 use Rattle.model_link.specs.Events.{frame, received, offer}
 use Rattle.model_link.specs.Offers
 use Rattle.model_link.specs.Sound.{IsInRange, IsSound}
-use Rattle.laws_two_links.specs.TwoEnds.{End, with_link, with_sent, with_first_lost, with_first_of}
+use Rattle.model_link.specs.TwoEnds.{End, with_link, with_sent, with_first_lost, with_first_of}
 use Rattle.model_link.proofs.SoundEvents.{sound-after}
 use Rattle.laws_two_links.specs.Rounds.{IsReady, IsTaken}
 use Rattle.laws_two_links.proofs.Plain.{plain, is_plain, information_frame, acknowledgement_frame, with_information, with_acknowledgement, with_taken, with_all_acknowledged, gives-information, gives-acknowledgement, gives-nothing, takes-information, takes-acknowledgement}

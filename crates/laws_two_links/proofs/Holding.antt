@@ -4,7 +4,7 @@ use Rattle.lapd_frame.specs.Grammar.{Parts}
 use Rattle.model_link.specs.Events.{frame, Event, received, requested, expired, offer}
 use Rattle.model_link.specs.Machine.{after}
 use Rattle.model_link.specs.Sound.{IsInRange, IsSound}
-use Rattle.laws_two_links.specs.TwoEnds.{End, Ends, Act, asks, expires, sends, receives, loses, Doing, at_near, at_far, turned, acting, with_first_of, doing, doing_all}
+use Rattle.model_link.specs.TwoEnds.{End, Ends, Act, asks, expires, sends, receives, loses, Doing, at_near, at_far, turned, acting, with_first_of, doing, doing_all}
 use Rattle.model_link.proofs.SoundEvents.{sound-after}
 use Rattle.laws_link.specs.History.{History, share, with_share, IsCounted}
 use Rattle.laws_two_links.specs.Holding.{by_frame, by_act, near_history, far_history}

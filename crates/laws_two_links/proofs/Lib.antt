@@ -46,12 +46,4 @@ pub mod AnyOrder
 pub mod AnyOrderRuns
 pub mod AnyOrderMet
 pub mod Holding
-pub mod Direction
-pub mod Facing
-pub mod FacingInformation
-pub mod Hearing
-pub mod Joined
-pub mod Lines
 pub mod Premises
-pub mod Sending
-pub mod Taking

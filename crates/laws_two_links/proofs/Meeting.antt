@@ -7,7 +7,7 @@ use Rattle.lapd_frame.specs.Grammar.{Parts}
 use Rattle.model_link.specs.declared.frames.ControlFrame.{ControlFrame}
 use Rattle.model_link.specs.declared.terms.Terms.{Terms}
 use Rattle.model_link.specs.Link.{Link, frame_of}
-use Rattle.laws_two_links.proofs.Direction.{frames_of, frames-append}
+use Rattle.model_link.proofs.Direction.{frames_of, frames-append}
 use Rattle.laws_two_links.proofs.Halves.{named-number}
 use Rattle.laws_two_links.proofs.Trains.{Kind, numbered, enquiry, answer, report, rejection, alien, kinds_of, kinds-append, one_enquiry, one_answer, one_rejection, Calm}
 use Rattle.laws_two_links.proofs.Flow.{Order, RejectsAt, AnswersAt, Flow, flow-low, there-calm, there-tail, back-other, back-tail}

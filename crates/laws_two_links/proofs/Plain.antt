@@ -19,7 +19,7 @@ use Rattle.model_link.specs.MultipleFrame
 use Rattle.model_link.specs.Established
 use Rattle.model_link.specs.Machine.{given_of}
 use Rattle.model_link.specs.Offers
-use Rattle.laws_two_links.specs.TwoEnds.{End, with_link, with_sent, frame_given}
+use Rattle.model_link.specs.TwoEnds.{End, with_link, with_sent, frame_given}
 use Rattle.laws_two_links.specs.Rounds.{IsReady}
 
 -- with own busy, and the other end taken for busy, as the bits say

@@ -9,8 +9,8 @@ use Rattle.lapd_frame.specs.Reading.{supervisory_of, unnumbered_of, control_of, 
 use Rattle.model_link.specs.Events.{Request, Establish, Release, Data, SetBusy, ClearBusy}
 use Rattle.model_link.specs.Machine.{after_all}
 use Rattle.laws_link.specs.Timed.{IsTimed}
-use Rattle.laws_two_links.specs.TwoEnds.{End, Ends, Act, asks, expires, sends, receives, loses, Doing, at_near, at_far, doing, doing_all, StayUp}
-use Rattle.laws_two_links.specs.WorkedEnds.{both, mended}
+use Rattle.model_link.specs.TwoEnds.{End, Ends, Act, asks, expires, sends, receives, loses, Doing, at_near, at_far, doing, doing_all, StayUp}
+use Rattle.model_link.specs.WorkedEnds.{both, mended}
 use Rattle.laws_two_links.proofs.Premises.{begins}
 use Rattle.laws_two_links.specs.Ahead.{IsMildRequest, IsMildAct, IsMild, StayAhead}
 use Rattle.laws_two_links.specs.Rounds.{IsReady, IsTaken, HasUnsent}

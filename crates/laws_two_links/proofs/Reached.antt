@@ -5,9 +5,9 @@ use Rattle.lapd_frame.specs.Grammar.{Parts}
 use Rattle.model_link.specs.Link.{Link}
 use Rattle.model_link.specs.Events.{frame, received, expired, requested, offer}
 use Rattle.laws_link.specs.Timed.{IsTimed}
-use Rattle.laws_two_links.specs.TwoEnds.{End, Ends, Act, asks, expires, sends, receives, loses, Doing, at_near, at_far, with_first_of, acting, turned, doing, doing_all, Begins, StayUp, Agree}
+use Rattle.model_link.specs.TwoEnds.{End, Ends, Act, asks, expires, sends, receives, loses, Doing, at_near, at_far, with_first_of, acting, turned, doing, doing_all, Begins, StayUp, Agree}
 use Rattle.laws_link.proofs.TimedRows.{timed-after}
-use Rattle.laws_two_links.proofs.Joined.{Joined, joined-first, done-at, ends-agree}
+use Rattle.model_link.proofs.Joined.{Joined, joined-first, done-at, ends-agree}
 use Rattle.laws_two_links.specs.Heeds.{HeedsIn, Heeds}
 use Rattle.laws_two_links.specs.Rounds.{rounds}
 use Rattle.laws_two_links.specs.CutOff.{IsCutOffWith, IsSilent, IsSilentWith, HasMissing, with_t200_expired}

@@ -10,7 +10,7 @@ use Rattle.model_link.specs.declared.timers.LinkTimer.TheVariants.{T203}
 use Rattle.model_link.specs.Events.{frame, received, offer}
 use Rattle.model_link.specs.Offers
 use Rattle.model_link.specs.Sound.{IsInRange, IsSound}
-use Rattle.laws_two_links.specs.TwoEnds.{End, Ends, with_first_of, with_first_lost}
+use Rattle.model_link.specs.TwoEnds.{End, Ends, with_first_of, with_first_lost}
 use Rattle.model_link.proofs.SoundEvents.{sound-after}
 use Rattle.laws_two_links.specs.Rounds.{IsReady, IsTaken, HasUnsent}
 use Rattle.laws_two_links.proofs.Plain.{plain, plain_end, with_information, with_acknowledgement, gives-information, gives-acknowledgement, gives-nothing}

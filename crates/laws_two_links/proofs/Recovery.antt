@@ -2,7 +2,7 @@
 use Rattle.std.proofs.Common.{◌≡◌, ℕ, suc, ◌+◌, ◌≤◌, Bool, false, List, [], ◌∷◌, refl, sym, subst, ◌∙◌, ◌⊎◌, inl, inr, arith}
 use Rattle.model_link.specs.declared.timers.LinkTimer.TheVariants.{T200}
 use Rattle.model_link.specs.Events.{expired}
-use Rattle.laws_two_links.specs.TwoEnds.{End, Ends}
+use Rattle.model_link.specs.TwoEnds.{End, Ends}
 use Rattle.model_link.proofs.SoundEvents.{sound-after}
 use Rattle.laws_two_links.specs.Rounds.{rounds}
 use Rattle.laws_two_links.specs.CutOff.{IsCutOff, IsCutOffWith, HasMissing, with_t200_expired}

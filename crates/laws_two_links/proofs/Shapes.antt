@@ -19,7 +19,7 @@ use Rattle.model_link.specs.Words
 use Rattle.model_link.specs.MultipleFrame
 use Rattle.model_link.specs.Established
 use Rattle.model_link.specs.TimerRecovery
-use Rattle.laws_two_links.specs.TwoEnds.{End, with_link}
+use Rattle.model_link.specs.TwoEnds.{End, with_link}
 use Rattle.laws_two_links.proofs.Plain.{information_frame, acknowledgement_frame}
 
 -- The enquiry and the answer.

@@ -27,7 +27,7 @@ use Rattle.model_link.specs.Requests
 use Rattle.model_link.specs.Offers
 use Rattle.model_link.specs.Machine
 use Rattle.model_link.proofs.Leads.{Leads, then_leads, keeping_then, nothing_leads, depending_leads, bit_leads}
-use Rattle.laws_two_links.proofs.Lines.{Means}
+use Rattle.model_link.proofs.Lines.{Means}
 use Rattle.laws_two_links.specs.Ahead.{IsMildRequest}
 
 abbrev IsUpIn : Course → Type 0

@@ -15,10 +15,10 @@ use Rattle.model_link.specs.Link.{Link, is_multiple_frame}
 use Rattle.model_link.specs.Events.{Request, frame, received, expired, requested, offer}
 use Rattle.model_link.specs.Steps.{Course}
 use Rattle.model_link.specs.Machine
-use Rattle.laws_two_links.specs.TwoEnds.{End, Act, asks, expires, sends, receives, loses, with_link, with_sent, with_first_of, frame_given, acting, IsUp}
-use Rattle.laws_two_links.proofs.Lines.{rising-low}
-use Rattle.laws_two_links.proofs.Direction.{frames_of, line_of}
-use Rattle.laws_two_links.proofs.Joined.{Joined}
+use Rattle.model_link.specs.TwoEnds.{End, Act, asks, expires, sends, receives, loses, with_link, with_sent, with_first_of, frame_given, acting, IsUp}
+use Rattle.model_link.proofs.Lines.{rising-low}
+use Rattle.model_link.proofs.Direction.{frames_of, line_of}
+use Rattle.model_link.proofs.Joined.{Joined}
 use Rattle.laws_two_links.specs.Ahead.{IsMildRequest}
 use Rattle.laws_two_links.specs.Timely.{is_enquiry, is_answer, IsNoneOpen, IsTimelyAct}
 use Rattle.laws_two_links.proofs.Trains.{Kind, numbered, enquiry, report, kind_of, kinds_of, tally, one_enquiry, one_answer}

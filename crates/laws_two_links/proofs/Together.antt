@@ -10,10 +10,10 @@ use Rattle.lapd_frame.specs.Grammar.{Parts}
 use Rattle.model_link.specs.declared.terms.Terms.{Terms}
 use Rattle.model_link.specs.Link.{is_multiple_frame}
 use Rattle.model_link.specs.Events.{frame, received}
-use Rattle.laws_two_links.specs.TwoEnds.{End, Ends, Act, asks, expires, sends, receives, loses, Doing, at_near, at_far, with_link, with_first_of, acting, turned, doing, Begins, IsUp, StayUp}
-use Rattle.laws_two_links.proofs.Lines.{Piece, Carried, Rising, rising-low}
-use Rattle.laws_two_links.proofs.Direction.{frames_of}
-use Rattle.laws_two_links.proofs.Joined.{Joined, joined-turned, joined-first, done-at}
+use Rattle.model_link.specs.TwoEnds.{End, Ends, Act, asks, expires, sends, receives, loses, Doing, at_near, at_far, with_link, with_first_of, acting, turned, doing, Begins, IsUp, StayUp}
+use Rattle.model_link.proofs.Lines.{Piece, Carried, Rising, rising-low}
+use Rattle.model_link.proofs.Direction.{frames_of}
+use Rattle.model_link.proofs.Joined.{Joined, joined-turned, joined-first, done-at}
 use Rattle.laws_two_links.specs.Ahead.{IsAhead, IsMild, IsMildAct, StayAhead}
 use Rattle.laws_two_links.proofs.Halves.{named-number}
 use Rattle.laws_two_links.proofs.Staying.{Fits, frame-stays, request-stays, timer-stays, offer-stays}

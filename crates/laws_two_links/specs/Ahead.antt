@@ -4,7 +4,7 @@ use Rattle.model_link.specs.declared.states.State.TheVariants.{TimerRecovery}
 use Rattle.model_link.specs.declared.timers.LinkTimer.{LinkTimer}
 use Rattle.model_link.specs.Events.{Request, Establish, Release, Data, SetBusy, ClearBusy}
 use Rattle.model_link.specs.Machine.{is_running}
-use Rattle.laws_two_links.specs.TwoEnds.{End, Ends, Act, asks, expires, sends, receives, loses, Doing, at_near, at_far, doing}
+use Rattle.model_link.specs.TwoEnds.{End, Ends, Act, asks, expires, sends, receives, loses, Doing, at_near, at_far, doing}
 
 -- Neither link's V(S) is below the other's V(R).
 abbrev pub IsAhead : Ends → Type 0

@@ -4,7 +4,7 @@ use Rattle.lapd_frame.specs.declared.controls.Control.{Control}
 use Rattle.lapd_frame.specs.declared.controls.Control.TheVariants.{Information, ReceiveReady, ReceiveNotReady, Reject, Sabme, Disc, Ui, Ua, Dm, Frmr, Xid}
 use Rattle.lapd_frame.specs.Grammar.{Parts}
 use Rattle.model_link.specs.Link.{unsent}
-use Rattle.laws_two_links.specs.TwoEnds.{End, Ends, Act, asks, expires, sends, receives, loses, Doing, at_near, at_far, doing}
+use Rattle.model_link.specs.TwoEnds.{End, Ends, Act, asks, expires, sends, receives, loses, Doing, at_near, at_far, doing}
 use Rattle.laws_two_links.specs.Waits.{HasNothingToSend}
 
 -- A turn that does something: an end that has something to send gives its next frame, or one receives the first frame of the

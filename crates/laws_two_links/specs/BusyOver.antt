@@ -1,7 +1,7 @@
 -- The end of own busy (Q.921 clause 5.6.6): layer 3 asks for it, and RR tells the other end.
 use Rattle.std.specs.Prelude.{◌≡◌, ◌≤◌, false, length, take, All}
 use Rattle.model_link.specs.Events.{ClearBusy}
-use Rattle.laws_two_links.specs.TwoEnds.{End, Ends, asks, sends, receives, loses, at_near, at_far, doing}
+use Rattle.model_link.specs.TwoEnds.{End, Ends, asks, sends, receives, loses, at_near, at_far, doing}
 use Rattle.laws_two_links.specs.Rounds.{HasArrived}
 
 -- Layer 3 at an end asks for it, and that end gives its next frame; which the other receives, or which is lost.

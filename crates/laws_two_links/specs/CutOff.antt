@@ -5,7 +5,7 @@ use Rattle.model_link.specs.declared.timers.LinkTimer.TheVariants.{T200}
 use Rattle.model_link.specs.Link.{is_multiple_frame}
 use Rattle.model_link.specs.Sound.{IsInRange, IsSound}
 use Rattle.laws_link.specs.Timed.{IsTimed}
-use Rattle.laws_two_links.specs.TwoEnds.{End, Ends, expires, at_near, at_far, doing}
+use Rattle.model_link.specs.TwoEnds.{End, Ends, expires, at_near, at_far, doing}
 use Rattle.laws_two_links.specs.Heeds.{Heeds}
 
 -- The first end is in state 7 or 8, able to repeat an enquiry, with own busy off or on and nothing waiting or on its way;

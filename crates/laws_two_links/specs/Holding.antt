@@ -2,7 +2,7 @@
 use Rattle.std.specs.Prelude.{List, [], ◌∷◌}
 use Rattle.lapd_frame.specs.Grammar.{Parts}
 use Rattle.model_link.specs.Events.{frame, received, requested, expired, offer}
-use Rattle.laws_two_links.specs.TwoEnds.{End, Ends, Act, asks, expires, sends, receives, loses, Doing, at_near, at_far, turned, doing}
+use Rattle.model_link.specs.TwoEnds.{End, Ends, Act, asks, expires, sends, receives, loses, Doing, at_near, at_far, turned, doing}
 use Rattle.laws_link.specs.History.{History, share, with_share}
 
 -- The history of an end goes on by what its link is given, by its own expiries and offers, and by the first frame of the

@@ -21,5 +21,3 @@ pub mod Timely
 pub mod WorkedTimely
 pub mod Holding
 pub mod WorkedHolding
-pub mod TwoEnds
-pub mod WorkedEnds

@@ -3,7 +3,7 @@ use Rattle.std.specs.Prelude.{◌≡◌, ◌≤◌, true, false, [], length, All
 use Rattle.model_link.specs.declared.states.State.TheVariants.{Established}
 use Rattle.model_link.specs.Events.{SetBusy}
 use Rattle.model_link.specs.Sound.{IsInRange, IsSound}
-use Rattle.laws_two_links.specs.TwoEnds.{End, Ends, asks, at_near, at_far, doing}
+use Rattle.model_link.specs.TwoEnds.{End, Ends, asks, at_near, at_far, doing}
 use Rattle.laws_two_links.specs.Rounds.{HasArrived}
 
 -- An end in state 7 with own busy on; nothing waits or is on its way, and it does not take the other for busy.

@@ -2,7 +2,7 @@
 use Rattle.std.specs.Prelude.{◌≡◌, ℕ, zero, suc, ◌+◌, ◌<◌, ◌≤◌, true, false, List, [], length, take, All}
 use Rattle.model_link.specs.declared.states.State.TheVariants.{Established}
 use Rattle.model_link.specs.Sound.{IsInRange, IsSound}
-use Rattle.laws_two_links.specs.TwoEnds.{End, Ends, sends, receives, at_near, at_far, doing}
+use Rattle.model_link.specs.TwoEnds.{End, Ends, sends, receives, at_near, at_far, doing}
 use Rattle.laws_two_links.specs.Waits.{HasNothingToSend}
 
 -- A round: each end in turn gives the next frame, if it has one, and the other receives it. Nothing is lost.

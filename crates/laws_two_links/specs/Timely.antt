@@ -5,7 +5,7 @@ use Rattle.lapd_frame.specs.declared.controls.Control.TheVariants.{Information, 
 use Rattle.model_link.specs.declared.states.State.TheVariants.{TimerRecovery}
 use Rattle.model_link.specs.declared.timers.LinkTimer.{LinkTimer}
 use Rattle.model_link.specs.Machine.{is_running}
-use Rattle.laws_two_links.specs.TwoEnds.{End, Ends, Act, asks, expires, sends, receives, loses, Doing, at_near, at_far, doing}
+use Rattle.model_link.specs.TwoEnds.{End, Ends, Act, asks, expires, sends, receives, loses, Doing, at_near, at_far, doing}
 use Rattle.laws_two_links.specs.Ahead.{IsMildRequest, CanRepeat}
 
 -- The P or F bit of a supervisory frame.

@@ -4,7 +4,7 @@ use Rattle.lapd_seq.specs.Numbers.{seq}
 use Rattle.lapd_seq.specs.Circle.{distance_of, named}
 use Rattle.lapd_frame.specs.Reading.{supervisory_of, unnumbered_of, control_of, header_of, reading}
 use Rattle.model_link.specs.Machine.{after_all}
-use Rattle.laws_two_links.specs.TwoEnds.{Ends, sends, receives, Doing, at_near, at_far, doing_all}
+use Rattle.model_link.specs.TwoEnds.{Ends, sends, receives, Doing, at_near, at_far, doing_all}
 use Rattle.laws_two_links.specs.AnyOrder.{weight}
 use Rattle.laws_two_links.specs.WorkedRounds.{octets, asked}
 

@@ -1,7 +1,7 @@
 //! Two links whose turns come in any order.
 
 ghost use Rattle.std.specs.Prelude.{ℕ, ◌+◌, ◌≤◌, List, length};
-ghost use Rattle.laws_two_links.specs.TwoEnds.{Ends, Doing, doing_all};
+ghost use Rattle.model_link.specs.TwoEnds.{Ends, Doing, doing_all};
 ghost use Rattle.laws_two_links.specs.AnyOrder.{AreTurns, IsStill, weight};
 ghost use Rattle.laws_two_links.specs.Rounds.{IsReady, IsTaken, HasArrived};
 

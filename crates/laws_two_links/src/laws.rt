@@ -11,7 +11,7 @@ ghost use Rattle.laws_link.specs.Timed.{IsTimed};
 ghost use Rattle.laws_two_links.specs.Ahead.{IsAhead, StayAhead};
 ghost use Rattle.laws_two_links.specs.CutOff.{IsCutOff, IsSilent, HasMissing, with_t200_expired};
 ghost use Rattle.laws_two_links.specs.Heeds.{Heeds};
-ghost use Rattle.laws_two_links.specs.TwoEnds.{Ends, Doing, doing_all, Begins, StayUp, Agree};
+ghost use Rattle.model_link.specs.TwoEnds.{Ends, Doing, doing_all, Begins, StayUp, Agree};
 ghost use Rattle.laws_two_links.specs.Rounds.{rounds, IsReady, IsTaken, HasUnsent, HasArrived};
 ghost use Rattle.laws_two_links.specs.Timely.{StayTimely, IsHushed};
 ghost use Rattle.laws_two_links.specs.Waits.{HasNothingToSend, after_offers, turns, GoesWhole};

@@ -1,15 +1,15 @@
 //! Laws of progress over the machine of `model_link`: of a link alone, and of two links that face each other. There is
 //! nothing to call: each law is the contract of a function that does nothing.
 //!
-//! `specs/` has the statements: two links that face each other (`TwoEnds`) and what they have accepted (`Holding`); what
-//! waits and what goes (`Waits`), polls and their answers (`Polls`), I-frames out of
-//! sequence (`Gaps`), a busy terminal (`Heeds`), the timer that a link needs (`Needed`), two ends in rounds (`Rounds`)
-//! and in turns of any order (`AnyOrder`), two ends whose frames were lost (`CutOff`), an end that is busy itself
-//! (`OwnBusy`) and is no more (`BusyOver`), what keeps two links up (`Ahead`, `Timely`); and worked values that compute
-//! (`WorkedPolls`, `WorkedGaps`, `WorkedRounds`, `WorkedAnyOrder`, `WorkedOwnBusy`, `WorkedTimely`, and
-//! `WorkedUntimely`, a run in which T200 is too short). `docs/PROGRESS.md` says it in words.
+//! `specs/` has the statements: what two links that face each other have accepted (`Holding`); what waits and what
+//! goes (`Waits`), polls and their answers (`Polls`), I-frames out of sequence (`Gaps`), a busy terminal (`Heeds`), the
+//! timer that a link needs (`Needed`), two ends in rounds (`Rounds`) and in turns of any order (`AnyOrder`), two ends
+//! whose frames were lost (`CutOff`), an end that is busy itself (`OwnBusy`) and is no more (`BusyOver`), what keeps two
+//! links up (`Ahead`, `Timely`); and worked values that compute (`WorkedPolls`, `WorkedGaps`, `WorkedRounds`,
+//! `WorkedAnyOrder`, `WorkedOwnBusy`, `WorkedTimely`, and `WorkedUntimely`, a run in which T200 is too short).
+//! `docs/PROGRESS.md` says it in words.
 //!
-//! - `agreeing`: what two links that face each other agree on, whatever is lost, and hold;
+//! - `held`: what two links that face each other hold of what was accepted;
 //! - `laws`: what waits, polls, and two links that face each other;
 //! - `gaps`: what a link does where I-frames are missing;
 //! - `any_order`: two links whose turns come in any order;
@@ -18,24 +18,23 @@
 //!
 //! # Open
 //!
-//! How long a round takes, and so whether a given T200 is timely; that frames get through; that own busy ends; what two
-//! links agree on across a new establishment. Of two cards `laws_wire` says what these laws say of two links, except of
-//! own busy.
+//! How long a round takes, and so whether a given T200 is timely; that frames get through; that own busy ends. Of two
+//! cards `laws_wire` says what these laws say of two links, except of own busy.
 #![tactic(auto)]
 
 mod any_order;
 mod gaps;
+mod held;
 mod laws;
 mod own_busy;
 mod timers;
-mod agreeing;
 
 pub use any_order::arrives_in_any_order;
 pub use gaps::gaps_are_rejected;
+pub use held::ends_hold_what_was_accepted;
 pub use laws::{
     busy_is_heeded, contents_arrive, links_stay_up, losses_are_recovered, nothing_is_held_back,
     polls_are_answered, stay_up_while_ahead,
 };
 pub use own_busy::{busy_ends_are_heard, busy_ends_recover, kept_contents_arrive};
 pub use timers::runs_what_it_needs;
-pub use agreeing::{ends_hold_what_was_accepted, two_ends};

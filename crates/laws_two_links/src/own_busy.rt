@@ -3,7 +3,7 @@
 ghost use Rattle.std.specs.Prelude.{◌≡◌, ◌⊎◌, ℕ, ◌+◌, true, Some, List};
 ghost use Rattle.model_link.specs.declared.timers.LinkTimer.TheVariants.{T200};
 ghost use Rattle.laws_link.specs.Timed.{IsTimed};
-ghost use Rattle.laws_two_links.specs.TwoEnds.{Ends, Doing, doing_all, Begins, StayUp};
+ghost use Rattle.model_link.specs.TwoEnds.{Ends, Doing, doing_all, Begins, StayUp};
 ghost use Rattle.laws_two_links.specs.CutOff.{IsCutOff, IsCutOffWith, IsSilent, IsSilentWith, HasMissing, with_t200_expired};
 ghost use Rattle.laws_two_links.specs.OwnBusy.{IsBusyItself, IsOpenItself, IsDropped, GetsThrough, with_near_busy, with_far_busy};
 ghost use Rattle.laws_two_links.specs.BusyOver.{with_near_told, with_near_untold, with_far_told, with_far_untold, HasDroppedNothing, BothHaveArrived};

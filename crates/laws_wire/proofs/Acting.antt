@@ -10,9 +10,9 @@ use Rattle.model_link.specs.Link.{is_multiple_frame}
 use Rattle.model_link.specs.Machine.{course}
 use Rattle.model_link.specs.Sound.{IsInRange, IsSound}
 use Rattle.model_link.specs.Steps.{Course}
-use Rattle.laws_two_links.specs.TwoEnds.{End, with_link, with_sent}
-use Rattle.laws_two_links.specs.TwoEnds as two_ends
-use Rattle.laws_two_links.proofs.Direction.{frames_of, line_of}
+use Rattle.model_link.specs.TwoEnds.{End, with_link, with_sent}
+use Rattle.model_link.specs.TwoEnds as two_ends
+use Rattle.model_link.proofs.Direction.{frames_of, line_of}
 use Rattle.model_line.specs.declared.config.Config.{Config}
 use Rattle.model_line.specs.Event.{LineTold}
 use Rattle.model_line.specs.Expiry.{at_timer, aim_of_expiry}

@@ -4,7 +4,7 @@ use Rattle.std.specs.Option.{option_map_or}
 use Rattle.lapd_frame.specs.declared.services.Service.{Service}
 use Rattle.lapd_frame.specs.Grammar.{other_side}
 use Rattle.model_link.specs.Link.{fresh}
-use Rattle.laws_two_links.specs.TwoEnds.{End}
+use Rattle.model_link.specs.TwoEnds.{End}
 use Rattle.model_line.specs.declared.config.Config.{Config}
 use Rattle.model_line.specs.Line.{link_in, link_at, terms, terms_at}
 use Rattle.laws_two_links.specs.Rounds.{IsReady, IsTaken, HasArrived}

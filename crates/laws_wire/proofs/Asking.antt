@@ -10,7 +10,7 @@ use Rattle.model_link.specs.Events.{Data, requested}
 use Rattle.model_link.specs.Requests.{refusal, granted}
 use Rattle.model_link.specs.Steps.{Course, begun}
 use Rattle.model_link.specs.Sound.{IsSound}
-use Rattle.laws_two_links.specs.TwoEnds.{End, with_link}
+use Rattle.model_link.specs.TwoEnds.{End, with_link}
 use Rattle.model_link.proofs.SoundEvents.{sound-after}
 use Rattle.laws_two_links.specs.AnyOrder.{load, weight_at}
 use Rattle.laws_two_links.proofs.AnyOrder.{Informs, Lane, lane-order, Steady, Direction}

@@ -21,7 +21,7 @@ use Rattle.model_link.specs.Events as link
 use Rattle.model_link.specs.Link.{Link, fresh}
 use Rattle.model_link.specs.Machine as links
 use Rattle.model_link.specs.Requests.{serves}
-use Rattle.laws_two_links.specs.TwoEnds.{End, with_link}
+use Rattle.model_link.specs.TwoEnds.{End, with_link}
 use Rattle.model_line.specs.declared.config.Config.{Config}
 use Rattle.model_line.specs.Effect.{Effect, at_management, of_aim, of_change, told_of_management}
 use Rattle.model_line.specs.Event.{nothing, request, told}

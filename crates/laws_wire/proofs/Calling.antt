@@ -14,7 +14,7 @@ use Rattle.model_link.specs.Machine.{after, course, given}
 use Rattle.model_link.specs.Requests.{refusal}
 use Rattle.model_link.specs.Sound.{IsInRange, IsSound}
 use Rattle.model_link.specs.Steps.{begun}
-use Rattle.laws_two_links.specs.TwoEnds.{End, with_sent}
+use Rattle.model_link.specs.TwoEnds.{End, with_sent}
 use Rattle.model_link.specs.Words.{command, response}
 use Rattle.model_link.proofs.SoundEvents.{sound-after, sound-fresh}
 use Rattle.laws_two_links.proofs.AnyOrder.{Steady}

@@ -7,8 +7,8 @@ use Rattle.std.proofs.lemmas.List.Elements.{All-nil}
 use Rattle.lapd_frame.specs.declared.services.Service.{Service}
 use Rattle.lapd_frame.specs.Grammar.{spelling, other_side}
 use Rattle.model_link.specs.Link.{fresh}
-use Rattle.laws_two_links.specs.TwoEnds.{End, Ends}
-use Rattle.laws_two_links.specs.TwoEnds as two_ends
+use Rattle.model_link.specs.TwoEnds.{End, Ends}
+use Rattle.model_link.specs.TwoEnds as two_ends
 use Rattle.model_line.specs.declared.config.Config.{Config}
 use Rattle.model_line.specs.Event.{LineTold}
 use Rattle.model_line.specs.Line.{link_in}

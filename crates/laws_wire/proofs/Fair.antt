@@ -26,7 +26,7 @@ use Rattle.model_link.specs.Established
 use Rattle.model_link.specs.TimerRecovery
 use Rattle.model_link.specs.Machine
 use Rattle.model_link.proofs.Leads.{Leads, keeping_then, nothing_leads, depending_leads, bit_leads}
-use Rattle.laws_two_links.proofs.Lines.{Means}
+use Rattle.model_link.proofs.Lines.{Means}
 use Rattle.laws_wire.specs.Losing.{is_error}
 
 abbrev pub HasError : List Note → Type 0

@@ -14,11 +14,11 @@ use Rattle.model_link.specs.declared.terms.Terms.{Terms}
 use Rattle.model_link.specs.Link.{Link, is_multiple_frame}
 use Rattle.model_link.specs.Events.{Event, frame, overlong, received, expired, requested, offer, Data}
 use Rattle.model_link.specs.Machine.{course, after}
-use Rattle.laws_two_links.specs.TwoEnds.{End, Ends, Act, asks, expires, sends, receives, loses, at_near, with_link, with_sent, with_first_of, with_first_lost, acting, IsUp}
-use Rattle.laws_two_links.proofs.Direction.{frames_of}
-use Rattle.laws_two_links.proofs.Joined.{Joined, joined-turned, done-at}
-use Rattle.laws_two_links.proofs.Lines.{Rising}
-use Rattle.laws_two_links.proofs.Taking.{frame-taken}
+use Rattle.model_link.specs.TwoEnds.{End, Ends, Act, asks, expires, sends, receives, loses, at_near, with_link, with_sent, with_first_of, with_first_lost, acting, IsUp}
+use Rattle.model_link.proofs.Direction.{frames_of}
+use Rattle.model_link.proofs.Joined.{Joined, joined-turned, done-at}
+use Rattle.model_link.proofs.Lines.{Rising}
+use Rattle.model_link.proofs.Taking.{frame-taken}
 use Rattle.laws_link.specs.Flags.{busy_asked, flag_left, takes_contents}
 use Rattle.laws_link.specs.States.{as_heard, is_overlong, state_after}
 use Rattle.laws_link.specs.Telling.{numbered_as, final_as, told_up, told_by_frame, told_expired, told_by}

@@ -16,15 +16,15 @@ use Rattle.model_link.specs.Machine
 use Rattle.model_link.specs.Machine.{course, after}
 use Rattle.model_link.specs.Sound.{IsInRange, IsSound, IsSettledIn, IsWaitingFrame}
 use Rattle.model_link.specs.Steps.{Course, begun}
-use Rattle.laws_two_links.specs.TwoEnds.{End, with_link, with_sent}
+use Rattle.model_link.specs.TwoEnds.{End, with_link, with_sent}
 use Rattle.model_link.proofs.Delivering.{event-delivers}
-use Rattle.laws_two_links.proofs.Direction.{Direction, frames_of, frames-append, line_of, sender-goes, receiver-goes, sender-loses, receiver-loses}
-use Rattle.laws_two_links.proofs.Facing.{Reports, Up, no-reports, any_number, still, timer_7_up, t200_8_up}
-use Rattle.laws_two_links.proofs.FacingInformation.{at-first}
-use Rattle.laws_two_links.proofs.Hearing.{sender-hears, receiver-hears}
-use Rattle.laws_two_links.proofs.Lines.{Carried, Means, Rising}
-use Rattle.laws_two_links.proofs.Sending.{Gave, offer-gave}
-use Rattle.laws_two_links.proofs.Taking.{frame-taken, none-delivered}
+use Rattle.model_link.proofs.Direction.{Direction, frames_of, frames-append, line_of, sender-goes, receiver-goes, sender-loses, receiver-loses}
+use Rattle.model_link.proofs.Facing.{Reports, Up, no-reports, any_number, still, timer_7_up, t200_8_up}
+use Rattle.model_link.proofs.FacingInformation.{at-first}
+use Rattle.model_link.proofs.Hearing.{sender-hears, receiver-hears}
+use Rattle.model_link.proofs.Lines.{Carried, Means, Rising}
+use Rattle.model_link.proofs.Sending.{Gave, offer-gave}
+use Rattle.model_link.proofs.Taking.{frame-taken, none-delivered}
 
 -- An end with this on its line.
 abbrev pub bare : Link → Link

@@ -8,8 +8,8 @@ use Rattle.model_link.specs.declared.terms.Terms.{Terms}
 use Rattle.model_link.specs.Events as link
 use Rattle.model_link.specs.Machine.{course}
 use Rattle.model_link.specs.Sound.{IsInRange}
-use Rattle.laws_two_links.specs.TwoEnds.{End, with_link}
-use Rattle.laws_two_links.proofs.Direction.{frames_of}
+use Rattle.model_link.specs.TwoEnds.{End, with_link}
+use Rattle.model_link.proofs.Direction.{frames_of}
 use Rattle.model_line.specs.declared.config.Config.{Config}
 use Rattle.model_line.specs.Event.{LineTold}
 use Rattle.model_line.specs.Line.{terms}

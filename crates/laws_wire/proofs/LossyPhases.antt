@@ -12,7 +12,7 @@ use Rattle.model_link.specs.declared.terms.Terms.{Terms}
 use Rattle.model_link.specs.declared.timers.LinkTimer.{LinkTimer}
 use Rattle.model_link.specs.declared.timers.LinkTimer.TheVariants as link_timer
 use Rattle.model_link.specs.Link.{fresh}
-use Rattle.laws_two_links.specs.TwoEnds.{End}
+use Rattle.model_link.specs.TwoEnds.{End}
 use Rattle.model_line.specs.declared.config.Config.{Config}
 use Rattle.model_line.specs.Event.{LineTold}
 use Rattle.model_line.specs.Expiry.{at_timer, aim_of_expiry}

@@ -9,8 +9,8 @@ use Rattle.model_link.specs.Link.{fresh}
 use Rattle.model_link.specs.Machine.{course}
 use Rattle.model_link.specs.Requests.{refusal}
 use Rattle.model_link.specs.Sound.{IsInRange}
-use Rattle.laws_two_links.specs.TwoEnds.{with_link}
-use Rattle.laws_two_links.proofs.Direction.{frames_of}
+use Rattle.model_link.specs.TwoEnds.{with_link}
+use Rattle.model_link.proofs.Direction.{frames_of}
 use Rattle.model_line.specs.declared.config.Config.{Config}
 use Rattle.model_line.specs.Event.{LineTold}
 use Rattle.model_line.specs.Line.{terms}

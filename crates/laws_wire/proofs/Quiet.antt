@@ -7,8 +7,8 @@ use Rattle.lapd_frame.specs.Grammar.{Parts, AreOctets, spelling}
 use Rattle.model_link.specs.Events as link
 use Rattle.model_link.specs.Machine.{given}
 use Rattle.model_link.specs.Requests.{refusal}
-use Rattle.laws_two_links.specs.TwoEnds.{End, with_link, with_sent, frame_given}
-use Rattle.laws_two_links.specs.TwoEnds as two_ends
+use Rattle.model_link.specs.TwoEnds.{End, with_link, with_sent, frame_given}
+use Rattle.model_link.specs.TwoEnds as two_ends
 use Rattle.model_line.specs.declared.config.Config.{Config}
 use Rattle.model_line.specs.Request as asked
 use Rattle.model_line.specs.Request.{Request, Establish, Release, Data, Assign, Remove, Check, SetBusy, ClearBusy}

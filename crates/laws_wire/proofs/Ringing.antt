@@ -15,11 +15,11 @@ use Rattle.model_link.specs.Link.{Link, fresh, frame_of}
 use Rattle.model_link.specs.Events.{frame, received, expired}
 use Rattle.model_link.specs.Machine.{after, course}
 use Rattle.model_link.specs.Steps.{Course, begun, ◌then◌}
-use Rattle.laws_two_links.specs.TwoEnds.{with_sent}
+use Rattle.model_link.specs.TwoEnds.{with_sent}
 use Rattle.model_link.specs.Words
 use Rattle.model_link.specs.Words.{command, response}
-use Rattle.laws_two_links.proofs.Direction.{frames_of, frames-append}
-use Rattle.laws_two_links.proofs.Lines.{Means}
+use Rattle.model_link.proofs.Direction.{frames_of, frames-append}
+use Rattle.model_link.proofs.Lines.{Means}
 use Rattle.laws_wire.specs.Losing.{is_error}
 use Rattle.laws_wire.proofs.Calling.{sabme, ua, end}
 use Rattle.laws_wire.proofs.Fair.{HasError}

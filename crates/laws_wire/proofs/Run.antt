@@ -7,7 +7,7 @@ use Rattle.lapd_frame.specs.Grammar.{Parts, spelling, other_side}
 use Rattle.model_link.specs.Link.{fresh}
 use Rattle.model_link.specs.Machine.{given}
 use Rattle.model_link.specs.Sound.{IsInRange}
-use Rattle.laws_two_links.specs.TwoEnds.{End}
+use Rattle.model_link.specs.TwoEnds.{End}
 use Rattle.model_line.specs.declared.config.Config.{Config}
 use Rattle.model_line.specs.Event.{LineTold}
 use Rattle.model_line.specs.Line.{terms}

@@ -16,7 +16,7 @@ use Rattle.model_link.specs.Established
 use Rattle.model_link.specs.Machine.{course, told}
 use Rattle.model_link.specs.MultipleFrame
 use Rattle.model_link.specs.Steps.{Course, begun}
-use Rattle.laws_two_links.specs.TwoEnds.{End}
+use Rattle.model_link.specs.TwoEnds.{End}
 use Rattle.model_link.specs.Words
 use Rattle.model_line.specs.Effect.{unserved_cause}
 use Rattle.model_line.specs.Event.{LineTold}

@@ -21,7 +21,7 @@ use Rattle.model_link.specs.Offers
 use Rattle.model_link.specs.Sound as link_sound
 use Rattle.model_link.specs.Steps.{Sent, Course, begun}
 use Rattle.model_link.specs.Told.{Given}
-use Rattle.laws_two_links.specs.TwoEnds.{End, with_link, with_sent, frame_given}
+use Rattle.model_link.specs.TwoEnds.{End, with_link, with_sent, frame_given}
 use Rattle.model_link.specs.declared.frames.ControlFrame.{ControlFrame}
 use Rattle.model_link.proofs.Giving.{given_is_frame}
 use Rattle.model_line.specs.declared.config.Config.{Config}

@@ -12,7 +12,7 @@ use Rattle.model_link.specs.Events as link
 use Rattle.model_link.specs.Machine.{course}
 use Rattle.model_link.specs.Requests.{refusal}
 use Rattle.model_link.specs.Steps.{Course}
-use Rattle.laws_two_links.specs.TwoEnds.{End, with_link, with_sent}
+use Rattle.model_link.specs.TwoEnds.{End, with_link, with_sent}
 use Rattle.model_line.specs.declared.config.Config.{Config}
 use Rattle.model_line.specs.Line.{terms}
 use Rattle.model_line.specs.Request.{Data}

@@ -13,8 +13,8 @@ use Rattle.model_link.specs.Events as link
 use Rattle.model_link.specs.Link.{Link}
 use Rattle.model_link.specs.Machine as links
 use Rattle.model_link.specs.Requests as requests
-use Rattle.laws_two_links.specs.TwoEnds.{End, with_link, with_sent}
-use Rattle.laws_two_links.specs.TwoEnds as two_ends
+use Rattle.model_link.specs.TwoEnds.{End, with_link, with_sent}
+use Rattle.model_link.specs.TwoEnds as two_ends
 use Rattle.model_line.specs.declared.config.Config.{Config}
 use Rattle.model_line.specs.Event.{LineTold}
 use Rattle.model_line.specs.Line.{link_in, terms}

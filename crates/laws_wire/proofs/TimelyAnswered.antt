@@ -8,8 +8,8 @@ use Rattle.model_link.specs.Events as link
 use Rattle.model_link.specs.Machine.{course, given}
 use Rattle.model_link.specs.Requests.{refusal}
 use Rattle.model_link.specs.Sound.{IsInRange}
-use Rattle.laws_two_links.specs.TwoEnds.{End, with_sent}
-use Rattle.laws_two_links.proofs.Sending.{offer-gave}
+use Rattle.model_link.specs.TwoEnds.{End, with_sent}
+use Rattle.model_link.proofs.Sending.{offer-gave}
 use Rattle.model_line.specs.declared.config.Config.{Config}
 use Rattle.model_line.specs.Event.{LineTold}
 use Rattle.model_line.specs.Line.{terms}

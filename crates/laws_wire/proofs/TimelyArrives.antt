@@ -12,9 +12,9 @@ use Rattle.model_link.specs.declared.states.State.TheVariants.{TimerRecovery}
 use Rattle.model_link.specs.declared.timers.LinkTimer.TheVariants.{T200}
 use Rattle.model_link.specs.Events as link
 use Rattle.model_link.specs.Machine.{given}
-use Rattle.laws_two_links.specs.TwoEnds.{End, Ends, with_link}
-use Rattle.laws_two_links.proofs.Direction.{line_of}
-use Rattle.laws_two_links.proofs.Lines.{rising-low}
+use Rattle.model_link.specs.TwoEnds.{End, Ends, with_link}
+use Rattle.model_link.proofs.Direction.{line_of}
+use Rattle.model_link.proofs.Lines.{rising-low}
 use Rattle.model_line.specs.declared.config.Config.{Config}
 use Rattle.model_line.specs.Event.{LineTold}
 use Rattle.model_card.specs.Happening.{goes}

@@ -8,8 +8,8 @@ use Rattle.model_link.specs.Events as link
 use Rattle.model_link.specs.Machine.{given}
 use Rattle.model_link.specs.Requests.{refusal}
 use Rattle.model_link.specs.Sound.{IsInRange, IsSound}
-use Rattle.laws_two_links.specs.TwoEnds.{End, Begins}
-use Rattle.laws_two_links.proofs.Joined.{joined-first}
+use Rattle.model_link.specs.TwoEnds.{End, Begins}
+use Rattle.model_link.proofs.Joined.{joined-first}
 use Rattle.model_line.specs.declared.config.Config.{Config}
 use Rattle.model_line.specs.Event.{LineTold}
 use Rattle.model_line.specs.Request.{Data}

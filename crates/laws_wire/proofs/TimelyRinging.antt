@@ -16,7 +16,7 @@ use Rattle.model_link.specs.Link.{fresh}
 use Rattle.model_link.specs.Machine.{course, given}
 use Rattle.model_link.specs.Sound.{IsInRange}
 use Rattle.model_link.specs.Steps.{Course}
-use Rattle.laws_two_links.specs.TwoEnds.{End, with_link}
+use Rattle.model_link.specs.TwoEnds.{End, with_link}
 use Rattle.model_line.specs.declared.config.Config.{Config}
 use Rattle.model_line.specs.Event.{LineTold}
 use Rattle.model_line.specs.Line.{terms}

@@ -14,7 +14,7 @@ use Rattle.model_link.specs.declared.frames.ControlFrame.{ControlFrame}
 use Rattle.model_link.specs.declared.timers.LinkTimer.TheVariants.{T200}
 use Rattle.model_link.specs.Link.{fresh}
 use Rattle.model_link.specs.Sound.{IsInRange}
-use Rattle.laws_two_links.specs.TwoEnds.{Ends}
+use Rattle.model_link.specs.TwoEnds.{Ends}
 use Rattle.model_line.specs.declared.config.Config.{Config}
 use Rattle.model_line.specs.Event.{LineTold, nothing}
 use Rattle.model_line.specs.Line.{terms}

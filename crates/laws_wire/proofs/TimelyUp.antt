@@ -23,10 +23,10 @@ use Rattle.model_link.specs.MultipleFrame
 use Rattle.model_link.specs.Steps.{begun, ◌then◌}
 use Rattle.laws_link.specs.Timed.{IsTimedIn}
 use Rattle.model_link.specs.Told.{runs}
-use Rattle.laws_two_links.specs.TwoEnds.{End, Ends, with_link, with_sent}
-use Rattle.laws_two_links.specs.TwoEnds as two_ends
+use Rattle.model_link.specs.TwoEnds.{End, Ends, with_link, with_sent}
+use Rattle.model_link.specs.TwoEnds as two_ends
 use Rattle.model_link.specs.Words
-use Rattle.laws_two_links.proofs.Sending.{offer-gave}
+use Rattle.model_link.proofs.Sending.{offer-gave}
 use Rattle.model_line.specs.declared.config.Config.{Config}
 use Rattle.model_line.specs.Event.{LineTold}
 use Rattle.model_line.specs.Request.{Data}

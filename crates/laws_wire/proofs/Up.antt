@@ -10,8 +10,8 @@ use Rattle.model_link.specs.Link.{Link}
 use Rattle.model_link.specs.Machine.{given}
 use Rattle.model_link.specs.Requests.{refusal}
 use Rattle.model_link.specs.Told.{Given}
-use Rattle.laws_two_links.specs.TwoEnds.{End, Ends, with_link, with_sent, frame_given}
-use Rattle.laws_two_links.specs.TwoEnds as two_ends
+use Rattle.model_link.specs.TwoEnds.{End, Ends, with_link, with_sent, frame_given}
+use Rattle.model_link.specs.TwoEnds as two_ends
 use Rattle.model_line.specs.declared.config.Config.{Config}
 use Rattle.model_line.specs.Request as asked
 use Rattle.model_line.specs.Request.{Request, Establish, Release, Data, Assign, Remove, Check, SetBusy, ClearBusy}

@@ -8,7 +8,7 @@ use Rattle.lapd_frame.specs.declared.services.Service.{Service}
 use Rattle.lapd_frame.specs.Grammar.{Parts, AreOctets, other_side}
 use Rattle.lapd_frame.specs.Reading.{reading}
 use Rattle.lapd_frame.specs.Services.{same_service}
-use Rattle.laws_two_links.specs.TwoEnds.{End, Ends}
+use Rattle.model_link.specs.TwoEnds.{End, Ends}
 use Rattle.model_line.specs.declared.config.Config.{Config}
 use Rattle.model_line.specs.Event.{LineTold}
 use Rattle.model_line.specs.Line.{Line, link_number, link_count, link_at, link_of, place_in, terms, terms_at}

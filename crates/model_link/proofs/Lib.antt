@@ -22,3 +22,11 @@ pub mod Telling
 pub mod TellRows
 pub mod OwnNotes
 pub mod Giving
+pub mod Direction
+pub mod Facing
+pub mod FacingInformation
+pub mod Hearing
+pub mod Joined
+pub mod Lines
+pub mod Sending
+pub mod Taking

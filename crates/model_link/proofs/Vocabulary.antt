@@ -1,11 +1,13 @@
 -- The words with which the proofs of this crate speak, from where they are defined.
 pub use Rattle.std.proofs.Common.{Bool, IsTrue, List, None, Option, Some, [], ap, append-nil, append_assoc, arith, cond, drop, eq-eqb, eqb-true, false, inl, inr, is_some, le_refl, length, length-append, length-drop, length-take-le, not, refl, subst, suc, sym, take, true, true≢false, zero, zero-add, ℕ, ◌%◌, ◌&&◌, ◌*◌, ◌++◌, ◌+◌, ◌-◌, ◌<◌, ◌==◌, ◌||◌, ◌∙◌, ◌∷◌, ◌≡◌, ◌≢◌, ◌≤◌, ◌⊎◌}
 pub use Rattle.std.proofs.lemmas.Bool.{and_from, and_parts, false_from_ne_true, false≢true, leb-false, leb-true, ltb-false, ltb-true, true_from_ne_false}
+pub use Rattle.std.proofs.lemmas.List.{take-append-le}
 pub use Rattle.std.proofs.lemmas.List.Elements.{All-drop, All-head, All-nil, All-push, All-tail, All-take, All-weaker}
 pub use Rattle.std.proofs.lemmas.List.Folds.{list_any-append}
+pub use Rattle.std.proofs.lemmas.Option.{slice_get-get_or, slice_get_within}
 pub use Rattle.std.specs.List.{list_any}
-pub use Rattle.std.specs.Prelude.{All, IfSome, nat_le, nat_lt, option_to_list, slice_get}
-pub use Rattle.lapd_frame.specs.Grammar.{IsFrame, allows, row, spelling, takes}
+pub use Rattle.std.specs.Prelude.{All, IfSome, get_or, nat_le, nat_lt, option_to_list, slice_get, unwrap_or}
+pub use Rattle.lapd_frame.specs.Grammar.{IsFrame, Parts, allows, row, spelling, takes}
 pub use Rattle.lapd_frame.specs.Services.{sapi_of}
 pub use Rattle.lapd_frame.specs.declared.addresses.Side.TheVariants.{Network}
 pub use Rattle.lapd_frame.specs.declared.controls.Control.{Control}
@@ -19,6 +21,7 @@ pub use Rattle.lapd_frame.specs.declared.services.Service.TheVariants.{Call, Pac
 pub use Rattle.lapd_frame.specs.declared.timers.Order.{Order}
 pub use Rattle.lapd_frame.specs.declared.timers.Order.TheVariants.{Start, Stop}
 pub use Rattle.lapd_frame.specs.declared.timers.Timer.{Timer}
+pub use Rattle.lapd_seq.proofs.Callers.{is_seq, seq-distance, seq-value}
 pub use Rattle.lapd_seq.specs.Circle.{distance_of}
 unfoldable pub use Rattle.lapd_seq.specs.Circle.{named}
 unfoldable pub use Rattle.lapd_seq.specs.Numbers.{seq}
@@ -26,9 +29,9 @@ pub use Rattle.lapd_seq.specs.declared.numbers.Seq.{Seq}
 pub use Rattle.model_link.specs.AwaitingEstablishment.{frame_in_5, t200_in_5}
 pub use Rattle.model_link.specs.AwaitingRelease.{frame_in_6, t200_in_6}
 pub use Rattle.model_link.specs.Deliveries.{Arrived, eligible, eligible_of, information_of}
-pub use Rattle.model_link.specs.Events.{Event}
+pub use Rattle.model_link.specs.Events.{ClearBusy, Data, Establish, Event, Release, Request, SetBusy, expired, frame, offer, received, requested}
 pub use Rattle.model_link.specs.Link.{Link, frame_of, fresh, has_outstanding, is_asked, is_multiple_frame, is_own_busy, is_peer_busy, queue_of, unsent}
-pub use Rattle.model_link.specs.Machine.{after, course, told}
+pub use Rattle.model_link.specs.Machine.{after, course, given_of, told}
 unfoldable pub use Rattle.model_link.specs.Machine.{after_all}
 pub use Rattle.model_link.specs.MultipleFrame.{data_in_7_8}
 pub use Rattle.model_link.specs.Notes.{is_data, is_unit}
@@ -41,6 +44,8 @@ pub use Rattle.model_link.specs.Steps.{Course, Sent, Step, begun, by_bit, change
 pub use Rattle.model_link.specs.TeiAssigned.{establish_in_4, frame_in_4}
 pub use Rattle.model_link.specs.Told.{order_for, orders_for, runs, timer_at}
 unfoldable pub use Rattle.model_link.specs.Told.{starts}
+pub use Rattle.model_link.specs.TwoEnds.{Act, Agree, Begins, Doing, End, Ends, IsUp, acting, asks, at_far, at_near, doing, expires, frame_given, loses, receives, sends, turned, with_first_lost, with_first_of, with_link, with_sent}
+unfoldable pub use Rattle.model_link.specs.TwoEnds.{StayUp, doing_all}
 pub use Rattle.model_link.specs.Words.{command, ready_to_receive, response}
 pub use Rattle.model_link.specs.declared.frames.ControlFrame.{ControlFrame}
 pub use Rattle.model_link.specs.declared.states.State.{State}

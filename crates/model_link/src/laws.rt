@@ -14,6 +14,7 @@ ghost use Rattle.model_link.specs.Deliveries.{Arrived, eligible};
 ghost use Rattle.model_link.specs.Numbered.{History, nothing_yet, with_event, with_all, IsNumbered};
 ghost use Rattle.model_link.specs.Rises.{RisesByEvent, may_send, grows, sent, sent_in_all, price_of_all};
 ghost use Rattle.model_link.specs.Sound.{IsInRange, IsSound, IsGiven};
+ghost use Rattle.model_link.specs.TwoEnds.{Ends, Doing, doing_all, Begins, StayUp, Agree};
 
 /// A link is sound as it begins, and every event keeps it sound: its numbers are in order and
 /// within the window (Q.921 clause 5.6.1), nothing is queued where it must not be, no acknowledgement is
@@ -75,4 +76,17 @@ pub fn tells_little()
 /// What comes from the terminal and is not served changes nothing.
 pub fn unserved_stays()
     ensures { (t : Terms) (what : Received) (l : Link) → (told t (received what) l).unserved ≡ true → after t (received what) l ≡ l }
+{}
+
+/// Two links that face each other, each in state 7 with its numbers zero and its flags off, and
+/// with nothing on the way between them. Whatever layer 3 asks for on either side, whatever timers
+/// expire, and whatever frames are lost, as long as those that are not keep their order: while both
+/// links stay in states 7 and 8, each has delivered exactly the first contents that the other
+/// accepted, in order, as many as its V(R) counts; and the other takes no more of them for
+/// acknowledged (Q.921 clauses 5.6 and 5.8.1). The ends may have different terms.
+pub fn two_ends()
+    ensures near { (ds : List Doing) (e : Ends) → Begins e.near → Begins e.far → StayUp ds e →
+        Agree (doing_all ds e).near (doing_all ds e).far }
+    ensures far { (ds : List Doing) (e : Ends) → Begins e.near → Begins e.far → StayUp ds e →
+        Agree (doing_all ds e).far (doing_all ds e).near }
 {}

@@ -18,6 +18,10 @@
 //! - `rooms`: `Room`, how much room a link has.
 //!
 //! - `laws`: what holds of the machine itself.
+//!
+//! # Open
+//!
+//! What two links agree on across a new establishment.
 #![tactic(auto)]
 
 mod frames;
@@ -28,9 +32,7 @@ mod terms;
 mod timers;
 
 pub use frames::ControlFrame;
-pub use laws::{
-    numbered, rises, stays_sound, tells_little, unserved_stays,
-};
+pub use laws::{numbered, rises, stays_sound, tells_little, two_ends, unserved_stays};
 pub use rooms::Room;
 pub use states::State;
 pub use terms::Terms;

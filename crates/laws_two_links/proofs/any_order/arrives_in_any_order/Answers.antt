@@ -1,5 +1,5 @@
 -- Hand-written answers for `arrives_in_any_order`.
-use Rattle.laws_two_links.specs.TwoEnds.{doing_all}
+use Rattle.model_link.specs.TwoEnds.{doing_all}
 use Rattle.laws_two_links.proofs.AnyOrderRuns.{all-turns, all-there}
 use Rattle.laws_two_links.proofs.any_order.arrives_in_any_order.Goals as goal
 

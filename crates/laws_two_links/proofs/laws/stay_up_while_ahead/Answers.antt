@@ -1,5 +1,5 @@
 -- Hand-written answers for `stay_up_while_ahead`.
-use Rattle.laws_two_links.proofs.Joined.{ends-agree}
+use Rattle.model_link.proofs.Joined.{ends-agree}
 use Rattle.laws_two_links.proofs.Together.{all-stay_up}
 use Rattle.laws_two_links.proofs.laws.stay_up_while_ahead.Goals as goal
 

@@ -1,7 +1,7 @@
 -- Hand-written answers for `busy_ends_recover`.
 use Rattle.std.proofs.Common.{true, false}
-use Rattle.laws_two_links.specs.TwoEnds.{doing_all}
-use Rattle.laws_two_links.proofs.Joined.{ends-agree}
+use Rattle.model_link.specs.TwoEnds.{doing_all}
+use Rattle.model_link.proofs.Joined.{ends-agree}
 use Rattle.laws_two_links.proofs.Reached.{whole-first, cut-off, cut-off-far}
 use Rattle.laws_two_links.proofs.BusyRecovery.{finished-through, knows-after, near-finished, far-finished}
 use Rattle.laws_two_links.proofs.own_busy.busy_ends_recover.Goals as goal

@@ -1,7 +1,7 @@
 -- Hand-written answers for `kept_contents_arrive`.
 use Rattle.std.proofs.Common.{true, false}
-use Rattle.laws_two_links.specs.TwoEnds.{turned, doing_all}
-use Rattle.laws_two_links.proofs.Joined.{ends-agree}
+use Rattle.model_link.specs.TwoEnds.{turned, doing_all}
+use Rattle.model_link.proofs.Joined.{ends-agree}
 use Rattle.laws_two_links.proofs.Reached.{whole-first, cut-off, cut-off-far}
 use Rattle.laws_two_links.proofs.Ended.{told-recovers, untold-recovers, near-arrives, far-arrives}
 use Rattle.laws_two_links.proofs.own_busy.kept_contents_arrive.Goals as goal

@@ -1,29 +1,16 @@
 -- Two ends: what holds in both directions, as long as both links stay in states 7 and 8.
-use Rattle.std.proofs.Common.{◌≡◌, ℕ, ◌+◌, Bool, true, false, cond, IsTrue, List, [], ◌∷◌, ◌++◌, take, drop, Option, None, Some, refl, sym, ap, subst, ◌∙◌, append-nil, true≢false, arith}
-use Rattle.std.specs.Prelude.{option_to_list}
-use Rattle.lapd_frame.specs.declared.refusals.Refusal.{Refusal}
-use Rattle.lapd_frame.specs.Grammar.{Parts}
-use Rattle.model_link.specs.declared.states.State.{State}
-use Rattle.model_link.specs.declared.states.State.TheVariants.{TeiAssigned, AwaitingEstablishment, AwaitingRelease, Established, TimerRecovery}
-use Rattle.model_link.specs.declared.timers.LinkTimer.{LinkTimer}
-use Rattle.model_link.specs.declared.timers.LinkTimer.TheVariants.{T200, T203}
-use Rattle.model_link.specs.declared.terms.Terms.{Terms}
-use Rattle.model_link.specs.Link.{Link, is_multiple_frame}
-use Rattle.model_link.specs.Events.{frame, Request, Establish, Release, Data, SetBusy, ClearBusy, Event, received, expired, requested, offer}
-use Rattle.model_link.specs.Steps.{Course, begun}
+use Rattle.model_link.proofs.Vocabulary.{◌≡◌, ℕ, ◌+◌, Bool, true, false, cond, IsTrue, List, [], ◌∷◌, ◌++◌, take, drop, Option, None, Some, refl, sym, ap, subst, ◌∙◌, append-nil, true≢false, arith, option_to_list, Refusal, Parts, State, TeiAssigned, AwaitingEstablishment, AwaitingRelease, Established, TimerRecovery, LinkTimer, T200, T203, Terms, Link, is_multiple_frame, frame, Request, Establish, Release, Data, SetBusy, ClearBusy, Event, received, expired, requested, offer, Course, begun, IsInRange, IsSound, End, Ends, Act, asks, expires, sends, receives, loses, Doing, at_near, at_far, with_link, with_sent, with_first_lost, with_first_of, acting, turned, doing, doing_all, Begins, IsUp, StayUp, Agree}
 use Rattle.model_link.specs.Requests
 use Rattle.model_link.specs.Machine
-use Rattle.model_link.specs.Sound.{IsInRange, IsSound}
-use Rattle.laws_two_links.specs.TwoEnds.{End, Ends, Act, asks, expires, sends, receives, loses, Doing, at_near, at_far, with_link, with_sent, with_first_lost, with_first_of, acting, turned, doing, doing_all, Begins, IsUp, StayUp, Agree}
 use Rattle.model_link.proofs.SoundEvents.{sound-after}
 use Rattle.model_link.proofs.Delivering.{event-delivers}
-use Rattle.laws_two_links.proofs.Lines.{Carried, Rising, rising-low}
-use Rattle.laws_two_links.proofs.Facing.{Reports, no-reports, Up, still, any_number, timer_7_up, t200_8_up, set_busy_up, clear_busy_up}
-use Rattle.laws_two_links.proofs.FacingInformation.{at-first}
-use Rattle.laws_two_links.proofs.Direction.{Direction, frames_of, line_of, sender-goes, receiver-goes, sender-loses, receiver-loses}
-use Rattle.laws_two_links.proofs.Taking.{frame-taken, none-delivered}
-use Rattle.laws_two_links.proofs.Hearing.{sender-hears, receiver-hears}
-use Rattle.laws_two_links.proofs.Sending.{offer-gave, sender-gives, receiver-gives}
+use Rattle.model_link.proofs.Lines.{Carried, Rising, rising-low}
+use Rattle.model_link.proofs.Facing.{Reports, no-reports, Up, still, any_number, timer_7_up, t200_8_up, set_busy_up, clear_busy_up}
+use Rattle.model_link.proofs.FacingInformation.{at-first}
+use Rattle.model_link.proofs.Direction.{Direction, frames_of, line_of, sender-goes, receiver-goes, sender-loses, receiver-loses}
+use Rattle.model_link.proofs.Taking.{frame-taken, none-delivered}
+use Rattle.model_link.proofs.Hearing.{sender-hears, receiver-hears}
+use Rattle.model_link.proofs.Sending.{offer-gave, sender-gives, receiver-gives}
 
 -- A link goes on by itself: more contents may be accepted, and reports may wait.
 record Goes (l l' : Link) : Type 0 where

@@ -1,16 +1,11 @@
 -- What a received I-frame does to a link that stays in states 7 and 8, for the end that it faces.
-use Rattle.std.proofs.Common.{◌≡◌, ℕ, ◌+◌, ◌≤◌, Bool, true, false, cond, IsTrue, List, length, Option, None, Some, refl, sym, ◌∙◌, true≢false}
-use Rattle.std.specs.Prelude.{nat_lt}
-use Rattle.lapd_seq.specs.declared.numbers.Seq.{Seq}
+use Rattle.model_link.proofs.Vocabulary.{◌≡◌, ℕ, ◌+◌, ◌≤◌, Bool, true, false, cond, IsTrue, List, length, Option, None, Some, refl, sym, ◌∙◌, true≢false, nat_lt, Seq, Terms, Link, is_multiple_frame, Course, begun, Step, ◌then◌, nothing, by_bit}
 use Rattle.lapd_frame.specs.declared.notes.ErrorCode.TheVariants as code
-use Rattle.model_link.specs.declared.terms.Terms.{Terms}
-use Rattle.model_link.specs.Link.{Link, is_multiple_frame}
-use Rattle.model_link.specs.Steps.{Course, begun, Step, ◌then◌, nothing, by_bit}
 use Rattle.model_link.specs.Words
 use Rattle.model_link.specs.MultipleFrame
 use Rattle.model_link.proofs.Leads.{Leads}
 use Rattle.model_link.proofs.Counting.{Count, On, number_counts}
-use Rattle.laws_two_links.proofs.Facing.{Stays, Up, UpBy, still, no-reports, number_up, words}
+use Rattle.model_link.proofs.Facing.{Stays, Up, UpBy, still, no-reports, number_up, words}
 
 -- what is delivered
 abbrev brought : Option (List ℕ) → Count

@@ -1,20 +1,10 @@
 -- One direction between two ends, where an end receives the first frame of the other's way.
-use Rattle.std.proofs.Common.{◌≡◌, ℕ, zero, suc, ◌+◌, ◌<◌, ◌≤◌, List, [], ◌∷◌, ◌++◌, length, take, Option, Some, refl, sym, ap, subst, ◌∙◌, inl, inr, append-nil, arith}
-use Rattle.std.specs.Prelude.{slice_get, option_to_list}
-use Rattle.std.proofs.lemmas.Option.{slice_get_within}
-use Rattle.lapd_seq.specs.Numbers.{seq}
-use Rattle.lapd_seq.specs.Circle.{named}
-use Rattle.lapd_frame.specs.declared.controls.Control.{Control}
-use Rattle.lapd_frame.specs.declared.controls.Control.TheVariants.{Information, ReceiveReady, ReceiveNotReady, Reject, Sabme, Disc, Ui, Ua, Dm, Frmr, Xid}
-use Rattle.lapd_frame.specs.Grammar.{Parts}
-use Rattle.model_link.specs.Link.{Link}
-use Rattle.model_link.specs.Sound.{IsInRange, IsSound}
-use Rattle.laws_two_links.specs.TwoEnds.{End}
+use Rattle.model_link.proofs.Vocabulary.{◌≡◌, ℕ, zero, suc, ◌+◌, ◌<◌, ◌≤◌, List, [], ◌∷◌, ◌++◌, length, take, Option, Some, refl, sym, ap, subst, ◌∙◌, inl, inr, append-nil, arith, slice_get, option_to_list, slice_get_within, seq, named, Control, Information, ReceiveReady, ReceiveNotReady, Reject, Sabme, Disc, Ui, Ua, Dm, Frmr, Xid, Parts, Link, IsInRange, IsSound, End}
 use Rattle.model_link.proofs.SoundRows.{named-within}
-use Rattle.laws_two_links.proofs.Lines.{Piece, Carried, Means, Rising, carried-higher, carried-lower, carried-high, rising-higher, rising-low}
-use Rattle.laws_two_links.proofs.Facing.{Number, Stay, Reports}
-use Rattle.laws_two_links.proofs.Direction.{Direction, line_of, frames_of, carried-reports, rising-reports, line-grows, named-means, carries-next}
-use Rattle.laws_two_links.proofs.Taking.{named-is_seq, HasNumber, Advance}
+use Rattle.model_link.proofs.Lines.{Piece, Carried, Means, Rising, carried-higher, carried-lower, carried-high, rising-higher, rising-low}
+use Rattle.model_link.proofs.Facing.{Number, Stay, Reports}
+use Rattle.model_link.proofs.Direction.{Direction, line_of, frames_of, carried-reports, rising-reports, line-grows, named-means, carries-next}
+use Rattle.model_link.proofs.Taking.{named-is_seq, HasNumber, Advance}
 
 -- What the end that receives learns of its own contents: its V(A) becomes what the N(R) means.
 pub sender-hears : (n m : End) (f : Parts) (fs : List Parts) (l : Link) (ds : List (List ℕ)) (S : Number)

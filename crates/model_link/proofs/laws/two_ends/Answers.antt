@@ -1,6 +1,6 @@
 -- Hand-written answers for `two_ends`.
-use Rattle.laws_two_links.proofs.Joined.{ends-agree}
-use Rattle.laws_two_links.proofs.agreeing.two_ends.Goals as goal
+use Rattle.model_link.proofs.Joined.{ends-agree}
+use Rattle.model_link.proofs.laws.two_ends.Goals as goal
 
 pub returns-clause-near : goal.returns-clause-near
 returns-clause-near c = λ ds e b b' up. (ends-agree ds e b b' up).0

@@ -1,17 +1,5 @@
 -- What a frame of the other end does to a link that stays in states 7 and 8.
-use Rattle.std.proofs.Common.{◌≡◌, ℕ, ◌+◌, Bool, true, false, cond, IsTrue, List, Option, None, Some, refl, sym, ap, subst, ◌∙◌, ◌⊎◌, inl, inr, eqb-true, true≢false}
-use Rattle.std.specs.Prelude.{nat_le}
-use Rattle.lapd_seq.specs.declared.numbers.Seq.{Seq}
-use Rattle.lapd_seq.specs.Numbers.{seq}
-use Rattle.lapd_seq.specs.Circle.{distance_of, named}
-use Rattle.lapd_seq.proofs.Callers.{seq-value, is_seq, seq-distance}
-use Rattle.lapd_frame.specs.declared.controls.Control.{Control}
-use Rattle.lapd_frame.specs.declared.controls.Control.TheVariants.{Information, ReceiveReady, ReceiveNotReady, Reject, Sabme, Disc, Ui, Ua, Dm, Frmr, Xid}
-use Rattle.model_link.specs.declared.states.State.{State}
-use Rattle.model_link.specs.declared.states.State.TheVariants.{TeiAssigned, AwaitingEstablishment, AwaitingRelease, Established, TimerRecovery}
-use Rattle.model_link.specs.declared.terms.Terms.{Terms}
-use Rattle.model_link.specs.Link.{Link, is_multiple_frame}
-use Rattle.model_link.specs.Steps.{Course, begun}
+use Rattle.model_link.proofs.Vocabulary.{◌≡◌, ℕ, ◌+◌, Bool, true, false, cond, IsTrue, List, Option, None, Some, refl, sym, ap, subst, ◌∙◌, ◌⊎◌, inl, inr, eqb-true, true≢false, nat_le, Seq, seq, distance_of, named, seq-value, is_seq, seq-distance, Control, Information, ReceiveReady, ReceiveNotReady, Reject, Sabme, Disc, Ui, Ua, Dm, Frmr, Xid, State, TeiAssigned, AwaitingEstablishment, AwaitingRelease, Established, TimerRecovery, Terms, Link, is_multiple_frame, Course, begun}
 use Rattle.model_link.specs.Words
 use Rattle.model_link.specs.MultipleFrame
 use Rattle.model_link.specs.Established
@@ -20,9 +8,9 @@ use Rattle.model_link.specs.Machine
 use Rattle.model_link.proofs.Counting.{On, done, words, acknowledge_counts}
 use Rattle.model_link.proofs.CountRows.{frames_in_7, frames_in_8}
 use Rattle.model_link.proofs.Delivering.{begins}
-use Rattle.laws_two_links.proofs.Lines.{Means}
-use Rattle.laws_two_links.proofs.Facing.{UpBy, information_7_up, acknowledge_up, rr_7, rnr_7, rej_7, rr_8, rnr_8, rej_8}
-use Rattle.laws_two_links.proofs.FacingInformation.{Took, at-first, information_took}
+use Rattle.model_link.proofs.Lines.{Means}
+use Rattle.model_link.proofs.Facing.{UpBy, information_7_up, acknowledge_up, rr_7, rnr_7, rej_7, rr_8, rnr_8, rej_8}
+use Rattle.model_link.proofs.FacingInformation.{Took, at-first, information_took}
 
 -- what `named` finds has the remainder that names it
 found : (b : Bool) (x n : ℕ) → cond b (Some x) None ≡ Some n → x ≡ n

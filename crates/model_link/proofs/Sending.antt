@@ -1,22 +1,9 @@
 -- One direction between two ends, where an end gives a frame to its way.
-use Rattle.std.proofs.Common.{◌≡◌, ℕ, ◌+◌, ◌-◌, ◌<◌, ◌≤◌, Bool, true, false, cond, not, ◌&&◌, List, [], ◌∷◌, ◌++◌, length, take, Option, None, Some, refl, sym, ap, subst, ◌∙◌, append_assoc, append-nil, arith}
-use Rattle.std.specs.Prelude.{slice_get, get_or, unwrap_or, nat_lt}
-use Rattle.std.proofs.lemmas.Bool.{ltb-true, and_parts}
-use Rattle.std.proofs.lemmas.Option.{slice_get-get_or}
-use Rattle.lapd_seq.specs.Numbers.{seq}
-use Rattle.lapd_frame.specs.declared.controls.Control.TheVariants.{ReceiveReady}
-use Rattle.lapd_frame.specs.Grammar.{Parts}
-use Rattle.model_link.specs.declared.frames.ControlFrame.{ControlFrame}
-use Rattle.model_link.specs.declared.terms.Terms.{Terms}
-use Rattle.model_link.specs.Link.{Link, frame_of}
-use Rattle.model_link.specs.Steps.{Course, begun}
+use Rattle.model_link.proofs.Vocabulary.{◌≡◌, ℕ, ◌+◌, ◌-◌, ◌<◌, ◌≤◌, Bool, true, false, cond, not, ◌&&◌, List, [], ◌∷◌, ◌++◌, length, take, Option, None, Some, refl, sym, ap, subst, ◌∙◌, append_assoc, append-nil, arith, slice_get, get_or, unwrap_or, nat_lt, ltb-true, and_parts, slice_get-get_or, seq, ReceiveReady, Parts, ControlFrame, Terms, Link, frame_of, Course, begun, given_of, IsInRange, IsSound, End, frame_given}
 use Rattle.model_link.specs.Words
 use Rattle.model_link.specs.Offers
-use Rattle.model_link.specs.Machine.{given_of}
-use Rattle.model_link.specs.Sound.{IsInRange, IsSound}
-use Rattle.laws_two_links.specs.TwoEnds.{End, frame_given}
-use Rattle.laws_two_links.proofs.Lines.{Carries, Carried, Rising, carried-push, rising-push}
-use Rattle.laws_two_links.proofs.Direction.{Direction, frames_of}
+use Rattle.model_link.proofs.Lines.{Carries, Carried, Rising, carried-push, rising-push}
+use Rattle.model_link.proofs.Direction.{Direction, frames_of}
 
 -- A link keeps its contents, V(A) and V(R); its line has these frames more.
 pub record Gave (t : Terms) (l : Link) (c : Course) : Type 0 where

@@ -2,7 +2,7 @@
 use Rattle.std.proofs.Common.{refl}
 use Rattle.laws_two_links.specs.Holding.{begun}
 use Rattle.laws_two_links.proofs.Holding.{near-all, far-all}
-use Rattle.laws_two_links.proofs.agreeing.ends_hold_what_was_accepted.Goals as goal
+use Rattle.laws_two_links.proofs.held.ends_hold_what_was_accepted.Goals as goal
 
 pub returns-clause-near : goal.returns-clause-near
 returns-clause-near c = λ ds e r s. near-all ds e (begun e.near) (record { ranges = r; sound = s; counted = record { accepted = refl; acknowledged = refl } })

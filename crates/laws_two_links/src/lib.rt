@@ -18,8 +18,8 @@
 //!
 //! # Open
 //!
-//! How long a round takes, and so whether a given T200 is timely; that frames get through; that own busy ends. Of two
-//! cards `laws_wire` says what these laws say of two links, except of own busy.
+//! How long a round takes, and so whether a given T200 is timely; that frames get through; that own busy ends; two links
+//! over a line or a card, except what `laws_wire` says of two cards.
 #![tactic(auto)]
 
 mod any_order;

@@ -1,9 +1,6 @@
 -- Bits in which no six 1s in a row come end nothing, and go on the open gap all at once.
-use Rattle.lapd_bits.proofs.Vocabulary.{◌≡◌, ◌≢◌, ℕ, suc, zero, ◌+◌, ◌<◌, ◌≤◌, Bool, true, false, List, [], ◌∷◌, ◌++◌, reverse, replicate, Option, Some, None, option_map, option_to_list, refl, ap, sym, ◌∙◌, subst, arith, append_assoc, append-nil, false≢true, reverse-append, append_cancel_left, reverse-reverse, low_bits, unstuffed, heard_until, heard_at, run_of, open_gap, HoldsGap, HoldsPast, one_more, with_bits, has_six, IsContent, IsJoined, Gap}
+use Rattle.lapd_bits.proofs.Vocabulary.{◌≡◌, ◌≢◌, ℕ, suc, zero, ◌+◌, ◌<◌, ◌≤◌, Bool, true, false, List, [], ◌∷◌, ◌++◌, reverse, replicate, Option, Some, None, option_map, option_to_list, refl, ap, sym, ◌∙◌, subst, arith, append_assoc, append-nil, false≢true, reverse-append, append_cancel_left, reverse-reverse, low_bits, unstuffed, heard_until, heard_at, run_of, open_gap, one_more, HoldsGap, HoldsPast, with_bits, has_six, IsContent, IsJoined, Gap, reverse-cons, ones_after-reverse, heard_at-one, heard_at-zero, open_gap-one, open_gap-zero, ones_after, unstuffed_after, unstuffed-counted, unstuffed_after-append, NoSix}
 use Rattle.lapd_bits.proofs.BitSteps.{open_run, for_open}
-use Rattle.lapd_bits.proofs.Places.{reverse-cons, ones_after-reverse}
-use Rattle.lapd_bits.proofs.Hearing.{heard_at-one, heard_at-zero, open_gap-one, open_gap-zero}
-use Rattle.lapd_bits.proofs.StuffingCounted.{ones_after, unstuffed_after, unstuffed-counted, unstuffed_after-append, NoSix}
 
 -- a place after more bits, in order of time
 abbrev pub onto : List Bool → List Bool → List Bool

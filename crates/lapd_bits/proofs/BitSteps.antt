@@ -1,12 +1,8 @@
 -- One bit more of a line: what a deframer's fields then stand for, and what the bit ends.
-use Rattle.lapd_bits.proofs.Vocabulary.{◌≡◌, ◌≢◌, ℕ, ◌+◌, ◌*◌, ◌/◌, ◌^◌, ◌<◌, ◌≤◌, Bool, true, false, List, [], ◌∷◌, ◌++◌, length, drop, reverse, Option, Some, None, option_and_then, IfSome, option_to_list, nat_lt, nat_eq, cond, refl, ap, sym, ◌∙◌, subst, arith, length-append, ◌⊎◌, inl, inr, bit_and, option_map_or, le-ltb, reverse-append, bits, low_bits, same_bits, unstuffed, octets_sent, Event, dropped, judged, since_flag, has_abort, text_event, gap_event, room_for, heard_at, heard_until, flag_front, closing_event, event_in, one_more, IsKept, IsStuffed, closed_event, IsYoung, with_bits, run_of, open_gap, kept_count, KeepsIn, HoldsGap, HoldsPast, octets_held, Gap, Ended, Ragged}
+use Rattle.lapd_bits.proofs.Vocabulary.{◌≡◌, ◌≢◌, ℕ, ◌+◌, ◌*◌, ◌/◌, ◌^◌, ◌<◌, ◌≤◌, Bool, true, false, List, [], ◌∷◌, ◌++◌, length, drop, reverse, Option, Some, None, option_and_then, IfSome, option_to_list, nat_lt, nat_eq, cond, refl, ap, sym, ◌∙◌, subst, arith, length-append, ◌⊎◌, inl, inr, bit_and, option_map_or, le-ltb, reverse-append, bits, low_bits, same_bits, unstuffed, octets_sent, Event, dropped, judged, since_flag, has_abort, text_event, gap_event, room_for, heard_at, heard_until, flag_front, closing_event, event_in, one_more, closed_event, run_of, open_gap, kept_count, octets_held, IsKept, IsStuffed, IsYoung, with_bits, KeepsIn, HoldsGap, HoldsPast, Gap, Ended, Ragged, length-bits, length-low_bits, reverse-bits_push, reverse-cons, latest_ones, latest_ones-below, ones_after-reverse, run_of-gap, gap_has_no_flag, NoFlag, NoSix-reverse, front_of_flag, open_gap-one, open_gap-abort, open_gap-zero, NoSix}
 use Rattle.std.proofs.lemmas.List.{append-nil}
-use Rattle.lapd_bits.specs.declared.heard.Ended.TheVariants as ended
-use Rattle.lapd_bits.proofs.BitLemmas.{length-bits, length-low_bits, bits-push}
+use Rattle.lapd_bits.specs.declared.ended.Ended.TheVariants as ended
 use Rattle.lapd_bits.proofs.Division.Holds.{low_bits-next}
-use Rattle.lapd_bits.proofs.Places.{reverse-cons, latest_ones, latest_ones-below, ones_after-reverse, run_of-gap, gap_has_no_flag, NoFlag, NoSix-reverse, front_of_flag}
-use Rattle.lapd_bits.proofs.Hearing.{open_gap-one, open_gap-abort, open_gap-zero}
-use Rattle.lapd_bits.proofs.StuffingCounted.{NoSix}
 use Rattle.lapd_bits.proofs.StuffingClosed.{unstuffed-push_one, unstuffed-push_zero, unstuffed-push_stuffed, octets_sent-assembled}
 
 -- ---- the open gap
@@ -169,7 +165,7 @@ with_bits-more place octet past =
 
 -- the bits of the octets of a line with one octet more
 pub with_bits-octet : (past : List ℕ) (octet : ℕ) → reverse (bits (past ++ octet ∷ [])) ≡ with_bits 8 octet (reverse (bits past))
-with_bits-octet past octet = ap reverse (bits-push past octet) ∙ reverse-append (bits past) (low_bits 8 octet)
+with_bits-octet past octet = reverse-bits_push past octet
 
 -- a bit that brings nothing leaves what was heard
 pub told_nothing_more : (room : ℕ) (past so_far : List Bool) (b : Bool) (before after : Option Event) → heard_until room so_far ≡ heard_until room past ++ option_to_list before → None ≡ heard_at room (b ∷ so_far) → before ≡ after → heard_until room (b ∷ so_far) ≡ heard_until room past ++ option_to_list after

@@ -1,9 +1,5 @@
--- What is proved of the frame check as long division, with no word of the code.
-pub mod Sums
-pub mod Linear
-pub mod Register
+-- The long division in a register: one octet and more at a time, by tables.
 pub mod Feeding
-pub mod Unique
 pub mod Word
 pub mod Holds
 pub mod Tables

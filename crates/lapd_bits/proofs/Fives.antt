@@ -1,8 +1,7 @@
 -- Where five 1s come together in a number's bits: they go as they are up to there, and then goes a 0.
-use Rattle.lapd_bits.proofs.Vocabulary.{◌≡◌, ℕ, suc, zero, ◌+◌, ◌/◌, ◌%◌, ◌^◌, ◌<◌, ◌≤◌, min, Bool, true, false, if◌then◌else◌, nat_eq, bit_and, List, [], ◌∷◌, ◌++◌, refl, ap, sym, ◌∙◌, arith, eqb-true, lt-ltb, and_shr, and_le_r, shr-shr, bit_at-suc, bit_at_lowest, div-one, bit_at, low_bits, first_ones, last_ones, fives}
+use Rattle.lapd_bits.proofs.Vocabulary.{◌≡◌, ℕ, suc, zero, ◌+◌, ◌/◌, ◌%◌, ◌^◌, ◌<◌, ◌≤◌, min, Bool, true, false, if◌then◌else◌, nat_eq, bit_and, List, [], ◌∷◌, ◌++◌, refl, ap, sym, ◌∙◌, arith, eqb-true, lt-ltb, and_shr, and_le_r, shr-shr, bit_at-suc, bit_at_lowest, div-one, bit_at, low_bits, first_ones, last_ones, fives, stuffed_after, stuffed_after_fifth, ones_sent}
 use lib.Bits.{and_step}
-use Rattle.lapd_bits.proofs.StuffingCounted.{stuffed_after, stuffed_after_fifth}
-use Rattle.lapd_bits.proofs.StuffingAtOnce.{ones_sent, last_ones-few}
+use Rattle.lapd_bits.proofs.StuffingAtOnce.{last_ones-few}
 
 -- ---- where five 1s begin
 

@@ -1,12 +1,8 @@
 -- An octet in which a flag ends: its first 1s go on the open gap, which the flag closes; the bits behind begin the next.
-use Rattle.lapd_bits.proofs.Vocabulary.{◌≡◌, ℕ, suc, zero, ◌+◌, ◌-◌, ◌/◌, ◌^◌, ◌<◌, ◌≤◌, Bool, true, false, not, ◌&&◌, List, [], ◌∷◌, ◌++◌, length, reverse, replicate, Option, Some, None, option_map, option_to_list, nat_eq, nat_lt, refl, ap, sym, ◌∙◌, subst, arith, append-nil, length-append, eqb-true, and_parts, ltb-true, lt-ltb, eq-eqb, false≢true, reverse-append, reverse-reverse, append_cancel_left, bits, low_bits, same_bits, unstuffed, Event, heard_until, heard_at, run_of, open_gap, KeepsIn, Assembles, AssemblesIn, HoldsGap, HoldsPast, closing_event, closed_event, with_bits, behind_zero, ends_nothing, IsFlagEnd, IsFlagBegun, IsJoined, Gap}
-use Rattle.std.proofs.lemmas.List.{length-replicate}
-use Rattle.lapd_bits.proofs.BitLemmas.{length-low_bits, same_from_test}
+use Rattle.lapd_bits.proofs.Vocabulary.{◌≡◌, ℕ, suc, zero, ◌+◌, ◌-◌, ◌/◌, ◌^◌, ◌<◌, ◌≤◌, Bool, true, false, not, ◌&&◌, List, [], ◌∷◌, ◌++◌, length, reverse, replicate, Option, Some, None, option_map, option_to_list, nat_eq, nat_lt, refl, ap, sym, ◌∙◌, subst, arith, append-nil, length-append, eqb-true, and_parts, ltb-true, lt-ltb, eq-eqb, false≢true, reverse-append, reverse-reverse, append_cancel_left, bits, low_bits, same_bits, unstuffed, Event, heard_until, heard_at, run_of, open_gap, closed_event, KeepsIn, Assembles, AssemblesIn, HoldsGap, HoldsPast, closing_event, with_bits, behind_zero, ends_nothing, IsFlagEnd, IsFlagBegun, IsJoined, Gap, length-replicate, length-low_bits, same_from_test, heard_at-flag, open_gap-flag, ones_after, unstuffed-counted, unstuffed_after, unstuffed_after-append}
 use Rattle.lapd_bits.proofs.BitSteps.{closed_told}
 use Rattle.lapd_bits.proofs.AtOnce.{joined_after, same_map, run_of-ones, unstuffed-ones, onto, onto-reverse, onto-append, with_bits-onto, IsQuiet, ones_after-ones, unstuffed_after-ones}
-use Rattle.lapd_bits.proofs.Hearing.{heard_at-flag, open_gap-flag}
 use Rattle.lapd_bits.proofs.Idle.{Calm, Calm-ones, calm, length-onto, onto-ones}
-use Rattle.lapd_bits.proofs.StuffingCounted.{ones_after, unstuffed-counted, unstuffed_after, unstuffed_after-append}
 
 -- the test of bits that end nothing
 Calm-by_test : (n : ℕ) (text : List Bool) → ends_nothing n text ≡ true → Calm n text

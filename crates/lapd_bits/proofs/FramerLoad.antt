@@ -1,6 +1,5 @@
 -- What is left where a frame has been loaded.
-use Rattle.lapd_bits.proofs.Vocabulary.{◌≡◌, ℕ, Bool, List, ◌++◌, length, take, drop, ap, sym, ◌∙◌, append-nil, append_assoc, arith, take_all, drop_all, bits, low_bits, flag, stuffed, text_after, Goes, check, frame_text}
-use Rattle.lapd_bits.proofs.BitLemmas.{bits-append}
+use Rattle.lapd_bits.proofs.Vocabulary.{◌≡◌, ℕ, Bool, List, ◌++◌, length, take, drop, ap, sym, ◌∙◌, append-nil, append_assoc, arith, take_all, drop_all, bits, low_bits, flag, stuffed, text_after, Goes, check, frame_text, bits-append}
 
 -- a text that has gone on with a frame's first octets, and ends with its others, its check and a flag
 pub frame_made : (before middle : List Bool) (head info : List ℕ) (fcs run : ℕ) → low_bits 16 fcs ≡ check (bits (head ++ info)) → Goes before 0 (bits head) middle run → middle ++ (text_after run (bits info ++ low_bits 16 fcs) ++ flag) ≡ before ++ (frame_text (head ++ info) ++ flag)

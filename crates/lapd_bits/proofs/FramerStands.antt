@@ -1,18 +1,5 @@
 -- What a framer stands for, one item or one octet more.
-use Rattle.lapd_bits.proofs.Vocabulary.{◌≡◌, ℕ, ◌<◌, ◌≤◌, List, [], ◌∷◌, ◌++◌, length, Some, refl, ap, sym, ◌∙◌, arith, ⊎_elim, append_assoc, length-append, lt-ltb, le-ltb, cases_lt, flat_map_more, fold-append, bits, flag, low_bits, Item, idle, frame_text, item_text, line_text, or_later, latest_frame, first_four, head_of, Framing, Stands, refilled, with_idle, still_held, item_octets, last_octets, begun_of}
-use Rattle.lapd_bits.specs.Sent.{frame}
-use Rattle.lapd_bits.proofs.BitLemmas.{length-low_bits, bits-push}
-
-pub line_text-push : (items : List Item) (item : Item) → line_text (items ++ item ∷ []) ≡ line_text items ++ item_text item
-line_text-push items item = sym (flat_map_more item_text flag items item)
-
-pub last_octets-push : (items : List Item) (item : Item) → last_octets (items ++ item ∷ []) ≡ item_octets item
-last_octets-push [] item = refl
-last_octets-push (x ∷ []) item = refl
-last_octets-push (x ∷ y ∷ items) item = last_octets-push (y ∷ items) item
-
-pub latest-push : (items : List Item) (item : Item) → latest_frame (items ++ item ∷ []) ≡ or_later (latest_frame items) item
-latest-push items item = fold-append or_later [] items (item ∷ [])
+use Rattle.lapd_bits.proofs.Vocabulary.{◌≡◌, ℕ, ◌<◌, ◌≤◌, List, [], ◌∷◌, ◌++◌, length, refl, ap, sym, ◌∙◌, arith, ⊎_elim, append_assoc, length-append, lt-ltb, le-ltb, cases_lt, bits, flag, low_bits, Item, idle, frame_text, item_text, first_four, head_of, Framing, Stands, refilled, with_idle, still_held, last_octets, begun_of, frame, length-low_bits, bits-push, line_text-push, last_octets-push, latest-push}
 
 -- a frame of these octets begins with them
 pub begun_by : (octets first : List ℕ) (size : ℕ) → first ≡ first_four octets → length octets ≡ size → 1 ≤ length octets

@@ -1,11 +1,7 @@
 -- An octet of a line of flags brings nothing, and leaves the open gap as it was.
-use Rattle.lapd_bits.proofs.Vocabulary.{◌≡◌, ◌≢◌, ℕ, suc, zero, ◌+◌, ◌-◌, ◌<◌, ◌≤◌, Bool, true, false, List, [], ◌∷◌, ◌++◌, length, replicate, get_or, Option, Some, None, option_map, option_to_list, nat_lt, refl, ap, sym, ◌∙◌, subst, arith, append-nil, lt-ltb, low_bits, heard_until, heard_at, run_of, open_gap, HoldsGap, HoldsPast, closed_event, given_up_event, with_bits, StaysIdle, Gap, IDLE}
-use Rattle.std.proofs.lemmas.List.{length-replicate}
+use Rattle.lapd_bits.proofs.Vocabulary.{◌≡◌, ◌≢◌, ℕ, suc, zero, ◌+◌, ◌-◌, ◌<◌, ◌≤◌, Bool, true, false, List, [], ◌∷◌, ◌++◌, length, replicate, get_or, Option, Some, None, option_map, option_to_list, nat_lt, refl, ap, sym, ◌∙◌, subst, arith, append-nil, lt-ltb, low_bits, heard_until, heard_at, run_of, open_gap, closed_event, given_up_event, HoldsGap, HoldsPast, with_bits, StaysIdle, Gap, IDLE, length-replicate, heard_at-one, heard_at-zero, heard_at-abort, heard_at-flag, open_gap-one, open_gap-zero, open_gap-abort, open_gap-flag, latest_ones, ones_after}
 use Rattle.lapd_bits.proofs.AtOnce.{onto, onto-append, with_bits-onto, IsQuiet, quiet-more, option_map-none, ones_after-ones}
 use Rattle.lapd_bits.proofs.BitSteps.{open_run}
-use Rattle.lapd_bits.proofs.Hearing.{heard_at-one, heard_at-zero, heard_at-abort, heard_at-flag, open_gap-one, open_gap-zero, open_gap-abort, open_gap-flag}
-use Rattle.lapd_bits.proofs.Places.{latest_ones}
-use Rattle.lapd_bits.proofs.StuffingCounted.{ones_after}
 
 -- ---- bits that end nothing: up to six 1s, and no 0 after six
 

@@ -1,6 +1,6 @@
 -- What a deframer lends until its next octet.
 use Rattle.lapd_bits.proofs.Vocabulary.{◌≡◌, ℕ, List, [], ◌∷◌, ◌++◌, Option, length, reverse, option_to_list, refl, sym, ap, subst, ◌∙◌, same_from_push, length-take-le, bits, Event, heard_until, heard_in, room_for, FitsIn, event_in, without_octets, with_bits, Ended}
-use Rattle.lapd_bits.specs.declared.heard.Ended.TheVariants as ended
+use Rattle.lapd_bits.specs.declared.ended.Ended.TheVariants as ended
 use Rattle.lapd_bits.proofs.BitSteps.{with_bits-octet}
 
 -- what the bits of an octet bring, it brings

@@ -1,14 +1,7 @@
--- Lemmas: bits and stuffing; a deframer, bit by bit and octets at once; a framer; the round trip.
+-- Lemmas: the frame check in a register; a deframer, bit by bit and octets at once; a framer.
 pub mod Vocabulary
-pub mod BitLemmas
 pub mod Division
-pub mod StuffingCounted
-pub mod StuffingShape
-pub mod StuffingOctets
 pub mod StuffingClosed
-pub mod Places
-pub mod Hearing
-pub mod FlagPlaces
 pub mod Lent
 pub mod Assembly
 pub mod BitSteps
@@ -26,7 +19,3 @@ pub mod StuffedText
 pub mod FramerGiven
 pub mod FramerStands
 pub mod FramerLoad
-pub mod RoundTripPlaces
-pub mod RoundTripFrame
-pub mod OneEvent
-pub mod StreamLengths

@@ -1,6 +1,5 @@
 -- Bits are stuffed all at once, the 0 after a fifth 1 with it.
-use Rattle.lapd_bits.proofs.Vocabulary.{◌≡◌, ℕ, suc, zero, ◌+◌, ◌*◌, ◌≤◌, Bool, true, false, List, [], ◌∷◌, ◌++◌, length, drop, replicate, refl, ap, sym, ◌∙◌, arith, ⊎_elim, append_assoc, length-append, lt-ltb, le-ltb, cases_lt, low_bits, stuffed, first_ones, last_ones, text_after, Goes}
-use Rattle.lapd_bits.proofs.StuffingCounted.{stuffed_after, stuffed_zero, ones_left, stuffed-counted, stuffed_after_fifth}
+use Rattle.lapd_bits.proofs.Vocabulary.{◌≡◌, ℕ, suc, zero, ◌≤◌, Bool, true, false, List, [], ◌∷◌, ◌++◌, drop, replicate, refl, ap, sym, ◌∙◌, arith, ⊎_elim, append_assoc, lt-ltb, le-ltb, cases_lt, low_bits, stuffed, first_ones, last_ones, text_after, Goes, ones_sent, stuffed_after, stuffed_zero, ones_left, stuffed-counted, stuffed_after_fifth}
 
 -- the end of a stuffed text, by the count of 1s
 stuffed_end : (n : ℕ) (b : List Bool) → n ≤ 5 → drop n (stuffed (replicate n true ++ b)) ≡ stuffed_after n b
@@ -11,12 +10,6 @@ stuffed_end (suc (suc (suc zero))) b h = ap (drop 3) (stuffed-counted (true ∷ 
 stuffed_end (suc (suc (suc (suc zero)))) b h = ap (drop 4) (stuffed-counted (true ∷ true ∷ true ∷ true ∷ b))
 stuffed_end (suc (suc (suc (suc (suc zero))))) b h = ap (drop 5) (stuffed-counted (true ∷ true ∷ true ∷ true ∷ true ∷ b))
 stuffed_end (suc (suc (suc (suc (suc (suc n)))))) b h = absurd (omega arith)
-
--- the 1s at the end of what is sent of bits, with the 0 after a fifth
-abbrev pub ones_sent : ℕ → List Bool → ℕ
-ones_sent ones [] = ones_left ones
-ones_sent ones (false ∷ b) = ones_sent 0 b
-ones_sent ones (true ∷ b) = ones_sent (suc (ones_left ones)) b
 
 -- after the 0 that is due
 stuffed_after-due : (ones : ℕ) (b : List Bool) → stuffed_after ones b ≡ stuffed_zero ones ++ stuffed_after (ones_left ones) b
@@ -36,35 +29,6 @@ stuffed_after-append ones (true ∷ s) t =
     let more = suc (ones_left ones) in
     ap (λ l. stuffed_zero ones ++ true ∷ l) (stuffed_after-append more s t)
     ∙ sym (append_assoc (stuffed_zero ones) (true ∷ stuffed_after more s) (stuffed_after (ones_sent more s) t))
-
--- ---- how long it is
-
--- each bit is one, and each 0 more takes five 1s
-pub stuffed_after-pays : (ones : ℕ) (text : List Bool) → ones ≤ 5 → 5 * length (stuffed_after ones text) + ones_sent ones text ≤ 6 * length text + ones
-stuffed_after-pays ones [] few =
-    ⊎_elim
-    (λ below. simp (lt-ltb ones 5 below) (omega arith))
-    (λ at. simp (le-ltb ones 5 at) (omega arith))
-    (cases_lt ones 5)
-stuffed_after-pays ones (false ∷ text) few =
-    ⊎_elim
-    (λ below. simp (lt-ltb ones 5 below) (omega (arith, stuffed_after-pays 0 text (omega arith))))
-    (λ at. simp (le-ltb ones 5 at) (omega (arith, stuffed_after-pays 0 text (omega arith))))
-    (cases_lt ones 5)
-stuffed_after-pays ones (true ∷ text) few =
-    ⊎_elim
-    (λ below. simp (lt-ltb ones 5 below) (omega (arith, stuffed_after-pays (suc ones) text (omega arith))))
-    (λ at. simp (le-ltb ones 5 at) (omega (arith, stuffed_after-pays 1 text (omega arith))))
-    (cases_lt ones 5)
-
--- and no bit is left out
-pub stuffed_after-at_least : (ones : ℕ) (text : List Bool) → length text ≤ length (stuffed_after ones text)
-stuffed_after-at_least ones [] = omega arith
-stuffed_after-at_least ones (false ∷ text) =
-    omega (arith, length-append (stuffed_zero ones) (false ∷ stuffed_after 0 text), stuffed_after-at_least 0 text)
-stuffed_after-at_least ones (true ∷ text) =
-    let more = suc (ones_left ones) in
-    omega (arith, length-append (stuffed_zero ones) (true ∷ stuffed_after more text), stuffed_after-at_least more text)
 
 -- none is left where no bits are
 pub text_after-none : (ones : ℕ) → ones ≤ 4 → text_after ones [] ≡ []

@@ -1,10 +1,8 @@
 -- Bits are stuffed one 0 after the other: what lies below a place is done, and the places above where five 1s begin are known.
-use Rattle.lapd_bits.proofs.Vocabulary.{◌≡◌, ℕ, suc, zero, ◌+◌, ◌-◌, ◌*◌, ◌/◌, ◌%◌, ◌^◌, ◌<◌, ◌≤◌, min, Bool, false, nat_eq, List, [], ◌∷◌, ◌++◌, length, reverse, refl, ap, sym, ◌∙◌, arith, append_assoc, length-append, subst, ⊎_elim, shr-shr, div-mul-add, pow-add, pow_pos, pow_below, bit_at-suc, bit_at_lowest, bit_at-trailing_zeros, div-one, div-add-mod, mod-lt, mod-eq_of_lt, add-mul-mod_self_right, div-le_self, div-mul-le_self, mul-le-mul_left, shr_lt, cases_lt, bit_at, w64, low_bits, first_ones, last_ones, Goes, fives}
+use Rattle.lapd_bits.proofs.Vocabulary.{◌≡◌, ℕ, suc, zero, ◌+◌, ◌-◌, ◌*◌, ◌/◌, ◌%◌, ◌^◌, ◌<◌, ◌≤◌, min, Bool, false, nat_eq, List, [], ◌∷◌, ◌++◌, length, reverse, refl, ap, sym, ◌∙◌, arith, append_assoc, length-append, subst, ⊎_elim, shr-shr, div-mul-add, pow-add, pow_pos, pow_below, bit_at-suc, bit_at_lowest, bit_at-trailing_zeros, div-one, div-add-mod, mod-lt, mod-eq_of_lt, add-mul-mod_self_right, div-le_self, div-mul-le_self, mul-le-mul_left, shr_lt, cases_lt, bit_at, w64, low_bits, first_ones, last_ones, Goes, fives, low_bits-add, low_bits-mod, length-low_bits, stuffed_after, ones_sent, stuffed_after-pays, stuffed_after-at_least}
 use lib.Count.{count_trailing_zeros}
 use native.Mathlib.Nat.{pow-suc}
-use Rattle.lapd_bits.proofs.BitLemmas.{low_bits-add, low_bits-mod, length-low_bits}
-use Rattle.lapd_bits.proofs.StuffingCounted.{stuffed_after}
-use Rattle.lapd_bits.proofs.StuffingAtOnce.{ones_sent, Goes-sent, last_ones-few, stuffed_after-pays, stuffed_after-at_least}
+use Rattle.lapd_bits.proofs.StuffingAtOnce.{Goes-sent, last_ones-few}
 use Rattle.lapd_bits.proofs.Fives.{fives-shr, fives-half, fives-low, fives-below, calm_goes, calm_leaves, IsFirst, first_goes, first_leaves}
 
 -- of `total` bits above the latest four, `done` are as they go; `left` bits are still to be stuffed, and `due` marks where

@@ -12,31 +12,15 @@
 -- none. Each call of `octet` takes that from `past` to `past ++ octet ∷ []`, and its clause `heard` adds the answer
 -- to what was heard. So the answers that are events are, in order, `heard_in` of all octets, however the calls are
 -- grouped.
-use Rattle.std.specs.Prelude.{◌≡◌, ℕ, ◌+◌, ◌<◌, ◌/◌, Bool, true, false, List, [], ◌∷◌, ◌++◌, length, take, reverse, min, All, Option, Some, None, IfSome, is_some, option_and_then, option_to_list, nat_lt, if◌then◌else◌}
-use Rattle.std.specs.Option.{option_map_or}
-use Rattle.lapd_bits.specs.Bits.{low_bits, bits}
-use Rattle.lapd_bits.specs.Stuffing.{unstuffed}
+use Rattle.std.specs.Prelude.{◌≡◌, ℕ, ◌<◌, Bool, List, [], ◌∷◌, ◌++◌, length, take, reverse, min, All, Option, Some, None, IfSome, is_some, option_to_list, nat_lt}
+use Rattle.model_bits.specs.Bits.{low_bits, bits}
+use Rattle.model_bits.specs.Stuffing.{unstuffed}
 use Rattle.lapd_bits.specs.Register.{HoldsDivision}
-use Rattle.lapd_bits.specs.Stream.{Event, heard_in, since_flag, has_abort, room_for}
-use Rattle.lapd_bits.specs.Ended.{ended_of}
-use Rattle.lapd_bits.specs.Heard.{event_in}
+use Rattle.model_bits.specs.OpenGap.{run_of, open_gap}
+use Rattle.model_bits.specs.Stream.{Event, heard_in, room_for}
+use Rattle.lapd_bits.specs.Ended.{event_in, ended_of}
 use Rattle.lapd_bits.specs.declared.gap.Gap.{Gap}
 use Rattle.lapd_bits.specs.declared.deframer.Deframer.{Deframer}
-
--- The contiguous 1s up to a place, 7 for more. Before any 0 there is no flag to come, so they count as 7.
-abbrev pub run_of : List Bool → ℕ
-run_of [] = 7
-run_of (false ∷ past) = 0
-run_of (true ∷ past) = min 7 (run_of past + 1)
-
--- The gap that is open at a place: the bits since the latest flag, the latest first, where there was a flag
--- and no abort since.
-abbrev pub open_gap : List Bool → Option (List Bool)
-open_gap past = option_and_then (λ g. if has_abort g then None else Some g) (since_flag past)
-
--- How many of a gap's octets are held: all, where there is room, and else the first four.
-abbrev pub kept_count : ℕ → ℕ → ℕ
-kept_count room n = if nat_lt room n then 4 else n
 
 -- A gap's whole octets are kept in `octets` as far as there is room. Once more have come, a register holds the division
 -- over all of them.
@@ -88,10 +72,3 @@ pub record Stands (n201 : ℕ) (deframer : Deframer) (octets : List ℕ) : Type 
   pub holds : HoldsPast deframer.octets.items deframer.ones deframer.gap (reverse (bits octets))
   pub latest : (past : List ℕ) (octet : ℕ) → octets ≡ past ++ octet ∷ []
       → heard_in n201 octets ≡ heard_in n201 past ++ option_to_list (latest_of deframer)
-
--- How many of a line's octets a deframer holds after them: the whole octets of the open gap, or the first
--- four where they are more than there is room for; none where no gap is open. The bits of a flag that has
--- begun are among the gap's until its last.
-abbrev pub octets_held : ℕ → List ℕ → ℕ
-octets_held n201 octets =
-    option_map_or (λ g. kept_count (room_for n201) (length (unstuffed (reverse g)) / 8)) (open_gap (reverse (bits octets))) 0

@@ -1,7 +1,10 @@
 -- What has ended, as a deframer's private calls say it and as it is kept, against the octets that it holds.
-use Rattle.std.specs.Prelude.{ℕ, ◌≤◌}
-use Rattle.lapd_bits.specs.declared.heard.Ended.{Ended}
-use Rattle.lapd_bits.specs.declared.heard.Ended.TheVariants.{Nothing, Dropped, Frame, Overlong}
+use Rattle.std.specs.Prelude.{ℕ, ◌≤◌, Bool, true, false, List, [], ◌∷◌, Option, Some, None, length, take, if◌then◌else◌}
+use Rattle.model_bits.specs.Bits.{same_bits}
+use Rattle.model_bits.specs.Stream.{Event, frame, overlong, dropped, judged}
+use Rattle.model_bits.specs.declared.heard.Cause.TheVariants.{Ragged}
+use Rattle.lapd_bits.specs.declared.ended.Ended.{Ended}
+use Rattle.lapd_bits.specs.declared.ended.Ended.TheVariants.{Nothing, Dropped, Frame, Overlong}
 use Rattle.lapd_bits.specs.declared.latest.Latest.{Latest}
 use Rattle.lapd_bits.specs.declared.latest.Latest.TheVariants as latest
 
@@ -22,3 +25,26 @@ ended_of latest.Nothing = Nothing
 ended_of (latest.Dropped cause) = Dropped cause
 ended_of (latest.Frame len) = Frame len
 ended_of latest.Overlong = Overlong
+
+-- the event that has ended, or none: its octets lie in the deframer's
+abbrev pub event_in : List ℕ → Ended → Option Event
+event_in octets Nothing = None
+event_in octets (Dropped cause) = Some (dropped cause)
+event_in octets (Frame len) = Some (frame (take len octets))
+event_in octets Overlong = Some (overlong (take 4 octets))
+
+-- an event without its octets: how many they are, where it is a frame
+abbrev pub without_octets : Option Event → Ended
+without_octets None = Nothing
+without_octets (Some (dropped cause)) = Dropped cause
+without_octets (Some (frame octets)) = Frame (length octets)
+without_octets (Some (overlong head)) = Overlong
+
+-- a flag without its last bit
+abbrev pub flag_front : List Bool
+flag_front = false ∷ true ∷ true ∷ true ∷ true ∷ true ∷ true ∷ []
+
+-- what a closing flag's last bit ends, after whole octets and fewer than eight bits over: these are the flag's
+-- first seven where what it closes was octets
+abbrev pub closing_event : ℕ → List ℕ → List Bool → Event
+closing_event room whole over = if same_bits over flag_front then judged room whole else dropped Ragged

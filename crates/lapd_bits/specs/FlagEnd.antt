@@ -1,8 +1,8 @@
 -- What an octet brings in which a flag ends (Q.921 clause 2.2) and nothing else does. No public call names this.
 use Rattle.std.specs.Prelude.{◌≡◌, ℕ, suc, ◌+◌, ◌≤◌, nat_eq, nat_lt, Bool, true, false, not, ◌&&◌, List, [], ◌∷◌, ◌++◌, replicate, reverse}
-use Rattle.lapd_bits.specs.Bits.{low_bits}
-use Rattle.lapd_bits.specs.Stuffing.{unstuffed}
-use Rattle.lapd_bits.specs.Deframer.{run_of}
+use Rattle.model_bits.specs.Bits.{low_bits}
+use Rattle.model_bits.specs.Stuffing.{unstuffed}
+use Rattle.model_bits.specs.OpenGap.{run_of}
 use Rattle.lapd_bits.specs.Steps.{with_bits}
 
 -- the 1s with which a text begins

@@ -1,8 +1,8 @@
 -- A framer's fields as what it holds, and what is true of them. No clause of its surface names these.
 use Rattle.std.specs.Prelude.{ℕ, nat_lt, List, ◌+◌, ◌*◌, ◌<◌, ◌≤◌, vec_len, Option, Some, None, if◌then◌else◌}
-use Rattle.lapd_bits.specs.Framer.{Framing, still_held}
+use Rattle.model_bits.specs.Framer.{Framing, still_held}
 use Rattle.lapd_bits.specs.FramerText.{to_give}
-use Rattle.lapd_bits.specs.declared.heads.Head.{Head}
+use Rattle.model_bits.specs.declared.heads.Head.{Head}
 use Rattle.lapd_bits.specs.declared.framer.Framer.TheInside.{Inside}
 
 -- How the latest frame begins, of these first octets and so many; none where it has no octets, as no frame has.

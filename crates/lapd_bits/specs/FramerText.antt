@@ -1,6 +1,6 @@
 -- What a framer's fields say is left to give, and a stuffed text as it is made. No clause of its surface names these.
 use Rattle.std.specs.Prelude.{ℕ, ◌+◌, ◌*◌, Bool, List, ◌++◌, take, drop}
-use Rattle.lapd_bits.specs.Bits.{low_bits, bits}
+use Rattle.model_bits.specs.Bits.{low_bits, bits}
 use Rattle.lapd_bits.specs.Stuffer.{last_ones}
 use Rattle.lapd_bits.specs.declared.stuffed_text.StuffedText.{StuffedText}
 use Rattle.lapd_bits.specs.declared.waiting.Waiting.{Waiting}

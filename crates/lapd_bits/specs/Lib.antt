@@ -1,27 +1,12 @@
--- The bits of a line. Read in this order: Bits, Stuffing, Check, Stream (what is heard in a line's bits), Sent (what
--- goes out) and Vectors, their worked values; then Heard, Deframer and Framer, what a deframer and a framer stand
--- for; and the laws, CheckLaws, StuffingLaws, StreamLaws, FlagLaws and RoundTrip. The definitions go bit by bit over
--- whole lists and know no register, counter or buffer. The other files are named by private functions alone.
-pub mod Bits
-pub mod Stuffing
-pub mod StuffingLaws
-pub mod Check
-pub mod CheckLaws
+-- What the fields of a deframer and of a framer stand for, over the definitions of model_bits. A public call names
+-- Deframer alone, and of Ended what its answers say; private calls name the others.
 pub mod Register
-pub mod Stream
-pub mod StreamLaws
-pub mod FlagLaws
-pub mod Sent
-pub mod Heads
-pub mod Vectors
-pub mod Deframer
-pub mod Heard
 pub mod Ended
+pub mod Deframer
 pub mod Steps
 pub mod Unstuffer
 pub mod FlagEnd
 pub mod Stuffer
-pub mod Framer
 pub mod FramerText
 pub mod FramerFields
-pub mod RoundTrip
+pub mod Worked

@@ -1,19 +1,14 @@
 -- What a deframer's private calls say of one bit more: what it makes of the open gap, and what it ends.
-use Rattle.std.specs.Prelude.{◌≡◌, ◌≢◌, ℕ, suc, ◌+◌, ◌<◌, Bool, false, List, [], ◌∷◌, ◌++◌, length, drop, reverse, Option, Some, None, option_map, IfSome, nat_lt, if◌then◌else◌}
-use Rattle.lapd_bits.specs.Bits.{low_bits}
-use Rattle.lapd_bits.specs.Stuffing.{unstuffed}
-use Rattle.lapd_bits.specs.Stream.{Event, dropped, gap_event, heard_at}
+use Rattle.std.specs.Prelude.{◌≡◌, ◌≢◌, ℕ, ◌+◌, ◌<◌, Bool, false, List, [], ◌∷◌, ◌++◌, length, reverse, Option, IfSome}
+use Rattle.model_bits.specs.Bits.{low_bits}
+use Rattle.model_bits.specs.Stuffing.{unstuffed}
+use Rattle.model_bits.specs.Stream.{heard_at}
 use Rattle.lapd_bits.specs.Deframer.{HoldsPast}
-use Rattle.lapd_bits.specs.Heard.{event_in}
-use Rattle.lapd_bits.specs.declared.heard.Cause.TheVariants.{Abort}
+use Rattle.lapd_bits.specs.Ended.{event_in}
 use Rattle.lapd_bits.specs.declared.gap.Gap.{Gap}
-use Rattle.lapd_bits.specs.declared.heard.Ended.{Ended}
-use Rattle.lapd_bits.specs.declared.heard.Ended.TheVariants.{Nothing}
+use Rattle.lapd_bits.specs.declared.ended.Ended.{Ended}
+use Rattle.lapd_bits.specs.declared.ended.Ended.TheVariants.{Nothing}
 use Rattle.lapd_bits.specs.declared.deframer.Deframer.{Deframer}
-
--- an open gap's bits, the latest first, with one more
-abbrev pub one_more : Bool → Option (List Bool) → Option (List Bool)
-one_more b = option_map (λ g. b ∷ g)
 
 -- a bit that stays among the gap's when stuffed 0s are taken out, and a 0 that does not
 abbrev pub IsKept : Bool → Option (List Bool) → Type 0
@@ -21,16 +16,6 @@ IsKept b gap = IfSome gap (λ g. unstuffed (reverse (b ∷ g)) ≡ unstuffed (re
 
 abbrev pub IsStuffed : Option (List Bool) → Type 0
 IsStuffed gap = IfSome gap (λ g. unstuffed (reverse (false ∷ g)) ≡ unstuffed (reverse g))
-
--- what the seventh contiguous 1 ends, of the gap that was open
-abbrev pub given_up_event : Option (List Bool) → Option Event
-given_up_event None = None
-given_up_event (Some g) = if nat_lt 7 (suc (length g)) then Some (dropped Abort) else None
-
--- what a flag's last bit ends, of the gap that was open
-abbrev pub closed_event : ℕ → Option (List Bool) → Option Event
-closed_event room None = None
-closed_event room (Some g) = if nat_lt (length g) 8 then None else Some (gap_event room (reverse (drop 7 g)))
 
 -- the gap, if one is open, has had fewer than `n` bits
 abbrev pub IsYoung : ℕ → Option Gap → Type 0

@@ -4,8 +4,8 @@
 -- where five 1s begin, and puts a 0 after the lowest five, then after the next five behind that 0, until there are
 -- none. That this is `stuffed` is proved bit by bit (`proofs/Fives.antt`) and 0 by 0 (`proofs/Underway.antt`).
 use Rattle.std.specs.Prelude.{◌≡◌, ℕ, suc, bit_and, ◌/◌, Bool, true, List, ◌∷◌, ◌++◌, drop, replicate, reverse}
-use Rattle.lapd_bits.specs.Bits.{low_bits}
-use Rattle.lapd_bits.specs.Stuffing.{stuffed}
+use Rattle.model_bits.specs.Bits.{low_bits}
+use Rattle.model_bits.specs.Stuffing.{stuffed}
 
 -- the contiguous 1s that begin a list of bits
 abbrev pub first_ones : List Bool → ℕ

@@ -4,10 +4,11 @@
 -- 1s at its end; it has none exactly where six 1s in a row would come: a flag, an abort, or bits of no sender. These
 -- go by `flag_end.rt`, or bit by bit.
 use Rattle.std.specs.Prelude.{◌≡◌, ℕ, Bool, true, false, ◌||◌, List, [], ◌∷◌, ◌++◌, replicate, reverse, Option, IfSome}
-use Rattle.lapd_bits.specs.Bits.{low_bits}
-use Rattle.lapd_bits.specs.Stuffing.{unstuffed}
-use Rattle.lapd_bits.specs.Stream.{heard_until}
-use Rattle.lapd_bits.specs.Deframer.{run_of, HoldsPast}
+use Rattle.model_bits.specs.Bits.{low_bits}
+use Rattle.model_bits.specs.Stuffing.{unstuffed}
+use Rattle.model_bits.specs.Stream.{heard_until}
+use Rattle.model_bits.specs.OpenGap.{run_of}
+use Rattle.lapd_bits.specs.Deframer.{HoldsPast}
 use Rattle.lapd_bits.specs.declared.gap.Gap.{Gap}
 use Rattle.lapd_bits.specs.Steps.{with_bits}
 

@@ -4,9 +4,8 @@
 //! The low-order bit of an octet goes first on a line and is the highest power, so a register holds the
 //! remainder of the division turned round: its lowest bit is the highest power.
 ghost use Rattle.std.specs.Prelude.{◌≡◌, ◌++◌, ◌<◌, ◌≤◌, ◌+◌, ◌*◌, ◌/◌, List, Bool, false, length, take, drop, replicate};
-ghost use Rattle.lapd_bits.specs.Bits.{low_bits, bits};
-ghost use Rattle.lapd_bits.specs.Check.{remainder, check, is_good};
-ghost use Rattle.lapd_bits.specs.CheckLaws.{OnlyCheck};
+ghost use Rattle.model_bits.specs.Bits.{low_bits, bits};
+ghost use Rattle.model_bits.specs.Check.{remainder, check, is_good};
 ghost use Rattle.lapd_bits.specs.Register.{HoldsDivision};
 
 /// The register before the first bit: the preset to ones.
@@ -209,11 +208,6 @@ pub(crate) fn fcs_of_both(head: &[u8], info: &[u8]) -> u16
     }
     !divided_more(divided_all(head), info)
 }
-
-/// The law that a frame has one check: no other 16 bits after the frame's bits are taken for good.
-pub fn only_check()
-    ensures only { OnlyCheck }
-{}
 
 /// The register after one octet more.
 pub(crate) fn divided(register: u16, octet: u8) -> u16

@@ -1,16 +1,17 @@
 //! What is heard on a line (clauses 2.2 to 2.10): octets go in one by one, and the frames in them come out.
 ghost use Rattle.std.specs.Prelude.{◌≡◌, ℕ, ◌≤◌, ◌+◌, Bool, true, false, List, [], ◌∷◌, ◌++◌, length, vec_len, IsTrue, IfOk, Option, Some, None, option_to_list, option_map};
 ghost use Rattle.std.specs.Option.{ForSome};
-ghost use Rattle.lapd_bits.specs.Bits.{low_bits};
+ghost use Rattle.model_bits.specs.Bits.{low_bits};
 ghost use Rattle.lapd_bits.specs.Ended.{FitsIn, ended_of};
-ghost use Rattle.lapd_bits.specs.Stream.{heard_in, heard_until};
+ghost use Rattle.model_bits.specs.Stream.{heard_in, heard_until};
 
+use crate::ended::Ended;
 use crate::flag_end::{FLAG, flag_begun, flag_end};
 use crate::gap::Gap;
-use crate::heard::{Cause, Ended, Heard};
 use crate::latest::Latest;
 use crate::start_fault::StartFault;
 use crate::unstuffer::{Content, at_once};
+use model_bits::{Cause, Heard};
 use std::alloc::Global;
 
 /// The octets of a line of flags, by the number of bits of each flag that the octet before has.
@@ -39,9 +40,11 @@ impl Deframer {
     ghost use Rattle.std.specs.Borrow.{sem};
     ghost use Rattle.std.specs.Io.BufRead.{Rests};
     ghost use Rattle.lapd_bits.specs.contracts.deframer.Deframer.{the_row};
-    ghost use Rattle.lapd_bits.specs.Deframer.{Stands, HoldsPast, HoldsGap, run_of, open_gap, octets_held, latest_of};
-    ghost use Rattle.lapd_bits.specs.Heard.{heard_of, event_in, without_octets};
-    ghost use Rattle.lapd_bits.specs.Steps.{Hears, Ages, one_more, IsKept, IsStuffed, IsYoung, given_up_event, closed_event, with_bits};
+    ghost use Rattle.lapd_bits.specs.Deframer.{Stands, HoldsPast, HoldsGap, latest_of};
+    ghost use Rattle.model_bits.specs.OpenGap.{run_of, open_gap, octets_held, one_more, given_up_event, closed_event};
+    ghost use Rattle.model_bits.specs.Heard.{heard_of};
+    ghost use Rattle.lapd_bits.specs.Ended.{event_in, without_octets};
+    ghost use Rattle.lapd_bits.specs.Steps.{Hears, Ages, IsKept, IsStuffed, IsYoung, with_bits};
     ghost use Rattle.lapd_bits.specs.Unstuffer.{IsJoined, StaysIdle};
 
     /// A deframer for frames with information fields of `n201` octets at most, which is 1,024 at most. Its line

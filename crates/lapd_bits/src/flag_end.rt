@@ -3,10 +3,10 @@
 //! Where an octet is no flag itself, the six 1s of the flag are those that came right before the octet and those with
 //! which it begins. So the flag's last bit is the octet's first 0, and what stands behind it depends on the octet alone.
 ghost use Rattle.std.specs.Prelude.{◌≡◌, ℕ, ◌≤◌, ◌<◌, ◌+◌, ◌^◌, ◌↔◌, ◌++◌, Bool, true, List, replicate, length, IsNone, IsFalse, IfSome, option_to_list};
-ghost use Rattle.lapd_bits.specs.Bits.{low_bits};
+ghost use Rattle.model_bits.specs.Bits.{low_bits};
 ghost use Rattle.lapd_bits.specs.Ended.{ended_of};
 ghost use Rattle.lapd_bits.specs.FlagEnd.{only_flag_ends, IsFlagEnd, IsFlagBegun};
-ghost use Rattle.lapd_bits.specs.Stream.{heard_until};
+ghost use Rattle.model_bits.specs.Stream.{heard_until};
 
 use crate::deframer::Deframer;
 use crate::gap::Gap;
@@ -140,9 +140,10 @@ pub(crate) fn flag_begun(ones: u8, octet: u8) -> Option<Content>
 }
 
 impl Deframer {
-    ghost use Rattle.lapd_bits.specs.Deframer.{HoldsPast, HoldsGap, run_of, open_gap};
-    ghost use Rattle.lapd_bits.specs.Heard.{event_in};
-    ghost use Rattle.lapd_bits.specs.Steps.{closed_event, with_bits};
+    ghost use Rattle.lapd_bits.specs.Deframer.{HoldsPast, HoldsGap};
+    ghost use Rattle.model_bits.specs.OpenGap.{run_of, open_gap, closed_event};
+    ghost use Rattle.lapd_bits.specs.Ended.{event_in};
+    ghost use Rattle.lapd_bits.specs.Steps.{with_bits};
 
     /// Takes an octet in which a flag ends and nothing else does.
     pub(crate) fn take_flag_end(&mut self, flag: FlagEnd)

@@ -1,15 +1,16 @@
 //! What goes out on a line (clauses 2.2, 2.6 and 2.7): frames, and idle flags between them.
 ghost use Rattle.std.specs.Prelude.{◌≡◌, ℕ, ◌+◌, ◌<◌, ◌≤◌, ◌↔◌, List, [], ◌∷◌, ◌++◌, length, take, min, IsTrue, None, IfOk};
-ghost use Rattle.lapd_bits.specs.Bits.{low_bits, flag, number_of};
-ghost use Rattle.lapd_bits.specs.Heads.{head_of};
-ghost use Rattle.lapd_bits.specs.Sent.{Item, frame, item_text};
-ghost use Rattle.lapd_bits.specs.Framer.{Framing, Stands, refilled, with_idle, still_held};
+ghost use Rattle.model_bits.specs.Bits.{low_bits, flag, number_of};
+ghost use Rattle.model_bits.specs.Heads.{head_of};
+ghost use Rattle.model_bits.specs.Sent.{Item, frame, item_text};
+ghost use Rattle.model_bits.specs.Framer.{Framing, Stands, refilled, with_idle, still_held};
 
 use crate::check::fcs_of_both;
-use crate::heads::{Head, keep_first_four};
+use crate::heads::keep_first_four;
 use crate::start_fault::StartFault;
 use crate::stuffed_text::StuffedText;
 use crate::waiting::{FLAG, Waiting};
+use model_bits::Head;
 use std::alloc::Global;
 use std::marker::Model;
 
@@ -38,7 +39,7 @@ pub struct Framer {
 }
 
 impl Model for Framer {
-    ghost use Rattle.lapd_bits.specs.Framer.{Framing};
+    ghost use Rattle.model_bits.specs.Framer.{Framing};
 
     ghost Value = { Framing };
 

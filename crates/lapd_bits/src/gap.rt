@@ -1,11 +1,12 @@
 //! What a deframer keeps of the bits since the latest flag, and what the next flag makes of it.
 ghost use Rattle.std.specs.Prelude.{◌≡◌, ℕ, ◌<◌, ◌≤◌, ◌+◌, ◌^◌, Bool, List, [], ◌∷◌, ◌++◌, length, min, max, vec_len, IsFalse, Some, take};
-ghost use Rattle.lapd_bits.specs.Bits.{low_bits, bits};
+ghost use Rattle.model_bits.specs.Bits.{low_bits, bits};
 ghost use Rattle.lapd_bits.specs.Register.{HoldsDivision};
-ghost use Rattle.lapd_bits.specs.Stream.{is_short};
+ghost use Rattle.model_bits.specs.Stream.{is_short};
 
 use crate::check::{divided, divided_all, shows_no_error};
-use crate::heard::{Cause, Ended};
+use crate::ended::Ended;
+use model_bits::Cause;
 
 /// A closing flag without its last bit, as it lies in the octet that was being put together: a 0 and six 1s.
 const FLAG_BEGUN: u8 = 0b111_1110;
@@ -36,9 +37,9 @@ pub(crate) struct Gap {
 }
 
 impl Gap {
-    ghost use Rattle.lapd_bits.specs.Deframer.{AssemblesIn, KeepsIn, kept_count};
-    ghost use Rattle.lapd_bits.specs.Ended.{FitsIn};
-    ghost use Rattle.lapd_bits.specs.Heard.{event_in, closing_event};
+    ghost use Rattle.lapd_bits.specs.Deframer.{AssemblesIn, KeepsIn};
+    ghost use Rattle.model_bits.specs.OpenGap.{kept_count};
+    ghost use Rattle.lapd_bits.specs.Ended.{FitsIn, event_in, closing_event};
 
     /// The gap that a flag opens.
     pub(crate) fn new() -> Gap

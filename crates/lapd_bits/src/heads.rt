@@ -1,17 +1,7 @@
-//! How the latest frame of a line begins.
+//! The first octets of a frame, as a framer keeps them of the latest.
 
 ghost use Rattle.std.specs.Prelude.{◌≡◌, ◌++◌, get_or};
-ghost use Rattle.lapd_bits.specs.Heads.{first_four};
-
-/// How a frame begins, and how long it is.
-#[derive(Clone, Copy, PartialEq, Eq, Debug)]
-pub struct Head {
-    /// Its first four octets: the address, the control field, and where that has one octet, the first octet of the
-    /// information (Q.921 clause 2.1). 0 behind the end of a frame of three.
-    pub octets: [u8; 4],
-    /// How many octets it has, from its address to its information, without its check: 3 or more.
-    pub length: u16,
-}
+ghost use Rattle.model_bits.specs.Heads.{first_four};
 
 /// Keeps the first four octets of both, one after the other; 0 where there are fewer.
 #[inline(always)]

@@ -2,7 +2,8 @@
 ghost use Rattle.std.specs.Prelude.{◌≡◌, ◌<◌, ◌^◌};
 ghost use Rattle.lapd_bits.specs.Ended.{frame_len, ended_of};
 
-use crate::heard::{Cause, Ended};
+use crate::ended::Ended;
+use model_bits::Cause;
 
 /// As [`Ended`], in four octets in place of sixteen, since it is written at each octet that comes.
 #[derive(Clone, Copy, Debug)]

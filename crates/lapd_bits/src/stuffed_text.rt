@@ -1,6 +1,6 @@
 //! The stuffed text of octets (clause 2.6), as it is made.
 ghost use Rattle.std.specs.Prelude.{◌≡◌, ◌+◌, ◌*◌, ◌/◌, ◌%◌, ◌<◌, ◌≤◌, ◌^◌, ◌++◌, length, take, drop};
-ghost use Rattle.lapd_bits.specs.Bits.{flag, bits, low_bits};
+ghost use Rattle.model_bits.specs.Bits.{flag, bits, low_bits};
 ghost use Rattle.lapd_bits.specs.Stuffer.{Goes, last_ones, text_after};
 
 use crate::stuffer::{Stuffed, go_as_they_are, latest_of};

@@ -1,6 +1,6 @@
 //! Stuffs bits at once (clause 2.6): finds where five 1s come together, and puts a 0 after each fifth.
 ghost use Rattle.std.specs.Prelude.{◌≡◌, ◌<◌, ◌≤◌, ◌+◌, ◌*◌, ◌/◌, ◌^◌, [], IsTrue};
-ghost use Rattle.lapd_bits.specs.Bits.{low_bits};
+ghost use Rattle.model_bits.specs.Bits.{low_bits};
 ghost use Rattle.lapd_bits.specs.Stuffer.{Goes, last_ones, fives};
 
 /// How many bits of a text are looked at to see its last 1s. There are never more than four, since a 0 goes after a fifth.

@@ -1,6 +1,6 @@
 //! Takes the stuffed 0s out of an octet at once (clause 2.6), by tables.
 ghost use Rattle.std.specs.Prelude.{◌≤◌, ◌<◌, ◌^◌, ◌↔◌, true, replicate, ◌++◌, IsNone, IsTrue, IfSome};
-ghost use Rattle.lapd_bits.specs.Bits.{low_bits};
+ghost use Rattle.model_bits.specs.Bits.{low_bits};
 ghost use Rattle.lapd_bits.specs.Unstuffer.{has_six, IsContent};
 
 /// What octets bring, in one piece, so that one address serves for all of it. `bits` and `counts` have eight entries for

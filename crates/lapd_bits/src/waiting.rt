@@ -1,6 +1,6 @@
 //! The bits that wait to go out on a line.
 ghost use Rattle.std.specs.Prelude.{◌≡◌, ◌≤◌, ◌<◌, ◌+◌, ◌^◌, [], ◌++◌};
-ghost use Rattle.lapd_bits.specs.Bits.{low_bits, flag};
+ghost use Rattle.model_bits.specs.Bits.{low_bits, flag};
 
 /// A flag, its first bit lowest.
 pub(crate) const FLAG: u8 = 0b0111_1110;

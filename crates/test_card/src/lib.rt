@@ -4,7 +4,9 @@
 //! - `kept`: what a sink that keeps replies has kept after a list of events.
 //! - `starts`: which shelves a card starts with, and its faults in words.
 //! - `sinks`: whole lists of events, and sinks that fail.
-//! - `own_shelf`: a card over a shelf of the caller's own.
+//! - `own_shelf`: a card over a shelf of the caller's own: `shelf`, an array of places (`place`), as firmware without an
+//!   allocator would write it. It is no part of the product, and shows what such a shelf has to keep. It takes no memory
+//!   at all, and looks for a free place from the first on, so that a `put` takes longer the fuller it is.
 //! - `frames`: a card for frames, with a list of happenings and a room that is too small.
 //! - `example`: a line that is served, as in the README.
 //! - `memory`: starts and long runs, of which `tests/memory` counts the allocations.
@@ -19,9 +21,12 @@ mod kept;
 mod memory;
 #[cfg(test)]
 mod own_shelf;
+mod place;
+mod shelf;
 #[cfg(test)]
 mod sinks;
 #[cfg(test)]
 mod starts;
 
 pub use kept::keep_replies;
+pub use shelf::ArrayShelf;

@@ -1,10 +1,10 @@
 //! A card over a shelf of the caller's own, which stands on a plain array and takes no memory.
 
+use crate::shelf::ArrayShelf;
 use crate::starts::USUAL;
 use lapd_card::{Card, CardFault, Config, Request};
 use lapd_frame::{Refusal, Service};
 use std::test::Fail;
-use test_shelf::ArrayShelf;
 
 #[test]
 fn a_card_over_a_shelf_of_the_callers_own(rt: HostRuntime) -> Result<(), Fail> {

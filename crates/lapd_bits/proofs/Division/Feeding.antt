@@ -1,8 +1,6 @@
 -- Many bits fed to a register at once.
-use Rattle.lapd_bits.proofs.Vocabulary.{◌≡◌, ℕ, ◌+◌, Bool, false, not, List, [], ◌∷◌, ◌++◌, length, replicate, refl, sym, ap, ◌∙◌, append_assoc, append-nil, length-append, arith, beq, fold, length-replicate, replicate-append-replicate, fold-append, plus, brought_down, remainder}
-use Rattle.lapd_bits.proofs.Division.Sums.{differ_self, plus-swap, plus-append, plus-zeros, plus_zeros_of, plus_twice, plus-comm, length-plus}
-use Rattle.lapd_bits.proofs.Division.Linear.{brought_down-plus, remainder-plus, length-remainder, divided_zeros}
-use Rattle.lapd_bits.proofs.Division.Register.{with_bit, length-with_bit, remainder-text_below}
+use Rattle.lapd_bits.proofs.Vocabulary.{◌≡◌, ℕ, ◌+◌, Bool, false, not, List, [], ◌∷◌, ◌++◌, length, replicate, refl, sym, ap, ◌∙◌, append_assoc, append-nil, length-append, arith, beq, fold, replicate-append-replicate, fold-append, plus, brought_down, remainder, differ_self, plus-swap, plus-append, plus-zeros, plus_zeros_of, plus_twice, plus-comm, length-plus, brought_down-plus, remainder-plus, length-remainder, divided_zeros, with_bit, length-with_bit, remainder-text_below}
+use Rattle.std.proofs.Math.ListN.{length-replicate}
 
 -- ---- a sum of registers, fed with a sum of texts
 

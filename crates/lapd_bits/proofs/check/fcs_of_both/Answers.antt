@@ -1,6 +1,5 @@
 -- The complement of the register over both is the check.
-use Rattle.lapd_bits.proofs.Vocabulary.{◌++◌, subst, sym, arith, bits, HoldsDivision}
-use Rattle.lapd_bits.proofs.BitLemmas.{bits-append}
+use Rattle.lapd_bits.proofs.Vocabulary.{◌++◌, subst, sym, arith, bits, HoldsDivision, bits-append}
 use Rattle.lapd_bits.proofs.Division.Holds.{HoldsDivision-check}
 use Rattle.lapd_bits.proofs.check.fcs_of_both.Goals as goal
 

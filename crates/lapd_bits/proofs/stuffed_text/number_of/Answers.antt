@@ -1,6 +1,5 @@
 -- An octet more stands above the others.
-use Rattle.lapd_bits.proofs.Vocabulary.{◌≡◌, ◌+◌, ◌*◌, ◌%◌, ◌^◌, ◌<◌, ◌++◌, get_or, take, refl, subst, sym, ap, ◌∙◌, arith, take_more, bits, low_bits}
-use Rattle.lapd_bits.proofs.BitLemmas.{bits-push}
+use Rattle.lapd_bits.proofs.Vocabulary.{◌≡◌, ◌+◌, ◌*◌, ◌%◌, ◌^◌, ◌<◌, ◌++◌, get_or, take, refl, subst, sym, ap, ◌∙◌, arith, take_more, bits, low_bits, bits-push}
 use Rattle.lapd_bits.proofs.Joining.{above_bits, above_below, above_is_word, above_fits_word}
 use Rattle.lapd_bits.proofs.stuffed_text.number_of.Goals as goal
 

@@ -1,6 +1,6 @@
 -- The invariants of the loops of `Deframer::bit_by_bit`.
 use Rattle.lapd_bits.proofs.Vocabulary.{◌≡◌, ◌⊎◌, Bool, List, ◌++◌, length, vec_len, option_to_list, heard_until, HoldsPast, FitsIn, event_in, IsYoung, with_bits}
-use Rattle.lapd_bits.specs.declared.heard.Ended.TheVariants as ended
+use Rattle.lapd_bits.specs.declared.ended.Ended.TheVariants as ended
 use Rattle.lapd_bits.proofs.deframer.Deframer.bit_by_bit.Given as goal
 
 abbrev pub invariant-loop-place : goal.invariant-loop-place

@@ -1,6 +1,5 @@
 -- Hand-written answers for `Deframer::one`.
-use Rattle.lapd_bits.proofs.Vocabulary.{sym, ◌∙◌, ap, arith, length, event_in, open_gap}
-use Rattle.lapd_bits.proofs.Hearing.{heard_at-one, heard_at-abort}
+use Rattle.lapd_bits.proofs.Vocabulary.{sym, ◌∙◌, ap, arith, length, event_in, open_gap, heard_at-one, heard_at-abort}
 use Rattle.lapd_bits.proofs.BitSteps.{kept_one, HoldsPast-one, HoldsPast-abort}
 use Rattle.lapd_bits.proofs.deframer.Deframer.one.Goals as goal
 

@@ -1,7 +1,6 @@
 -- The first 0 goes on the gap, and the 1s behind it; then it is closed, and the next has no bits yet.
-use Rattle.lapd_bits.proofs.Vocabulary.{◌≡◌, ◌≢◌, ◌∷◌, ◌++◌, false, length, option_to_list, refl, sym, subst, ◌∙◌, arith, heard_until, run_of, open_gap, HoldsGap, with_bits, ended_of, event_in}
+use Rattle.lapd_bits.proofs.Vocabulary.{◌≡◌, ◌≢◌, ◌∷◌, ◌++◌, false, length, option_to_list, refl, sym, subst, ◌∙◌, arith, heard_until, run_of, open_gap, HoldsGap, with_bits, ended_of, event_in, open_gap-zero}
 use Rattle.lapd_bits.proofs.BitSteps.{kept_zero}
-use Rattle.lapd_bits.proofs.Hearing.{open_gap-zero}
 use Rattle.lapd_bits.proofs.FlagOctet.{heard-flag, HoldsPast-flag}
 use Rattle.lapd_bits.proofs.deframer.Deframer.take_flag.Goals as goal
 

@@ -1,6 +1,5 @@
 -- Hand-written answers for `Deframer::zero`.
-use Rattle.lapd_bits.proofs.Vocabulary.{sym, ◌∙◌, length, open_gap}
-use Rattle.lapd_bits.proofs.Hearing.{heard_at-zero}
+use Rattle.lapd_bits.proofs.Vocabulary.{sym, ◌∙◌, length, open_gap, heard_at-zero}
 use Rattle.lapd_bits.proofs.BitSteps.{kept_zero, stuffed_zero, HoldsPast-zero}
 use Rattle.lapd_bits.proofs.deframer.Deframer.zero.Goals as goal
 

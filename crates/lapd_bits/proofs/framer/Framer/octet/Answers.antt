@@ -1,6 +1,5 @@
 -- The next octet goes, or the bits after them and the beginning of a flag.
-use Rattle.lapd_bits.proofs.Vocabulary.{◌≡◌, ◌+◌, ◌<◌, ◌≤◌, ◌++◌, length, take, sym, ap, ◌∙◌, arith, ⊎_elim, cases_lt, false≢true, low_bits, flag, number_of, refilled, still_held, to_give}
-use Rattle.lapd_bits.proofs.BitLemmas.{number_of-octet}
+use Rattle.lapd_bits.proofs.Vocabulary.{◌≡◌, ◌+◌, ◌<◌, ◌≤◌, ◌++◌, length, take, sym, ap, ◌∙◌, arith, ⊎_elim, cases_lt, false≢true, low_bits, flag, number_of, refilled, still_held, to_give, number_of-octet}
 use Rattle.lapd_bits.proofs.FramerGiven.{length-to_give, to_give-octet, to_give-none, refilled-enough, refilled-low, held_after}
 use Rattle.lapd_bits.proofs.FramerStands.{Stands-octet}
 use Rattle.lapd_bits.proofs.framer.Framer.octet.Goals as goal

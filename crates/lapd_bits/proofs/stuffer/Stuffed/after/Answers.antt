@@ -1,7 +1,6 @@
 -- Nothing is due any more when all 0s have been put in.
-use Rattle.lapd_bits.proofs.Vocabulary.{◌<◌, ◌≤◌, ◌+◌, ◌*◌, ◌/◌, ◌^◌, [], length, ap, sym, subst, arith, pow-add, mod-eq_of_lt, mod-le, div-mul-le_self, shr_lt, pow_mono, low_bits, last_ones}
-use Rattle.lapd_bits.proofs.BitLemmas.{length-low_bits}
-use Rattle.lapd_bits.proofs.StuffingAtOnce.{Goes-sent, last_ones-few, stuffed_after-pays}
+use Rattle.lapd_bits.proofs.Vocabulary.{◌<◌, ◌≤◌, ◌+◌, ◌*◌, ◌/◌, ◌^◌, [], length, ap, sym, subst, arith, pow-add, mod-eq_of_lt, mod-le, div-mul-le_self, shr_lt, pow_mono, low_bits, last_ones, length-low_bits, stuffed_after-pays}
+use Rattle.lapd_bits.proofs.StuffingAtOnce.{Goes-sent, last_ones-few}
 use Rattle.lapd_bits.proofs.Underway.{Underway, begin, total_few, none_due, place_fits, text_fits, next_word}
 use Rattle.lapd_bits.proofs.stuffer.Stuffed.after.Goals as goal
 

@@ -1,6 +1,0 @@
--- The law is that of FlagPlaces.
-use Rattle.lapd_bits.proofs.FlagPlaces.{first_abort_after_flag}
-use Rattle.lapd_bits.proofs.flag_places.abort_after_flag.Goals as goal
-
-pub returns : goal.returns
-returns c = first_abort_after_flag

@@ -1,0 +1,212 @@
+-- Stuffing and its inverse with the contiguous 1s counted: the same as by patterns of five 1s, and how
+-- they go over lists that are appended.
+use Rattle.model_bits.proofs.Vocabulary.{◌≡◌, ℕ, suc, ◌<◌, ◌≤◌, Bool, true, false, List, [], ◌∷◌, ◌++◌, if◌then◌else◌, nat_lt, refl, ap, sym, ◌∙◌, arith, ⊎_elim, append_assoc, lt-ltb, le-ltb, cases_lt, stuffed, unstuffed}
+
+-- the contiguous 1s at the end of a text, where `ones` of them stand before it
+abbrev pub ones_after : ℕ → List Bool → ℕ
+ones_after ones [] = ones
+ones_after ones (false ∷ text) = ones_after 0 text
+ones_after ones (true ∷ text) = ones_after (suc ones) text
+
+-- what a receiver keeps of a 0, after `ones` contiguous 1s
+abbrev pub kept_zero : ℕ → List Bool
+kept_zero ones = if nat_lt ones 5 then false ∷ [] else []
+
+-- what a receiver makes of a text, after `ones` contiguous 1s
+abbrev pub unstuffed_after : ℕ → List Bool → List Bool
+unstuffed_after ones [] = []
+unstuffed_after ones (false ∷ text) = kept_zero ones ++ unstuffed_after 0 text
+unstuffed_after ones (true ∷ text) = true ∷ unstuffed_after (suc ones) text
+
+-- what a sender puts on a line before its next bit, after `ones` contiguous 1s
+abbrev pub stuffed_zero : ℕ → List Bool
+stuffed_zero ones = if nat_lt ones 5 then [] else false ∷ []
+
+-- the contiguous 1s after that
+abbrev pub ones_left : ℕ → ℕ
+ones_left ones = if nat_lt ones 5 then ones else 0
+
+-- what a sender makes of bits, after `ones` contiguous 1s: at most five, of which the fifth has no 0 after
+-- it yet
+abbrev pub stuffed_after : ℕ → List Bool → List Bool
+stuffed_after ones [] = stuffed_zero ones
+stuffed_after ones (false ∷ b) = stuffed_zero ones ++ false ∷ stuffed_after 0 b
+stuffed_after ones (true ∷ b) = stuffed_zero ones ++ true ∷ stuffed_after (suc (ones_left ones)) b
+
+-- Stuffing by patterns is stuffing by the count, also with 1s before.
+record StuffedAlike (b : List Bool) : Type 0 where
+  none : stuffed b ≡ stuffed_after 0 b
+  one : stuffed (true ∷ b) ≡ stuffed_after 0 (true ∷ b)
+  two : stuffed (true ∷ true ∷ b) ≡ stuffed_after 0 (true ∷ true ∷ b)
+  three : stuffed (true ∷ true ∷ true ∷ b) ≡ stuffed_after 0 (true ∷ true ∷ true ∷ b)
+  four : stuffed (true ∷ true ∷ true ∷ true ∷ b) ≡ stuffed_after 0 (true ∷ true ∷ true ∷ true ∷ b)
+
+-- the counted text after five 1s begins with the stuffed 0
+stuffed_after_five : (b : List Bool) → stuffed_after 5 b ≡ false ∷ stuffed_after 0 b
+stuffed_after_five [] = refl
+stuffed_after_five (false ∷ b) = refl
+stuffed_after_five (true ∷ b) = refl
+
+stuffed_alike : (b : List Bool) → StuffedAlike b
+stuffed_alike [] = record { none = refl; one = refl; two = refl; three = refl; four = refl }
+stuffed_alike (false ∷ b) =
+    let e = (stuffed_alike b).none in
+    record {
+      none = ap (λ t. false ∷ t) e;
+      one = ap (λ t. true ∷ false ∷ t) e;
+      two = ap (λ t. true ∷ true ∷ false ∷ t) e;
+      three = ap (λ t. true ∷ true ∷ true ∷ false ∷ t) e;
+      four = ap (λ t. true ∷ true ∷ true ∷ true ∷ false ∷ t) e;
+    }
+stuffed_alike (true ∷ b) =
+    let h = stuffed_alike b in
+    record {
+      none = h.one;
+      one = h.two;
+      two = h.three;
+      three = h.four;
+      four = ap (λ t. true ∷ true ∷ true ∷ true ∷ true ∷ t) (ap (λ t. false ∷ t) h.none ∙ sym (stuffed_after_five b));
+    }
+
+pub stuffed-counted : (b : List Bool) → stuffed b ≡ stuffed_after 0 b
+stuffed-counted b = (stuffed_alike b).none
+
+-- after five 1s or more a receiver takes out one 0, however many they are
+unstuffed_past_five : (m n : ℕ) (text : List Bool) → 5 ≤ m → 5 ≤ n → unstuffed_after m text ≡ unstuffed_after n text
+unstuffed_past_five m n [] p q = refl
+unstuffed_past_five m n (false ∷ text) p q = rw (le-ltb m 5 p, le-ltb n 5 q) refl
+unstuffed_past_five m n (true ∷ text) p q =
+    ap (λ t. true ∷ t) (unstuffed_past_five (suc m) (suc n) text (omega arith) (omega arith))
+
+-- The same for a receiver, with up to five 1s before.
+record UnstuffedAlike (t : List Bool) : Type 0 where
+  none : unstuffed t ≡ unstuffed_after 0 t
+  one : unstuffed (true ∷ t) ≡ unstuffed_after 0 (true ∷ t)
+  two : unstuffed (true ∷ true ∷ t) ≡ unstuffed_after 0 (true ∷ true ∷ t)
+  three : unstuffed (true ∷ true ∷ true ∷ t) ≡ unstuffed_after 0 (true ∷ true ∷ true ∷ t)
+  four : unstuffed (true ∷ true ∷ true ∷ true ∷ t) ≡ unstuffed_after 0 (true ∷ true ∷ true ∷ true ∷ t)
+  five : unstuffed (true ∷ true ∷ true ∷ true ∷ true ∷ t) ≡ unstuffed_after 0 (true ∷ true ∷ true ∷ true ∷ true ∷ t)
+
+unstuffed_alike : (t : List Bool) → UnstuffedAlike t
+unstuffed_alike [] = record { none = refl; one = refl; two = refl; three = refl; four = refl; five = refl }
+unstuffed_alike (false ∷ t) =
+    let e = (unstuffed_alike t).none in
+    record {
+      none = ap (λ u. false ∷ u) e;
+      one = ap (λ u. true ∷ false ∷ u) e;
+      two = ap (λ u. true ∷ true ∷ false ∷ u) e;
+      three = ap (λ u. true ∷ true ∷ true ∷ false ∷ u) e;
+      four = ap (λ u. true ∷ true ∷ true ∷ true ∷ false ∷ u) e;
+      five = ap (λ u. true ∷ true ∷ true ∷ true ∷ true ∷ u) e;
+    }
+unstuffed_alike (true ∷ t) =
+    let h = unstuffed_alike t in
+    record {
+      none = h.one;
+      one = h.two;
+      two = h.three;
+      three = h.four;
+      four = h.five;
+      five =
+          ap (λ u. true ∷ u) h.five
+          ∙ ap (λ u. true ∷ true ∷ true ∷ true ∷ true ∷ true ∷ u) (unstuffed_past_five 5 6 t (omega arith) (omega arith));
+    }
+
+pub unstuffed-counted : (t : List Bool) → unstuffed t ≡ unstuffed_after 0 t
+unstuffed-counted t = (unstuffed_alike t).none
+
+-- The count and the unstuffed bits of a text in two parts.
+pub ones_after-append : (ones : ℕ) (s t : List Bool) → ones_after ones (s ++ t) ≡ ones_after (ones_after ones s) t
+ones_after-append ones [] t = refl
+ones_after-append ones (false ∷ s) t = ones_after-append 0 s t
+ones_after-append ones (true ∷ s) t = ones_after-append (suc ones) s t
+
+pub unstuffed_after-append : (ones : ℕ) (s t : List Bool) → unstuffed_after ones (s ++ t) ≡ unstuffed_after ones s ++ unstuffed_after (ones_after ones s) t
+unstuffed_after-append ones [] t = refl
+unstuffed_after-append ones (false ∷ s) t =
+    ap (λ u. kept_zero ones ++ u) (unstuffed_after-append 0 s t) ∙ sym (append_assoc (kept_zero ones) _ _)
+unstuffed_after-append ones (true ∷ s) t = ap (λ u. true ∷ u) (unstuffed_after-append (suc ones) s t)
+
+-- unstuffing gives stuffed bits back
+pub unstuffed_after-stuffed_after : (ones : ℕ) (b : List Bool) → ones ≤ 5 → unstuffed_after ones (stuffed_after ones b) ≡ b
+unstuffed_after-stuffed_after ones [] h =
+    ⊎_elim (λ below. simp (lt-ltb ones 5 below)) (λ at. simp (le-ltb ones 5 at)) (cases_lt ones 5)
+unstuffed_after-stuffed_after ones (false ∷ b) h =
+    let again = ap (λ u. false ∷ u) (unstuffed_after-stuffed_after 0 b (omega arith)) in
+    ⊎_elim (λ below. simp (lt-ltb ones 5 below) again) (λ at. simp (le-ltb ones 5 at) again) (cases_lt ones 5)
+unstuffed_after-stuffed_after ones (true ∷ b) h =
+    ⊎_elim
+    (λ below. simp (lt-ltb ones 5 below) (ap (λ u. true ∷ u) (unstuffed_after-stuffed_after (suc ones) b (omega arith))))
+    (λ at. simp (le-ltb ones 5 at) (ap (λ u. true ∷ u) (unstuffed_after-stuffed_after 1 b (omega arith))))
+    (cases_lt ones 5)
+
+-- after five 1s a stuffed text goes on with a 0
+pub stuffed_after_fifth : (ones : ℕ) (b : List Bool) → 5 ≤ ones → stuffed_after ones b ≡ false ∷ stuffed_after 0 b
+stuffed_after_fifth ones [] h = simp (le-ltb ones 5 h)
+stuffed_after_fifth ones (false ∷ b) h = simp (le-ltb ones 5 h)
+stuffed_after_fifth ones (true ∷ b) h = simp (le-ltb ones 5 h)
+
+-- No six contiguous 1s stand in a text, where `ones` of them stand before it.
+abbrev pub NoSix : ℕ → List Bool → Type 0
+NoSix ones [] = Unit {0}
+NoSix ones (false ∷ text) = NoSix 0 text
+NoSix ones (true ∷ text) = (ones < 5) × NoSix (suc ones) text
+
+-- the same in two parts
+pub NoSix-append : (ones : ℕ) (s t : List Bool) → NoSix ones s → NoSix (ones_after ones s) t → NoSix ones (s ++ t)
+NoSix-append ones [] t p q = q
+NoSix-append ones (false ∷ s) t p q = NoSix-append 0 s t p q
+NoSix-append ones (true ∷ s) t p q = (p.0, NoSix-append (suc ones) s t p.1 q)
+
+pub NoSix_back : (ones : ℕ) (s t : List Bool) → NoSix ones (s ++ t) → NoSix (ones_after ones s) t
+NoSix_back ones [] t p = p
+NoSix_back ones (false ∷ s) t p = NoSix_back 0 s t p
+NoSix_back ones (true ∷ s) t p = NoSix_back (suc ones) s t p.1
+
+-- a stuffed text holds no six contiguous 1s
+pub NoSix-stuffed_after : (ones : ℕ) (b : List Bool) → ones ≤ 5 → NoSix ones (stuffed_after ones b)
+NoSix-stuffed_after ones [] h =
+    ⊎_elim (λ below. simp (lt-ltb ones 5 below) tt) (λ at. simp (le-ltb ones 5 at) tt) (cases_lt ones 5)
+NoSix-stuffed_after ones (false ∷ b) h =
+    let again = NoSix-stuffed_after 0 b (omega arith) in
+    ⊎_elim (λ below. simp (lt-ltb ones 5 below) again) (λ at. simp (le-ltb ones 5 at) again) (cases_lt ones 5)
+NoSix-stuffed_after ones (true ∷ b) h =
+    ⊎_elim
+    (λ below. simp (lt-ltb ones 5 below) (below, NoSix-stuffed_after (suc ones) b (omega arith)))
+    (λ at. simp (le-ltb ones 5 at) (omega arith, NoSix-stuffed_after 1 b (omega arith)))
+    (cases_lt ones 5)
+
+-- and does not end in five
+pub ones_after-stuffed_after : (ones : ℕ) (b : List Bool) → ones ≤ 5 → ones_after ones (stuffed_after ones b) < 5
+ones_after-stuffed_after ones [] h =
+    ⊎_elim (λ below. simp (lt-ltb ones 5 below) below) (λ at. simp (le-ltb ones 5 at) (omega arith)) (cases_lt ones 5)
+ones_after-stuffed_after ones (false ∷ b) h =
+    let again = ones_after-stuffed_after 0 b (omega arith) in
+    ⊎_elim (λ below. simp (lt-ltb ones 5 below) again) (λ at. simp (le-ltb ones 5 at) again) (cases_lt ones 5)
+ones_after-stuffed_after ones (true ∷ b) h =
+    ⊎_elim
+    (λ below. simp (lt-ltb ones 5 below) (ones_after-stuffed_after (suc ones) b (omega arith)))
+    (λ at. simp (le-ltb ones 5 at) (ones_after-stuffed_after 1 b (omega arith)))
+    (cases_lt ones 5)
+
+-- a text of which both hold is what a sender makes of its unstuffed bits
+pub stuffed_after-unstuffed_after : (ones : ℕ) (text : List Bool) → ones ≤ 5 → NoSix ones text → ones_after ones text < 5 → stuffed_after ones (unstuffed_after ones text) ≡ text
+stuffed_after-unstuffed_after ones [] h p q = simp (lt-ltb ones 5 q)
+stuffed_after-unstuffed_after ones (false ∷ text) h p q =
+    let again = ap (λ u. false ∷ u) (stuffed_after-unstuffed_after 0 text (omega arith) p q) in
+    ⊎_elim
+    (λ below. simp (lt-ltb ones 5 below) again)
+    (λ at. simp (le-ltb ones 5 at) (stuffed_after_fifth ones (unstuffed_after 0 text) at ∙ again))
+    (cases_lt ones 5)
+stuffed_after-unstuffed_after ones (true ∷ text) h p q =
+    simp (lt-ltb ones 5 p.0) (ap (λ u. true ∷ u) (stuffed_after-unstuffed_after (suc ones) text (omega arith) p.1 q))
+
+-- unstuffing does not shorten the 1s at the end
+pub ones_after-unstuffed_after : (m n : ℕ) (text : List Bool) → m ≤ n → ones_after m text ≤ ones_after n (unstuffed_after m text)
+ones_after-unstuffed_after m n [] h = h
+ones_after-unstuffed_after m n (false ∷ text) h =
+    ⊎_elim
+    (λ below. simp (lt-ltb m 5 below) (ones_after-unstuffed_after 0 0 text (omega arith)))
+    (λ at. simp (le-ltb m 5 at) (ones_after-unstuffed_after 0 n text (omega arith)))
+    (cases_lt m 5)
+ones_after-unstuffed_after m n (true ∷ text) h = ones_after-unstuffed_after (suc m) (suc n) text (omega arith)

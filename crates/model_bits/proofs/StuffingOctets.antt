@@ -1,0 +1,58 @@
+-- Octets in a text: bits and numbers give each other back, and the octets found are those sent.
+use Rattle.model_bits.proofs.Vocabulary.{◌≡◌, ℕ, ◌<◌, Bool, true, false, List, [], ◌∷◌, Some, None, refl, ap, sym, ◌∙◌, subst, cond, All-nil, All-cons, All-head, All-tail, bits, low_bits, octets_of, same_bits, stuffed, unstuffed, octets_sent, AreOctets, OctetsAreThoseSent, NoneWhereNoneSent}
+use Rattle.model_bits.proofs.BitLemmas.{number_of-lt, number_of-low_bits, same_from_test, same_bits_self}
+use Rattle.model_bits.proofs.StuffingShape.{unstuffed-stuffed}
+
+-- the octets of the bits of octets are these octets
+pub octets_of-bits : (octets : List ℕ) → AreOctets octets → octets_of (bits octets) ≡ octets
+unfolding low_bits
+octets_of-bits [] h = refl
+octets_of-bits (o ∷ octets) h =
+    ap (λ y. y ∷ octets_of (bits octets)) (number_of-low_bits 8 o (All-head (λ x. x < 256) o octets h))
+    ∙ ap (λ l. o ∷ l) (octets_of-bits octets (All-tail (λ x. x < 256) o octets h))
+
+-- and each is below 256
+pub AreOctets-octets_of : (b : List Bool) → AreOctets (octets_of b)
+AreOctets-octets_of (a ∷ b ∷ c ∷ d ∷ e ∷ f ∷ g ∷ h ∷ bs) =
+    All-cons (λ x. x < 256) _ _ (number_of-lt (a ∷ b ∷ c ∷ d ∷ e ∷ f ∷ g ∷ h ∷ [])) (AreOctets-octets_of bs)
+AreOctets-octets_of _ = All-nil (λ x. x < 256)
+
+-- a choice that gave octets
+chosen : (t : Bool) (xs ys : List ℕ) → cond t (Some xs) None ≡ Some ys → (t ≡ true) × (xs ≡ ys)
+chosen true xs ys h = (refl, cc)
+chosen false xs ys h = cc
+
+pub octets_sent-stuffed : (octets : List ℕ) → AreOctets octets → octets_sent (stuffed (bits octets)) ≡ Some octets
+octets_sent-stuffed octets h =
+    let found : octets_of (unstuffed (stuffed (bits octets))) ≡ octets =
+    ap octets_of (unstuffed-stuffed (bits octets)) ∙ octets_of-bits octets h in
+    ap (λ l. cond (same_bits (stuffed (bits l)) (stuffed (bits octets))) (Some l) None) found
+    ∙ ap (λ t. cond t (Some octets) None) (same_bits_self (stuffed (bits octets)))
+
+pub octets_are_those_sent : OctetsAreThoseSent
+octets_are_those_sent text octets = (
+  λ e.
+      let found = octets_of (unstuffed text) in
+      let c = chosen (same_bits (stuffed (bits found)) text) found octets e in (
+        sym (same_from_test (stuffed (bits found)) text c.0) ∙ ap (λ l. stuffed (bits l)) c.1,
+        subst AreOctets c.1 (AreOctets-octets_of (unstuffed text)),
+      ),
+  λ s. ap octets_sent s.0 ∙ octets_sent-stuffed octets s.1,
+)
+
+-- what is not the text of octets has none
+none_chosen : (t : Bool) (xs : List ℕ) → (t ≡ true → ⊥) → cond t (Some xs) None ≡ None
+none_chosen true xs h = absurd (h refl)
+none_chosen false xs h = refl
+
+pub none_where_none_sent : NoneWhereNoneSent
+none_where_none_sent text = (
+  λ e octets h s.
+      let some = (octets_are_those_sent text octets).1 (s, h) in
+      let differ : None ≡ Some octets = sym e ∙ some in
+      cc,
+  λ h.
+      let found = octets_of (unstuffed text) in
+      none_chosen (same_bits (stuffed (bits found)) text) found
+      (λ e. h found (AreOctets-octets_of (unstuffed text)) (sym (same_from_test (stuffed (bits found)) text e))),
+)

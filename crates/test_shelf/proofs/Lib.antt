@@ -1,3 +1,0 @@
--- Lemmas: places of a shelf of lists.
-mod PlaceLemmas
-mod ShelfLemmas

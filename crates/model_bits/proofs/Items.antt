@@ -1,5 +1,5 @@
 -- One item more on a line: its text, and what is held of the latest.
-use Rattle.model_bits.proofs.Vocabulary.{◌≡◌, ℕ, List, [], ◌∷◌, ◌++◌, refl, sym, flat_map_more, fold-append, flag, Item, item_text, line_text, or_later, latest_frame, item_octets, last_octets}
+use Rattle.model_bits.proofs.Vocabulary.{◌≡◌, List, [], ◌∷◌, ◌++◌, refl, sym, flat_map_more, fold-append, flag, Item, item_text, line_text, or_later, latest_frame, item_octets, last_octets}
 
 pub line_text-push : (items : List Item) (item : Item) → line_text (items ++ item ∷ []) ≡ line_text items ++ item_text item
 line_text-push items item = sym (flat_map_more item_text flag items item)

@@ -1,5 +1,5 @@
 -- How long a stuffed text is.
-use Rattle.model_bits.proofs.Vocabulary.{◌≡◌, ℕ, suc, ◌+◌, ◌*◌, ◌≤◌, Bool, true, false, List, [], ◌∷◌, length, arith, ⊎_elim, length-append, lt-ltb, le-ltb, cases_lt}
+use Rattle.model_bits.proofs.Vocabulary.{ℕ, suc, ◌+◌, ◌*◌, ◌≤◌, Bool, true, false, List, [], ◌∷◌, length, arith, ⊎_elim, length-append, lt-ltb, le-ltb, cases_lt}
 use Rattle.model_bits.proofs.StuffingCounted.{stuffed_after, stuffed_zero, ones_left}
 
 -- the 1s at the end of what is sent of bits, with the 0 after a fifth

@@ -1,7 +1,7 @@
 -- Laws of a line.
 use Rattle.std.specs.Prelude.{◌≡◌, ℕ, ◌+◌, ◌*◌, ◌≤◌, max, List, [], Option, Some, None, IsSome}
 use Rattle.lapd_frame.specs.declared.notes.Note.{Note}
-use Rattle.lapd_bits.specs.declared.heard.Cause.{Cause}
+use Rattle.model_bits.specs.declared.heard.Cause.{Cause}
 use Rattle.lapd_frame.specs.declared.timers.Order.{Order}
 use Rattle.model_line.specs.declared.config.Config.{Config}
 use Rattle.model_line.specs.Event.{Event, octet, pull, Answer, told, refused, pulled, dropped}

@@ -64,7 +64,7 @@ impl NextFrame {
     ghost use Rattle.lapd_frame.specs.ShortLists.{listed};
 
     /// What is to be done with timers of the link whose frame was taken, in order: at most two orders
-    /// (`answers_are_short` of `model_line`).
+    /// (`answers_are_short` of `laws_line`).
     pub fn orders(&self) -> &[Order]
         ensures { result.now ≡ listed self.now.orders }
     {

@@ -49,7 +49,7 @@ impl Report<'_> {
     }
 
     /// What layer 3 and management are told, in order: at most four notes. The machine of a line never tells more
-    /// (`answers_are_short` of `model_line`), so none is left out.
+    /// (`answers_are_short` of `laws_line`), so none is left out.
     pub fn notes(&self) -> &[Note]
         ensures { result.now ≡ (report_told self.now).notes }
     {

@@ -18,8 +18,8 @@ use Rattle.model_line.specs.Pull.{Taken, taken}
 use Rattle.model_line.specs.Machine as lines
 use Rattle.model_line.specs.Whole.{line_octets, fault_octets, came, cause_of, is_too_short}
 use Rattle.model_line.specs.WholeAtLine.{after_events, pulls_for}
-use Rattle.model_line.proofs.FrameCalls.{calls_for}
-use Rattle.model_line.proofs.FrameLengths.{frames_have_lengths}
+use Rattle.model_line.proofs.FramesGo.{calls_for}
+use Rattle.laws_line.proofs.FrameLengths.{frames_have_lengths}
 use Rattle.model_line.proofs.FramesCome.{frames_come_whole}
 use Rattle.model_line.proofs.FramesGo.{frames_go_whole}
 use Rattle.model_line.proofs.FramesHeard.{frames_are_heard}

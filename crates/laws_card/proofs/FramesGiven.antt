@@ -17,7 +17,8 @@ use Rattle.model_line.specs.Pull.{Taken, with_given_frame, message_taken, unit_t
 use Rattle.model_line.specs.Sound.{IsInRange, IsSound}
 use Rattle.model_line.specs.WholeAtLine as whole
 use Rattle.model_line.specs.WholeAtLine.{after_events, pulls_to_begin, pulls_for}
-use Rattle.model_line.proofs.FrameCalls.{calls_for, calls_come_to_an_end}
+use Rattle.laws_line.proofs.FrameCalls.{calls_come_to_an_end}
+use Rattle.model_line.proofs.FramesGo.{calls_for}
 use Rattle.model_line.proofs.FramesGo.{frames_go_whole}
 use Rattle.model_line.proofs.LineSound.{after_sound}
 use Rattle.laws_line.specs.Drains.{frames_before, most_frames_before, control_text}

@@ -5,7 +5,7 @@ use Rattle.model_bits.specs.Sent.{frame}
 use Rattle.model_line.specs.Line.{Line, fresh_line}
 use Rattle.model_line.specs.Pull.{Taken, taken}
 use Rattle.model_line.specs.WholeAtLine.{after_events, pulls_for}
-use Rattle.model_line.proofs.FrameCalls.{calls_for}
+use Rattle.model_line.proofs.FramesGo.{calls_for}
 use Rattle.model_line.proofs.FramesGo.{frames_go_whole}
 use Rattle.model_card.specs.Card.{Card, line_at}
 use Rattle.model_card.specs.Event.{at}

@@ -47,3 +47,7 @@ pub mod Soon
 pub mod Among
 pub mod Premises
 pub mod AmongMet
+pub mod Short
+pub mod InTurn
+pub mod FrameLengths
+pub mod FrameCalls

@@ -20,8 +20,8 @@ use Rattle.model_line.specs.Line.{Line, UnitData, link_count, place_at, tei_at, 
 use Rattle.model_line.specs.Machine.{after}
 use Rattle.model_line.specs.Pull.{Taken, with_message, with_unit, with_given_frame, link_taken, first_taken, round, taken, left_of, is_due, begun, with_item, with_due, after_pull}
 use Rattle.model_line.specs.Sound.{IsInRange, IsSound}
-use Rattle.model_line.specs.Turns.{IsInTurn}
-use Rattle.model_line.proofs.InTurn.{links_take_turns}
+use Rattle.laws_line.specs.Turns.{IsInTurn}
+use Rattle.laws_line.proofs.InTurn.{links_take_turns}
 use Rattle.model_line.proofs.LineSound.{after_sound}
 use Rattle.model_line.proofs.PullSound.{TakesSoundly, taken_sound}
 use Rattle.laws_line.specs.Drains.{way_round, frames_before, bits_before, IsEnough, control_text, IsBegunWithin}

@@ -29,3 +29,5 @@ pub mod WorkedDrains
 pub mod WorkedPolled
 pub mod WorkedSabme
 pub mod WorkedAmong
+pub mod Turns
+pub mod Short

@@ -7,14 +7,14 @@
 //! which events are those of a link (`Steady`, `Requests`), that one part has each and nothing else changes (`OneEvent`),
 //! which timers are needed, run and started (`Timers`), what notes tell (`Knowledge`), which frames pulls begin (`Begun`),
 //! what TEI management does, row by row (`Messages`), and which event is the cause
-//! (`Causes`) and the reason of a note (`Reasons`), all that an answer notes (`Noted`), the laws (`Laws`), and worked
+//! (`Causes`) and the reason of a note (`Reasons`), all that an answer notes (`Noted`), whose turn it is (`Turns`), how short answers are (`Short`), the laws (`Laws`), and worked
 //! values (`Worked`, `WorkedPulls`, `WorkedHeard`, `WorkedOneEvent`, `WorkedLinks`, `WorkedMessages`, `WorkedNoted`). `Drains` and
 //! `Among` say what a line comes to with pulls, or with other events between them; their bounds are numbers of pulls,
 //! which are octets of the line, and speak of no time (`docs/PROGRESS.md` has numbers for usual configurations). Each
 //! law is the contract of a call that does nothing; `laws`, `timers`, `notes` and `management` name the fields of `Promises`
 //! (crate `laws_promises`) that say the same of a card, in words.
 //!
-//! - `laws`, `timers`, `notes`, `management`, `progress`: the laws.
+//! - `laws`, `timers`, `notes`, `management`, `progress`, `turns`: the laws.
 //!
 //! # Open
 //!
@@ -27,9 +27,11 @@ mod management;
 mod notes;
 mod progress;
 mod timers;
+mod turns;
 
 pub use laws::{heard_is_delivered, nothing_is_lost, one_event, pulls_serve};
 pub use management::{messages_have_causes, users_manage_nothing};
 pub use notes::{begun_is_true, notes_tell, nothing_else_is_noted};
 pub use progress::{pulls_come_to_an_end, what_waits_is_begun, what_waits_is_begun_meanwhile};
 pub use timers::{pulls_leave_timers, timers_follow};
+pub use turns::{answers_are_short, calls_come_to_an_end, frames_have_lengths, links_take_turns};

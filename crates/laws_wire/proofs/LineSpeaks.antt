@@ -39,7 +39,7 @@ use Rattle.model_line.specs.Requested.{at_requested, aim_of_request}
 use Rattle.model_line.specs.Sound.{IsSound}
 use Rattle.model_line.specs.Whole.{IsIdle, line_octets, came}
 use Rattle.model_line.specs.WholeAtLine.{after_events, pulls_for, of_heard, receiving}
-use Rattle.model_line.proofs.FrameCalls.{calls_for}
+use Rattle.model_line.proofs.FramesGo.{calls_for}
 use Rattle.model_line.proofs.FramesCome.{frames_come_whole}
 use Rattle.model_line.proofs.FramesGo.{frames_go_whole}
 use Rattle.model_line.proofs.Numbers.{place_at-number, service_at-number, number_within}

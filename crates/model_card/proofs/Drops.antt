@@ -1,5 +1,6 @@
 -- What is dropped changes nothing, and costs nothing.
-use Rattle.model_card.proofs.Vocabulary.{◌≡◌, ℕ, ◌<◌, Some, IsSome, ap, sym, ◌∙◌, subst, arith, none-some, Cause, octet, told, dropped, cause_in, Line, with_received, octet_leaves, named_cause, Card, line_at, may_send, IsDropWithoutCost, with_octet, IsDropWithoutEffect, at, DropsCostNothing, DropsChangeNothing, after, answer, with_line, IsSound}
+use Rattle.model_card.proofs.Vocabulary.{◌≡◌, ℕ, ◌<◌, Some, IsSome, ap, sym, ◌∙◌, subst, arith, none-some, Cause, octet, told, dropped, cause_in, Line, with_received, octet_leaves, named_cause, Card, line_at, may_send, IsDropWithoutCost, with_octet, IsDropWithoutEffect, at, DropsCostNothing, DropsChangeNothing, after, answer, IsSound}
+use Rattle.model_card.specs.Machine.{with_line}
 use Rattle.model_line.specs.Counts as line
 use Rattle.model_card.proofs.EachMoment.{each_moment, every_moment}
 use Rattle.model_card.proofs.Steps.{has_lines, by_room, one_line}

@@ -1,5 +1,7 @@
 -- A run as one fold is its moments.
-use Rattle.model_card.proofs.Vocabulary.{◌≡◌, List, [], ◌∷◌, ◌++◌, refl, sym, ◌∙◌, append_assoc, append-nil, fold, map, Event, reply_of, RunIsMoments, after, answer, Run, one_more, moments, after_all}
+use Rattle.model_card.proofs.Vocabulary.{◌≡◌, List, [], ◌∷◌, ◌++◌, refl, sym, ◌∙◌, append_assoc, append-nil, fold, Event, reply_of, RunIsMoments, after, answer, Run, moments, after_all}
+use Rattle.std.specs.Prelude.{map}
+use Rattle.model_card.specs.Run.{one_more}
 
 folded_card : (events : List Event) (r : Run) → (fold one_more r events).card ≡ after_all r.card events
 unfolding after_all

@@ -1,5 +1,5 @@
 -- The words with which the proofs of this crate speak, from where they are defined.
-pub use Rattle.std.proofs.Common.{Bool, Err, IfSome, IsSome, IsTrue, List, None, Ok, Option, Result, Some, [], ap, append-nil, append_assoc, arith, cond, eq-eqb, eqb-true, false, get_or, if◌then◌else◌, inl, inr, is_some, length, length-set, nat_le, nat_lt, not, option_map, refl, replicate, set, subst, suc, sym, true, true≢false, zero, ℕ, ⊎_elim, ◌%◌, ◌&&◌, ◌*◌, ◌++◌, ◌+◌, ◌-◌, ◌<◌, ◌==◌, ◌↔◌, ◌∙◌, ◌∷◌, ◌≡◌, ◌≢◌, ◌≤◌, ◌⊎◌}
+pub use Rattle.std.proofs.Common.{Bool, Err, IfSome, IsSome, IsTrue, List, None, Ok, Option, Result, Some, [], ap, append-nil, append_assoc, arith, cond, eq-eqb, eqb-true, false, get_or, if◌then◌else◌, inl, inr, is_some, length, length-set, map, nat_le, nat_lt, not, option_map, refl, replicate, set, subst, suc, sym, true, true≢false, zero, ℕ, ⊎_elim, ◌%◌, ◌&&◌, ◌*◌, ◌++◌, ◌+◌, ◌-◌, ◌<◌, ◌==◌, ◌↔◌, ◌∙◌, ◌∷◌, ◌≡◌, ◌≢◌, ◌≤◌, ◌⊎◌}
 pub use Rattle.std.proofs.Math.Dec.{eqb-suc-zero}
 pub use Rattle.std.proofs.Math.Nat.{mul-le-mul_left, sub-eq-zero_of_le}
 pub use Rattle.std.proofs.lemmas.Bool.{and_parts, cases_eq, false≢true, le-ltb, leb-false, leb-true, lt-leb}
@@ -24,17 +24,17 @@ pub use Rattle.model_card.specs.Card.{Card, fresh, is_full, line_at, used}
 pub use Rattle.model_card.specs.Counts.{accepted, expired, frames_heard, heard, is_accepted, is_heard, is_reject, is_running_expiry, is_sent, long_frames_heard, may_send, octets_of_line, octets_received, rejected, sent, window}
 pub use Rattle.model_card.specs.Drops.{IsDropWithoutCost, IsDropWithoutEffect, with_octet}
 pub use Rattle.model_card.specs.Event.{Event, at}
-pub use Rattle.model_card.specs.Happening.{AreIdle, HappenAt, Happening, HappensAt, IsAtLineAlone, IsWhole, answer_in, asks, comes, events_at, events_of, expires, failed, goes, line_of, spelled}
+pub use Rattle.model_card.specs.Happening.{AreIdle, HappenAt, Happening, HappensAt, IsAtLineAlone, IsWhole, answer_in, asks, comes, events_at, events_of, expires, failed, goes, line_of, spelled, with_line}
 pub use Rattle.model_card.specs.HappeningLaws.{AnswersSayIt, FramesAreOfLines, HappeningsAreEvents, HappeningsAreSpelled, LinesStayIdle}
 pub use Rattle.model_card.specs.Isolation.{answers_at, event_in, is_served_at}
 pub use Rattle.model_card.specs.Laws.{CardsAreReached, CardsStaySound, DeliveriesNumbered, DropsChangeNothing, DropsCostNothing, FramesAmortised, FramesByEvent, FramesCounted, FramesLinear, LinesIsolated, PoolNeverFull, RefusedByTheTable, RunIsMoments, StoredWithinLimit, TextGoesOn, reply_of}
-pub use Rattle.model_card.specs.Machine.{after, answer, lines_after, wants_room, with_line}
-pub use Rattle.model_card.specs.Numbered.{AreNumbered, History, LinkName, Share, contents_of, deliveries_of, frames_of, history, no_share, received_by, restarts, share_of}
+pub use Rattle.model_card.specs.Machine.{after, answer, lines_after, wants_room}
+pub use Rattle.model_card.specs.Numbered.{AreNumbered, History, LinkName, Share, contents_of, deliveries_of, frames_of, history, no_share, one_more, received_by, restarts, share_of}
 pub use Rattle.model_card.specs.Promises.{HasLink, HasSevenOctetsAReject, HasSixOctetsAFrame, IsAmortised, IsAmortisedFromZero, IsLinear, IsNotRefusedForPool}
 pub use Rattle.model_card.specs.Pulled.{frame_in, frame_taken, frames_among, frames_begun, octet_in, octets_pulled}
 pub use Rattle.model_card.specs.Reached.{IsReached}
 pub use Rattle.model_card.specs.Room.{RefusesBy, free, room}
-pub use Rattle.model_card.specs.Run.{AreAtLines, IsAtLine, Moment, Run, one_more}
+pub use Rattle.model_card.specs.Run.{AreAtLines, IsAtLine, Moment, Run}
 unfoldable pub use Rattle.model_card.specs.Run.{after_all, moments}
 pub use Rattle.model_card.specs.Said.{Means, gives, next_of, said}
 pub use Rattle.model_card.specs.Sound.{IsSound}
@@ -43,9 +43,8 @@ pub use Rattle.model_line.proofs.AimsRise.{fresh_may_send}
 pub use Rattle.model_line.proofs.ByEvent.{counted_one, event_rises, falls_by_pull, heard_counted, takes_no_frame}
 pub use Rattle.model_line.proofs.Drops.{named_cause, octet_leaves}
 pub use Rattle.model_line.proofs.EventsReject.{event_rejects, expiry_none, request_none, takes_no_reject}
-pub use Rattle.model_line.proofs.FrameCalls.{calls_for}
 pub use Rattle.model_line.proofs.FramesCome.{frames_come_whole}
-pub use Rattle.model_line.proofs.FramesGo.{frames_go_whole}
+pub use Rattle.model_line.proofs.FramesGo.{calls_for, frames_go_whole}
 pub use Rattle.model_line.proofs.FramesHeard.{frames_are_heard}
 pub use Rattle.model_line.proofs.FramesReceived.{nothing_else_is_received}
 pub use Rattle.model_line.proofs.LineRises.{brings}

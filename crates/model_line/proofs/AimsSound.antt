@@ -1,5 +1,5 @@
 -- What an event is to the parts of a line keeps the line sound.
-use Rattle.model_line.proofs.Vocabulary.{◌≡◌, ◌<◌, [], ◌∷◌, length, get_or, set, Option, Some, None, refl, ap, sym, ◌∙◌, subst, arith, length-set, length-append, get_or-set_other, All-nil, All-cons, All-append, Moves, HasJoined, HasLeft, Management, IsAt, Places, Change, Gained, Left, Config, LineTold, Line, link_at, place_at, Aim, at_none, at_link, at_management, at_units, of_change, of_management, of_aim, IsInRange, IsSoundAt, IsSound, IsUnitData}
+use Rattle.model_line.proofs.Vocabulary.{◌≡◌, ◌<◌, [], ◌∷◌, length, get_or, set, Option, Some, None, refl, ap, sym, ◌∙◌, subst, arith, length-set, length-append, get_or-set_other, All-nil, All-cons, All-append, Moves, Management, IsAt, Places, Change, Gained, Left, Config, LineTold, Line, link_at, place_at, Aim, at_none, at_link, at_management, at_units, of_change, of_management, of_aim, IsInRange, IsSoundAt, IsSound, IsUnitData}
 use Rattle.lapd_tei.specs.Events as teis
 use Rattle.lapd_tei.specs.Laws as tei_laws
 use Rattle.lapd_tei.specs.Sound as tei

@@ -1,6 +1,7 @@
 -- The pulls up to the one that begins the next frame.
-use Rattle.model_line.proofs.Vocabulary.{◌≡◌, ℕ, zero, suc, ◌+◌, ◌-◌, ◌*◌, ◌/◌, ◌≤◌, ◌<◌, Bool, true, false, List, [], ◌∷◌, ◌++◌, length, map, replicate, drop, Option, Some, None, option_map, is_some, refl, ap, sym, ◌∙◌, arith, append_assoc, length-append, add-one, option_map_or, lt-ltb, le-ltb, length-drop, bits, frame, line_text, length-bits, Config, Event, pull, Answer, pulled, Line, Taken, taken, left_of, is_due, with_item, with_due, with_octet, next_octet, begun, orders_of, after_events, answers_to, giving, octet_alone, pulls_to_begin, GoesWhole, FramesGoWhole}
-use Rattle.std.specs.Prelude.{nat_lt, if◌then◌else◌}
+use Rattle.model_line.proofs.Vocabulary.{pulls_for, ◌≡◌, ℕ, zero, suc, ◌-◌, ◌/◌, ◌≤◌, ◌<◌, true, false, List, [], ◌∷◌, ◌++◌, length, map, replicate, Option, Some, None, option_map, is_some, refl, ap, sym, ◌∙◌, arith, append_assoc, length-append, add-one, option_map_or, lt-ltb, le-ltb, bits, frame, line_text, length-bits, Config, pull, pulled, Line, Taken, taken, left_of, is_due, with_item, with_due, with_octet, next_octet, begun, orders_of, after_events, answers_to, giving, octet_alone, pulls_to_begin, FramesGoWhole}
+use Rattle.std.proofs.lemmas.List.{length-drop}
+use Rattle.std.specs.Prelude.{if◌then◌else◌}
 use Rattle.model_line.specs.Machine as lines
 use Rattle.model_line.proofs.FramesTaken.{taken_moved, taken_same, taken_keeps, taken_keeps_given}
 
@@ -113,3 +114,7 @@ frames_go_whole c l t is =
       answers = ap (λ k. answers_to c (replicate k pull) l) (add-one n) ∙ g.answers;
       line = ap (λ k. after_events c (replicate k pull) l) (add-one n) ∙ g.line;
     }
+
+-- a call that takes a frame
+pub calls_for : (c : Config) (l : Line) (o : Option Taken) → taken c l ≡ o → pulls_for c l ≡ (if is_some o then replicate (pulls_to_begin l) pull else [])
+calls_for c l o is = ap (λ x. if is_some x then replicate (pulls_to_begin l) pull else []) is

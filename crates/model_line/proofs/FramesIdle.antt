@@ -1,5 +1,5 @@
 -- An idle line: a flag begins on it, and 1s after a flag make it idle again.
-use Rattle.model_line.proofs.Vocabulary.{◌≡◌, ◌≢◌, ℕ, zero, suc, ◌<◌, ◌≤◌, Bool, true, false, List, [], ◌∷◌, ◌++◌, replicate, option_to_list, None, refl, ap, sym, ◌∙◌, arith, append-nil, flag, heard_at, heard_until, run_of, open_gap, one_more, given_up_event, closed_event, heard_at-one, heard_at-zero, heard_at-flag, heard_at-abort, open_gap-one, open_gap-zero, open_gap-abort, hears, after_flag, heard_until-onto}
+use Rattle.model_line.proofs.Vocabulary.{◌≡◌, ◌≢◌, ℕ, zero, suc, ◌<◌, ◌≤◌, Bool, true, false, List, [], ◌∷◌, ◌++◌, replicate, option_to_list, None, refl, ap, ◌∙◌, arith, append-nil, flag, heard_at, heard_until, run_of, open_gap, one_more, given_up_event, closed_event, heard_at-one, heard_at-zero, heard_at-flag, heard_at-abort, open_gap-one, open_gap-zero, open_gap-abort, hears, after_flag, heard_until-onto}
 use mathlib.Core.List.{reverse_aux}
 
 -- a place at which the line is idle

@@ -24,10 +24,8 @@ pub mod Rejects
 pub mod RejectsHeard
 pub mod EventsReject
 pub mod RoomForAll
-pub mod Short
 pub mod Starts
 pub mod Drops
-pub mod InTurn
 pub mod FramesIdle
 pub mod FramesJudged
 pub mod FramesHeard
@@ -35,6 +33,4 @@ pub mod FramesReceived
 pub mod FramesTaken
 pub mod FramesCome
 pub mod FramesGo
-pub mod FrameLengths
-pub mod FrameCalls
 pub mod Begun

@@ -1,5 +1,5 @@
 -- What a pull takes leaves a line sound, and is a frame of at most the longest length.
-use Rattle.model_line.proofs.Vocabulary.{◌≡◌, ℕ, zero, suc, ◌+◌, ◌≤◌, ◌<◌, List, [], ◌∷◌, length, take, drop, slice_get, Option, Some, None, option_map, IfSome, refl, ap, sym, ◌∙◌, subst, arith, All, range_with_len, option_or, unwrap_or, All-nil, All-cons, All-head, All-tail, All-drop, All-take, All-append, Side, Link, Terms, Given, sound-after, frame_of, Message, IdentityAssigned, IdentityDenied, IdentityCheckRequest, IdentityRemove, sound-after_offer, Config, Line, UnitData, link_count, service_at, place_at, tei_at, terms, link_at, with_link, Taken, with_message, message_taken, unit_frame, with_unit, unit_taken, with_given_frame, link_taken, first_taken, round_from, round, taken, IsInRange, IsSoundAt, IsSound, IsUnitData}
+use Rattle.model_line.proofs.Vocabulary.{◌≡◌, ℕ, zero, suc, ◌+◌, ◌≤◌, ◌<◌, List, [], ◌∷◌, length, take, drop, slice_get, Option, Some, None, option_map, IfSome, refl, ap, sym, ◌∙◌, subst, arith, All, range_with_len, option_or, unwrap_or, All-nil, All-cons, All-head, All-tail, All-drop, All-take, All-append, Side, Link, Terms, Given, sound-after, frame_of, Message, IdentityAssigned, IdentityDenied, IdentityCheckRequest, IdentityRemove, sound-after_offer, Config, Line, UnitData, link_count, service_at, place_at, tei_at, terms, link_at, with_link, Taken, with_message, message_taken, unit_frame, unit_taken, with_given_frame, link_taken, first_taken, round, taken, IsInRange, IsSoundAt, IsSound, IsUnitData}
 use Rattle.model_link.specs.Events as link
 use Rattle.model_link.specs.Machine as links
 use Rattle.model_line.specs.Pull as pull

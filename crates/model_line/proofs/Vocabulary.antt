@@ -1,8 +1,8 @@
 -- The words with which the proofs of this crate speak, from where they are defined.
-pub use Rattle.std.proofs.Common.{Bool, Err, IfSome, IsSome, List, None, Ok, Option, Result, Some, [], add-one, ap, append-nil, append_assoc, arith, cond, drop, eq-eqb, eqb-true, false, get_or, if◌then◌else◌, inl, inr, is_some, length, length-append, length-set, map, max, nat_eq, nat_le, nat_lt, not, option_map, option_to_list, refl, replicate, reverse, set, slice_get, slice_index, subst, suc, sym, take, true, true≢false, zero, ℕ, ⊎_elim, ◌%◌, ◌&&◌, ◌*◌, ◌++◌, ◌+◌, ◌-◌, ◌/◌, ◌<◌, ◌==◌, ◌^◌, ◌||◌, ◌∙◌, ◌∷◌, ◌≡◌, ◌≢◌, ◌≤◌, ◌⊎◌}
+pub use Rattle.std.proofs.Common.{Bool, Err, IfSome, IsSome, List, None, Ok, Option, Result, Some, [], add-one, ap, append-nil, append_assoc, arith, cond, drop, eq-eqb, eqb-true, false, get_or, if◌then◌else◌, inl, inr, is_some, length, length-append, length-drop, length-set, map, max, nat_eq, nat_le, nat_lt, not, option_map, option_to_list, refl, replicate, reverse, set, slice_get, slice_index, subst, suc, sym, take, true, true≢false, zero, ℕ, ⊎_elim, ◌%◌, ◌&&◌, ◌*◌, ◌++◌, ◌+◌, ◌-◌, ◌/◌, ◌<◌, ◌==◌, ◌^◌, ◌∙◌, ◌∷◌, ◌≡◌, ◌≢◌, ◌≤◌, ◌⊎◌}
 pub use Rattle.std.proofs.Math.Seq.{drop-append_seam}
 pub use Rattle.std.proofs.lemmas.Bool.{and_left, and_parts, cases_eq, cases_lt, false≢true, le-leb, le-ltb, leb-false, leb-true, lt-ltb, ltb-false, ltb-true, ne_eqb, or_from}
-pub use Rattle.std.proofs.lemmas.List.{append_cancel_left, get_or-replicate, get_or-set_other, get_or-set_same, get_or_past, length-drop, length-replicate, length-take-le, set-get_or, take-append-drop, take_at}
+pub use Rattle.std.proofs.lemmas.List.{append_cancel_left, get_or-replicate, get_or-set_other, get_or-set_same, get_or_past, length-replicate, length-take-le, set-get_or, take-append-drop, take_at}
 pub use Rattle.std.proofs.lemmas.List.Elements.{All-append, All-cons, All-drop, All-get_or, All-head, All-nil, All-tail, All-take}
 pub use Rattle.std.proofs.lemmas.List.Sums.{sum_by-append, sum_by-cons, sum_by-le}
 pub use Rattle.std.proofs.lemmas.Option.{none-some, slice_get_cases}
@@ -33,7 +33,7 @@ pub use Rattle.model_bits.specs.StreamLaws.{IsWhole}
 pub use Rattle.model_bits.specs.Stuffing.{octets_sent, stuffed, unstuffed}
 pub use Rattle.model_bits.specs.StuffingLaws.{AreOctets}
 pub use Rattle.model_bits.specs.declared.heard.Cause.{Cause}
-pub use Rattle.model_bits.specs.declared.heard.Cause.TheVariants.{Tei, Unserved}
+pub use Rattle.model_bits.specs.declared.heard.Cause.TheVariants.{Tei, Unserved, Fcs, Ragged}
 pub use Rattle.lapd_frame.specs.Faults.{has_bad_extension}
 pub use Rattle.lapd_frame.specs.Grammar.{Parts, allows, row, spelling, takes}
 pub use Rattle.lapd_frame.specs.Reading.{address_of, completed, long_reading, sized, start_of, supervisory_of}
@@ -58,7 +58,7 @@ pub use Rattle.lapd_seq.specs.Numbers.{seq}
 pub use Rattle.lapd_tei.proofs.Brief.{IsBrief, told_brief}
 pub use Rattle.lapd_tei.proofs.LawLemmas.{sound-after_offer, sound-empty}
 pub use Rattle.lapd_tei.proofs.Tables.{at-within, place_of-is}
-pub use Rattle.lapd_tei.specs.Laws.{HasJoined, HasLeft, Moves}
+pub use Rattle.lapd_tei.specs.Laws.{Moves}
 pub use Rattle.lapd_tei.specs.Machine.{Management, held}
 pub use Rattle.lapd_tei.specs.Messages.{frame_of}
 pub use Rattle.lapd_tei.specs.Rows.{expire_check}
@@ -76,33 +76,32 @@ pub use Rattle.model_line.specs.Deliveries.{arrived, arrived_aimed, delivered, d
 pub use Rattle.model_line.specs.Effect.{Aim, Effect, at_link, at_management, at_none, at_units, of_aim, of_change, of_link, of_management, told_of_link, told_of_management, unserved_cause}
 pub use Rattle.model_line.specs.Event.{Answer, Event, LineTold, expiry, nothing, octet, pull, pulled, refused, request, told}
 pub use Rattle.model_line.specs.Expiry.{aim_of_expiry, at_timer, runs_at}
-pub use Rattle.model_line.specs.Laws.{AnswersAreShort, DropsChangeNothing, FallsByPull, HearsOne, IsHeardCounted, IsRejectHeard, Rises, cause_in, notes_in, orders_in}
+pub use Rattle.model_line.specs.Laws.{DropsChangeNothing, FallsByPull, HearsOne, IsHeardCounted, IsRejectHeard, Rises, cause_in, orders_in}
 pub use Rattle.model_line.specs.Line.{Line, UnitData, fresh_line, link_at, link_count, link_in, link_number, place_at, place_in, service_at, tei_at, terms, terms_at, window, with_link}
 pub use Rattle.model_line.specs.Machine.{of_request, unless_refused, unless_refused_told}
 unfoldable pub use Rattle.model_line.specs.Machine.{after, answer, takes_slot}
 pub use Rattle.model_line.specs.Octet.{addressed, aim_of_heard, aim_of_long, aim_of_octet, aim_of_reading, at_place, drop_for, gained, group_tei, heard_side, management_sapi, message_of, to_service, unless_at_link, with_received}
-pub use Rattle.model_line.specs.Pull.{Taken, after_pull, answer_to_pull, begun, first_taken, is_due, left_of, link_taken, message_taken, next_octet, orders_of, round, round_from, taken, unit_frame, unit_taken, with_due, with_given_frame, with_item, with_message, with_octet, with_unit}
+pub use Rattle.model_line.specs.Pull.{Taken, after_pull, answer_to_pull, begun, first_taken, is_due, left_of, link_taken, message_taken, next_octet, orders_of, round, taken, unit_frame, unit_taken, with_due, with_given_frame, with_item, with_message, with_octet, with_unit}
 pub use Rattle.model_line.specs.Refusal.{Row, bad_tei, bad_tei_or_group, check_running, control_full, first_that_holds, no_link, no_link_nor_group, pool_full, queue_full, refusal, table_full, tei_taken, too_long, unit_queue_full, wrong_side, wrong_state}
 pub use Rattle.model_line.specs.Request.{Assign, Check, ClearBusy, Data, Establish, Release, Remove, Request, SetBusy, Unit}
 pub use Rattle.model_line.specs.Requested.{aim_of_request, at_requested, carries_contents}
 pub use Rattle.model_line.specs.Sides.{IsToGroup, at_side, group_told, last_unit_tei, managed_at, told_at, told_of_group, told_of_ui}
 pub use Rattle.model_line.specs.Sound.{IsInRange, IsSound, IsSoundAt, IsTextOf, IsUnitData}
 pub use Rattle.model_line.specs.Stored.{held_by_link, held_in, held_received, held_sent, octets_by_link, slots_by_link, slots_of, stored_in, sum_of_links, total_length, unit_length}
-pub use Rattle.model_line.specs.Turns.{LinksTakeTurns}
 pub use Rattle.model_line.specs.Whole.{IsIdle, came, cause_of, fault_octets, filled, filling, framed, is_too_short, line_octets}
-pub use Rattle.model_line.specs.WholeAtLine.{AreOneEvent, GoesWhole, after_calls, after_events, answers_to, giving, octet_alone, of_heard, pulls_for, pulls_to_begin, receiving}
-pub use Rattle.model_line.specs.WholeLaws.{AreHeardAs, CallsComeToAnEnd, FramesAreHeard, FramesComeWhole, FramesGoWhole, FramesHaveLengths, NothingElseIsReceived}
+pub use Rattle.model_line.specs.WholeAtLine.{AreOneEvent, after_events, answers_to, giving, octet_alone, of_heard, pulls_for, pulls_to_begin, receiving}
+pub use Rattle.model_line.specs.WholeLaws.{AreHeardAs, FramesAreHeard, FramesComeWhole, FramesGoWhole, NothingElseIsReceived}
 pub use Rattle.model_line.specs.declared.config.Config.{Config}
 pub use Rattle.model_line.specs.declared.config.Field.{Field}
 pub use Rattle.model_line.specs.declared.faults.Fault.{Fault}
-pub use Rattle.model_line.specs.declared.faults.Fault.TheVariants.{Abort, Fcs, Ragged}
+pub use Rattle.model_line.specs.declared.faults.Fault.TheVariants.{Abort}
 pub use Rattle.model_link.proofs.Counting.{done}
 pub use Rattle.model_link.proofs.Delivering.{counted_on, delivery, event-delivers}
 pub use Rattle.model_link.proofs.OwnNotes.{IsOwn, notes-own, offer-keeps-r, transfer-goes-on}
 pub use Rattle.model_link.proofs.RiseEvents.{event-rises, offer-falls}
 pub use Rattle.model_link.proofs.Slots.{queue-after}
 pub use Rattle.model_link.proofs.SoundEvents.{sound-after, sound-fresh}
-pub use Rattle.model_link.proofs.TellRows.{cleared-orders, cleared-tells, event-tells, one-start, two-orders}
+pub use Rattle.model_link.proofs.TellRows.{event-tells, one-start}
 pub use Rattle.model_link.proofs.Unserved.{unserved_leaves}
 pub use Rattle.model_link.specs.Events.{offer}
 pub use Rattle.model_link.specs.Link.{Link, address_at, fresh, queue_of}

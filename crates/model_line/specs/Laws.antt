@@ -1,12 +1,10 @@
 -- Laws of a line.
-use Rattle.std.specs.Prelude.{◌≡◌, ℕ, ◌+◌, ◌*◌, ◌≤◌, max, List, [], ◌∷◌, length, Option, Some, None, IsSome}
+use Rattle.std.specs.Prelude.{◌≡◌, ℕ, ◌+◌, ◌*◌, ◌≤◌, max, List, [], Option, Some, None, IsSome}
 use Rattle.lapd_frame.specs.declared.notes.Note.{Note}
 use Rattle.model_bits.specs.declared.heard.Cause.{Cause}
 use Rattle.lapd_frame.specs.declared.timers.Order.{Order}
-use Rattle.lapd_frame.specs.declared.timers.Timer.{Timer}
-use Rattle.model_link.specs.Told.{starts}
 use Rattle.model_line.specs.declared.config.Config.{Config}
-use Rattle.model_line.specs.Event.{Event, octet, expiry, pull, Answer, told, refused, pulled, dropped}
+use Rattle.model_line.specs.Event.{Event, octet, pull, Answer, told, refused, pulled, dropped}
 use Rattle.model_line.specs.Line.{Line, fresh_line}
 use Rattle.model_line.specs.Counts.{one, may_send, frames_heard, hears, long_frames_heard, is_octet, is_begun, is_accepted, is_running_expiry, rejects}
 use Rattle.model_line.specs.Machine.{after, answer}
@@ -65,12 +63,6 @@ abbrev pub orders_in : Answer → List Order
 orders_in (told t) = t.orders
 orders_in (refused why) = []
 orders_in (pulled value begun orders) = orders
-
-pub record AnswersAreShort : Type 0 where
-  pub notes : (c : Config) (e : Event) (l : Line) → length (notes_in (answer c e l)) ≤ 4
-  pub orders : (c : Config) (e : Event) (l : Line) → length (orders_in (answer c e l)) ≤ 4
-  pub pulls : (c : Config) (l : Line) → length (orders_in (answer c pull l)) ≤ 2
-  pub expiries : (c : Config) (timer : Timer) (l : Line) → starts (orders_in (answer c (expiry timer) l)) ≤ 1
 
 -- Why an octet, or the frame that it ended, was dropped.
 abbrev pub cause_in : Answer → Option Cause

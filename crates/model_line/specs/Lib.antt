@@ -25,7 +25,6 @@ pub mod Worked
 pub mod WorkedSides
 pub mod Sound
 pub mod Laws
-pub mod Turns
 pub mod Whole
 pub mod WholeAtLine
 pub mod WholeLaws

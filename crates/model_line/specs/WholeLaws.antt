@@ -10,9 +10,7 @@ use Rattle.model_line.specs.Line.{Line}
 use Rattle.model_line.specs.Machine.{after}
 use Rattle.model_line.specs.Pull.{Taken, taken}
 use Rattle.model_line.specs.Request.{Request}
-use Rattle.model_line.specs.Counts.{may_send}
-use Rattle.model_line.specs.Sound.{IsInRange, IsSound}
-use Rattle.model_line.specs.WholeAtLine.{AreOneEvent, GoesWhole, after_events, pulls_to_begin, pulls_for, after_calls}
+use Rattle.model_line.specs.WholeAtLine.{AreOneEvent, GoesWhole}
 use Rattle.model_line.specs.Whole.{IsIdle, line_octets, came, fault_octets, cause_of}
 
 -- After some octets, these octets are heard as exactly this event, and leave the line idle.
@@ -43,19 +41,3 @@ pub record NothingElseIsReceived : Type 0 where
   pub expiries : (c : Config) (timer : Timer) (l : Line) → (after c (expiry timer) l).received ≡ l.received
   pub requests : (c : Config) (r : Request) (l : Line) → (after c (request r) l).received ≡ l.received
   pub pulls : (c : Config) (l : Line) → (after c pull l).received ≡ l.received
-
--- A frame of so many octets, without its check, means five octets more at least: two flags, the check, and 1s; and at most
--- these, the 1s that fill the last, and a stuffed 0 for each five of the frame's bits. So what is linear in the octets of a
--- line is linear in the octets of its frames.
-abbrev pub FramesHaveLengths : Type 0
-FramesHaveLengths =
-    (octets : List ℕ) → (length octets + 5 ≤ length (line_octets octets)) × (40 * length (line_octets octets) ≤ 48 * length octets + 246)
-
--- A call for the next frame means the pulls of `GoesWhole` where one waits, and nothing where none does. One that takes a
--- frame lets what may be sent fall. So after as many calls as frames may be sent none waits.
-pub record CallsComeToAnEnd : Type 0 where
-  pub takes : (c : Config) (l : Line) (t : Taken) → taken c l ≡ Some t → pulls_for c l ≡ replicate (pulls_to_begin l) pull
-  pub takes_none : (c : Config) (l : Line) → taken c l ≡ None → pulls_for c l ≡ []
-  pub falls : (c : Config) (l : Line) (t : Taken) → IsInRange c → IsSound c l → taken c l ≡ Some t →
-      may_send c (after_events c (pulls_for c l) l) < may_send c l
-  pub ends : (c : Config) (l : Line) → IsInRange c → IsSound c l → taken c (after_calls c (may_send c l) l) ≡ None

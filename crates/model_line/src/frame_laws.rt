@@ -1,7 +1,7 @@
 //! What is heard in the octets that whole frames and faults mean, and what these and pulls are at a line. Each law is the
 //! contract of a call that does nothing.
 
-ghost use Rattle.model_line.specs.WholeLaws.{CallsComeToAnEnd, FramesAreHeard, FramesComeWhole, FramesGoWhole, FramesHaveLengths, NothingElseIsReceived};
+ghost use Rattle.model_line.specs.WholeLaws.{FramesAreHeard, FramesComeWhole, FramesGoWhole, NothingElseIsReceived};
 
 /// On an idle line the octets that a frame means are heard as this frame and nothing else, or, by its length, as one that
 /// is too short or overlong; those that a fault means are heard as what is dropped for its cause and nothing else; and
@@ -25,17 +25,4 @@ pub fn frames_go_whole()
 /// An expiry, a request and a pull leave the octets received as they are, so a line stays idle.
 pub fn nothing_else_is_received()
     ensures { NothingElseIsReceived }
-{}
-
-/// A frame that comes means five octets more at least than it has without its check, and at most six for each five, and
-/// six more.
-pub fn frames_have_lengths()
-    ensures { FramesHaveLengths }
-{}
-
-/// A call for the next frame means the pulls of `frames_go_whole` where one waits, and nothing where none does. One that
-/// takes a frame lets what may be sent fall, so after as many calls as frames may be sent, with nothing else between them,
-/// none waits.
-pub fn calls_come_to_an_end()
-    ensures { CallsComeToAnEnd }
 {}

@@ -1,8 +1,7 @@
 //! What holds of the machine of a line itself. Each law is the contract of a call that does nothing.
 
 ghost use Rattle.model_line.specs.Begun.{LatestIsBegun};
-ghost use Rattle.model_line.specs.Laws.{AnswersAreShort, DropsChangeNothing, LinesRise, LinesStaySound};
-ghost use Rattle.model_line.specs.Turns.{LinksTakeTurns};
+ghost use Rattle.model_line.specs.Laws.{DropsChangeNothing, LinesRise, LinesStaySound};
 
 /// A line is sound as it begins, and each event keeps it so: TEI management and the links are, the links of free
 /// places are as they begin, no queue holds more than it may, and the octets given are a beginning of the text of the
@@ -19,14 +18,6 @@ pub fn lines_rise()
     ensures { LinesRise }
 {}
 
-/// An answer has at most four notes and at most four orders for timers, so a list of four holds each. A line answers
-/// most of both where a TEI leaves it: one of TEI management and one of each of its two links. The answer to a pull has
-/// at most two orders, those of the link whose frame it takes. That to an expiry starts one timer at most, so whoever
-/// applies the orders of what falls due comes to an end.
-pub fn answers_are_short()
-    ensures { AnswersAreShort }
-{}
-
 /// Where the answer to an octet names a cause, whichever, the cause is all that it says, the line is afterwards what it
 /// was but for the octet received, and so what may be sent stays as it is.
 pub fn drops_change_nothing()
@@ -37,11 +28,4 @@ pub fn drops_change_nothing()
 /// frame, and nothing else changes it.
 pub fn latest_is_begun()
     ensures { LatestIsBegun }
-{}
-
-/// Links take turns: a frame of a link that a pull takes is that of the first link in the round that has one, and the
-/// next round begins with the link after it. So no link that has something to give is passed over, and one that was
-/// served waits until the round comes back to it.
-pub fn links_take_turns()
-    ensures { LinksTakeTurns }
 {}

@@ -34,11 +34,7 @@ mod requests;
 pub use config::{Config, Field};
 pub use faults::Fault;
 pub use frame_laws::{
-    calls_come_to_an_end, frames_are_heard, frames_come_whole, frames_go_whole,
-    frames_have_lengths, nothing_else_is_received,
+    frames_are_heard, frames_come_whole, frames_go_whole, nothing_else_is_received,
 };
-pub use laws::{
-    answers_are_short, drops_change_nothing, latest_is_begun, lines_rise, lines_stay_sound,
-    links_take_turns,
-};
+pub use laws::{drops_change_nothing, latest_is_begun, lines_rise, lines_stay_sound};
 pub use requests::Request;

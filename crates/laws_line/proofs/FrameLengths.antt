@@ -1,5 +1,15 @@
 -- How many octets a frame means.
-use Rattle.model_line.proofs.Vocabulary.{◌≡◌, ℕ, ◌+◌, ◌*◌, ◌≤◌, true, List, ◌++◌, length, replicate, ap, arith, length-append, length-replicate, bits, flag, octets_of, check, frame_text, length-bits, length-check, stuffed_after-pays, stuffed_after-at_least, stuffed-counted, framed, filling, filled, line_octets, FramesHaveLengths}
+use Rattle.std.proofs.Common.{◌≡◌, ℕ, ◌+◌, ◌*◌, ◌≤◌, true, List, ◌++◌, length, replicate, ap, arith, length-append}
+use Rattle.std.proofs.lemmas.List.{length-replicate}
+use Rattle.model_bits.specs.Bits.{bits, flag, octets_of}
+use Rattle.model_bits.specs.Check.{check}
+use Rattle.model_bits.specs.Sent.{frame_text}
+use Rattle.model_bits.proofs.BitLemmas.{length-bits}
+use Rattle.model_bits.proofs.Division.Unique.{length-check}
+use Rattle.model_bits.proofs.StuffingLengths.{stuffed_after-pays, stuffed_after-at_least}
+use Rattle.model_bits.proofs.StuffingCounted.{stuffed-counted}
+use Rattle.model_line.specs.Whole.{framed, filling, filled, line_octets}
+use Rattle.laws_line.specs.Short.{FramesHaveLengths}
 use Rattle.model_line.proofs.FramesHeard.{bits-filled, filling-seven, filling-few}
 
 pub frames_have_lengths : FramesHaveLengths

@@ -1,8 +1,17 @@
 -- Calls for the next frame come to an end.
-use Rattle.model_line.proofs.Vocabulary.{◌≡◌, ℕ, zero, suc, ◌+◌, ◌≤◌, ◌<◌, Bool, true, false, List, [], ◌∷◌, ◌++◌, map, replicate, Option, Some, None, is_some, if◌then◌else◌, refl, ap, sym, subst, ◌∙◌, arith, Config, one, may_send, is_begun, Event, pull, Answer, pulled, Line, after, answer, Taken, taken, IsInRange, IsSound, after_events, answers_to, octet_alone, pulls_to_begin, pulls_for, after_calls, CallsComeToAnEnd}
+use Rattle.std.proofs.Common.{◌≡◌, ℕ, zero, suc, ◌+◌, ◌≤◌, ◌<◌, Bool, true, false, List, [], ◌∷◌, ◌++◌, map, replicate, Option, Some, None, is_some, if◌then◌else◌, refl, ap, sym, subst, ◌∙◌, arith}
+use Rattle.model_line.specs.declared.config.Config.{Config}
+use Rattle.model_line.specs.Counts.{one, may_send, is_begun}
+use Rattle.model_line.specs.Event.{Event, pull, Answer, pulled}
+use Rattle.model_line.specs.Line.{Line}
+use Rattle.model_line.specs.Machine.{after, answer}
+use Rattle.model_line.specs.Pull.{Taken, taken}
+use Rattle.model_line.specs.Sound.{IsInRange, IsSound}
+use Rattle.model_line.specs.WholeAtLine.{after_events, answers_to, octet_alone, pulls_to_begin, pulls_for, after_calls}
+use Rattle.laws_line.specs.Short.{CallsComeToAnEnd}
 use Rattle.model_line.proofs.ByEvent.{falls_by_pull}
 use Rattle.model_line.proofs.LineSound.{after_sound}
-use Rattle.model_line.proofs.FramesGo.{frames_go_whole}
+use Rattle.model_line.proofs.FramesGo.{frames_go_whole, calls_for}
 
 -- the frames that answers begin
 abbrev begun_in : List Answer → ℕ
@@ -22,10 +31,6 @@ pulls_fall : (c : Config) → IsInRange c → (n : ℕ) (l : Line) → IsSound c
 pulls_fall c range zero l s = omega arith
 pulls_fall c range (suc n) l s =
     omega (arith, (falls_by_pull c l range s).0, pulls_fall c range n (after c pull l) (after_sound c range pull l s))
-
--- a call that takes a frame
-pub calls_for : (c : Config) (l : Line) (o : Option Taken) → taken c l ≡ o → pulls_for c l ≡ (if is_some o then replicate (pulls_to_begin l) pull else [])
-calls_for c l o is = ap (λ x. if is_some x then replicate (pulls_to_begin l) pull else []) is
 
 call_falls : (c : Config) (l : Line) (t : Taken) → IsInRange c → IsSound c l → taken c l ≡ Some t → may_send c (after_events c (pulls_for c l) l) < may_send c l
 call_falls c l t range s is =

@@ -1,5 +1,5 @@
 -- The words with which the proofs of this crate speak, from where they are defined.
-pub use Rattle.std.proofs.Common.{Bool, Err, IfSome, IsSome, IsTrue, List, None, Ok, Option, Result, Some, [], ap, append-nil, append_assoc, arith, cond, eq-eqb, eqb-true, false, get_or, if◌then◌else◌, inl, inr, is_some, length, length-set, map, nat_le, nat_lt, not, option_map, refl, replicate, set, subst, suc, sym, true, true≢false, zero, ℕ, ⊎_elim, ◌%◌, ◌&&◌, ◌*◌, ◌++◌, ◌+◌, ◌-◌, ◌<◌, ◌==◌, ◌↔◌, ◌∙◌, ◌∷◌, ◌≡◌, ◌≢◌, ◌≤◌, ◌⊎◌}
+pub use Rattle.std.proofs.Common.{Bool, Err, IfSome, IsSome, IsTrue, List, None, Ok, Option, Result, Some, [], ap, append-nil, append_assoc, arith, cond, eq-eqb, eqb-true, false, get_or, if◌then◌else◌, inl, inr, is_some, length, length-set, nat_le, nat_lt, not, option_map, refl, replicate, set, subst, suc, sym, true, true≢false, zero, ℕ, ⊎_elim, ◌%◌, ◌&&◌, ◌*◌, ◌++◌, ◌+◌, ◌-◌, ◌<◌, ◌==◌, ◌↔◌, ◌∙◌, ◌∷◌, ◌≡◌, ◌≢◌, ◌≤◌, ◌⊎◌}
 pub use Rattle.std.proofs.Math.Dec.{eqb-suc-zero}
 pub use Rattle.std.proofs.Math.Nat.{mul-le-mul_left, sub-eq-zero_of_le}
 pub use Rattle.std.proofs.lemmas.Bool.{and_parts, cases_eq, false≢true, le-ltb, leb-false, leb-true, lt-leb}
@@ -10,15 +10,15 @@ pub use Rattle.std.proofs.lemmas.List.Sums.{get_or-le-sum_by, sum_by-cons, sum_b
 pub use Rattle.std.proofs.lemmas.Option.{none-some}
 pub use Rattle.std.specs.Option.{option_map_or}
 pub use Rattle.std.specs.Prelude.{All, count_by, filter, fold, map, option_to_list, sum_by}
-pub use Rattle.model_bits.specs.Sent.{Item, frame, idle}
-pub use Rattle.model_bits.specs.StuffingLaws.{AreOctets}
-pub use Rattle.model_bits.specs.declared.heard.Cause.{Cause}
 pub use Rattle.lapd_frame.specs.declared.refusals.Refusal.{Refusal}
 pub use Rattle.lapd_frame.specs.declared.refusals.Refusal.TheVariants.{BadTei, NoLink, PoolFull, QueueFull, TooLong, WrongState}
 pub use Rattle.lapd_frame.specs.declared.services.Service.{Service}
 pub use Rattle.lapd_frame.specs.declared.timers.Timer.{Timer}
 pub use Rattle.lapd_tei.specs.declared.outcome.Change.{Change}
 pub use Rattle.lapd_tei.specs.declared.outcome.Change.TheVariants.{Gained, Left}
+pub use Rattle.model_bits.specs.Sent.{Item, frame, idle}
+pub use Rattle.model_bits.specs.StuffingLaws.{AreOctets}
+pub use Rattle.model_bits.specs.declared.heard.Cause.{Cause}
 pub use Rattle.model_card.specs.ByEvent.{FallsByPull, IsPriced, RisesBy, RisesByExpiry, RisesByOctet, RisesByRequest}
 pub use Rattle.model_card.specs.Card.{Card, fresh, is_full, line_at, used}
 pub use Rattle.model_card.specs.Counts.{accepted, expired, frames_heard, heard, is_accepted, is_heard, is_reject, is_running_expiry, is_sent, long_frames_heard, may_send, octets_of_line, octets_received, rejected, sent, window}

@@ -1,5 +1,5 @@
 -- The words with which the proofs of this crate speak, from where they are defined.
-pub use Rattle.std.proofs.Common.{Bool, Err, IfSome, IsSome, List, None, Ok, Option, Result, Some, [], add-one, ap, append-nil, append_assoc, arith, cond, drop, eq-eqb, eqb-true, false, get_or, if◌then◌else◌, inl, inr, is_some, length, length-append, length-drop, length-set, map, max, nat_eq, nat_le, nat_lt, not, option_map, option_to_list, refl, replicate, reverse, set, slice_get, slice_index, subst, suc, sym, take, true, true≢false, zero, ℕ, ⊎_elim, ◌%◌, ◌&&◌, ◌*◌, ◌++◌, ◌+◌, ◌-◌, ◌/◌, ◌<◌, ◌==◌, ◌^◌, ◌∙◌, ◌∷◌, ◌≡◌, ◌≢◌, ◌≤◌, ◌⊎◌}
+pub use Rattle.std.proofs.Common.{Bool, Err, IfSome, IsSome, List, None, Ok, Option, Result, Some, [], add-one, ap, append-nil, append_assoc, arith, cond, drop, eq-eqb, eqb-true, false, get_or, if◌then◌else◌, inl, inr, is_some, length, length-append, length-drop, length-set, map, max, nat_eq, nat_le, nat_lt, not, option_map, option_to_list, refl, replicate, reverse, set, slice_get, slice_index, subst, suc, sym, take, true, true≢false, zero, ℕ, ⊎_elim, ◌%◌, ◌&&◌, ◌*◌, ◌++◌, ◌+◌, ◌-◌, ◌/◌, ◌<◌, ◌==◌, ◌^◌, ◌||◌, ◌∙◌, ◌∷◌, ◌≡◌, ◌≢◌, ◌≤◌, ◌⊎◌}
 pub use Rattle.std.proofs.Math.Seq.{drop-append_seam}
 pub use Rattle.std.proofs.lemmas.Bool.{and_left, and_parts, cases_eq, cases_lt, false≢true, le-leb, le-ltb, leb-false, leb-true, lt-ltb, ltb-false, ltb-true, ne_eqb, or_from}
 pub use Rattle.std.proofs.lemmas.List.{append_cancel_left, get_or-replicate, get_or-set_other, get_or-set_same, get_or_past, length-replicate, length-take-le, set-get_or, take-append-drop, take_at}
@@ -9,34 +9,9 @@ pub use Rattle.std.proofs.lemmas.Option.{none-some, slice_get_cases}
 pub use Rattle.std.specs.List.{list_any, range_with_len}
 pub use Rattle.std.specs.Option.{option_map_or, option_or, unwrap_or}
 pub use Rattle.std.specs.Prelude.{All, count_by, sum_by}
-pub use Rattle.model_bits.proofs.BitLemmas.{bits-append, bits-push, bits-two_octets, length-bits, low_bits-number_of_n, number_of-lt}
-pub use Rattle.model_bits.proofs.Division.Unique.{is_good-check, length-check}
-pub use Rattle.model_bits.proofs.Items.{latest-push, line_text-push}
-pub use Rattle.model_bits.proofs.Hearing.{heard_at-abort, heard_at-flag, heard_at-one, heard_at-zero, open_gap-abort, open_gap-one, open_gap-zero}
-pub use Rattle.model_bits.proofs.OneEvent.{one_event_an_octet}
-pub use Rattle.model_bits.proofs.RoundTripFrame.{check_octets, checked}
-pub use Rattle.model_bits.proofs.RoundTripPlaces.{after_flag, after_text, heard_until-onto, hears, hears-append, hears_text, reverse_aux-append}
-pub use Rattle.model_bits.proofs.StreamLengths.{IsWeight, heard_within_stream, judged_as, weight_of_heard}
-pub use Rattle.model_bits.proofs.StuffingLengths.{stuffed_after-at_least, stuffed_after-pays}
-pub use Rattle.model_bits.proofs.StuffingCounted.{stuffed-counted}
-pub use Rattle.model_bits.proofs.StuffingOctets.{octets_sent-stuffed}
-pub use Rattle.model_bits.proofs.StuffingShape.{NoSix-stuffed}
-pub use Rattle.model_bits.specs.Bits.{bits, flag, number_of, octets_of}
-unfoldable pub use Rattle.model_bits.specs.Bits.{low_bits}
-pub use Rattle.model_bits.specs.Check.{check, is_good}
-pub use Rattle.model_bits.specs.OpenGap.{kept_count, open_gap, run_of, closed_event, given_up_event, one_more}
-pub use Rattle.model_bits.specs.Framer.{item_octets, last_octets, runs_low}
-pub use Rattle.model_bits.specs.Heads.{latest_frame}
-pub use Rattle.model_bits.specs.Sent.{Item, frame, frame_text, idle, item_text, line_text}
-pub use Rattle.model_bits.specs.Stream.{dropped, gap_event, heard_at, heard_in, heard_until, is_short, judged, overlong, room_for}
-pub use Rattle.model_bits.specs.StreamLaws.{IsWhole}
-pub use Rattle.model_bits.specs.Stuffing.{octets_sent, stuffed, unstuffed}
-pub use Rattle.model_bits.specs.StuffingLaws.{AreOctets}
-pub use Rattle.model_bits.specs.declared.heard.Cause.{Cause}
-pub use Rattle.model_bits.specs.declared.heard.Cause.TheVariants.{Tei, Unserved, Fcs, Ragged}
 pub use Rattle.lapd_frame.specs.Faults.{has_bad_extension}
 pub use Rattle.lapd_frame.specs.Grammar.{Parts, allows, row, spelling, takes}
-pub use Rattle.lapd_frame.specs.Reading.{address_of, completed, long_reading, sized, start_of, supervisory_of}
+pub use Rattle.lapd_frame.specs.Reading.{address_of, checked, completed, long_reading, sized, start_of, supervisory_of}
 unfoldable pub use Rattle.lapd_frame.specs.Reading.{control_of, header_of, reading, unnumbered_of}
 pub use Rattle.lapd_frame.specs.Services.{same_service, service_of}
 pub use Rattle.lapd_frame.specs.declared.addresses.Address.{Address}
@@ -69,6 +44,31 @@ pub use Rattle.lapd_tei.specs.declared.messages.Message.{Message}
 pub use Rattle.lapd_tei.specs.declared.messages.Message.TheVariants.{IdentityAssigned, IdentityCheckRequest, IdentityDenied, IdentityRemove}
 pub use Rattle.lapd_tei.specs.declared.outcome.Change.{Change}
 pub use Rattle.lapd_tei.specs.declared.outcome.Change.TheVariants.{Gained, Left}
+pub use Rattle.model_bits.proofs.BitLemmas.{bits-append, bits-push, bits-two_octets, length-bits, low_bits-number_of_n, number_of-lt}
+pub use Rattle.model_bits.proofs.Division.Unique.{is_good-check, length-check}
+pub use Rattle.model_bits.proofs.Hearing.{heard_at-abort, heard_at-flag, heard_at-one, heard_at-zero, open_gap-abort, open_gap-one, open_gap-zero}
+pub use Rattle.model_bits.proofs.Items.{latest-push, line_text-push}
+pub use Rattle.model_bits.proofs.OneEvent.{one_event_an_octet}
+pub use Rattle.model_bits.proofs.RoundTripFrame.{check_octets}
+pub use Rattle.model_bits.proofs.RoundTripPlaces.{after_flag, after_text, heard_until-onto, hears, hears-append, hears_text, reverse_aux-append}
+pub use Rattle.model_bits.proofs.StreamLengths.{IsWeight, heard_within_stream, judged_as, weight_of_heard}
+pub use Rattle.model_bits.proofs.StuffingCounted.{stuffed-counted}
+pub use Rattle.model_bits.proofs.StuffingLengths.{stuffed_after-at_least}
+pub use Rattle.model_bits.proofs.StuffingOctets.{octets_sent-stuffed}
+pub use Rattle.model_bits.proofs.StuffingShape.{NoSix-stuffed}
+pub use Rattle.model_bits.specs.Bits.{bits, flag, number_of, octets_of}
+unfoldable pub use Rattle.model_bits.specs.Bits.{low_bits}
+pub use Rattle.model_bits.specs.Check.{check, is_good}
+pub use Rattle.model_bits.specs.Framer.{item_octets, last_octets, runs_low}
+pub use Rattle.model_bits.specs.Heads.{latest_frame}
+pub use Rattle.model_bits.specs.OpenGap.{closed_event, given_up_event, kept_count, one_more, open_gap, run_of}
+pub use Rattle.model_bits.specs.Sent.{Item, frame, frame_text, idle, item_text, line_text}
+pub use Rattle.model_bits.specs.Stream.{dropped, gap_event, heard_at, heard_in, heard_until, is_short, judged, overlong, room_for}
+pub use Rattle.model_bits.specs.StreamLaws.{IsWhole}
+pub use Rattle.model_bits.specs.Stuffing.{octets_sent, stuffed, unstuffed}
+pub use Rattle.model_bits.specs.StuffingLaws.{AreOctets}
+pub use Rattle.model_bits.specs.declared.heard.Cause.{Cause}
+pub use Rattle.model_bits.specs.declared.heard.Cause.TheVariants.{Fcs, Ragged, Tei, Unserved}
 pub use Rattle.model_line.specs.Begun.{LatestIsBegun, frame_taken}
 pub use Rattle.model_line.specs.Config.{is_within}
 pub use Rattle.model_line.specs.Counts.{frames_heard, is_accepted, is_begun, is_frame, is_long_frame, is_pool, is_pool_full, is_running_expiry, long_frames_heard, may_send, may_send_at_link, one, rejects, rejects_aimed}

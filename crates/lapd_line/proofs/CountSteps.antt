@@ -46,16 +46,16 @@ octet_shown c value m heard t is says =
     ap (λ h. heard_shown c.side h ++ told_in_answer (answer c (octet value) m)) is
     ∙ ap (λ a. heard_shown c.side heard ++ told_in_answer a) (sym says)
 
+abbrev is_begun : Answer → Bool
+is_begun (pulled value begun orders) = begun
+is_begun other = false
+
 -- what a pull shows: the frame that it begins
 pub begins_shown : (c : Config) (m : machine.Line) (value : ℕ) (orders : List Order) (head : Option Head) → pulled value true orders ≡ answer c pull m → head ≡ head_of (latest_frame (after c pull m).items)
     → shown c pull m (answer c pull m) ≡ option_map_or (head_shown c.side) head []
 unfolding answer
 begins_shown c m value orders head says is = go (begun c m) refl (ap is_begun says)
   where
-    is_begun : Answer → Bool
-    is_begun (pulled value begun orders) = begun
-    is_begun other = false
-
     go : (o : Option Taken) → begun c m ≡ o → true ≡ is_some (begun c m) → option_map_or (taken_shown c) (begun c m) [] ≡ option_map_or (head_shown c.side) head []
     go None none some = absurd (false≢true (sym (some ∙ ap is_some none)))
     go (Some k) one some =
@@ -67,10 +67,6 @@ pub begins_none : (c : Config) (m : machine.Line) (value : ℕ) (orders : List O
 unfolding answer
 begins_none c m value orders says = go (begun c m) refl (ap is_begun says)
   where
-    is_begun : Answer → Bool
-    is_begun (pulled value begun orders) = begun
-    is_begun other = true
-
     go : (o : Option Taken) → begun c m ≡ o → false ≡ is_some (begun c m) → option_map_or (taken_shown c) (begun c m) [] ≡ []
     go None none some = ap (λ o. option_map_or (taken_shown c) o []) none
     go (Some k) one some = absurd (false≢true (some ∙ ap is_some one))

@@ -5,69 +5,40 @@ use Rattle.model_line.specs.Event as line_event
 use Rattle.model_line.specs.Line as machine
 use Rattle.lapd_line.specs.FrameStands.{Stands, config_of}
 use Rattle.lapd_line.specs.LinkLayer as layer
-use Rattle.lapd_line.proofs.PullSteps.{with_bits}
+use Rattle.lapd_line.specs.Reports.{octets_of}
+use Rattle.lapd_line.proofs.LayerSteps.{with_bits, with_received}
 use Rattle.lapd_line.proofs.RequestSteps.{with_room}
-
--- the entities do not know what was received
-sound_receiving : (c : Config) (r : List ℕ) (l : machine.Line) → IsSound c l → IsSound c (receiving r l)
-sound_receiving c r l s = record {
-  management = s.management;
-  places = s.places;
-  count = s.count;
-  links = s.links;
-  units = s.units;
-  few_units = s.few_units;
-  turn = s.turn;
-  sizes = s.sizes;
-  text = s.text;
-}
-
-stands_receiving : (e : LinkLayer) (s : Store) (others : List Owned) (r : List ℕ) (m : machine.Line) → layer.Stands e s others m → layer.Stands e s others (receiving r m)
-stands_receiving e s others r m st = record {
-  range = st.range;
-  wide = st.wide;
-  sound = sound_receiving e.config r m st.sound;
-  management = st.management;
-  count = st.count;
-  links = st.links;
-  terms = st.terms;
-  addressed = st.addressed;
-  capacity = st.capacity;
-  turn = st.turn;
-  asleep = st.asleep;
-  held = st.held;
-}
 
 -- ---- something is heard
 
 abbrev with_layer : FrameLine → LinkLayer → FrameLine
 with_layer old e = record old { layer = e }
 
-module _ (old : FrameLine) (s : Store) (e : LinkLayer) (t : Store) (heard : stream.Event) (lent : List ℕ) (o : BareReport) (served : Serves (aim_of_event (config_of old) (Some heard)) lent old.layer s e t o) where
-  -- octets that are heard as it, and leave the line idle
-  one_leads : (octets : List ℕ) → ((m : machine.Line) → IsIdle m.received → AreOneEvent (config_of old) m octets heard)
-      → ((m : machine.Line) → IsIdle m.received → IsIdle (m.received ++ octets)) → Leads (λ m. map line_event.octet octets) old s (with_layer old e) t
-  one_leads octets one idle = record {
-    config = served.config;
-    limits = served.limits;
-    stands = λ others m st.
-        let l = (of_heard (config_of old) heard m).line in
-        subst (Stands (with_layer old e) t others) (sym (one m st.idle).line)
-        (record { idle = idle m st.idle; layer = stands_receiving e t others (m.received ++ octets) l (served.stands others m st.layer) });
-  }
+module _ (old : FrameLine) {s : Store} {e : LinkLayer} {t : Store} {h : Option stream.Event} {o : BareReport} (heard : stream.Event) (is : h ≡ Some heard)
+    (serves : Serves (aim_of_event (config_of old) h) (octets_of h) old.layer s e t o) where
+  pub served : Serves (aim_of_event (config_of old) (Some heard)) (octets_of (Some heard)) old.layer s e t o
+  served = subst (λ x. Serves (aim_of_event (config_of old) x) (octets_of x) old.layer s e t o) is serves
 
-  pub heard_told : (r : Report) → report_told r ≡ told_in lent o → (others : List Owned) (m : machine.Line) → Stands old s others m
+  pub heard_told : (r : Report) → report_told r ≡ told_in (octets_of h) o → (others : List Owned) (m : machine.Line) → Stands old s others m
       → report_told r ≡ (of_heard (config_of old) heard m).told
-  heard_told r is others m st = is ∙ served.told others m st.layer
+  heard_told r reported others m st = reported ∙ ap (λ x. told_in (octets_of x) o) is ∙ served.told others m st.layer
 
-pub frame_leads : (old : FrameLine) (s : Store) (e : LinkLayer) (t : Store) (octets lent : List ℕ) (o : BareReport) → AreOctets octets
-    → Serves (aim_of_event (config_of old) (Some (came (config_of old).n201 octets))) lent old.layer s e t o
+-- a frame that leaves the line idle
+pub frame_leads : {old : FrameLine} {s : Store} {e : LinkLayer} {t : Store} {h : Option stream.Event} {o : BareReport} (octets : List ℕ) → AreOctets octets
+    → h ≡ Some (came (config_of old).n201 octets) → Serves (aim_of_event (config_of old) h) (octets_of h) old.layer s e t o
     → Leads (λ m. map line_event.octet (line_octets octets)) old s (with_layer old e) t
-frame_leads old s e t octets lent o are served =
-    let c = config_of old in
-    one_leads old s e t (came c.n201 octets) lent o served (line_octets octets)
-    (λ m idle. frames_come_whole.frames c m octets idle are)
-    (λ m idle. (frames_are_heard.frames c.n201 m.received octets idle are).idle)
+frame_leads {old} {s} {e} {t} octets are is serves = record {
+  config = serves.config;
+  limits = serves.limits;
+  stands = λ others m st.
+      let c = config_of old in
+      let heard = came c.n201 octets in
+      subst (Stands (with_layer old e) t others) (sym (frames_come_whole.frames c m octets st.idle are).line)
+      (record {
+        idle = (frames_are_heard.frames c.n201 m.received octets st.idle are).idle;
+        layer = with_received (m.received ++ line_octets octets) ((served old heard is serves).stands others m st.layer);
+      });
+}
 
 -- ---- a fault
 
@@ -80,7 +51,7 @@ fault_leads line s fault = record {
       subst (Stands line s others) (sym (frames_come_whole.faults c m fault st.idle).line)
       (record {
         idle = (frames_are_heard.faults c.n201 m.received fault st.idle).idle;
-        layer = stands_receiving line.layer s others (m.received ++ fault_octets fault) m st.layer;
+        layer = with_received (m.received ++ fault_octets fault) st.layer;
       });
 }
 
@@ -97,11 +68,6 @@ module _ (old : FrameLine) (s : Store) (e : LinkLayer) (t : Store) (timer : Time
       layer = served.stands others m st.layer;
     };
   }
-
-  pub expiry_told : (r : Report) → report_told r ≡ told_in [] o → (others : List Owned) (m : machine.Line) → Stands old s others m
-      → told (report_told r) ≡ answer (config_of old) (line_event.expiry timer) m
-  unfolding answer
-  expiry_told r is others m st = ap told (is ∙ served.told others m st.layer)
 
 -- a request that is granted
 module _ (old : FrameLine) (s : Store) (e : LinkLayer) (t : Store) (full : Bool) (r : Request) (o : BareReport)
@@ -121,14 +87,6 @@ module _ (old : FrameLine) (s : Store) (e : LinkLayer) (t : Store) (full : Bool)
               (served.stands others m st.layer);
         };
   }
-
-  pub request_told : (report : Report) → report_told report ≡ told_in [] o → (others : List Owned) (m : machine.Line) → Stands old s others m
-      → told (report_told report) ≡ answer (config_of old) (line_event.request r) m
-  unfolding answer
-  request_told report is others m st =
-      let c = config_of old in
-      ap told (is ∙ served.told others m st.layer)
-      ∙ ap (λ why. unless_refused_told why (of_aim c (unless_refused why (aim_of_request r m)) m)) (sym (with_room c full r m (granted others m st.layer)))
 
 -- ---- what is held
 
@@ -164,7 +122,7 @@ module _ (old : FrameLine) (s : Store) (e : LinkLayer) (t : Store) (before after
       subst (Stands (with_layer old e) t others) (sym gone.line)
       (record {
         idle = subst IsIdle (sym whole.received) st.idle;
-        layer = with_bits e t others x.line items given has.stands (subst (λ y. IsSound y (record x.line { items = items; given = given })) (sym h.config) sound);
+        layer = with_bits x.line.received items given has.stands (subst (λ y. IsSound y (record x.line { items = items; given = given })) (sym h.config) sound);
       })
   stands_after others m st None is (Some os) has = absurd has
   stands_after others m st (Some x) is None has = absurd has

@@ -117,8 +117,7 @@ pub asked_serves : (e : LinkLayer) (s t : Store) (new : List Link) (awake : Awak
 asked_serves e s t new awake service tei place number full request answer outcome standing here exact wakes refuses served told =
     let at = (place_of-is e.teis.places tei place here).1 in
     let same : number ≡ link_number place service = numbered e s tei place standing at exact in
-    let whole = at_link_serves e s t new awake service tei place (link.requested request full) [] [] answer outcome at (subst (λ x. Wakes x e.awake awake) same wakes)
-    (subst (λ x. all.Serves x (link.requested request full) [] e.links s new t answer) same served) told in
+    let whole = at_link_serves {octets = []} {outcome = outcome} standing at exact wakes served told in
     record {
       config = refl;
       limits = whole.limits;

@@ -1,10 +1,52 @@
 -- What a call on the links does to the entities of a line.
-use Rattle.lapd_line.proofs.Vocabulary.{◌≡◌, ℕ, ◌<◌, ◌≤◌, List, ◌++◌, length, drop, slice_get, Option, Some, refl, sym, ap, subst, ◌∙◌, arith, append_assoc, length-map, Owned, Holds, Store, SameLimits, Service, Link, Answer, told_with, terms_of, state_number, IsAt, place_of, at-within, place_of-is, Line, link_number, link_count, service_at, place_at, tei_at, terms, state_in, state_of, at_link, told_of_link, IsSound, place_at-number, service_at-number, number_within, aim_sound, ranges_of, LinkLayer, BareReport, told_in, unit_pairs, Awake, Wakes, NoneMissed, LinksStand, HasTerms, links_pairs, terms_in, machine_at, Stands, Standing, Serves, always}
+use Rattle.lapd_line.proofs.Vocabulary.{◌≡◌, ℕ, ◌<◌, ◌≤◌, List, ◌++◌, length, slice_get, Option, Some, refl, sym, ap, subst, ◌∙◌, arith, append_assoc, Owned, Holds, Store, SameLimits, Service, Link, Answer, told_with, state_number, IsAt, place_of, at-within, place_of-is, Line, link_number, link_count, service_at, place_at, tei_at, terms, state_in, state_of, at_link, told_of_link, IsSound, place_at-number, service_at-number, number_within, aim_sound, ranges_of, LinkLayer, BareReport, told_in, unit_pairs, Awake, Wakes, NoneMissed, LinksStand, HasTerms, links_pairs, terms_in, machine_at, Stands, Standing, Serves, always, Config, Management, UnitRing, AreFor, Item, All, zip, get_or, None, LinkFits}
 use Rattle.std.specs.Option.{option_map}
 use Rattle.model_link.specs.Events as event
 use Rattle.model_link.specs.Link as machine
 use Rattle.lapd_line.specs.Links as links
 use Rattle.lapd_line.proofs.AwakeSteps.{none_missed_woken}
+use Rattle.lapd_line.proofs.LinkSteps.{same_many}
+
+-- The entities stand again where the links are as they were, and what else differs is said anew.
+pub stands_as : {e : LinkLayer} {s : Store} {others : List Owned} {m : Line} → Stands e s others m → (teis : Management) (units : UnitRing) (t : Store) (rest : List Owned) (l : Line)
+    → (l.links ≡ m.links) × (l.turn ≡ m.turn) × (l.management.places ≡ m.management.places) × (units.capacity ≡ e.units.capacity)
+    → e.config.n201 ≤ t.width → IsSound e.config l → l.management ≡ teis → AreFor units.waiting l.units → Holds t ((links_pairs e.links l.links ++ unit_pairs units.waiting l.units) ++ rest)
+    → Stands (record e { teis = teis; units = units }) t rest l
+stands_as {e} st teis units t rest l same wide sound management addressed held = record {
+  range = st.range;
+  wide = wide;
+  sound = sound;
+  management = management;
+  count = st.count;
+  links = subst (λ ms. All (LinkFits e.config) (zip e.links ms)) (sym same.0) st.links;
+  terms = λ number tei within at. st.terms number tei within (ap (λ places. get_or places (place_at number) None) (sym same.2) ∙ at);
+  addressed = addressed;
+  capacity = same.3 ∙ st.capacity;
+  turn = same.1 ∙ st.turn;
+  asleep = subst (NoneMissed e.awake e.links) (sym same.0) st.asleep;
+  held = held;
+}
+
+-- the bits of a line concern its entities only as far as it is sound
+pub with_bits : {e : LinkLayer} {s : Store} {others : List Owned} {m : Line} (received : List ℕ) (items : List Item) (given : List ℕ) → Stands e s others m
+    → IsSound e.config (record m { received = received; items = items; given = given }) → Stands e s others (record m { received = received; items = items; given = given })
+with_bits {e} {s} {others} {m} received items given st sound =
+    stands_as st e.teis e.units s others (record m { received = received; items = items; given = given }) (refl, refl, refl, refl) st.wide sound st.management st.addressed st.held
+
+-- and they do not know what was received
+pub with_received : {e : LinkLayer} {s : Store} {others : List Owned} {m : Line} (received : List ℕ) → Stands e s others m → Stands e s others (record m { received = received })
+with_received {m = m} received st =
+    with_bits received m.items m.given st (record {
+      management = st.sound.management;
+      places = st.sound.places;
+      count = st.sound.count;
+      links = st.sound.links;
+      units = st.sound.units;
+      few_units = st.sound.few_units;
+      turn = st.sound.turn;
+      sizes = st.sound.sizes;
+      text = st.sound.text;
+    })
 
 -- the links of a line stand beside its units and what others own
 abbrev pub beside_links : LinkLayer → Line → List Owned → List Owned
@@ -18,26 +60,33 @@ links_part e s others m st = record {
   held = subst (Holds s) (append_assoc (links_pairs e.links m.links) (unit_pairs e.units.waiting m.units) others) st.held;
 }
 
--- the way back: where the links and their machines have changed, and nothing else
+-- the way back: where the links and their machines have changed, and the turn, and nothing else
+pub links_turned : (e : LinkLayer) (s t : Store) (others : List Owned) (m : Line) (new : List Link) (ms : List machine.Link) (awake : Awake) (turn turn' : ℕ)
+    → Stands e s others m → terms_in new ≡ terms_in e.links → SameLimits s t
+    → IsSound e.config (record m { links = ms; turn = turn })
+    → LinksStand e.config new t (beside_links e m others) ms → NoneMissed awake new ms → turn ≡ turn'
+    → Stands (record e { links = new; awake = awake; turn = turn' }) t others (record m { links = ms; turn = turn })
+links_turned e s t others m new ms awake turn turn' st same limits sound stand asleep turns = record {
+  range = st.range;
+  wide = stand.wide;
+  sound = sound;
+  management = st.management;
+  count = same_many new e.links same ∙ st.count;
+  links = stand.fits;
+  terms = λ number tei within at. subst (λ l. slice_get l number ≡ Some (terms e.config (service_at number) tei)) (sym same) (st.terms number tei within at);
+  addressed = st.addressed;
+  capacity = st.capacity;
+  turn = turns;
+  asleep = asleep;
+  held = subst (Holds t) (sym (append_assoc (links_pairs new ms) (unit_pairs e.units.waiting m.units) others)) stand.held;
+}
+
 pub links_back : (e : LinkLayer) (s t : Store) (others : List Owned) (m : Line) (new : List Link) (ms : List machine.Link) (awake : Awake)
     → Stands e s others m → terms_in new ≡ terms_in e.links → SameLimits s t
     → IsSound e.config (record m { links = ms })
     → LinksStand e.config new t (beside_links e m others) ms → NoneMissed awake new ms
     → Stands (record e { links = new; awake = awake }) t others (record m { links = ms })
-links_back e s t others m new ms awake st same limits sound stand asleep = record {
-  range = st.range;
-  wide = stand.wide;
-  sound = sound;
-  management = st.management;
-  count = sym (length-map new terms_of) ∙ ap (λ l. length l) same ∙ length-map e.links terms_of ∙ st.count;
-  links = stand.fits;
-  terms = λ number tei within at. subst (λ l. slice_get l number ≡ Some (terms e.config (service_at number) tei)) (sym same) (st.terms number tei within at);
-  addressed = st.addressed;
-  capacity = st.capacity;
-  turn = st.turn;
-  asleep = asleep;
-  held = subst (Holds t) (sym (append_assoc (links_pairs new ms) (unit_pairs e.units.waiting m.units) others)) stand.held;
-}
+links_back e s t others m new ms awake st same limits sound stand asleep = links_turned e s t others m new ms awake m.turn e.turn st same limits sound stand asleep st.turn
 
 -- the link of a service with the TEI at a place: where it is, and its parameters
 pub record Named (e : LinkLayer) (service : Service) (tei place : ℕ) : Type 0 where
@@ -58,32 +107,6 @@ named e s others m service tei place st at =
       has_terms = subst (λ x. HasTerms e.links number (terms e.config x tei)) (service_at-number place service) (st.terms number tei few there);
     }
 
--- an event of a link
-pub at_link_serves : (e : LinkLayer) (s t : Store) (new : List Link) (awake : Awake) (service : Service) (tei place : ℕ) (what : event.Event) (info octets : List ℕ) (answer : Answer) (outcome : BareReport)
-    → IsAt e.teis.places place tei → Wakes (link_number place service) e.awake awake
-    → links.Serves (link_number place service) what info e.links s new t answer
-    → told_in octets outcome ≡ told_of_link (told_with info answer)
-    → Serves (always (at_link service tei place what)) octets e s (record e { links = new; awake = awake }) t outcome
-at_link_serves e s t new awake service tei place what info octets answer outcome at wakes served is_told = record {
-  config = refl;
-  limits = served.limits;
-  stands = λ others m st.
-      let n = named e s others m service tei place st at in
-      let at' : IsAt m.management.places place tei = subst (λ x. IsAt x.places place tei) (sym st.management) at in
-      let sound = aim_sound e.config st.range m (at_link service tei place what) st.sound at' in
-      links_back e s t others m new _ awake st served.terms served.limits sound
-      (served.goes_on e.config (terms e.config service tei) (beside_links e m others) m.links n.has_terms (links_part e s others m st))
-      (none_missed_woken e.awake awake e.links new m.links (link_number place service) _ wakes served.terms st.asleep);
-  told = λ others m st.
-      let n = named e s others m service tei place st at in
-      is_told ∙ ap told_of_link (served.told e.config (terms e.config service tei) (beside_links e m others) m.links n.has_terms (links_part e s others m st));
-}
-
--- the same told, of the same information
-pub told_from : (outcome : BareReport) (answer : Answer) (info octets : List ℕ) (start : ℕ) → info ≡ drop start octets
-    → told_in octets outcome ≡ told_of_link (told_with (drop start octets) answer) → told_in octets outcome ≡ told_of_link (told_with info answer)
-told_from outcome answer info octets start is h = h ∙ ap (λ i. told_of_link (told_with i answer)) (sym is)
-
 -- at most eight places
 pub few_places : (e : LinkLayer) (s : Store) (others : List Owned) (m : Line) → Stands e s others m → length e.teis.places ≤ 8
 few_places e s others m st = omega (arith, ap (λ t. length t.places) st.management, st.sound.places, (ranges_of e.config st.range).terminals.most)
@@ -96,6 +119,36 @@ numbered e s tei place (others, m, st) at h = h (omega (arith, at-within e.teis.
 pub low_number : (e : LinkLayer) (s : Store) (service : Service) (tei place : ℕ) {number : ℕ} → Standing e s → IsAt e.teis.places place tei → (place ≤ 8 → number ≡ link_number place service) → number < 32
 low_number e s service tei place (others, m, st) at h =
     omega (arith, numbered e s tei place (others, m, st) at h, (named e s others m service tei place st at).few, (ranges_of e.config st.range).terminals.most)
+
+-- for calls on its links
+pub links_standing : {e : LinkLayer} {s : Store} → Standing e s → (c : Config) × (others : List Owned) × (ms : List machine.Link) × LinksStand c e.links s others ms
+links_standing {e} {s} (others, m, st) = (e.config, beside_links e m others, m.links, links_part e s others m st)
+
+pub number_there : {e : LinkLayer} {s : Store} (service : Service) {tei place number : ℕ} → Standing e s → IsAt e.teis.places place tei → (place ≤ 8 → number ≡ link_number place service) → number < length e.links
+number_there {e} {s} service {tei} {place} (others, m, st) at exact =
+    subst (λ n. n < length e.links) (sym (numbered e s tei place (others, m, st) at exact)) (named e s others m service tei place st at).within
+
+-- an event of a link
+pub at_link_serves : {e : LinkLayer} {s t : Store} {new : List Link} {awake : Awake} {service : Service} {tei place number : ℕ} {what : event.Event} {info octets : List ℕ} {answer : Answer} {outcome : BareReport}
+    → Standing e s → IsAt e.teis.places place tei → (place ≤ 8 → number ≡ link_number place service) → Wakes number e.awake awake
+    → links.Serves number what info e.links s new t answer → told_in octets outcome ≡ told_of_link (told_with info answer)
+    → Serves (always (at_link service tei place what)) octets e s (record e { links = new; awake = awake }) t outcome
+at_link_serves {e} {s} {t} {new} {awake} {service} {tei} {place} {number} {what} {info} {answer = answer} standing at exact wakes serves is_told =
+    let same = numbered e s tei place standing at exact in
+    let served = subst (λ n. links.Serves n what info e.links s new t answer) same serves in
+    record {
+      config = refl;
+      limits = served.limits;
+      stands = λ others m st.
+          let n = named e s others m service tei place st at in
+          let sound = aim_sound e.config st.range m (at_link service tei place what) st.sound (subst (λ x. IsAt x.places place tei) (sym st.management) at) in
+          links_back e s t others m new _ awake st served.terms served.limits sound
+          (served.goes_on e.config (terms e.config service tei) (beside_links e m others) m.links n.has_terms (links_part e s others m st))
+          (none_missed_woken e.awake awake e.links new m.links (link_number place service) _ (subst (λ n. Wakes n e.awake awake) same wakes) served.terms st.asleep);
+      told = λ others m st.
+          let n = named e s others m service tei place st at in
+          is_told ∙ ap told_of_link (served.told e.config (terms e.config service tei) (beside_links e m others) m.links n.has_terms (links_part e s others m st));
+    }
 
 -- the state of a link of a TEI on the line
 pub state_is : (e : LinkLayer) (s : Store) (others : List Owned) (m : Line) (service : Service) (tei place number : ℕ) (result : Option ℕ) → Stands e s others m → place_of tei e.teis.places ≡ Some place

@@ -1,6 +1,7 @@
 -- What a call on the parts of a line does to the line.
-use Rattle.lapd_line.proofs.Vocabulary.{◌≡◌, ℕ, true, false, List, [], ◌∷◌, ◌++◌, length, slice_get, Option, Some, None, refl, sym, ap, ◌∙◌, subst, option_to_list, false≢true, without_octets, Cause, heard_in, Timer, Owned, Store, Change, Gained, Left, Config, LineTold, told, nothing, dropped, aim_of_expiry, after, answer, gained, aim_of_octet, with_received, Aim, at_none, at_link, at_management, at_units, of_aim, of_change, taken, IsSound, LinkLayer, BareReport, Report, Serves, aim_of_event, report_told, told_in, Moves, config_of, latest_frame}
+use Rattle.lapd_line.proofs.Vocabulary.{◌≡◌, ℕ, true, false, List, [], ◌∷◌, ◌++◌, length, slice_get, Option, Some, None, refl, sym, ap, ◌∙◌, subst, option_to_list, false≢true, without_octets, Cause, heard_in, Timer, Owned, Store, Change, Gained, Left, Config, LineTold, told, nothing, dropped, aim_of_expiry, after, answer, gained, Aim, at_none, at_link, at_management, at_units, of_aim, of_change, taken, LinkLayer, BareReport, Report, Serves, aim_of_event, report_told, told_in, Moves, config_of, latest_frame, More, with_counted, heard_shown, bare_shown}
 use Rattle.lapd_bits.specs.Deframer as deframer
+use Rattle.lapd_bits.specs.declared.deframer.Deframer.{Deframer}
 use Rattle.lapd_bits.specs.declared.ended.Ended.TheVariants as ended
 use Rattle.model_bits.specs.Framer as framer
 use Rattle.model_bits.specs.Stream as stream
@@ -9,7 +10,9 @@ use Rattle.model_line.specs.Event as line_event
 use Rattle.model_line.specs.Line as machine
 use Rattle.lapd_line.specs.declared.line.Line.{Line}
 use Rattle.lapd_line.specs.LinkLayer as layer
-use Rattle.lapd_line.specs.Stands.{Stands}
+use Rattle.lapd_line.specs.Stands.{Stands, Leads}
+use Rattle.lapd_line.proofs.CountSteps.{counted_on, octet_shown}
+use Rattle.lapd_line.proofs.LayerSteps.{with_received}
 use Rattle.lapd_line.proofs.Quiet.{none_taken}
 
 -- what is heard with one octet more is what that octet brought
@@ -18,11 +21,11 @@ last_gained [] None = refl
 last_gained [] (Some x) = refl
 last_gained (y ∷ xs) o = last_gained xs o
 
-pub gained_is : (n201 octet : ℕ) (received : List ℕ) (o : Option stream.Event) → heard_in n201 (received ++ octet ∷ []) ≡ heard_in n201 received ++ option_to_list o → gained n201 received octet ≡ o
+gained_is : (n201 octet : ℕ) (received : List ℕ) (o : Option stream.Event) → heard_in n201 (received ++ octet ∷ []) ≡ heard_in n201 received ++ option_to_list o → gained n201 received octet ≡ o
 gained_is n201 octet received o is = ap (λ l. slice_get l (length (heard_in n201 received))) is ∙ last_gained (heard_in n201 received) o
 
 -- an octet that ended nothing brought no event
-pub nothing_heard : (o : Option stream.Event) → ended.Nothing ≡ without_octets o → o ≡ None
+nothing_heard : (o : Option stream.Event) → ended.Nothing ≡ without_octets o → o ≡ None
 nothing_heard None e = refl
 nothing_heard (Some (stream.frame octets)) e = absurd (cc)
 nothing_heard (Some (stream.overlong head)) e = absurd (cc)
@@ -52,82 +55,61 @@ same_bits c (at_management e) l =
     let s = same_change c _ _ (record l { management = _ }) in record { received = s.received; items = s.items; given = s.given }
 same_bits c (at_units unit) l = record { received = refl; items = refl; given = refl }
 
-received_sound : (c : Config) (value : ℕ) (l : machine.Line) → IsSound c l → IsSound c (with_received value l)
-received_sound c value l s = record {
-  management = s.management;
-  places = s.places;
-  count = s.count;
-  links = s.links;
-  units = s.units;
-  few_units = s.few_units;
-  turn = s.turn;
-  sizes = s.sizes;
-  text = s.text;
-}
-
-with_octet : (e : LinkLayer) (s : Store) (others : List Owned) (m : machine.Line) (value : ℕ) → layer.Stands e s others m → layer.Stands e s others (with_received value m)
-with_octet e s others m value st = record {
-  range = st.range;
-  wide = st.wide;
-  sound = received_sound e.config value m st.sound;
-  management = st.management;
-  count = st.count;
-  links = st.links;
-  terms = st.terms;
-  addressed = st.addressed;
-  capacity = st.capacity;
-  turn = st.turn;
-  asleep = st.asleep;
-  held = st.held;
-}
-
 -- what an octet brings is served
-pub stepped : (old new : Line) (s t : Store) (octet : ℕ) (o : BareReport)
-    → ((n201 : ℕ) (past : List ℕ) → deframer.Stands n201 old.deframer past → heard_in n201 (past ++ octet ∷ []) ≡ heard_in n201 past ++ option_to_list (deframer.latest_of new.deframer))
-    → ((n201 : ℕ) (past : List ℕ) → deframer.Stands n201 old.deframer past → deframer.Stands n201 new.deframer (past ++ octet ∷ []))
-    → new.framer ≡ old.framer
-    → (new.nothing_waits ≡ true → (old.nothing_waits ≡ true) × (deframer.latest_of new.deframer ≡ None))
-    → Serves (aim_of_event (config_of old) (deframer.latest_of new.deframer)) (latest_frame new) old.layer s new.layer t o
-    → new.counters ≡ old.counters
-    → Moves (line_event.octet octet) old s new t
-unfolding after
-stepped old new s t octet o heard goes_on framed still served uncounted = record {
-  config = served.config;
-  limits = served.limits;
-  stands = λ others m st.
-      let c = config_of old in
-      let m' = with_received octet m in
-      let e = served.stands others m' (with_octet old.layer s others m octet st.layer) in
-      let aim : aim_of_octet c octet m ≡ aim_of_event (config_of old) (deframer.latest_of new.deframer) m' = ap (λ h. aim_of_event (config_of old) h m') (gained_is c.n201 octet m.received _ (heard c.n201 m.received st.received)) in
-      let same = same_bits c (aim_of_event (config_of old) (deframer.latest_of new.deframer) m') m' in
-      subst (λ a. Stands new t others (of_aim c a m').line) (sym aim)
-      (record {
-        received = subst (λ k. deframer.Stands k.n201 new.deframer (of_aim c (aim_of_event (config_of old) (deframer.latest_of new.deframer) m') m').line.received) (sym served.config)
-            (subst (deframer.Stands c.n201 new.deframer) (sym same.received) (goes_on c.n201 m.received st.received));
-        sent = subst (λ f. framer.Stands f (of_aim c (aim_of_event (config_of old) (deframer.latest_of new.deframer) m') m').line.items (of_aim c (aim_of_event (config_of old) (deframer.latest_of new.deframer) m') m').line.given) (sym framed)
-            (subst (λ i. framer.Stands old.framer i (of_aim c (aim_of_event (config_of old) (deframer.latest_of new.deframer) m') m').line.given) (sym same.items)
-            (subst (framer.Stands old.framer m.items) (sym same.given) st.sent));
-        room = ap (λ f. f.room) framed ∙ st.room ∙ ap (λ k. k.n201) (sym served.config);
-        layer = e;
-        nothing_waits = λ is.
-            let (before, none) = still is in
-            ap (λ k. taken k (of_aim c (aim_of_event (config_of old) (deframer.latest_of new.deframer) m') m').line) served.config
-            ∙ ap (λ h. taken c (of_aim c (aim_of_event (config_of old) h m') m').line) none
-            ∙ none_taken c m (m.received ++ octet ∷ []) m.items m.given (st.nothing_waits before);
-      });
-  uncounted = uncounted;
-}
+module _ {old mid : Line} {s t : Store} {octet : ℕ} {o : BareReport}
+    (heard : (n201 : ℕ) (past : List ℕ) → deframer.Stands n201 old.deframer past → heard_in n201 (past ++ octet ∷ []) ≡ heard_in n201 past ++ option_to_list (deframer.latest_of mid.deframer))
+    (goes_on : (n201 : ℕ) (past : List ℕ) → deframer.Stands n201 old.deframer past → deframer.Stands n201 mid.deframer (past ++ octet ∷ []))
+    (framed : mid.framer ≡ old.framer)
+    (still : mid.nothing_waits ≡ true → (old.nothing_waits ≡ true) × (deframer.latest_of mid.deframer ≡ None))
+    (served : Serves (aim_of_event (config_of old) (deframer.latest_of mid.deframer)) (latest_frame mid) old.layer s mid.layer t o)
+    (uncounted : mid.counters ≡ old.counters) where
+  abbrev taking : machine.Line → machine.Line
+  taking m = record m { received = m.received ++ octet ∷ [] }
 
-pub step_told : (old new : Line) (s t : Store) (octet : ℕ) (o : BareReport)
-    → ((n201 : ℕ) (past : List ℕ) → deframer.Stands n201 old.deframer past → heard_in n201 (past ++ octet ∷ []) ≡ heard_in n201 past ++ option_to_list (deframer.latest_of new.deframer))
-    → Serves (aim_of_event (config_of old) (deframer.latest_of new.deframer)) (latest_frame new) old.layer s new.layer t o
-    → (others : List Owned) (m : machine.Line) → Stands old s others m → told (told_in (latest_frame new) o) ≡ answer (config_of old) (line_event.octet octet) m
-unfolding answer
-step_told old new s t octet o heard served others m st =
-    let c = config_of old in
-    let m' = with_received octet m in
-    let aim : aim_of_octet c octet m ≡ aim_of_event (config_of old) (deframer.latest_of new.deframer) m' = ap (λ h. aim_of_event (config_of old) h m') (gained_is c.n201 octet m.received _ (heard c.n201 m.received st.received)) in
-    ap told (served.told others m' (with_octet old.layer s others m octet st.layer) ∙ ap (λ a. (of_aim c a m').told) (sym aim))
+  brings : (others : List Owned) (m : machine.Line) → Stands old s others m → gained (config_of old).n201 m.received octet ≡ deframer.latest_of mid.deframer
+  brings others m st = gained_is (config_of old).n201 octet m.received _ (heard (config_of old).n201 m.received st.received)
+
+  stepped : Moves (line_event.octet octet) old s mid t
+  unfolding after
+  stepped = record {
+    config = served.config;
+    limits = served.limits;
+    stands = λ others m st.
+        let c = config_of old in
+        let aim = aim_of_event c (deframer.latest_of mid.deframer) (taking m) in
+        let l = (of_aim c aim (taking m)).line in
+        let same = same_bits c aim (taking m) in
+        subst (λ h. Stands mid t others (of_aim c (aim_of_event c h (taking m)) (taking m)).line) (sym (brings others m st))
+        (record {
+          received = subst (λ k. deframer.Stands k.n201 mid.deframer l.received) (sym served.config) (subst (deframer.Stands c.n201 mid.deframer) (sym same.received) (goes_on c.n201 m.received st.received));
+          sent = subst (λ f. framer.Stands f l.items l.given) (sym framed) (subst (λ i. framer.Stands old.framer i l.given) (sym same.items) (subst (framer.Stands old.framer m.items) (sym same.given) st.sent));
+          room = ap (λ f. f.room) framed ∙ st.room ∙ ap (λ k. k.n201) (sym served.config);
+          layer = served.stands others (taking m) (with_received (m.received ++ octet ∷ []) st.layer);
+          nothing_waits = λ is.
+              let (before, none) = still is in
+              ap (λ k. taken k l) served.config
+              ∙ ap (λ h. taken c (of_aim c (aim_of_event c h (taking m)) (taking m)).line) none
+              ∙ none_taken c m (m.received ++ octet ∷ []) m.items m.given (st.nothing_waits before);
+        });
+    uncounted = uncounted;
+  }
+
+  answered : (others : List Owned) (m : machine.Line) → Stands old s others m → told (told_in (latest_frame mid) o) ≡ answer (config_of old) (line_event.octet octet) m
+  unfolding answer
+  answered others m st =
+      let c = config_of old in
+      ap told
+      (served.told others (taking m) (with_received (m.received ++ octet ∷ []) st.layer)
+      ∙ ap (λ h. (of_aim c (aim_of_event c h (taking m)) (taking m)).told) (sym (brings others m st)))
+
+  -- and what it shows is counted
+  pub octet_leads : {new : Line} {all : List More} → new ≡ with_counted mid all → heard_shown (config_of old).side (deframer.latest_of mid.deframer) ++ bare_shown o ≡ all
+      → ((others : List Owned) (m : machine.Line) → Stands old s others m → told (told_in (latest_frame new) o) ≡ answer (config_of old) (line_event.octet octet) m)
+      × Leads (line_event.octet octet) old s new t
+  octet_leads {new} {all} is counts = (
+    λ others m st. subst (λ l. told (told_in (latest_frame l) o) ≡ answer (config_of old) (line_event.octet octet) m) (sym is) (answered others m st),
+    counted_on stepped new all is (λ others m st. octet_shown (config_of old) octet m _ (told_in (latest_frame mid) o) (brings others m st) (answered others m st) ∙ counts),
+  )
 
 -- an octet that ended nothing leaves the entities as they are, and a report of nothing tells what it brings
 abbrev nothing_told : BareReport
@@ -145,20 +127,16 @@ dropped_served e s octets c cause h o is says =
     subst (λ x. Serves (aim_of_event c x) octets e s e s o) (sym is)
     (record { config = refl; limits = record { slots = refl; width = refl }; stands = λ others m st. st; told = λ others m st. says })
 
-pub unheard : (old new : Line) (s : Store) (octet : ℕ)
-    → ((n201 : ℕ) (past : List ℕ) → deframer.Stands n201 old.deframer past → heard_in n201 (past ++ octet ∷ []) ≡ heard_in n201 past ++ option_to_list (deframer.latest_of new.deframer))
-    → ((n201 : ℕ) (past : List ℕ) → deframer.Stands n201 old.deframer past → deframer.Stands n201 new.deframer (past ++ octet ∷ []))
-    → new.framer ≡ old.framer → new.nothing_waits ≡ old.nothing_waits → new.layer ≡ old.layer
-    → deframer.latest_of new.deframer ≡ None → new.counters ≡ old.counters
-    → Moves (line_event.octet octet) old s new s
-    × ((others : List Owned) (m : machine.Line) → Stands old s others m → told nothing ≡ answer (config_of old) (line_event.octet octet) m)
-unheard old new s octet heard goes_on framed same entities none uncounted =
-    let served : Serves (aim_of_event (config_of old) (deframer.latest_of new.deframer)) (latest_frame new) old.layer s new.layer s nothing_told =
-    subst (λ e. Serves (aim_of_event (config_of old) (deframer.latest_of new.deframer)) (latest_frame new) old.layer s e s nothing_told) (sym entities)
-    (nothing_served old.layer s (latest_frame new) (config_of old) (deframer.latest_of new.deframer) none) in (
-      stepped old new s s octet nothing_told heard goes_on framed (λ on. (sym same ∙ on, none)) served uncounted,
-      step_told old new s s octet nothing_told heard served,
-    )
+pub nothing_leads : {old : Line} {s : Store} {octet : ℕ} (d : Deframer)
+    → ((n201 : ℕ) (past : List ℕ) → deframer.Stands n201 old.deframer past → heard_in n201 (past ++ octet ∷ []) ≡ heard_in n201 past ++ option_to_list (deframer.latest_of d))
+    → ((n201 : ℕ) (past : List ℕ) → deframer.Stands n201 old.deframer past → deframer.Stands n201 d (past ++ octet ∷ []))
+    → ended.Nothing ≡ without_octets (deframer.latest_of d)
+    → ((others : List Owned) (m : machine.Line) → Stands old s others m → told nothing ≡ answer (config_of old) (line_event.octet octet) m)
+    × Leads (line_event.octet octet) old s (record old { deframer = d }) s
+nothing_leads {old} {s} d heard goes_on ended =
+    let none = nothing_heard (deframer.latest_of d) ended in
+    octet_leads {mid = record old { deframer = d }} heard goes_on refl (λ on. (on, none)) (nothing_served old.layer s _ (config_of old) (deframer.latest_of d) none) refl refl
+    (ap (λ h. heard_shown (config_of old).side h ++ []) none)
 
 -- the bits stay, where the entities alone go on
 pub with_layer : (old : Line) (t : Store) (others : List Owned) (m : machine.Line) (e : LinkLayer) (aim : Aim) (s : Store) → Stands old s others m → e.config ≡ config_of old
@@ -184,7 +162,7 @@ expired old s e t timer o served = record {
   uncounted = refl;
 }
 
-pub expiry_told : (old : Line) (s : Store) (e : LinkLayer) (t : Store) (timer : Timer) (o : BareReport) (r : Report) → report_told r ≡ told_in [] o → Serves (aim_of_expiry timer) [] old.layer s e t o
-    → (others : List Owned) (m : machine.Line) → Stands old s others m → told (report_told r) ≡ answer (config_of old) (line_event.expiry timer) m
+pub expiry_told : {e new : LinkLayer} {s t : Store} {o : BareReport} (timer : Timer) (r : Report) → report_told r ≡ told_in [] o → Serves (aim_of_expiry timer) [] e s new t o
+    → (others : List Owned) (m : machine.Line) → layer.Stands e s others m → told (report_told r) ≡ answer e.config (line_event.expiry timer) m
 unfolding answer
-expiry_told old s e t timer o r is served others m st = ap told (is ∙ served.told others m st.layer)
+expiry_told timer r is served others m st = ap told (is ∙ served.told others m st)

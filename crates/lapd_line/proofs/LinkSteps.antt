@@ -1,10 +1,11 @@
 -- What a call on one link does to all of them: it is taken out of the list, and put back.
-use Rattle.lapd_line.proofs.Vocabulary.{◌≡◌, ℕ, ◌<◌, ◌≤◌, List, length, get_or, set, option_map, Result, Ok, Err, IfErr, IfOk, OnErr, OnOk, refl, sym, ap, subst, ◌∙◌, arith, Option, length-set, get_or_default, set-get_or, map-set_same, slice_get-map, slice_get-get_or, same_Some, Owned, Store, SameLimits, FocusPair, focus_pair, Link, Offer, Answer, terms_of, told_with, Terms, offer, Service, Config, terms, window, LinkFits, LinksStand, HasTerms, machine_at, link_pairs, terms_in, IsGiven, Offers}
+use Rattle.lapd_line.proofs.Vocabulary.{◌≡◌, ℕ, ◌<◌, ◌≤◌, List, length, get_or, set, option_map, Result, Ok, Err, IfErr, IfOk, OnErr, OnOk, refl, sym, ap, subst, ◌∙◌, arith, Option, length-map, length-set, get_or_default, set-get_or, map-set_same, slice_get-map, slice_get-get_or, same_Some, Owned, Store, SameLimits, FocusPair, focus_pair, Link, Offer, Answer, terms_of, told_with, Terms, offer, Service, Config, terms, window, LinkFits, LinksStand, HasTerms, machine_at, link_pairs, terms_in, IsGiven, Offers, Refuses, Refusal, Bool}
 use Rattle.lapd_link.specs.Stands.{Stands}
-use Rattle.model_link.specs.Events.{Event}
+use Rattle.model_link.specs.Events.{Event, Request}
+use Rattle.model_link.specs.Requests.{refusal}
 use Rattle.model_link.specs.Link as machine
 use Rattle.model_link.specs.Machine.{after, told}
-use Rattle.lapd_line.specs.Links.{Serves}
+use Rattle.lapd_line.specs.Links.{Serves, GoesOn}
 
 -- the link at a place, the machine for it, and what the shelf holds beside what it owns; and the way back
 pub record Taken (c : Config) (links : List Link) (s : Store) (others : List Owned) (ms : List machine.Link) (number : ℕ) (x : Link) : Type 0 where
@@ -54,24 +55,63 @@ terms_at links number x terms within is has =
 pub terms_stay : (links : List Link) (number : ℕ) (x y : Link) → x ≡ get_or links number x → terms_of y ≡ terms_of x → terms_in (set links number y) ≡ terms_in links
 terms_stay links number x y is same = map-set_same terms_of links number y x (same ∙ ap terms_of is)
 
-pub serves : (links : List Link) (number : ℕ) (x y : Link) (s t : Store) (e : Event) (info : List ℕ) (answer : Answer)
-    → number < length links → x ≡ get_or links number x
-    → ((others : List Owned) (m : machine.Link) → Stands x s others m → Stands y t others (after (terms_of x) e m))
-    → ((others : List Owned) (m : machine.Link) → Stands x s others m → told_with info answer ≡ told (terms_of x) e m)
-    → terms_of y ≡ terms_of x → SameLimits s t
-    → Serves number e info links s (set links number y) t answer
-serves links number x y s t e info answer within is stands is_told same limits =
-    record {
-      terms = terms_stay links number x y is same;
-      limits = limits;
-      goes_on = λ c terms others ms has st.
-          let f = take_link c links s others ms number x within is st in
-          subst (λ u. LinksStand c (set links number y) t others (set ms number (after u e (machine_at ms number)))) (terms_at links number x terms within is has)
-          (f.back t y _ limits same (stands f.rest (machine_at ms number) f.stands));
-      told = λ c terms others ms has st.
-          let f = take_link c links s others ms number x within is st in
-          is_told f.rest (machine_at ms number) f.stands ∙ ap (λ u. told u e (machine_at ms number)) (terms_at links number x terms within is has);
-    }
+-- The link at a place is changed. The list is known by another name, under which it is the same.
+module _ {items links : List Link} {number : ℕ} {x : Link} (view : items ≡ links) (within : number < length links) (at : x ≡ get_or items number x) where
+  is : x ≡ get_or links number x
+  is = subst (λ l. x ≡ get_or l number x) view at
+
+  pub part : (c : Config) {s : Store} (others : List Owned) (ms : List machine.Link) → LinksStand c links s others ms → Taken c links s others ms number x
+  part c {s} others ms st = take_link c links s others ms number x within is st
+
+  -- it stands, beside what others own
+  pub part_stands : {s : Store} → (c : Config) × (others : List Owned) × (ms : List machine.Link) × LinksStand c links s others ms → (others : List Owned) × (m : machine.Link) × Stands x s others m
+  part_stands (c, others, ms, st) = let f = part c others ms st in (f.rest, machine_at ms number, f.stands)
+
+  -- what is so of it, whatever stands beside it, is so of the machine at its place
+  pub of_part : (P : Terms → machine.Link → Type 0) {s : Store} → ((others : List Owned) (m : machine.Link) → Stands x s others m → P (terms_of x) m)
+      → (c : Config) (terms : Terms) (others : List Owned) (ms : List machine.Link) → HasTerms links number terms → LinksStand c links s others ms → P terms (machine_at ms number)
+  of_part P holds c terms others ms has st =
+      let f = part c others ms st in
+      subst (λ u. P u (machine_at ms number)) (terms_at links number x terms within is has) (holds f.rest (machine_at ms number) f.stands)
+
+  pub refuses : {s : Store} (full : Bool) (r : Request) {why : Option Refusal} → ((others : List Owned) (m : machine.Link) → Stands x s others m → refusal (terms_of x) m full r ≡ why)
+      → Refuses number full r links s why
+  refuses full r {why} = of_part (λ u m. refusal u m full r ≡ why)
+
+  goes_on : (e : Event) {s t : Store} {y : Link} → ((others : List Owned) (m : machine.Link) → Stands x s others m → Stands y t others (after (terms_of x) e m))
+      → terms_of y ≡ terms_of x → SameLimits s t → GoesOn number e links s (set links number y) t
+  goes_on e {t = t} {y} stands same limits = λ c terms others ms has st.
+      let f = part c others ms st in
+      subst (λ u. LinksStand c (set links number y) t others (set ms number (after u e (machine_at ms number)))) (terms_at links number x terms within is has)
+      (f.back t y _ limits same (stands f.rest (machine_at ms number) f.stands))
+
+  pub serves : {y : Link} {s t : Store} {e : Event} {info : List ℕ} {answer : Answer}
+      → ((others : List Owned) (m : machine.Link) → Stands x s others m → Stands y t others (after (terms_of x) e m))
+      → ((others : List Owned) (m : machine.Link) → Stands x s others m → told_with info answer ≡ told (terms_of x) e m)
+      → terms_of y ≡ terms_of x → SameLimits s t → Serves number e info links s (set items number y) t answer
+  serves {y} {s} {t} {e} {info} {answer} stands is_told same limits =
+      subst (λ l. Serves number e info links s (set l number y) t answer) (sym view) (record {
+        terms = terms_stay links number x y is same;
+        limits = limits;
+        goes_on = goes_on e stands same limits;
+        told = of_part (λ u m. told_with info answer ≡ told u e m) is_told;
+      })
+
+  -- what it has to give
+  pub offers : {y : Link} {o : Option Offer}
+      → ((s : Store) (others : List Owned) (m : machine.Link) → Stands x s others m → Stands y s others (after (terms_of x) offer m))
+      → ((s : Store) (others : List Owned) (m : machine.Link) → Stands x s others m → IsGiven s (terms_of x) m o)
+      → terms_of y ≡ terms_of x → Offers number links (set items number y) o
+  offers {y} {o} stands is_given same =
+      subst (λ l. Offers number links (set l number y) o) (sym view) (record {
+        terms = terms_stay links number x y is same;
+        goes_on = λ s. goes_on offer (stands s) same (record { slots = refl; width = refl });
+        given = λ c terms s. of_part (λ u m. IsGiven s u m o) (is_given s) c terms;
+      })
+
+-- as many links as before, where their parameters are the same
+pub same_many : (new old : List Link) → terms_in new ≡ terms_in old → length new ≡ length old
+same_many new old same = sym (length-map new terms_of) ∙ ap (λ l. length l) same ∙ length-map old terms_of
 
 -- the parameters of a link whose TEI has come to the line
 pub opened_terms : (old : Terms) (c : Config) (service : Service) (tei k n200 : ℕ) → k ≡ window c service → n200 ≡ c.n200 → old.queue ≡ c.queue → old.control ≡ c.control
@@ -102,21 +142,3 @@ both_ok (Err e) f q h = h
 -- a link that is as it was leaves all as they were
 pub put_same : (links : List Link) (number : ℕ) (x : Link) → x ≡ get_or links number x → set links number x ≡ links
 put_same links number x is = ap (set links number) is ∙ set-get_or links number x
-
--- what a link has to give
-pub offers : (links : List Link) (number : ℕ) (x y : Link) (o : Option Offer) → number < length links → x ≡ get_or links number x
-    → ((s : Store) (others : List Owned) (m : machine.Link) → Stands x s others m → Stands y s others (after (terms_of x) offer m))
-    → ((s : Store) (others : List Owned) (m : machine.Link) → Stands x s others m → IsGiven s (terms_of x) m o)
-    → terms_of y ≡ terms_of x → Offers number links (set links number y) o
-offers links number x y o within is stands is_given same =
-    record {
-      terms = terms_stay links number x y is same;
-      goes_on = λ s c terms others ms has st.
-          let f = take_link c links s others ms number x within is st in
-          subst (λ u. LinksStand c (set links number y) s others (set ms number (after u offer (machine_at ms number)))) (terms_at links number x terms within is has)
-          (f.back s y _ (record { slots = refl; width = refl }) same (stands s f.rest (machine_at ms number) f.stands));
-      given = λ c terms s others ms has st.
-          let f = take_link c links s others ms number x within is st in
-          subst (λ u. IsGiven s u (machine_at ms number) o) (terms_at links number x terms within is has)
-          (is_given s f.rest (machine_at ms number) f.stands);
-    }

@@ -6,62 +6,13 @@ use Rattle.model_line.specs.Event as line_event
 use Rattle.model_line.specs.Line as machine
 use Rattle.model_line.specs.Pull as pull
 use Rattle.lapd_line.specs.declared.line.Line.{Line}
-use Rattle.lapd_line.specs.LinkLayer as layer
 use Rattle.lapd_line.specs.Stands.{Stands}
+use Rattle.lapd_line.proofs.LayerSteps.{with_bits}
 use Rattle.lapd_line.proofs.Quiet.{none_taken}
 
 -- an item is due exactly where the framer's bits run low
 due_is : (m : machine.Line) (f : Framing) → framer.Stands f m.items m.given → is_due m ≡ runs_low f.left
 due_is m f st = ap runs_low (left_is m f.left st.text)
-
--- the bits of a line concern its entities only as far as it is sound
-pub with_bits : (e : LinkLayer) (s : Store) (others : List Owned) (m : machine.Line) (items : List Item) (given : List ℕ) → layer.Stands e s others m
-    → IsSound e.config (record m { items = items; given = given }) → layer.Stands e s others (record m { items = items; given = given })
-with_bits e s others m items given st sound = record {
-  range = st.range;
-  wide = st.wide;
-  sound = sound;
-  management = st.management;
-  count = st.count;
-  links = st.links;
-  terms = st.terms;
-  addressed = st.addressed;
-  capacity = st.capacity;
-  turn = st.turn;
-  asleep = st.asleep;
-  held = st.held;
-}
-
--- no frame is due
-pub none_due : (line : Line) (s : Store) → 8 ≤ length line.framer.left → Begins line s line s None
-none_due line s busy = record {
-  config = refl;
-  limits = record { slots = refl; width = refl };
-  stands = λ others m st. subst (λ o. Stands line s others (with_frame o m)) (sym (none others m st)) st;
-  told = λ others m st. ap (option_map orders_of) (sym (none others m st));
-  uncounted = refl;
-}
-  where
-    none : (others : List Owned) (m : machine.Line) → Stands line s others m → begun (config_of line) m ≡ None
-    none others m st =
-        ap (λ due. cond due (taken (config_of line) m) None) (due_is m line.framer st.sent ∙ le-ltb (length line.framer.left) 8 busy)
-
--- nothing is there that could be taken
-pub none_waits : (line : Line) (s : Store) → line.nothing_waits ≡ true → Begins line s line s None
-none_waits line s nothing_waits = record {
-  config = refl;
-  limits = record { slots = refl; width = refl };
-  stands = λ others m st. subst (λ o. Stands line s others (with_frame o m)) (sym (none others m st)) st;
-  told = λ others m st. ap (option_map orders_of) (sym (none others m st));
-  uncounted = refl;
-}
-  where
-    either : (b : Bool) → cond {A = Option Taken} b None None ≡ None
-    either true = refl
-    either false = refl
-
-    none : (others : List Owned) (m : machine.Line) → Stands line s others m → begun (config_of line) m ≡ None
-    none others m st = ap (λ o. cond (is_due m) o None) (st.nothing_waits nothing_waits) ∙ either (is_due m)
 
 -- the framer in it
 framing_in : Loading → Framing → Framing
@@ -127,7 +78,7 @@ due_taken old s e t g orders q low none h = record {
               (subst (λ k. deframer.Stands k.n201 old.deframer m.received) (sym h.config) st.received);
           sent = subst (framer.Stands g items) (sym whole.given) (has.loaded m.items m.given st.sent);
           room = h.room ∙ st.room ∙ ap (λ k. k.n201) (sym h.config);
-          layer = with_bits e t others k.line items k.line.given has.stands
+          layer = with_bits k.line.received items k.line.given has.stands
               (subst (λ x. IsSound x (record k.line { items = items })) (sym h.config) sound);
           nothing_waits = λ on. let is_none : Some os ≡ None = nothing_waits on in absurd (cc);
         }
@@ -226,7 +177,7 @@ module _ {old : Line} {s : Store} {b : Line} {t : Store} (orders : Option (Short
           received = there.received;
           sent = gives.stands l.items l.given there.sent;
           room = gives.room ∙ there.room;
-          layer = with_bits b.layer t others l items given there.layer
+          layer = with_bits l.received items given there.layer
               (subst (λ x. IsSound x (record l { items = items; given = given })) (sym begins.config) sound);
           nothing_waits = λ on. none_taken (config_of b) l l.received items given (there.nothing_waits on);
         });

@@ -1,10 +1,10 @@
 -- What a pull takes of the links.
-use Rattle.lapd_line.proofs.Vocabulary.{◌≡◌, ◌⊎◌, inl, inr, Bool, true, false, cond, ℕ, zero, suc, ◌+◌, ◌-◌, ◌≤◌, ◌<◌, List, [], ◌∷◌, ◌++◌, length, take, drop, get_or, set, slice_get, Option, Some, None, option_map, IfSome, refl, ap, sym, ◌∙◌, subst, arith, append_assoc, set-get_or, length-map, none-some, slice_get_cases, slice_get-map, range_with_len, option_or, unwrap_or, Address, Order, IsFrame, spelling, listed, Owned, Holds, Store, IsUsed, Link, Offer, contents_in, HasMessage, terms_of, ControlFrame, Terms, address_at, given, given_of, course, offer, Given, may_send_information, offer_among, send_information, send_acknowledgement, give_information, with_one_sent, next_information, first_unsent, is_awaiting_acknowledgement, Course, Sent, ◌then◌, changed, pending_is, start, T200, Config, Line, link_at, link_count, place_at, service_at, tei_at, terms, terms_at, Taken, with_given_frame, link_taken, first_taken, round, IsSound, IsSoundAt, fresh_gives_nothing, TakesSoundly, link_sound, ranges_of, Awake, LinkLayer, Stands, Standing, IsAwake, IsAsleep, FallsAsleep, NoneMissed, LinksStand, HasTerms, IsGiven, Offers, links_pairs, terms_in, unit_pairs, Loading, Loads, room_in, HasTaken, Took, Takes}
+use Rattle.lapd_line.proofs.Vocabulary.{◌≡◌, ◌⊎◌, inl, inr, Bool, true, false, cond, ℕ, zero, suc, ◌+◌, ◌-◌, ◌≤◌, ◌<◌, List, [], ◌∷◌, ◌++◌, length, take, drop, get_or, set, slice_get, Option, Some, None, option_map, IfSome, refl, ap, sym, ◌∙◌, subst, arith, set-get_or, none-some, slice_get_cases, slice_get-map, range_with_len, option_or, unwrap_or, Address, Order, IsFrame, spelling, listed, Owned, Store, IsUsed, Link, Offer, contents_in, HasMessage, terms_of, ControlFrame, Terms, address_at, given, given_of, course, offer, Given, may_send_information, offer_among, send_information, send_acknowledgement, give_information, with_one_sent, next_information, first_unsent, is_awaiting_acknowledgement, Course, Sent, ◌then◌, changed, pending_is, start, T200, Config, Line, link_at, link_count, place_at, service_at, tei_at, terms, terms_at, Taken, with_given_frame, link_taken, first_taken, round, IsSoundAt, fresh_gives_nothing, TakesSoundly, link_sound, ranges_of, Awake, LinkLayer, Stands, Standing, IsAwake, IsAsleep, FallsAsleep, LinksStand, HasTerms, IsGiven, Offers, terms_in, Loading, Loads, room_in, HasTaken, Took, Takes, IsFree}
 use Rattle.model_link.specs.Link as machine
 use Rattle.model_link.specs.Machine.{after}
 use Rattle.model_link.specs.Steps.{begun}
 use Rattle.lapd_line.proofs.AwakeSteps.{none_missed_at, none_missed_asleep}
-use Rattle.lapd_line.proofs.LayerSteps.{beside_links, links_part, links_back}
+use Rattle.lapd_line.proofs.LayerSteps.{beside_links, links_part, links_back, links_turned}
 use Rattle.lapd_line.proofs.PullTakes.{takes_or, takes_first, takes_as}
 
 -- an I-frame that may be sent is given
@@ -90,10 +90,6 @@ no_link e s f number new awake few o falls = record {
       subst (λ g. Took g None m (record e { links = new; awake = awake }) s others f f) (sym same) (stays, refl);
 }
 
--- as many links as before
-pub still_many : (old new : List Link) → terms_in new ≡ terms_in old → length new ≡ length old
-still_many old new same = sym (length-map new terms_of) ∙ ap (λ l. length l) same ∙ length-map old terms_of
-
 -- what a link gives, for a line that the entities stand for
 record Gives (e : LinkLayer) (s : Store) (m : Line) (number : ℕ) (o : Offer) : Type 0 where
   pub has : HasTerms e.links number (terms_at e.config number m)
@@ -137,25 +133,6 @@ loads e s number new o address info few (others, m, st) offers named is =
       size = size_of s e.config.n201 o.contents info is g.is.slot;
     }
 
--- the entities when a link has given something: the round goes on after it
-turned : (e : LinkLayer) (s : Store) (others : List Owned) (m : Line) (number : ℕ) (new : List Link) (ms : List machine.Link) → Stands e s others m → terms_in new ≡ terms_in e.links
-    → IsSound e.config (record m { links = ms; turn = number + 1 }) → LinksStand e.config new s (beside_links e m others) ms → NoneMissed e.awake new ms
-    → Stands (record e { links = new; turn = number + 1 }) s others (record m { links = ms; turn = number + 1 })
-turned e s others m number new ms st same sound stand asleep = record {
-  range = st.range;
-  wide = stand.wide;
-  sound = sound;
-  management = st.management;
-  count = still_many e.links new same ∙ st.count;
-  links = stand.fits;
-  terms = λ number tei within at. subst (λ l. slice_get l number ≡ Some (terms e.config (service_at number) tei)) (sym same) (st.terms number tei within at);
-  addressed = st.addressed;
-  capacity = st.capacity;
-  turn = refl;
-  asleep = asleep;
-  held = subst (Holds s) (sym (append_assoc (links_pairs new ms) (unit_pairs e.units.waiting m.units) others)) stand.held;
-}
-
 -- what a link gives is loaded
 pub link_loaded : (e : LinkLayer) (s : Store) (f g : Loading) (number : ℕ) (new : List Link) (o : Offer) (address : Address) (info : List ℕ) → number < link_count e.config
     → IsAwake e.awake number → Offers number e.links new (Some o)
@@ -177,7 +154,7 @@ link_loaded e s f g number new o address info few awake offers named is room loa
       let stand = offers.goes_on s e.config t (beside_links e m others) m.links gave.has (links_part e s others m st) in
       let has : HasTaken (with_given_frame e.config m number t what) (listed o.orders) (record e { links = new; turn = number + 1 }) s others f g = record {
         orders = refl;
-        stands = turned e s others m number new _ st offers.terms sound.line stand (none_missed_at e.awake e.links new m.links number _ awake offers.terms st.asleep);
+        stands = links_turned e s s others m new _ e.awake (number + 1) (number + 1) st offers.terms (record { slots = refl; width = refl }) sound.line stand (none_missed_at e.awake e.links new m.links number _ awake offers.terms st.asleep) refl;
         loaded =
             subst (λ a. Loads (spelling e.config.side (record { address = a; control = o.frame.control; info = unwrap_or (contents_in s o.contents) [] })) f g) (named t (still e number new t offers.terms gave.has))
             (subst (λ x. Loads (spelling e.config.side (record { address = address; control = o.frame.control; info = x })) f g) is loaded);
@@ -297,6 +274,25 @@ none_stands {source} {a} {b} {s} {t} {f} {g} h (others, m, st) = go (source a.co
     go : (o : Option Taken) → Took o None m b t others f g → Standing b t × (g ≡ f)
     go None (stays, same) = ((others, m, stays), same)
     go (Some k) h = absurd h
+
+-- What a take of a frame needs.
+pub record Ready (e : LinkLayer) (s : Store) (f : Loading) : Type 0 where
+  pub stands : Standing e s
+  pub free : IsFree f
+  pub room : e.config.n201 ≤ room_in f
+
+pub ready : {e : LinkLayer} {s : Store} {f : Loading} → Standing e s → IsFree f → e.config.n201 ≤ room_in f → Ready e s f
+ready stands free room = record { stands = stands; free = free; room = room }
+
+-- it is still so after one that took nothing
+pub still_ready : {source : Config → Line → Option Taken} {a b : LinkLayer} {s t : Store} {f g : Loading} → Takes source a s f b t g None → Ready a s f → Ready b t g
+still_ready h r =
+    let (stays, same) = none_stands h r.stands in
+    record { stands = stays; free = subst IsFree (sym same) r.free; room = omega (arith, r.room, h.room, ap (λ x. x.n201) h.config) }
+
+-- the turn is among the links
+pub turn_within : {e : LinkLayer} {s : Store} → Standing e s → (e.turn ≤ link_count e.config) × (length e.links ≡ link_count e.config)
+turn_within (others, m, st) = (omega (arith, st.turn, st.sound.turn), st.count)
 
 -- the whole round: from the turn on, and then up to it
 drop_range : (a n t : ℕ) → t ≤ n → drop t (range_with_len a n) ≡ range_with_len (a + t) (n - t)

@@ -3,6 +3,7 @@ use Rattle.lapd_line.proofs.Vocabulary.{◌≡◌, ℕ, ◌≤◌, ◌<◌, List
 use Rattle.std.specs.Prelude.{All}
 use Rattle.lapd_store.specs.Store.{contents_of}
 use Rattle.lapd_line.specs.Units.{slots_of}
+use Rattle.lapd_line.proofs.LayerSteps.{stands_as}
 
 -- as many wait as the machine has
 pub as_many : (us : List QueuedUnit) (ds : List UnitData) → AreFor us ds → length (slots_of us) ≡ length (messages_of ds)
@@ -65,30 +66,19 @@ pub without_unit : (e : LinkLayer) (s t : Store) (others : List Owned) (m : Line
     → t ≡ without s u.slot → Stands (record e { units = without_oldest e.units }) t others (record m { units = drop 1 m.units })
 without_unit e s t others m u st is free =
     let o = oldest e s others m u st is in
-    record {
-      range = st.range;
-      wide = subst (λ x. e.config.n201 ≤ x.width) (sym free) st.wide;
-      sound = record {
-        management = st.sound.management;
-        places = st.sound.places;
-        count = st.sound.count;
-        links = st.sound.links;
-        units = All-drop (IsUnitData e.config) 1 m.units st.sound.units;
-        few_units = omega (arith, st.sound.few_units, length-drop 1 m.units);
-        turn = st.sound.turn;
-        sizes = st.sound.sizes;
-        text = st.sound.text;
-      };
-      management = st.management;
-      count = st.count;
-      links = st.links;
-      terms = st.terms;
-      addressed = o.addressed;
-      capacity = st.capacity;
-      turn = st.turn;
-      asleep = st.asleep;
-      held = (beside_units e s others m st).back t (unit_pairs (drop 1 e.units.waiting) (drop 1 m.units)) (o.released t free);
-    }
+    stands_as st e.teis (without_oldest e.units) t others (record m { units = drop 1 m.units }) (refl, refl, refl, refl) (subst (λ x. e.config.n201 ≤ x.width) (sym free) st.wide)
+    (record {
+      management = st.sound.management;
+      places = st.sound.places;
+      count = st.sound.count;
+      links = st.sound.links;
+      units = All-drop (IsUnitData e.config) 1 m.units st.sound.units;
+      few_units = omega (arith, st.sound.few_units, length-drop 1 m.units);
+      turn = st.sound.turn;
+      sizes = st.sound.sizes;
+      text = st.sound.text;
+    })
+    st.management o.addressed ((beside_units e s others m st).back t (unit_pairs (drop 1 e.units.waiting) (drop 1 m.units)) (o.released t free))
 
 none_for : (us : List QueuedUnit) (ds : List UnitData) → None ≡ slice_get us 0 → AreFor us ds → slice_get ds 0 ≡ None
 none_for [] [] none h = refl

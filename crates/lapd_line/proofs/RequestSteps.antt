@@ -91,10 +91,11 @@ module _ (old : Line) (s : Store) (e : LinkLayer) (t : Store) (full : Bool) (r :
     uncounted = refl;
   }
 
-  pub request_told : (report : Report) → report_told report ≡ told_in [] o → (others : List Owned) (m : machine.Line) → Stands old s others m
-      → told (report_told report) ≡ answer (config_of old) (line_event.request r) m
-  unfolding answer
-  request_told report is others m st =
-      let c = config_of old in
-      ap told (is ∙ served.told others m st.layer)
-      ∙ ap (λ why. unless_refused_told why (of_aim c (unless_refused why (aim_of_request r m)) m)) (sym (with_room c full r m (granted others m st.layer)))
+-- and tell what the machine answers
+pub request_told : {e new : LinkLayer} {s t : Store} {o : BareReport} (full : Bool) (r : Request) (report : Report)
+    → ((others : List Owned) (m : machine.Line) → layer.Stands e s others m → refusal e.config full r m ≡ None) → Serves (aim_of_request r) [] e s new t o → report_told report ≡ told_in [] o
+    → (others : List Owned) (m : machine.Line) → layer.Stands e s others m → told (report_told report) ≡ answer e.config (line_event.request r) m
+unfolding answer
+request_told {e} full r report granted served is others m st =
+    ap told (is ∙ served.told others m st)
+    ∙ ap (λ why. unless_refused_told why (of_aim e.config (unless_refused why (aim_of_request r m)) m)) (sym (with_room e.config full r m (granted others m st)))

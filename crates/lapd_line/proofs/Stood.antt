@@ -9,35 +9,23 @@ use Rattle.lapd_line.specs.LinkLayer as layer
 use Rattle.lapd_line.specs.Stands.{Stands, pairs_of}
 use Rattle.lapd_line.specs.Units as units
 use Rattle.lapd_line.proofs.HeldSteps.{sum_next}
+use Rattle.lapd_line.proofs.LayerSteps.{stands_as}
 use Rattle.lapd_line.proofs.PullTakesUnits.{as_many}
 
 -- what a line owns is held beside what others own
 pub held_of : (x : Line) (s : Store) (others : List Owned) (m : machine_line.Line) → Stands x s others m → Holds s (pairs_of x m ++ others)
 held_of x s others m st = st.layer.held
 
--- and where another shelf holds it, the line stands there too
+-- and where another shelf holds it, the entities stand there too,
+pub on_shelf : {e : LinkLayer} {s t : Store} {others rest : List Owned} {m : machine_line.Line} → layer.Stands e s others m → e.config.n201 ≤ t.width
+    → Holds t ((links_pairs e.links m.links ++ unit_pairs e.units.waiting m.units) ++ rest) → layer.Stands e t rest m
+on_shelf {e} {t = t} {rest = rest} {m} st wide held = stands_as st e.teis e.units t rest m (refl, refl, refl, refl) wide st.sound st.management st.addressed held
+
+-- and so does the line
 pub stands_on : (x : Line) (s : Store) (others : List Owned) (m : machine_line.Line) → Stands x s others m → (t : Store) (rest : List Owned) → (config_of x).n201 ≤ t.width → Holds t (pairs_of x m ++ rest)
     → Stands x t rest m
-stands_on x s others m st t rest wide held = record {
-  received = st.received;
-  sent = st.sent;
-  room = st.room;
-  layer = record {
-    range = st.layer.range;
-    wide = wide;
-    sound = st.layer.sound;
-    management = st.layer.management;
-    count = st.layer.count;
-    links = st.layer.links;
-    terms = st.layer.terms;
-    addressed = st.layer.addressed;
-    capacity = st.layer.capacity;
-    turn = st.layer.turn;
-    asleep = st.layer.asleep;
-    held = held;
-  };
-  nothing_waits = st.nothing_waits;
-}
+stands_on x s others m st t rest wide held =
+    record { received = st.received; sent = st.sent; room = st.room; layer = on_shelf st.layer wide held; nothing_waits = st.nothing_waits }
 
 -- a sum over the places of a list is the sum over its elements
 sum_taken : {X : Type 0} (f : X → ℕ) (xs : List X) (d : X) (n : ℕ) → n ≤ length xs → sum_by (λ i. f (get_or xs i d)) (range_with_len 0 n) ≡ sum_by f (take n xs)
@@ -80,15 +68,20 @@ slots_of_units us ds same = length-pairs_of (units.slots_of us) (messages_of ds)
 pub octets_of_units : (us : List QueuedUnit) (ds : List UnitData) → AreFor us ds → owned_octets (unit_pairs us ds) ≡ sum_by unit_length ds
 octets_of_units us ds same = owned_octets-pairs_of (units.slots_of us) (messages_of ds) (as_many us ds same) ∙ fold-map (λ a octets. a + length octets) contents_of 0 ds
 
--- a line owns as many slots as its machine keeps contents, and as many octets as are in them
+-- the entities own as many slots as the machine keeps contents, and as many octets as are in them
+pub slots_owned : {e : LinkLayer} {s : Store} {others : List Owned} {m : machine_line.Line} → layer.Stands e s others m
+    → length (links_pairs e.links m.links ++ unit_pairs e.units.waiting m.units) ≡ slots_of e.config m
+slots_owned {e} {s} {others} {m} st =
+    omega (arith, slots_of_links e s others m st, slots_of_units e.units.waiting m.units st.addressed, length-append (links_pairs e.links m.links) (unit_pairs e.units.waiting m.units))
+
+pub octets_owned : {e : LinkLayer} {s : Store} {others : List Owned} {m : machine_line.Line} → layer.Stands e s others m
+    → owned_octets (links_pairs e.links m.links ++ unit_pairs e.units.waiting m.units) ≡ octets_of e.config m
+octets_owned {e} {s} {others} {m} st =
+    omega (arith, octets_of_links e s others m st, octets_of_units e.units.waiting m.units st.addressed, owned_octets-append (links_pairs e.links m.links) (unit_pairs e.units.waiting m.units))
+
+-- and so does a line
 pub slots-pairs : (x : Line) (s : Store) (others : List Owned) (m : machine_line.Line) → Stands x s others m → length (pairs_of x m) ≡ slots_of (config_of x) m
-slots-pairs x s others m st =
-    let links = slots_of_links x.layer s others m st.layer in
-    let waiting = slots_of_units x.layer.units.waiting m.units st.layer.addressed in
-    omega (arith, links, waiting, length-append (links_pairs x.layer.links m.links) (unit_pairs x.layer.units.waiting m.units))
+slots-pairs x s others m st = slots_owned st.layer
 
 pub octets-pairs : (x : Line) (s : Store) (others : List Owned) (m : machine_line.Line) → Stands x s others m → owned_octets (pairs_of x m) ≡ octets_of (config_of x) m
-octets-pairs x s others m st =
-    let links = octets_of_links x.layer s others m st.layer in
-    let waiting = octets_of_units x.layer.units.waiting m.units st.layer.addressed in
-    omega (arith, links, waiting, owned_octets-append (links_pairs x.layer.links m.links) (unit_pairs x.layer.units.waiting m.units))
+octets-pairs x s others m st = octets_owned st.layer

@@ -1,15 +1,29 @@
 -- Changes of the table, and the links that follow them.
-use Rattle.lapd_line.proofs.Vocabulary.{◌≡◌, ◌≢◌, ℕ, ◌<◌, ◌≤◌, List, [], ◌++◌, length, get_or, set, slice_get, Some, None, refl, sym, ap, subst, ◌∙◌, arith, append_assoc, ⊎_elim, cases_eq, length-map, length-set, get_or-set_same, get_or-set_other, none-some, same_Some, slice_get-set_same, slice_get-set_other, Owned, Holds, Store, Service, Call, Packet, Link, Answer, told_with, terms_of, Gained, Left, TeiOutcome, HasJoined, HasLeft, Management, told_of, changes_are_told, Line, link_number, link_count, service_at, place_at, tei_at, terms, link_at, at_management, of_change, of_management, told_of_link, told_of_management, with_cleared, with_opened, IsSound, IsSoundAt, management_event_sound, place_at-number, service_at-number, number_within, other_place, LinkLayer, told_in, unit_pairs, NoneMissed, LinksStand, HasTerms, links_pairs, terms_in, machine_at, Stands, Serves, always, IsAnswerTo, with_management}
+use Rattle.lapd_line.proofs.Vocabulary.{◌≡◌, ◌≢◌, ℕ, ◌<◌, ◌≤◌, List, [], ◌++◌, length, get_or, set, slice_get, Some, None, refl, sym, ap, subst, ◌∙◌, arith, append_assoc, ⊎_elim, cases_eq, length-map, length-set, get_or-set_same, get_or-set_other, none-some, same_Some, slice_get-set_same, slice_get-set_other, Owned, Holds, Store, Service, Call, Packet, Link, Answer, told_with, terms_of, Gained, Left, TeiOutcome, HasJoined, HasLeft, Management, told_of, changes_are_told, Line, link_number, link_count, service_at, place_at, tei_at, terms, link_at, at_management, of_change, of_management, told_of_link, told_of_management, with_cleared, with_opened, IsSound, IsSoundAt, management_event_sound, place_at-number, service_at-number, number_within, other_place, LinkLayer, told_in, unit_pairs, NoneMissed, LinksStand, HasTerms, links_pairs, terms_in, machine_at, Stands, Serves, always, IsAnswerTo, with_management, Config, Terms, IsInRange, listed, cleared-tells, cleared-orders}
 use Rattle.model_link.specs.Events as event
 use Rattle.model_link.specs.Link as machine
 use Rattle.model_link.specs.Machine as answers
+use Rattle.model_link.specs.Told.{LinkTold}
 use Rattle.lapd_tei.specs.Events as teis
 use Rattle.lapd_tei.specs.Laws.{Moves}
 use Rattle.model_line.proofs.Numbers.{at_place}
 use Rattle.lapd_line.specs.declared.reports.BareReport as reports
 use Rattle.lapd_line.specs.Links as links
+use Rattle.lapd_line.specs.TeiChanges.{Changing}
 use Rattle.lapd_line.proofs.AwakeSteps.{none_missed_fresh}
 use Rattle.lapd_line.proofs.LayerSteps.{links_part, named, few_places}
+use Rattle.lapd_line.proofs.LinkSteps.{same_many}
+
+-- one link is cleared, and then another
+both_cleared : {c : Config} {ls one two : List Link} {s u t : Store} {first second : ℕ} {call packet : Answer} (t1 t2 : Terms) (others : List Owned) (ms : List machine.Link)
+    → HasTerms ls first t1 → HasTerms ls second t2 → links.Serves first event.cleared [] ls s one u call → links.Serves second event.cleared [] one u two t packet → LinksStand c ls s others ms
+    → (told_with [] call ≡ answers.told t1 event.cleared (machine_at ms first))
+    × LinksStand c two t others (set (set ms first (answers.after t1 event.cleared (machine_at ms first))) second (answers.after t2 event.cleared (machine_at (set ms first (answers.after t1 event.cleared (machine_at ms first))) second)))
+    × (told_with [] packet ≡ answers.told t2 event.cleared (machine_at (set ms first (answers.after t1 event.cleared (machine_at ms first))) second))
+both_cleared {c} {second = second} t1 t2 others ms has_one has_two one two stand =
+    let after_one = one.goes_on c t1 others ms has_one stand in
+    let has = subst (λ l. slice_get l second ≡ Some t2) (sym one.terms) has_two in
+    (one.told c t1 others ms has_one stand, two.goes_on c t2 others _ has after_one, two.told c t2 others _ has after_one)
 
 -- The entities after an event of TEI management: the table is another one, and so may the links be.
 module _ (e : LinkLayer) (before : Management) (what : teis.Event) (outcome : TeiOutcome) (is : IsAnswerTo what before e.teis outcome) where
@@ -154,7 +168,7 @@ module _ (e : LinkLayer) (before : Management) (what : teis.Event) (outcome : Te
     stands = λ others m st.
         let all = followed s others m st ∙ ap (λ c. of_change e.config c (told_of_management (told_of outcome)) (record m { management = e.teis })) gone in
         subst (λ l. Stands (record e { links = two }) t others l) (sym (ap (λ x. x.line) all))
-        (rebuilt s t others m two _ st (both s others m st).1 count (has_terms s others m st) (asleep m st.asleep) (ap (λ x. x.line) all));
+        (rebuilt s t others m two _ st (both s others m st).1 (same_many two e.links same_terms) (has_terms s others m st) (asleep m st.asleep) (ap (λ x. x.line) all));
     told = λ others m st.
         let all = followed s others m st ∙ ap (λ c. of_change e.config c (told_of_management (told_of outcome)) (record m { management = e.teis })) gone in
         told
@@ -175,21 +189,11 @@ module _ (e : LinkLayer) (before : Management) (what : teis.Event) (outcome : Te
           × (told_with [] packet ≡ answers.told (terms e.config Packet tei) event.cleared (machine_at (one_of m.links) (link_number place Packet)))
       both s' others m st =
           let at = (there s others m st).was_there in
-          let c = named (with_management before e) s others m Call tei place st at in
-          let p = named (with_management before e) s others m Packet tei place st at in
-          let stand = links_part (with_management before e) s others m st in
-          let after_one = first.goes_on e.config (terms e.config Call tei) _ m.links c.has_terms stand in
-          let has : HasTerms one (link_number place Packet) (terms e.config Packet tei) = subst (λ l. slice_get l (link_number place Packet) ≡ Some (terms e.config Packet tei)) (sym first.terms) p.has_terms in (
-            first.told e.config (terms e.config Call tei) _ m.links c.has_terms stand,
-            second.goes_on e.config (terms e.config Packet tei) _ _ has after_one,
-            second.told e.config (terms e.config Packet tei) _ _ has after_one,
-          )
+          both_cleared _ _ _ m.links (named (with_management before e) s others m Call tei place st at).has_terms (named (with_management before e) s others m Packet tei place st at).has_terms first second
+          (links_part (with_management before e) s others m st)
 
       same_terms : terms_in two ≡ terms_in e.links
       same_terms = second.terms ∙ first.terms
-
-      count : length two ≡ length e.links
-      count = sym (length-map two terms_of) ∙ ap (λ l. length l) same_terms ∙ length-map e.links terms_of
 
       -- they begin anew, and have nothing to give
       asleep : (m : Line) → NoneMissed e.awake e.links m.links
@@ -209,33 +213,85 @@ module _ (e : LinkLayer) (before : Management) (what : teis.Event) (outcome : Te
           (λ other. st.terms number tei' few (ap (λ b. get_or b.places (place_at number) None) st.management ∙ sym (get_or-set_other before.places place (place_at number) None None other) ∙ places_are))
           (cases_eq (place_at number) place))
 
-  -- What a change tells of the table.
-  pub has_left : (s : Store) (others : List Owned) (m : Line) (tei place : ℕ) → Stands (with_management before e) s others m → outcome.change ≡ Some (Left tei place) → HasLeft before.places e.teis.places tei place
-  has_left s others m tei place st gone = subst (λ c. Moves before.places c e.teis.places) gone (moved s others m st)
+-- What is known where a TEI has come to a place, before its links begin; and where it has left, before they are cleared.
+module _ (e : LinkLayer) (s : Store) (tei place : ℕ) where
+  pub record Coming : Type 0 where
+    pub others : List Owned
+    pub ms : List machine.Link
+    pub stand : LinksStand e.config e.links s others ms
+    pub range : IsInRange e.config
+    pub low : tei ≤ 126
+    pub exact : {number result : ℕ} → (place ≤ 8 → result ≡ number) → result ≡ number
+    pub within : (service : Service) {number : ℕ} → (place ≤ 8 → number ≡ link_number place service) → number < length e.links
+    pub fresh : (service : Service) {number : ℕ} → (place ≤ 8 → number ≡ link_number place service) → machine_at ms number ≡ machine.fresh
 
-  pub has_joined : (s : Store) (others : List Owned) (m : Line) (tei place : ℕ) → Stands (with_management before e) s others m → outcome.change ≡ Some (Gained tei place) → HasJoined before.places e.teis.places tei place
-  has_joined s others m tei place st gained = subst (λ c. Moves before.places c e.teis.places) gained (moved s others m st)
+  pub record Going : Type 0 where
+    pub others : List Owned
+    pub ms : List machine.Link
+    pub stand : LinksStand e.config e.links s others ms
+    pub exact : {number result : ℕ} → (place ≤ 8 → result ≡ number) → result ≡ number
+    pub within : (service : Service) {number : ℕ} → (place ≤ 8 → number ≡ link_number place service) → number < length e.links
+    pub has : (service : Service) {number : ℕ} → (place ≤ 8 → number ≡ link_number place service) → HasTerms e.links number (terms e.config service tei)
 
--- as many links as before, where their parameters are the same
-pub as_many : (new old : List Link) → terms_in new ≡ terms_in old → length new ≡ length old
-as_many new old same = sym (length-map new terms_of) ∙ ap (λ l. length l) same ∙ length-map old terms_of
+-- there are such links, whose numbers are exact
+link_within : {e : LinkLayer} {s : Store} {others : List Owned} {m : Line} (service : Service) (place : ℕ) {number : ℕ} → Stands e s others m → place < length e.teis.places → number ≡ link_number place service → number < length e.links
+link_within {e} service place st within is =
+    let low : place < e.config.terminals = omega (arith, within, st.sound.places, ap (λ t. length t.places) st.management) in
+    omega (arith, is, st.count, number_within place e.config.terminals service low)
 
 -- the link of a free place is as it begins
-pub free_link : (e : LinkLayer) (s : Store) (others : List Owned) (m : Line) (service : Service) (place : ℕ) → Stands e s others m → place < length e.teis.places → get_or e.teis.places place None ≡ None
+free_link : {e : LinkLayer} {s : Store} {others : List Owned} {m : Line} (service : Service) (place : ℕ) → Stands e s others m → place < length e.teis.places → get_or e.teis.places place None ≡ None
     → machine_at m.links (link_number place service) ≡ machine.fresh
-free_link e s others m service place st within free =
+free_link {e} {m = m} service place st within free =
     let number = link_number place service in
     let low : place < e.config.terminals = omega (arith, within, st.sound.places, ap (λ t. length t.places) st.management) in
     let there : tei_at (place_at number) m ≡ None =
     ap (λ p. tei_at p m) (place_at-number place service) ∙ ap (λ t. get_or t.places place None) st.management ∙ free in
     subst (IsSoundAt e.config number (link_at number m)) there (st.sound.links number (number_within place e.config.terminals service low))
 
--- and there is such a link
-pub link_within : (e : LinkLayer) (s : Store) (others : List Owned) (m : Line) (service : Service) (place : ℕ) → Stands e s others m → place < length e.teis.places → link_number place service < length e.links
-link_within e s others m service place st within =
-    let low : place < e.config.terminals = omega (arith, within, st.sound.places, ap (λ t. length t.places) st.management) in
-    omega (arith, st.count, number_within place e.config.terminals service low)
+pub coming : {e : LinkLayer} {s : Store} {outcome : TeiOutcome} {tei place : ℕ} → Changing e s outcome → outcome.change ≡ Some (Gained tei place) → Coming e s tei place
+coming {e} {s} {outcome} {tei} {place} (what, before, is, (others, m, st)) gained =
+    let there : HasJoined before.places e.teis.places tei place = subst (λ c. Moves before.places c e.teis.places) gained (moved e before what outcome is s others m st) in
+    let few = few_places (with_management before e) s others m st in
+    record {
+      others = unit_pairs e.units.waiting m.units ++ others;
+      ms = m.links;
+      stand = links_part (with_management before e) s others m st;
+      range = st.range;
+      low = there.range;
+      exact = λ h. h (omega (arith, there.within, few));
+      within = λ service h. link_within service place st there.within (h (omega (arith, there.within, few)));
+      fresh = λ service h. ap (machine_at m.links) (h (omega (arith, there.within, few))) ∙ free_link service place st there.within there.was_free;
+    }
 
--- whose number is exact
-pub exact : (e : LinkLayer) (s : Store) (others : List Owned) (m : Line) (place : ℕ) {result number : ℕ} → Stands e s others m → place < length e.teis.places → (place ≤ 8 → result ≡ number) → result ≡ number
-exact e s others m place st within h = h (omega (arith, within, few_places e s others m st))
+pub going : {e : LinkLayer} {s : Store} {outcome : TeiOutcome} {tei place : ℕ} → Changing e s outcome → outcome.change ≡ Some (Left tei place) → Going e s tei place
+going {e} {s} {outcome} {tei} {place} (what, before, is, (others, m, st)) gone =
+    let there : HasLeft before.places e.teis.places tei place = subst (λ c. Moves before.places c e.teis.places) gone (moved e before what outcome is s others m st) in
+    let few = few_places (with_management before e) s others m st in
+    record {
+      others = unit_pairs e.units.waiting m.units ++ others;
+      ms = m.links;
+      stand = links_part (with_management before e) s others m st;
+      exact = λ h. h (omega (arith, there.within, few));
+      within = λ service h. link_within service place st there.within (h (omega (arith, there.within, few)));
+      has = λ service h.
+          subst (λ n. HasTerms e.links n (terms e.config service tei)) (sym (h (omega (arith, there.within, few)))) (named (with_management before e) s others m service tei place st there.was_there).has_terms;
+    }
+
+-- the two links tell little
+IsFew : LinkTold → Type 0
+IsFew t = (length t.notes ≤ 1) × (length t.orders ≤ 1)
+
+pub few_told : {e : LinkLayer} {s u t : Store} {tei place first second : ℕ} {one two : List Link} {call packet : Answer} (k : Going e s tei place)
+    → (place ≤ 8 → first ≡ link_number place Call) → (place ≤ 8 → second ≡ link_number place Packet)
+    → links.Serves first event.cleared [] e.links s one u call → links.Serves second event.cleared [] one u two t packet
+    → ((length (listed call.notes) ≤ 1) × (length (listed call.orders) ≤ 1)) × ((length (listed packet.notes) ≤ 1) × (length (listed packet.orders) ≤ 1))
+unfolding IsFew
+few_told {e} {tei = tei} {first = first} {second} k is_call is_packet one two =
+    let of_call = terms e.config Call tei in
+    let of_packet = terms e.config Packet tei in
+    let cleared = set k.ms first (answers.after of_call event.cleared (machine_at k.ms first)) in
+    let both = both_cleared of_call of_packet k.others k.ms (k.has Call is_call) (k.has Packet is_packet) one two k.stand in (
+      subst IsFew (sym both.0) (cleared-tells of_call (machine_at k.ms first), cleared-orders of_call (machine_at k.ms first)),
+      subst IsFew (sym both.2) (cleared-tells of_packet (machine_at cleared second), cleared-orders of_packet (machine_at cleared second)),
+    )

@@ -5,6 +5,7 @@ use Rattle.lapd_store.specs.Store.{IsFree}
 use Rattle.model_line.specs.Request as asked
 use Rattle.lapd_line.specs.Units.{slots_of}
 use Rattle.lapd_line.proofs.LayerRequests.{off_line}
+use Rattle.lapd_line.proofs.LayerSteps.{stands_as}
 use Rattle.lapd_line.proofs.PullTakesUnits.{as_many, beside_units}
 
 -- a TEI is on the line exactly where it has a place
@@ -102,21 +103,11 @@ newest_held s t us ds u d rest same free stored held =
 with_unit : (e : LinkLayer) (s t : Store) (others : List Owned) (m : Line) (u : QueuedUnit) (d : UnitData) → Stands e s others m → u.service ≡ d.service → u.tei ≡ d.tei
     → IsFree s u.slot → t ≡ with_contents s u.slot d.contents → IsProper e.config m (at_units d)
     → Stands (record e { units = with_newest u e.units }) t others (of_aim e.config (at_units d) m).line
-with_unit e s t others m u d st service tei free stored proper = record {
-  range = st.range;
-  wide = subst (λ x. e.config.n201 ≤ x.width) (sym stored) st.wide;
-  sound = aim_sound e.config st.range m (at_units d) st.sound proper;
-  management = st.management;
-  count = st.count;
-  links = st.links;
-  terms = st.terms;
-  addressed = for_newest e.units.waiting m.units u d st.addressed service tei;
-  capacity = st.capacity;
-  turn = st.turn;
-  asleep = st.asleep;
-  held = (beside_units e s others m st).back t (unit_pairs (e.units.waiting ++ u ∷ []) (m.units ++ d ∷ []))
-      (newest_held s t e.units.waiting m.units u d (beside_units e s others m st).rest st.addressed free stored (beside_units e s others m st).held);
-}
+with_unit e s t others m u d st service tei free stored proper =
+    let part = beside_units e s others m st in
+    stands_as st e.teis (with_newest u e.units) t others (of_aim e.config (at_units d) m).line (refl, refl, refl, refl) (subst (λ x. e.config.n201 ≤ x.width) (sym stored) st.wide)
+    (aim_sound e.config st.range m (at_units d) st.sound proper) st.management (for_newest e.units.waiting m.units u d st.addressed service tei)
+    (part.back t (unit_pairs (e.units.waiting ++ u ∷ []) (m.units ++ d ∷ [])) (newest_held s t e.units.waiting m.units u d part.rest st.addressed free stored part.held))
 
 -- and the entities have served it
 pub unit_serves : (e : LinkLayer) (s t : Store) (ring : UnitRing) (slots : ℕ) (service : Service) (tei slot : ℕ) (contents : List ℕ) (outcome : BareReport)

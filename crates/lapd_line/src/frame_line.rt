@@ -251,20 +251,9 @@ impl FrameLine {
         ensures after { Leads (λ m. line_event.expiry timer ∷ []) self.old (S.store shelf.old) self.new (S.store shelf.new) }
         ensures counted { Counts (λ c m. told_in_answer (answer c (line_event.expiry timer) m)) self.old (S.store shelf.old) self.new }
     {
-        let report = self.expire_timer(timer, shelf);
+        let report = self.layer.expire(timer, shelf).report(&[]);
         self.count_told(&report);
         report
-    }
-
-    /// A timer expires, and nothing is counted.
-    fn expire_timer<S: Shelf>(&mut self, timer: Timer, shelf: &mut S) -> Report<'static>
-        requires { (others : List Owned) × (m : machine.Line) × Stands self.old (S.store shelf.old) others m }
-        ensures told { (others : List Owned) (m : machine.Line) → Stands self.old (S.store shelf.old) others m
-            → told (report_told result) ≡ answer (config_of self.old) (line_event.expiry timer) m }
-        ensures after { Leads (λ m. line_event.expiry timer ∷ []) self.old (S.store shelf.old) self.new (S.store shelf.new) }
-        ensures counters { self.new.counters ≡ self.old.counters }
-    {
-        self.layer.expire(timer, shelf).report(&[])
     }
 
     /// Counts what was told.
@@ -301,38 +290,12 @@ impl FrameLine {
         ensures counted { IfOk result (λ report.
             Counts (λ c m. told_in_answer (answer c (line_event.request (request_of request.entry)) m)) self.old (S.store shelf.old) self.new) }
     {
-        match self.serve_request(request, shelf, slots) {
-            Ok(report) => {
+        match self.layer.request(request, shelf, slots) {
+            Ok(bare) => {
+                let report = bare.report(&[]);
                 self.count_told(&report);
                 Ok(report)
             }
-            Err(why) => Err(why),
-        }
-    }
-
-    /// Serves a request, and counts nothing.
-    fn serve_request<S: Shelf>(
-        &mut self,
-        request: Request<'_>,
-        shelf: &mut S,
-        slots: u32,
-    ) -> Result<Report<'static>, Refusal>
-        requires stands { (others : List Owned) × (m : machine.Line) × Stands self.old (S.store shelf.old) others m }
-        requires slots { slots ≤ (S.store shelf.old).slots }
-        ensures refused { IfErr result (λ why. (others : List Owned) (m : machine.Line) → Stands self.old (S.store shelf.old) others m
-            → refusal (config_of self.old) (nat_le slots (used_slots (S.store shelf.old))) (request_of request.entry) m ≡ Some why) }
-        ensures unchanged { OnErr result (self.new ≡ self.old) }
-        ensures kept { OnErr result (shelf.new ≡ shelf.old) }
-        ensures accepted { IfOk result (λ report. (others : List Owned) (m : machine.Line) → Stands self.old (S.store shelf.old) others m
-            → refusal (config_of self.old) (nat_le slots (used_slots (S.store shelf.old))) (request_of request.entry) m ≡ None) }
-        ensures told { IfOk result (λ report. (others : List Owned) (m : machine.Line) → Stands self.old (S.store shelf.old) others m
-            → told (report_told report) ≡ answer (config_of self.old) (line_event.request (request_of request.entry)) m) }
-        ensures after { IfOk result (λ report. Leads (λ m. line_event.request (request_of request.entry) ∷ [])
-            self.old (S.store shelf.old) self.new (S.store shelf.new)) }
-        ensures counters { self.new.counters ≡ self.old.counters }
-    {
-        match self.layer.request(request, shelf, slots) {
-            Ok(bare) => Ok(bare.report(&[])),
             Err(why) => Err(why),
         }
     }

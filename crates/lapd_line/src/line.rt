@@ -215,21 +215,10 @@ impl Line {
         ensures starts { starts (report_told result).orders ≤ 1 }
         ensures after { Leads (line_event.expiry timer) self.old (S.store shelf.old) self.new (S.store shelf.new) }
     {
-        let report = self.expire_timer(timer, shelf);
+        self.nothing_waits = false;
+        let report = self.layer.expire(timer, shelf).report(&[]);
         self.count_told(&report);
         report
-    }
-
-    /// A timer expires, and nothing is counted.
-    fn expire_timer<S: Shelf>(&mut self, timer: Timer, shelf: &mut S) -> Report<'static>
-        requires { (others : List Owned) × (m : machine.Line) × Stands self.old (S.store shelf.old) others m }
-        ensures told { (others : List Owned) (m : machine.Line) → Stands self.old (S.store shelf.old) others m
-            → told (report_told result) ≡ answer (config_of self.old) (line_event.expiry timer) m }
-        ensures starts { starts (report_told result).orders ≤ 1 }
-        ensures after { Moves (line_event.expiry timer) self.old (S.store shelf.old) self.new (S.store shelf.new) }
-    {
-        self.nothing_waits = false;
-        self.layer.expire(timer, shelf).report(&[])
     }
 
     /// Serves a request of layer 3 or management (Q.921 clause 4.1.1). One that is refused changes nothing. The whole
@@ -258,39 +247,12 @@ impl Line {
         ensures after { IfOk result (λ report.
             Leads (line_event.request (request_of request.entry)) self.old (S.store shelf.old) self.new (S.store shelf.new)) }
     {
-        match self.serve_request(request, shelf, slots) {
-            Ok(report) => {
-                self.count_told(&report);
-                Ok(report)
-            }
-            Err(why) => Err(why),
-        }
-    }
-
-    /// Serves a request, and counts nothing.
-    fn serve_request<S: Shelf>(
-        &mut self,
-        request: Request<'_>,
-        shelf: &mut S,
-        slots: u32,
-    ) -> Result<Report<'static>, Refusal>
-        requires stands { (others : List Owned) × (m : machine.Line) × Stands self.old (S.store shelf.old) others m }
-        requires slots { slots ≤ (S.store shelf.old).slots }
-        ensures refused { IfErr result (λ why. (others : List Owned) (m : machine.Line) → Stands self.old (S.store shelf.old) others m
-            → refusal (config_of self.old) (nat_le slots (used_slots (S.store shelf.old))) (request_of request.entry) m ≡ Some why) }
-        ensures unchanged { OnErr result (self.new ≡ self.old) }
-        ensures kept { OnErr result (shelf.new ≡ shelf.old) }
-        ensures accepted { IfOk result (λ report. (others : List Owned) (m : machine.Line) → Stands self.old (S.store shelf.old) others m
-            → refusal (config_of self.old) (nat_le slots (used_slots (S.store shelf.old))) (request_of request.entry) m ≡ None) }
-        ensures told { IfOk result (λ report. (others : List Owned) (m : machine.Line) → Stands self.old (S.store shelf.old) others m
-            → told (report_told report) ≡ answer (config_of self.old) (line_event.request (request_of request.entry)) m) }
-        ensures after { IfOk result (λ report.
-            Moves (line_event.request (request_of request.entry)) self.old (S.store shelf.old) self.new (S.store shelf.new)) }
-    {
         match self.layer.request(request, shelf, slots) {
             Ok(bare) => {
                 self.nothing_waits = false;
-                Ok(bare.report(&[]))
+                let report = bare.report(&[]);
+                self.count_told(&report);
+                Ok(report)
             }
             Err(why) => Err(why),
         }

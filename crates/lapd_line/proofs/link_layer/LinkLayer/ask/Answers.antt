@@ -1,7 +1,7 @@
 -- Hand-written answers for `LinkLayer::ask`.
 use Rattle.lapd_line.proofs.Vocabulary.{[], nat_le, sym, arith, used_slots, place_of-is}
 use Rattle.lapd_link.specs.Events as link
-use Rattle.lapd_line.proofs.LayerSteps.{beside_links, links_part, low_number}
+use Rattle.lapd_line.proofs.LayerSteps.{links_standing, low_number}
 use Rattle.lapd_line.proofs.LayerRequests.{no_link, asked, asked_serves}
 use Rattle.lapd_line.proofs.link_layer.LinkLayer.ask.Goals as goal
 
@@ -10,9 +10,7 @@ returns-in_default-clause-refused g c = λ others m st.
     no_link c.args.self.now (g.S.Shelf.store c.args.shelf.now) others m st c.args.service c.args.tei (nat_le c.args.slots (used_slots (g.S.Shelf.store c.args.shelf.now))) (link.request_of c.args.request) (grind arith) (sym c.in_default.ensures.place)
 
 pub request-requires-clause-stands : goal.request-requires-clause-stands
-request-requires-clause-stands g c =
-    let (others, m, stands) = c.requires.stands in
-    (c.args.self.now.config, beside_links c.args.self.now m others, m.links, links_part c.args.self.now (g.S.Shelf.store c.args.shelf.now) others m stands)
+request-requires-clause-stands g c = links_standing c.requires.stands
 
 pub wake-requires : goal.wake-requires
 wake-requires g c =

@@ -16,55 +16,34 @@ asks g c = elim c.match-request.branch [
 ]
 
 pub returns-clause-refused : goal.returns-clause-refused
-returns-clause-refused g c =
-    refused_as c.args.self.now (g.S.Shelf.store c.args.shelf.now) (nat_le c.args.slots (used_slots (g.S.Shelf.store c.args.shelf.now))) (refl {a = request_of c.args.request}) ((asks g c).rows c.args.self.now.config (nat_le c.args.slots (used_slots (g.S.Shelf.store c.args.shelf.now))))
-    c.ask.result c.ask.ensures.refused
+returns-clause-refused g c = refused_as _ _ _ (refl {a = request_of c.args.request}) ((asks g c).rows c.args.self.now.config (nat_le c.args.slots (used_slots (g.S.Shelf.store c.args.shelf.now)))) c.ask.result c.ask.ensures.refused
 
 pub returns-clause-granted : goal.returns-clause-granted
-returns-clause-granted g c =
-    granted_as c.args.self.now (g.S.Shelf.store c.args.shelf.now) (nat_le c.args.slots (used_slots (g.S.Shelf.store c.args.shelf.now))) (refl {a = request_of c.args.request}) ((asks g c).rows c.args.self.now.config (nat_le c.args.slots (used_slots (g.S.Shelf.store c.args.shelf.now))))
-    c.ask.result c.ask.ensures.granted
+returns-clause-granted g c = granted_as _ _ _ (refl {a = request_of c.args.request}) ((asks g c).rows c.args.self.now.config (nat_le c.args.slots (used_slots (g.S.Shelf.store c.args.shelf.now)))) c.ask.result c.ask.ensures.granted
 
 pub returns-clause-served : goal.returns-clause-served
-returns-clause-served g c =
-    aimed_as (request_of c.args.request) c.args.self.now (g.S.Shelf.store c.args.shelf.now) c.ask.new.self (g.S.Shelf.store c.ask.new.shelf) c.ask.result (asks g c).aim c.ask.ensures.served
+returns-clause-served g c = aimed_as (request_of c.args.request) _ _ _ _ c.ask.result (asks g c).aim c.ask.ensures.served
 
 pub returns-in-Unit-clause-refused : goal.returns-in-Unit-clause-refused
-returns-in-Unit-clause-refused g c =
-    refused_as c.args.self.now (g.S.Shelf.store c.args.shelf.now) (nat_le c.args.slots (used_slots (g.S.Shelf.store c.args.shelf.now))) (ap request_of c.in-Unit.is) (λ m. refl)
-    c.unit.result c.unit.ensures.refused
+returns-in-Unit-clause-refused g c = refused_as _ _ _ (ap request_of c.in-Unit.is) (λ m. refl) c.unit.result c.unit.ensures.refused
 
 pub returns-in-Unit-clause-granted : goal.returns-in-Unit-clause-granted
-returns-in-Unit-clause-granted g c =
-    granted_as c.args.self.now (g.S.Shelf.store c.args.shelf.now) (nat_le c.args.slots (used_slots (g.S.Shelf.store c.args.shelf.now))) (ap request_of c.in-Unit.is) (λ m. refl)
-    c.unit.result c.unit.ensures.granted
+returns-in-Unit-clause-granted g c = granted_as _ _ _ (ap request_of c.in-Unit.is) (λ m. refl) c.unit.result c.unit.ensures.granted
 
 pub returns-in-Assign-clause-refused : goal.returns-in-Assign-clause-refused
-returns-in-Assign-clause-refused g c =
-    refused_as c.args.self.now (g.S.Shelf.store c.args.shelf.now) (nat_le c.args.slots (used_slots (g.S.Shelf.store c.args.shelf.now))) (ap request_of c.in-Assign.is) (assign_rows c.args.self.now.config (nat_le c.args.slots (used_slots (g.S.Shelf.store c.args.shelf.now))) c.in-Assign.tei)
-    c.manage.result c.manage.ensures.refused
+returns-in-Assign-clause-refused g c = refused_as _ _ _ (ap request_of c.in-Assign.is) (assign_rows c.args.self.now.config (nat_le c.args.slots (used_slots (g.S.Shelf.store c.args.shelf.now))) c.in-Assign.tei) c.manage.result c.manage.ensures.refused
 
 pub returns-in-Assign-clause-granted : goal.returns-in-Assign-clause-granted
-returns-in-Assign-clause-granted g c =
-    granted_as c.args.self.now (g.S.Shelf.store c.args.shelf.now) (nat_le c.args.slots (used_slots (g.S.Shelf.store c.args.shelf.now))) (ap request_of c.in-Assign.is) (assign_rows c.args.self.now.config (nat_le c.args.slots (used_slots (g.S.Shelf.store c.args.shelf.now))) c.in-Assign.tei)
-    c.manage.result c.manage.ensures.granted
+returns-in-Assign-clause-granted g c = granted_as _ _ _ (ap request_of c.in-Assign.is) (assign_rows c.args.self.now.config (nat_le c.args.slots (used_slots (g.S.Shelf.store c.args.shelf.now))) c.in-Assign.tei) c.manage.result c.manage.ensures.granted
 
 pub returns-in-Remove-clause-refused : goal.returns-in-Remove-clause-refused
-returns-in-Remove-clause-refused g c =
-    refused_as c.args.self.now (g.S.Shelf.store c.args.shelf.now) (nat_le c.args.slots (used_slots (g.S.Shelf.store c.args.shelf.now))) (ap request_of c.in-Remove.is) (remove_rows c.args.self.now.config (nat_le c.args.slots (used_slots (g.S.Shelf.store c.args.shelf.now))) c.in-Remove.tei)
-    c.manage-in-Remove.result c.manage-in-Remove.ensures.refused
+returns-in-Remove-clause-refused g c = refused_as _ _ _ (ap request_of c.in-Remove.is) (remove_rows c.args.self.now.config (nat_le c.args.slots (used_slots (g.S.Shelf.store c.args.shelf.now))) c.in-Remove.tei) c.manage-in-Remove.result c.manage-in-Remove.ensures.refused
 
 pub returns-in-Remove-clause-granted : goal.returns-in-Remove-clause-granted
-returns-in-Remove-clause-granted g c =
-    granted_as c.args.self.now (g.S.Shelf.store c.args.shelf.now) (nat_le c.args.slots (used_slots (g.S.Shelf.store c.args.shelf.now))) (ap request_of c.in-Remove.is) (remove_rows c.args.self.now.config (nat_le c.args.slots (used_slots (g.S.Shelf.store c.args.shelf.now))) c.in-Remove.tei)
-    c.manage-in-Remove.result c.manage-in-Remove.ensures.granted
+returns-in-Remove-clause-granted g c = granted_as _ _ _ (ap request_of c.in-Remove.is) (remove_rows c.args.self.now.config (nat_le c.args.slots (used_slots (g.S.Shelf.store c.args.shelf.now))) c.in-Remove.tei) c.manage-in-Remove.result c.manage-in-Remove.ensures.granted
 
 pub returns-in-Check-clause-refused : goal.returns-in-Check-clause-refused
-returns-in-Check-clause-refused g c =
-    refused_as c.args.self.now (g.S.Shelf.store c.args.shelf.now) (nat_le c.args.slots (used_slots (g.S.Shelf.store c.args.shelf.now))) (ap request_of c.in-Check.is) (check_rows c.args.self.now.config (nat_le c.args.slots (used_slots (g.S.Shelf.store c.args.shelf.now))) c.in-Check.tei)
-    c.manage-in-Check.result c.manage-in-Check.ensures.refused
+returns-in-Check-clause-refused g c = refused_as _ _ _ (ap request_of c.in-Check.is) (check_rows c.args.self.now.config (nat_le c.args.slots (used_slots (g.S.Shelf.store c.args.shelf.now))) c.in-Check.tei) c.manage-in-Check.result c.manage-in-Check.ensures.refused
 
 pub returns-in-Check-clause-granted : goal.returns-in-Check-clause-granted
-returns-in-Check-clause-granted g c =
-    granted_as c.args.self.now (g.S.Shelf.store c.args.shelf.now) (nat_le c.args.slots (used_slots (g.S.Shelf.store c.args.shelf.now))) (ap request_of c.in-Check.is) (check_rows c.args.self.now.config (nat_le c.args.slots (used_slots (g.S.Shelf.store c.args.shelf.now))) c.in-Check.tei)
-    c.manage-in-Check.result c.manage-in-Check.ensures.granted
+returns-in-Check-clause-granted g c = granted_as _ _ _ (ap request_of c.in-Check.is) (check_rows c.args.self.now.config (nat_le c.args.slots (used_slots (g.S.Shelf.store c.args.shelf.now))) c.in-Check.tei) c.manage-in-Check.result c.manage-in-Check.ensures.granted

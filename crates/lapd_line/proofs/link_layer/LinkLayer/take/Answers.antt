@@ -1,7 +1,7 @@
 -- Hand-written answers for `LinkLayer::take`.
-use Rattle.lapd_line.proofs.Vocabulary.{◌≤◌, ap, sym, subst, ◌∙◌, arith, option_or, link_count, message_taken, unit_taken, first_taken, round, IsFree}
+use Rattle.lapd_line.proofs.Vocabulary.{◌≤◌, sym, subst, arith, option_or, link_count, message_taken, unit_taken, first_taken, round}
 use Rattle.lapd_line.proofs.PullTakes.{takes_or, takes_first}
-use Rattle.lapd_line.proofs.PullTakesLinks.{none_stands, round_found, round_ends}
+use Rattle.lapd_line.proofs.PullTakesLinks.{ready, still_ready, turn_within, round_found, round_ends}
 use Rattle.lapd_line.proofs.link_layer.LinkLayer.take.Goals as goal
 
 pub returns-in-Some : goal.returns-in-Some
@@ -9,16 +9,13 @@ returns-in-Some g c =
     takes_first (λ x m. option_or (unit_taken x m) (first_taken x m (round x m))) {first = λ x m. message_taken x m} (c.in-Some.ensures (g.S.Shelf.store c.args.shelf.now))
 
 pub take_unit-requires-clause-stands : goal.take_unit-requires-clause-stands
-take_unit-requires-clause-stands g c = (none_stands (c.in_default.ensures (g.S.Shelf.store c.args.shelf.now)) c.requires.stands).0
+take_unit-requires-clause-stands g c = (still_ready (c.in_default.ensures (g.S.Shelf.store c.args.shelf.now)) (ready c.requires.stands c.requires.free c.requires.room)).stands
 
 pub take_unit-requires-clause-free : goal.take_unit-requires-clause-free
-take_unit-requires-clause-free g c =
-    subst IsFree (sym (none_stands (c.in_default.ensures (g.S.Shelf.store c.args.shelf.now)) c.requires.stands).1) c.requires.free
+take_unit-requires-clause-free g c = (still_ready (c.in_default.ensures (g.S.Shelf.store c.args.shelf.now)) (ready c.requires.stands c.requires.free c.requires.room)).free
 
 pub take_unit-requires-clause-room : goal.take_unit-requires-clause-room
-take_unit-requires-clause-room g c =
-    let message = c.in_default.ensures (g.S.Shelf.store c.args.shelf.now) in
-    omega (arith, message.room, c.requires.room, ap (λ x. x.n201) message.config)
+take_unit-requires-clause-room g c = (still_ready (c.in_default.ensures (g.S.Shelf.store c.args.shelf.now)) (ready c.requires.stands c.requires.free c.requires.room)).room
 
 pub returns-in-Some-take_unit : goal.returns-in-Some-take_unit
 returns-in-Some-take_unit g c =
@@ -27,31 +24,25 @@ returns-in-Some-take_unit g c =
 
 pub take_first-requires-clause-stands : goal.take_first-requires-clause-stands
 take_first-requires-clause-stands g c =
-    let message = none_stands (c.in_default.ensures (g.S.Shelf.store c.args.shelf.now)) c.requires.stands in
-    (none_stands c.in_default-take_unit.ensures message.0).0
+    (still_ready c.in_default-take_unit.ensures (still_ready (c.in_default.ensures (g.S.Shelf.store c.args.shelf.now)) (ready c.requires.stands c.requires.free c.requires.room))).stands
 
 pub take_first-requires-clause-free : goal.take_first-requires-clause-free
 take_first-requires-clause-free g c =
-    let message = none_stands (c.in_default.ensures (g.S.Shelf.store c.args.shelf.now)) c.requires.stands in
-    subst IsFree (sym ((none_stands c.in_default-take_unit.ensures message.0).1 ∙ message.1)) c.requires.free
+    (still_ready c.in_default-take_unit.ensures (still_ready (c.in_default.ensures (g.S.Shelf.store c.args.shelf.now)) (ready c.requires.stands c.requires.free c.requires.room))).free
 
 pub take_first-requires-clause-room : goal.take_first-requires-clause-room
 take_first-requires-clause-room g c =
-    let message = c.in_default.ensures (g.S.Shelf.store c.args.shelf.now) in
-    let unit = c.in_default-take_unit.ensures in
-    omega (arith, unit.room, message.room, c.requires.room, ap (λ x. x.n201) message.config, ap (λ x. x.n201) unit.config)
+    (still_ready c.in_default-take_unit.ensures (still_ready (c.in_default.ensures (g.S.Shelf.store c.args.shelf.now)) (ready c.requires.stands c.requires.free c.requires.room))).room
 
 pub take_first-requires-clause-order : goal.take_first-requires-clause-order
 take_first-requires-clause-order g c =
-    let message = none_stands (c.in_default.ensures (g.S.Shelf.store c.args.shelf.now)) c.requires.stands in
-    let (others, m, st) = (none_stands c.in_default-take_unit.ensures message.0).0 in
-    omega (arith, st.turn, st.sound.turn, st.count, c.len-count.ensures)
+    let r = still_ready c.in_default-take_unit.ensures (still_ready (c.in_default.ensures (g.S.Shelf.store c.args.shelf.now)) (ready c.requires.stands c.requires.free c.requires.room)) in
+    omega (arith, turn_within r.stands, c.len-count.ensures)
 
 pub take_first-requires-clause-within : goal.take_first-requires-clause-within
 take_first-requires-clause-within g c =
-    let message = none_stands (c.in_default.ensures (g.S.Shelf.store c.args.shelf.now)) c.requires.stands in
-    let (others, m, st) = (none_stands c.in_default-take_unit.ensures message.0).0 in
-    omega (arith, st.count, c.len-count.ensures)
+    let r = still_ready c.in_default-take_unit.ensures (still_ready (c.in_default.ensures (g.S.Shelf.store c.args.shelf.now)) (ready c.requires.stands c.requires.free c.requires.room)) in
+    omega (arith, (turn_within r.stands).1, c.len-count.ensures)
 
 pub returns-in-Some-take_first : goal.returns-in-Some-take_first
 returns-in-Some-take_first g c =
@@ -61,27 +52,23 @@ returns-in-Some-take_first g c =
 
 pub take_first-requires-2-clause-stands : goal.take_first-requires-2-clause-stands
 take_first-requires-2-clause-stands g c =
-    let message = none_stands (c.in_default.ensures (g.S.Shelf.store c.args.shelf.now)) c.requires.stands in
-    (none_stands c.in_default-take_first.ensures (none_stands c.in_default-take_unit.ensures message.0).0).0
+    let r = still_ready c.in_default-take_unit.ensures (still_ready (c.in_default.ensures (g.S.Shelf.store c.args.shelf.now)) (ready c.requires.stands c.requires.free c.requires.room)) in
+    (still_ready c.in_default-take_first.ensures r).stands
 
 pub take_first-requires-2-clause-free : goal.take_first-requires-2-clause-free
 take_first-requires-2-clause-free g c =
-    let message = none_stands (c.in_default.ensures (g.S.Shelf.store c.args.shelf.now)) c.requires.stands in
-    let unit = none_stands c.in_default-take_unit.ensures message.0 in
-    subst IsFree (sym ((none_stands c.in_default-take_first.ensures unit.0).1 ∙ unit.1 ∙ message.1)) c.requires.free
+    let r = still_ready c.in_default-take_unit.ensures (still_ready (c.in_default.ensures (g.S.Shelf.store c.args.shelf.now)) (ready c.requires.stands c.requires.free c.requires.room)) in
+    (still_ready c.in_default-take_first.ensures r).free
 
 pub take_first-requires-2-clause-room : goal.take_first-requires-2-clause-room
 take_first-requires-2-clause-room g c =
-    let message = c.in_default.ensures (g.S.Shelf.store c.args.shelf.now) in
-    let unit = c.in_default-take_unit.ensures in
-    let first = c.in_default-take_first.ensures in
-    omega (arith, first.room, unit.room, message.room, c.requires.room, ap (λ x. x.n201) message.config, ap (λ x. x.n201) unit.config, ap (λ x. x.n201) first.config)
+    let r = still_ready c.in_default-take_unit.ensures (still_ready (c.in_default.ensures (g.S.Shelf.store c.args.shelf.now)) (ready c.requires.stands c.requires.free c.requires.room)) in
+    (still_ready c.in_default-take_first.ensures r).room
 
 pub take_first-requires-2-clause-within : goal.take_first-requires-2-clause-within
 take_first-requires-2-clause-within g c =
-    let message = none_stands (c.in_default.ensures (g.S.Shelf.store c.args.shelf.now)) c.requires.stands in
-    let (others, m, st) = (none_stands c.in_default-take_unit.ensures message.0).0 in
-    subst (λ x. c.take_unit.new.self.turn ≤ link_count x) (sym c.in_default-take_first.ensures.config) (omega (arith, st.turn, st.sound.turn))
+    let r = still_ready c.in_default-take_unit.ensures (still_ready (c.in_default.ensures (g.S.Shelf.store c.args.shelf.now)) (ready c.requires.stands c.requires.free c.requires.room)) in
+    subst (λ x. c.take_unit.new.self.turn ≤ link_count x) (sym c.in_default-take_first.ensures.config) (turn_within r.stands).0
 
 pub returns : goal.returns
 returns g c =

@@ -1,6 +1,6 @@
 -- Hand-written answers for `LinkLayer::take_first`.
-use Rattle.lapd_line.proofs.Vocabulary.{◌<◌, ap, sym, subst, arith, link_count, IsFree}
-use Rattle.lapd_line.proofs.PullTakesLinks.{none_among, one_more, found, passed, none_stands}
+use Rattle.lapd_line.proofs.Vocabulary.{◌<◌, sym, subst, arith, link_count}
+use Rattle.lapd_line.proofs.PullTakesLinks.{none_among, one_more, found, passed, ready, still_ready}
 use Rattle.lapd_line.proofs.link_layer.LinkLayer.take_first.Goals as goal
 
 pub loop-number-init : goal.loop-number-init
@@ -36,16 +36,13 @@ returns g c =
     passed c.args.from c.loop-number.next c.args.to before.order before.within c.requires.within c.in_default.ensures.asleep before.so_far
 
 pub take_link-requires-clause-stands : goal.take_link-requires-clause-stands
-take_link-requires-clause-stands g c = (none_stands c.loop-number.invariant.so_far c.requires.stands).0
+take_link-requires-clause-stands g c = (still_ready c.loop-number.invariant.so_far (ready c.requires.stands c.requires.free c.requires.room)).stands
 
 pub take_link-requires-clause-free : goal.take_link-requires-clause-free
-take_link-requires-clause-free g c =
-    subst IsFree (sym (none_stands c.loop-number.invariant.so_far c.requires.stands).1) c.requires.free
+take_link-requires-clause-free g c = (still_ready c.loop-number.invariant.so_far (ready c.requires.stands c.requires.free c.requires.room)).free
 
 pub take_link-requires-clause-room : goal.take_link-requires-clause-room
-take_link-requires-clause-room g c =
-    let before = c.loop-number.invariant.so_far in
-    omega (arith, before.room, c.requires.room, ap (λ x. x.n201) before.config)
+take_link-requires-clause-room g c = (still_ready c.loop-number.invariant.so_far (ready c.requires.stands c.requires.free c.requires.room)).room
 
 pub take_link-requires-clause-within : goal.take_link-requires-clause-within
 take_link-requires-clause-within g c =

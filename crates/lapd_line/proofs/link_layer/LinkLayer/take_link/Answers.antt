@@ -1,14 +1,14 @@
 -- Hand-written answers for `LinkLayer::take_link`.
 use Rattle.lapd_line.proofs.Vocabulary.{arith}
-use Rattle.lapd_line.proofs.LayerSteps.{beside_links, links_part}
-use Rattle.lapd_line.proofs.PullTakesLinks.{no_link, low_link, given_used, loads, link_loaded, still_many}
+use Rattle.lapd_line.proofs.LayerSteps.{links_standing}
+use Rattle.lapd_line.proofs.LinkSteps.{same_many}
+use Rattle.lapd_line.proofs.PullTakesLinks.{no_link, low_link, given_used, loads, link_loaded}
 use Rattle.lapd_line.proofs.link_layer.LinkLayer.take_link.Goals as goal
 
 pub offer-requires-clause-stands : goal.offer-requires-clause-stands
 offer-requires-clause-stands g c =
-    let s = g.S.Shelf.store c.args.shelf.now in
-    let (others, m, st) = c.requires.stands in
-    (c.args.self.now.config, s, beside_links c.args.self.now m others, m.links, links_part c.args.self.now s others m st)
+    let (config, others, ms, st) = links_standing c.requires.stands in
+    (config, g.S.Shelf.store c.args.shelf.now, others, ms, st)
 
 pub sleep-requires : goal.sleep-requires
 sleep-requires g c = low_link c.args.self.now (g.S.Shelf.store c.args.shelf.now) c.args.number c.requires.stands c.requires.within
@@ -20,7 +20,7 @@ returns-in_default g c =
 pub address-address-requires : goal.address-address-requires
 address-address-requires g c =
     let (others, m, st) = c.requires.stands in
-    record { within = omega (arith, st.count, c.requires.within, still_many c.args.self.now.links c.offer.new.self c.in-Some.ensures.terms) }
+    record { within = omega (arith, st.count, c.requires.within, same_many c.offer.new.self c.args.self.now.links c.in-Some.ensures.terms) }
 
 pub contents-requires : goal.contents-requires
 contents-requires g c =

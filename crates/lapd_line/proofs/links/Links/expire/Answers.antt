@@ -1,20 +1,9 @@
 -- Hand-written answers for `Links::expire`.
-use Rattle.lapd_line.proofs.Vocabulary.{◌≡◌, [], get_or, set, sym, subst, machine_at}
-use Rattle.model_link.specs.Events as event
-use Rattle.lapd_line.specs.Links.{Serves}
-use Rattle.lapd_line.proofs.LinkSteps.{take_link, serves}
+use Rattle.lapd_line.proofs.LinkSteps.{part_stands, serves}
 use Rattle.lapd_line.proofs.links.Links.expire.Goals as goal
 
 pub expire-requires : goal.expire-requires
-expire-requires g c =
-    let (config, others, ms, stands) = c.requires.stands in
-    let is = subst (λ l. c.index_mut.result.now ≡ get_or l c.args.number c.index_mut.result.now) c.self.view_is c.index_mut.ensures.value in
-    let taken = take_link config c.args.self.now (g.S.Shelf.store c.args.shelf.now) others ms c.args.number c.index_mut.result.now c.requires.within is stands in
-    (taken.rest, machine_at ms c.args.number, taken.stands)
+expire-requires g c = part_stands c.self.view_is c.requires.within c.index_mut.ensures.value c.requires.stands
 
 pub returns : goal.returns
-returns g c =
-    let is = subst (λ l. c.index_mut.result.now ≡ get_or l c.args.number c.index_mut.result.now) c.self.view_is c.index_mut.ensures.value in
-    subst (λ l. Serves c.args.number (event.expired c.args.timer) [] c.args.self.now (g.S.Shelf.store c.args.shelf.now) (set l c.args.number c.expire.new.self) (g.S.Shelf.store c.expire.new.shelf) c.expire.result) (sym c.self.view_is)
-    (serves c.args.self.now c.args.number c.index_mut.result.now c.expire.new.self (g.S.Shelf.store c.args.shelf.now) (g.S.Shelf.store c.expire.new.shelf) (event.expired c.args.timer) [] c.expire.result c.requires.within is
-    c.expire.ensures.stands c.expire.ensures.told c.expire.ensures.terms c.expire.ensures.limits)
+returns g c = serves c.self.view_is c.requires.within c.index_mut.ensures.value c.expire.ensures.stands c.expire.ensures.told c.expire.ensures.terms c.expire.ensures.limits

@@ -1,24 +1,22 @@
 -- What is counted over a run.
-use Rattle.lapd_card.proofs.Vocabulary.{◌≡◌, ℕ, ◌+◌, ◌<◌, ◌==◌, Bool, true, false, cond, List, [], ◌∷◌, ◌++◌, length, length-set, get_or, set, take, slice_get, Some, refl, sym, ap, subst, ◌∙◌, eqb-true, eqb-false, get_or-set_same, get_or-set_other, fold-append, Counters, none_counted, value_in, with_more, with_all, counters_are_numbers, shown, Card, line_at, Event, event_of, after, Moment, moments, after_all, run, run_is_moments, Store, Held, counters_in, moment_counted, all_counted, moment_of, shown_at, all_shown, CountersAreNumbers, Stands, Leads}
+use Rattle.lapd_card.proofs.Vocabulary.{◌≡◌, ℕ, ◌+◌, ◌<◌, ◌==◌, Bool, true, false, cond, List, [], ◌∷◌, ◌++◌, length, length-set, get_or, set, take, slice_get, Some, refl, sym, ap, subst, ◌∙◌, eqb-true, eqb-false, get_or-set_same, get_or-set_other, fold-append, Counters, More, none_counted, value_in, with_more, with_all, counters_are_numbers, shown, Card, line_at, Event, event_of, after, Moment, moments, after_all, run, run_is_moments, Store, Held, counters_in, moment_counted, all_counted, moment_of, shown_at, all_shown, CountersAreNumbers, Stands, Leads}
 use Rattle.model_card.specs.declared.events.Event as rust
 use Rattle.lapd_card.specs.Drive.{events_of}
-use Rattle.lapd_card.proofs.Taken.{events-more}
+use Rattle.lapd_card.proofs.Taken.{one-more}
 
--- a moment at a line is counted there, and no other is
-at_place : (all : List Counters) (m : Moment) (number : ℕ) → number < length all
-    → get_or (moment_counted all m) number none_counted ≡ with_all (get_or all number none_counted) (shown_at number m)
-at_place all m number within = go (m.event.line == number) refl
+-- what is shown at a line is counted there, and at no other
+pub at_place : (all : List Counters) (line : ℕ) (shows : ℕ → List More) (number : ℕ) → number < length all
+    → get_or (set all line (with_all (get_or all line none_counted) (shows line))) number none_counted ≡ with_all (get_or all number none_counted) (cond (line == number) (shows number) [])
+at_place all line shows number within = go (line == number) refl
   where
     here : ℕ → Counters
-    here n = with_all (get_or all n none_counted) (shown m.card.config m.event.what (line_at n m.card) m.answer)
+    here n = with_all (get_or all n none_counted) (shows n)
 
-    go : (b : Bool) → (m.event.line == number) ≡ b
-        → get_or (moment_counted all m) number none_counted
-        ≡ with_all (get_or all number none_counted) (cond b (shown m.card.config m.event.what (line_at number m.card) m.answer) [])
+    go : (b : Bool) → (line == number) ≡ b → get_or (set all line (here line)) number none_counted ≡ with_all (get_or all number none_counted) (cond b (shows number) [])
     go true is =
-        ap (λ n. get_or (set all n (here n)) number none_counted) (eqb-true m.event.line number is)
+        ap (λ n. get_or (set all n (here n)) number none_counted) (eqb-true line number is)
         ∙ get_or-set_same all number (here number) none_counted within
-    go false is = get_or-set_other all m.event.line number (here m.event.line) none_counted (λ e. eqb-false m.event.line number is (sym e))
+    go false is = get_or-set_other all line number (here line) none_counted (λ e. eqb-false line number is (sym e))
 
 -- so after moments the counters of a line have counted what those at it show
 at_places : (all : List Counters) (ms : List Moment) (number : ℕ) → number < length all
@@ -26,7 +24,7 @@ at_places : (all : List Counters) (ms : List Moment) (number : ℕ) → number <
 at_places all [] number within = refl
 at_places all (m ∷ ms) number within =
     at_places (moment_counted all m) ms number (subst (λ n. number < n) (sym (length-set all m.event.line _)) within)
-    ∙ ap (λ k. with_all k (all_shown number ms)) (at_place all m number within)
+    ∙ ap (λ k. with_all k (all_shown number ms)) (at_place all m.event.line (λ n. shown m.card.config m.event.what (line_at n m.card) m.answer) number within)
     ∙ sym (fold-append with_more (get_or all number none_counted) (shown_at number m) (all_shown number ms))
 
 pub numbers_in_runs : CountersAreNumbers
@@ -58,4 +56,4 @@ counted-more store m events at e old mid new is leads ran so_far =
     ∙ ap (λ card. moment_counted (all_counted all (moments m es)) (moment_of card (event_of e))) (run_is_moments.card m es)
     ∙ sym (fold-append moment_counted all (moments m es) (moment_of (after_all m es) (event_of e) ∷ []))
     ∙ ap (all_counted all) (sym (moments-more m es (event_of e)))
-    ∙ ap (λ l. all_counted all (moments m l)) (sym (events-more events at e is))
+    ∙ ap (λ l. all_counted all (moments m l)) (sym (one-more event_of events at e is))

@@ -5,7 +5,8 @@ use Rattle.lapd_card.specs.declared.happenings.Happening as rust
 use Rattle.lapd_card.specs.FrameCard.{Held, line_count}
 use Rattle.lapd_card.specs.FrameDrive.{line_of}
 use Rattle.lapd_card.specs.FrameStands.{Stands, HasPast}
-use Rattle.lapd_card.proofs.OneFrameLine.{IsAt, focused_at}
+use Rattle.lapd_card.proofs.OneLine.{IsAt}
+use Rattle.lapd_card.proofs.OneFrameLine.{focused_at}
 use Rattle.lapd_card.proofs.OneHappening.{line-there, line-of}
 
 -- happenings at lines are events at lines

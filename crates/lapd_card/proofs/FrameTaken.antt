@@ -1,32 +1,15 @@
 -- A list of happenings, one by one, and what a sink has taken of it.
-use Rattle.lapd_card.proofs.Vocabulary.{◌≡◌, ℕ, ◌+◌, zero, suc, List, [], ◌∷◌, ◌++◌, take, refl, sym, ap, subst, ◌∙◌, Option, Some, None, option_map, slice_get, arith, append-nil, none-some, same_Some, NextFrame, IsNext, Card, after_all, Happening, events_of, spelled, Said, gives, next_of, said, replies, after_all-append, Counters, frame_counters_in, happening_counted, happenings_counted, happening_of, all_of, after_happenings, Taken, MissesReply, MissesAt, next_in, Store}
-use Rattle.model_line.specs.Pull.{Taken as Pull}
+use Rattle.lapd_card.proofs.Vocabulary.{◌≡◌, ℕ, ◌+◌, List, [], ◌∷◌, ◌++◌, take, refl, sym, ap, subst, ◌∙◌, Some, slice_get, append-nil, Card, after_all, Happening, events_of, spelled, Said, said, replies, after_all-append, Counters, frame_counters_in, happening_counted, happenings_counted, happening_of, all_of, after_happenings, Taken, MissesReply, MissesAt, Store}
 use Rattle.model_card.specs.Happening as happenings
 use Rattle.lapd_card.specs.declared.happenings.Happening as rust
 use Rattle.lapd_card.specs.FrameCard.{Held}
 use Rattle.lapd_card.specs.FrameStands.{Stands, Leads}
+use Rattle.lapd_card.proofs.Taken.{one-more, one-at}
 
 -- one reply more
 Taken-more : {K : Type 0} (takes : K → ℕ → Said → K → Type 0) (old mid new : K) (replies : List (ℕ × Said)) (line : ℕ) (reply : Said) → Taken takes old replies mid → takes mid line reply new → Taken takes old (replies ++ (line, reply) ∷ []) new
 Taken-more takes old mid new [] line reply taken took = (new, subst (λ k. takes k line reply new) taken took, refl)
 Taken-more takes old mid new ((l, r) ∷ replies) line reply (next, first, rest) took = (next, first, Taken-more takes next mid new replies line reply rest took)
-
--- a happening is the next one of a list
-next-one : (hs : List rust.Happening) (at : ℕ) (h : rust.Happening) → slice_get hs at ≡ Some h → take (suc at) (all_of hs) ≡ take at (all_of hs) ++ happening_of h ∷ []
-next-one [] at h is = absurd (none-some h is)
-next-one (x ∷ xs) zero h is = ap (λ y. happening_of y ∷ []) (same_Some x h is)
-next-one (x ∷ xs) (suc at) h is = ap (λ l. happening_of x ∷ l) (next-one xs at h is)
-
-one-more : (hs : List rust.Happening) (at : ℕ) (h : rust.Happening) → slice_get hs at ≡ Some h → take (at + 1) (all_of hs) ≡ take at (all_of hs) ++ happening_of h ∷ []
-one-more hs at h is = ap (λ n. take n (all_of hs)) one_more_is ∙ next-one hs at h is
-  where
-    one_more_is : at + 1 ≡ suc at
-    one_more_is = omega arith
-
-one-at : (hs : List rust.Happening) (at : ℕ) (h : rust.Happening) → slice_get hs at ≡ Some h → slice_get (all_of hs) at ≡ Some (happening_of h)
-one-at [] at h is = absurd (none-some h is)
-one-at (x ∷ xs) zero h is = ap (λ y. Some (happening_of y)) (same_Some x h is)
-one-at (x ∷ xs) (suc at) h is = one-at xs at h is
 
 -- and its run goes one happening further
 after-more : (m : Card) (hs : List Happening) (h : Happening) → after_happenings m (hs ++ h ∷ []) ≡ after_all (after_happenings m hs) (events_of (after_happenings m hs) h)
@@ -48,17 +31,17 @@ replies-more m (x ∷ hs) h =
 
 pub ran-more : {S : Type 0} (store : S → Store) (m : Card) (hs : List rust.Happening) (at : ℕ) (h : rust.Happening) (mid new : Held S) → slice_get hs at ≡ Some h → Leads store (happening_of h) mid new → Stands store mid (after_happenings m (take at (all_of hs))) → Stands store new (after_happenings m (take (at + 1) (all_of hs)))
 ran-more store m hs at h mid new is leads ran =
-    subst (Stands store new) (sym (ap (after_happenings m) (one-more hs at h is) ∙ after-more m (take at (all_of hs)) (happening_of h))) (leads.stands _ ran)
+    subst (Stands store new) (sym (ap (after_happenings m) (one-more happening_of hs at h is) ∙ after-more m (take at (all_of hs)) (happening_of h))) (leads.stands _ ran)
 
 pub taken-more : {K : Type 0} (takes : K → ℕ → Said → K → Type 0) (m : Card) (hs : List rust.Happening) (at : ℕ) (h : rust.Happening) (old mid new : K) → slice_get hs at ≡ Some h → takes mid (happenings.line_of (happening_of h)) (said (after_happenings m (take at (all_of hs))) (happening_of h)) new → Taken takes old (replies m (take at (all_of hs))) mid → Taken takes old (replies m (take (at + 1) (all_of hs))) new
 taken-more takes m hs at h old mid new is took taken =
-    subst (λ r. Taken takes old r new) (sym (ap (replies m) (one-more hs at h is) ∙ replies-more m (take at (all_of hs)) (happening_of h))) (Taken-more takes old mid new _ _ _ taken took)
+    subst (λ r. Taken takes old r new) (sym (ap (replies m) (one-more happening_of hs at h is) ∙ replies-more m (take at (all_of hs)) (happening_of h))) (Taken-more takes old mid new _ _ _ taken took)
 
 pub missed-at : {K : Type 0} (takes misses : K → ℕ → Said → K → Type 0) (m : Card) (hs : List rust.Happening) (at : ℕ) (h : rust.Happening) (old mid new : K) → slice_get hs at ≡ Some h → misses mid (happenings.line_of (happening_of h)) (said (after_happenings m (take at (all_of hs))) (happening_of h)) new → Taken takes old (replies m (take at (all_of hs))) mid → MissesAt takes misses m (all_of hs) at old new
 missed-at takes misses m hs at h old mid new is missed taken = record {
   before = mid;
   taken = taken;
-  missed = subst (λ o. MissesReply misses (after_happenings m (take at (all_of hs))) o mid new) (sym (one-at hs at h is)) missed;
+  missed = subst (λ o. MissesReply misses (after_happenings m (take at (all_of hs))) o mid new) (sym (one-at happening_of hs at h is)) missed;
 }
 
 -- and what it shows is counted
@@ -79,11 +62,4 @@ counted-more store m hs at h old mid new is leads ran so_far =
     leads.counted (after_happenings m (take at (all_of hs))) ran
     ∙ ap (λ k. happening_counted k (after_happenings m (take at (all_of hs))) (happening_of h)) so_far
     ∙ sym (counts-more (frame_counters_in old.lines) m (take at (all_of hs)) (happening_of h))
-    ∙ ap (happenings_counted (frame_counters_in old.lines) m) (sym (one-more hs at h is))
-
--- the next frame is what is said of it
-pub next_said : (o : Option Pull) (next : Option NextFrame) (out : List ℕ) → IsNext o next out → gives (option_map (next_in out) next) ≡ gives (option_map next_of o)
-next_said None None out is = refl
-next_said (Some k) (Some next) out is = ap (λ n. gives (Some n)) (ap (λ octets. record { octets = octets; orders = (next_in out next).orders }) is.1 ∙ ap (λ orders. record { octets = k.frame; orders = orders }) is.2)
-next_said None (Some next) out is = absurd is
-next_said (Some k) None out is = absurd is
+    ∙ ap (happenings_counted (frame_counters_in old.lines) m) (sym (one-more happening_of hs at h is))

@@ -1,10 +1,11 @@
 -- One line of a card for frames, taken out of its lines and put back.
-use Rattle.lapd_card.proofs.Vocabulary.{◌≡◌, ℕ, ◌≤◌, ◌<◌, List, [], length, sym, ap, subst, ◌∙◌, arith, get_or, set, length-set, get_or_default, set-get_or, get_or-map, map-set, FrameLine, config_of, stands_on, Config, after_events, Owned, Store, SameLimits, FocusPair, focus_pair, line_in, More, none_counted, with_all, frame_counters_of, frame_counters_in, Serve, CountsAt}
+use Rattle.lapd_card.proofs.Vocabulary.{◌≡◌, ℕ, ◌≤◌, ◌<◌, List, [], length, sym, ap, subst, ◌∙◌, arith, get_or, set, length-set, get_or_default, get_or-map, map-set, FrameLine, config_of, stands_on, Config, after_events, Owned, Store, SameLimits, FocusPair, focus_pair, line_in, More, none_counted, with_all, frame_counters_of, frame_counters_in, Serve, CountsAt}
 use Rattle.lapd_line.specs.FrameStands as line
 use Rattle.lapd_line.proofs.FrameStood.{held_of}
 use Rattle.model_line.specs.Event.{Event}
 use Rattle.model_line.specs.Line as machine
 use Rattle.lapd_card.specs.FrameLines.{IsFit, owned, Stand, Lead}
+use Rattle.lapd_card.proofs.OneLine.{IsAt}
 
 -- A line stands for its part of the machine, beside what the other lines own; and whatever it and the shelf are
 -- afterwards, if it stands for another line of the machine, the lines stand with that in its place.
@@ -36,12 +37,6 @@ focused c lines s ms i x within is stand =
           fit = both.0;
           held = both.1;
         }
-
--- The line at a place of the lines, as an index finds it.
-pub record IsAt (items lines : List FrameLine) (i : ℕ) (x : FrameLine) : Type 0 where
-  pub same : items ≡ lines
-  pub within : i < length lines
-  pub is : x ≡ get_or items i x
 
 pub focused_at : (items lines : List FrameLine) (i : ℕ) (x : FrameLine) → IsAt items lines i x → (c : Config) (s : Store) (ms : List machine.Line) → Stand c lines s ms → Focused c lines s ms i x
 focused_at items lines i x at c s ms = focused c lines s ms i x at.within (subst (λ ls. x ≡ get_or ls i x) at.same at.is)
@@ -93,9 +88,3 @@ pub one_holds : (P : Config → machine.Line → Type 0) (items lines : List Fra
 one_holds P items lines i x at s holds c ms stand =
     let focus = focused_at items lines i x at c s ms stand in
     subst (λ d. P d (line_in c i ms)) focus.config (holds focus.rest (line_in c i ms) focus.stands)
-
--- a call on it that changes nothing
-pub one_stays : (events : Config → machine.Line → List Event) (items lines : List FrameLine) (i : ℕ) (x : FrameLine) → IsAt items lines i x → (s : Store) → line.Leads (events (config_of x)) x s x s → Lead i events lines s lines s
-one_stays events items lines i x at s leads =
-    subst (λ ls. Lead i events lines s ls s) (ap (λ ls. set ls i x) at.same ∙ ap (set lines i) (subst (λ ls. x ≡ get_or ls i x) at.same at.is) ∙ set-get_or lines i x)
-    (one_leads events items lines i x at s x s leads)

@@ -8,7 +8,8 @@ use Rattle.model_card.specs.Machine.{answer}
 use Rattle.lapd_card.specs.FrameCard.{Held, line_count}
 use Rattle.lapd_card.specs.FrameLines.{IsFit, owned, Stand, Lead}
 use Rattle.lapd_card.specs.FrameStands.{Stands, Leads, HasPast}
-use Rattle.lapd_card.proofs.OneFrameLine.{IsAt, focused_at}
+use Rattle.lapd_card.proofs.OneLine.{IsAt}
+use Rattle.lapd_card.proofs.OneFrameLine.{focused_at}
 use Rattle.lapd_card.proofs.OneEvent.{after_served, answer_served, has_room, expiry_takes, accepted_has_room}
 
 -- a card has as many lines as its configuration says

@@ -40,7 +40,7 @@ focused c lines s ms i x within is stand =
         }
 
 -- The line at a place of the lines, as an index finds it.
-pub record IsAt (items lines : List Line) (i : ℕ) (x : Line) : Type 0 where
+pub record IsAt {L : Type 0} (items lines : List L) (i : ℕ) (x : L) : Type 0 where
   pub same : items ≡ lines
   pub within : i < length lines
   pub is : x ≡ get_or items i x

@@ -1,5 +1,5 @@
 -- A list of events, event by event, and what a sink has taken of it.
-use Rattle.lapd_card.proofs.Vocabulary.{◌≡◌, ℕ, ◌+◌, zero, suc, List, [], ◌∷◌, ◌++◌, take, refl, sym, ap, subst, ◌∙◌, Some, slice_get, arith, false≢true, none-some, same_Some, is_err, OnOk, fold-append, Answer, Card, event_of, one_more, run, Held, Stands, Leads, Store}
+use Rattle.lapd_card.proofs.Vocabulary.{◌≡◌, ℕ, ◌+◌, zero, suc, List, [], ◌∷◌, ◌++◌, map, take, refl, sym, ap, subst, ◌∙◌, Some, slice_get, arith, false≢true, none-some, same_Some, is_err, OnOk, fold-append, Answer, Card, event_of, one_more, run, Held, Stands, Leads, Store}
 use Rattle.std.specs.Prelude.{Result, Ok, Err, OnErr, true, false}
 use Rattle.model_card.specs.declared.events.Event as rust
 use Rattle.model_card.specs.Machine.{answer}
@@ -10,26 +10,26 @@ Taken-more : {K : Type 0} (takes : K → ℕ → Answer → K → Type 0) (old m
 Taken-more takes old mid new [] line reply taken took = (new, subst (λ k. takes k line reply new) taken took, refl)
 Taken-more takes old mid new ((l, r) ∷ replies) line reply (next, first, rest) took = (next, first, Taken-more takes next mid new replies line reply rest took)
 
--- an event is the next one of a list
-events-next : (events : List rust.Event) (at : ℕ) (e : rust.Event) → slice_get events at ≡ Some e → take (suc at) (events_of events) ≡ take at (events_of events) ++ event_of e ∷ []
-events-next [] at e is = absurd (none-some e is)
-events-next (x ∷ xs) zero e is = ap (λ y. event_of y ∷ []) (same_Some x e is)
-events-next (x ∷ xs) (suc at) e is = ap (λ l. event_of x ∷ l) (events-next xs at e is)
+-- one is the next of a list, as each of it is seen
+next-one : {X Y : Type 0} (f : X → Y) (xs : List X) (at : ℕ) (x : X) → slice_get xs at ≡ Some x → take (suc at) (map f xs) ≡ take at (map f xs) ++ f x ∷ []
+next-one f [] at x is = absurd (none-some x is)
+next-one f (y ∷ ys) zero x is = ap (λ z. f z ∷ []) (same_Some y x is)
+next-one f (y ∷ ys) (suc at) x is = ap (λ l. f y ∷ l) (next-one f ys at x is)
 
-pub events-more : (events : List rust.Event) (at : ℕ) (e : rust.Event) → slice_get events at ≡ Some e → take (at + 1) (events_of events) ≡ take at (events_of events) ++ event_of e ∷ []
-events-more events at e is = ap (λ n. take n (events_of events)) one_more_is ∙ events-next events at e is
+pub one-more : {X Y : Type 0} (f : X → Y) (xs : List X) (at : ℕ) (x : X) → slice_get xs at ≡ Some x → take (at + 1) (map f xs) ≡ take at (map f xs) ++ f x ∷ []
+one-more f xs at x is = ap (λ n. take n (map f xs)) one_more_is ∙ next-one f xs at x is
   where
     one_more_is : at + 1 ≡ suc at
     one_more_is = omega arith
 
-events-at : (events : List rust.Event) (at : ℕ) (e : rust.Event) → slice_get events at ≡ Some e → slice_get (events_of events) at ≡ Some (event_of e)
-events-at [] at e is = absurd (none-some e is)
-events-at (x ∷ xs) zero e is = ap (λ y. Some (event_of y)) (same_Some x e is)
-events-at (x ∷ xs) (suc at) e is = events-at xs at e is
+pub one-at : {X Y : Type 0} (f : X → Y) (xs : List X) (at : ℕ) (x : X) → slice_get xs at ≡ Some x → slice_get (map f xs) at ≡ Some (f x)
+one-at f [] at x is = absurd (none-some x is)
+one-at f (y ∷ ys) zero x is = ap (λ z. Some (f z)) (same_Some y x is)
+one-at f (y ∷ ys) (suc at) x is = one-at f ys at x is
 
 -- and its run goes one event further
 pub run-more : (m : Card) (events : List rust.Event) (at : ℕ) (e : rust.Event) → slice_get events at ≡ Some e → run m (take (at + 1) (events_of events)) ≡ one_more (run m (take at (events_of events))) (event_of e)
-run-more m events at e is = ap (run m) (events-more events at e is) ∙ fold-append one_more (record { card = m; replies = [] }) (take at (events_of events)) (event_of e ∷ [])
+run-more m events at e is = ap (run m) (one-more event_of events at e is) ∙ fold-append one_more (record { card = m; replies = [] }) (take at (events_of events)) (event_of e ∷ [])
 
 pub ran-more : {S : Type 0} (store : S → Store) (m : Card) (events : List rust.Event) (at : ℕ) (e : rust.Event) (mid new : Held S) → slice_get events at ≡ Some e → Leads store (event_of e) mid new → Stands store mid (run m (take at (events_of events))).card → Stands store new (run m (take (at + 1) (events_of events))).card
 ran-more store m events at e mid new is leads ran = subst (λ r. Stands store new r.card) (sym (run-more m events at e is)) (leads.stands _ ran)
@@ -41,7 +41,7 @@ pub missed-at : {K : Type 0} (takes misses : K → ℕ → Answer → K → Type
 missed-at takes misses m events at e old mid new is missed taken = record {
   before = mid;
   taken = taken;
-  missed = subst (λ o. MissesReply misses (run m (take at (events_of events))).card o mid new) (sym (events-at events at e is)) missed;
+  missed = subst (λ o. MissesReply misses (run m (take at (events_of events))).card o mid new) (sym (one-at event_of events at e is)) missed;
 }
 
 -- what holds where a reply was taken, and where it was not

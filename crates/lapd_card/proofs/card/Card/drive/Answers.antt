@@ -1,4 +1,5 @@
 -- Hand-written answers for `Card::drive`.
+use Rattle.std.proofs.Common.{rules}
 use Rattle.lapd_card.proofs.Vocabulary.{refl, sym, ◌∙◌, slice_get-get_or, Octet, ArePriced, AreDropsWithoutCost, AreDropsWithoutEffect, frames_amortised, run_is_moments, lines_isolated, frames_linear, pool_never_full, deliveries_numbered, stored_within_limit, text_goes_on, refused_by_the_table, frames_by_event, drops_cost_nothing, drops_change_nothing, IsWithinLimit, IsAmortised, IsAmortisedFromZero, HasSixOctetsAFrame, HasSevenOctetsAReject, IsLinear, IsIsolated, IsNeverFull, IsNumbered, IsNumberedFromZero, IsTextual, counters_in}
 use Rattle.lapd_card.proofs.Taken.{ran-more, taken-more, missed-at, at_ok, at_err}
 use Rattle.lapd_card.proofs.Counting.{none-counted, counted-more, numbers_in_runs}
@@ -26,63 +27,46 @@ loop-at-preserved g c =
       taken = λ m s. taken-more g.K.Sink.takes m c.args.events.now c.loop-at.at _ c.args.sink.now c.loop-at.sink c.answer.new.sink is (at_ok c.answer.result _ no c.answer.ensures.taken _ (c.loop-at.invariant.ran m s)) (c.loop-at.invariant.taken m s);
     }
 
-pub returns-then-is_err-clause-stopped : goal.returns-then-is_err-clause-stopped
-returns-then-is_err-clause-stopped g c =
-    let is = slice_get-get_or c.args.events.now c.loop-at.at (Octet 0 0) c.loop-at-test.true in
-    λ m s. ran-more g.S.Shelf.store m c.args.events.now c.loop-at.at _ c.loop-at.self c.answer.new.self is c.answer.ensures.leads (c.loop-at.invariant.ran m s)
-
-pub returns-then-is_err-clause-counters_before : goal.returns-then-is_err-clause-counters_before
-returns-then-is_err-clause-counters_before g c =
-    let is = slice_get-get_or c.args.events.now c.loop-at.at (Octet 0 0) c.loop-at-test.true in
-    λ m s. counted-more g.S.Shelf.store m c.args.events.now c.loop-at.at _ c.args.self.now c.loop-at.self c.answer.new.self is c.answer.ensures.leads (c.loop-at.invariant.ran m s) (c.loop-at.invariant.counted m s)
-
-pub returns-then-is_err-clause-taken_before : goal.returns-then-is_err-clause-taken_before
-returns-then-is_err-clause-taken_before g c =
+pub returns-then-is_err : goal.returns-then-is_err
+returns-then-is_err g c =
     let is = slice_get-get_or c.args.events.now c.loop-at.at (Octet 0 0) c.loop-at-test.true in
     let yes = sym c.is_err.ensures.value ∙ c.if-is_err.true in
-    λ m s. missed-at g.K.Sink.takes g.K.Sink.misses m c.args.events.now c.loop-at.at _ c.args.sink.now c.loop-at.sink c.answer.new.sink is (at_err c.answer.result _ yes c.answer.ensures.not_taken _ (c.loop-at.invariant.ran m s)) (c.loop-at.invariant.taken m s)
-
-pub returns-then-is_err-clause-counters_add_up : goal.returns-then-is_err-clause-counters_add_up
-returns-then-is_err-clause-counters_add_up g c = numbers_in_runs
+    let whole = whole_list g.S.Shelf.store c.args.self.now c.args.events.now c.requires in
+    let front = each_front g.S.Shelf.store c.args.self.now c.args.events.now c.requires in
+    let fresh = fresh_front g.S.Shelf.store c.args.self.now c.args.events.now c.requires in
+    record {
+      ok = search rules;
+      at = search rules;
+      failed = search rules;
+      not_failed = search rules;
+      config = search rules;
+      ran = search rules;
+      taken = search rules;
+      counters = search rules;
+      stopped = λ m s. ran-more g.S.Shelf.store m c.args.events.now c.loop-at.at _ c.loop-at.self c.answer.new.self is c.answer.ensures.leads (c.loop-at.invariant.ran m s);
+      taken_before = λ m s. missed-at g.K.Sink.takes g.K.Sink.misses m c.args.events.now c.loop-at.at _ c.args.sink.now c.loop-at.sink c.answer.new.sink is (at_err c.answer.result _ yes c.answer.ensures.not_taken _ (c.loop-at.invariant.ran m s)) (c.loop-at.invariant.taken m s);
+      counters_before = λ m s. counted-more g.S.Shelf.store m c.args.events.now c.loop-at.at _ c.args.self.now c.loop-at.self c.answer.new.self is c.answer.ensures.leads (c.loop-at.invariant.ran m s) (c.loop-at.invariant.counted m s);
+      moments = run_is_moments;
+      refused = refused_by_the_table;
+      counters_add_up = numbers_in_runs;
+      by_event = whole ArePriced frames_by_event.in_runs;
+      drops = whole AreDropsWithoutCost drops_cost_nothing;
+      without_effect = whole AreDropsWithoutEffect (λ m es s within. drops_change_nothing m es);
+      within_limit = front IsWithinLimit stored_within_limit.always;
+      amortised = front IsAmortised frames_amortised;
+      amortised_from_zero = fresh IsAmortisedFromZero frames_linear.amortised;
+      six_octets_a_frame = fresh HasSixOctetsAFrame frames_linear.frames;
+      seven_octets_a_reject = fresh HasSevenOctetsAReject frames_linear.rejects;
+      linear = fresh IsLinear frames_linear.linear;
+      isolated = fresh IsIsolated lines_isolated;
+      never_full = fresh IsNeverFull pool_never_full;
+      numbered = front IsNumbered deliveries_numbered.numbered;
+      from_zero = fresh IsNumberedFromZero deliveries_numbered.from_zero;
+      textual = front IsTextual text_goes_on;
+    }
 
 pub returns-clause-counters_add_up : goal.returns-clause-counters_add_up
 returns-clause-counters_add_up g c = numbers_in_runs
-
-pub returns-then-is_err-clause-moments : goal.returns-then-is_err-clause-moments
-returns-then-is_err-clause-moments g c = run_is_moments
-
-pub returns-then-is_err-clause-refused : goal.returns-then-is_err-clause-refused
-returns-then-is_err-clause-refused g c = refused_by_the_table
-
-pub returns-then-is_err-clause-by_event : goal.returns-then-is_err-clause-by_event
-returns-then-is_err-clause-by_event g c = λ m. whole_list g.S.Shelf.store c.args.self.now c.args.events.now c.requires ArePriced frames_by_event.in_runs m
-
-pub returns-then-is_err-clause-without_effect : goal.returns-then-is_err-clause-without_effect
-returns-then-is_err-clause-without_effect g c = λ m. whole_list g.S.Shelf.store c.args.self.now c.args.events.now c.requires AreDropsWithoutEffect (λ m es s within. drops_change_nothing m es) m
-
-pub returns-then-is_err-clause-drops : goal.returns-then-is_err-clause-drops
-returns-then-is_err-clause-drops g c = λ m. whole_list g.S.Shelf.store c.args.self.now c.args.events.now c.requires AreDropsWithoutCost drops_cost_nothing m
-
-pub returns-then-is_err-clause-within_limit : goal.returns-then-is_err-clause-within_limit
-returns-then-is_err-clause-within_limit g c = λ m count. each_front g.S.Shelf.store c.args.self.now c.args.events.now c.requires IsWithinLimit stored_within_limit.always m count
-
-pub returns-then-is_err-clause-amortised : goal.returns-then-is_err-clause-amortised
-returns-then-is_err-clause-amortised g c = λ m count. each_front g.S.Shelf.store c.args.self.now c.args.events.now c.requires IsAmortised frames_amortised m count
-
-pub returns-then-is_err-clause-amortised_from_zero : goal.returns-then-is_err-clause-amortised_from_zero
-returns-then-is_err-clause-amortised_from_zero g c = λ count. fresh_front g.S.Shelf.store c.args.self.now c.args.events.now c.requires IsAmortisedFromZero frames_linear.amortised count
-
-pub returns-then-is_err-clause-six_octets_a_frame : goal.returns-then-is_err-clause-six_octets_a_frame
-returns-then-is_err-clause-six_octets_a_frame g c = λ count. fresh_front g.S.Shelf.store c.args.self.now c.args.events.now c.requires HasSixOctetsAFrame frames_linear.frames count
-
-pub returns-then-is_err-clause-seven_octets_a_reject : goal.returns-then-is_err-clause-seven_octets_a_reject
-returns-then-is_err-clause-seven_octets_a_reject g c = λ count. fresh_front g.S.Shelf.store c.args.self.now c.args.events.now c.requires HasSevenOctetsAReject frames_linear.rejects count
-
-pub returns-then-is_err-clause-linear : goal.returns-then-is_err-clause-linear
-returns-then-is_err-clause-linear g c = λ count. fresh_front g.S.Shelf.store c.args.self.now c.args.events.now c.requires IsLinear frames_linear.linear count
-
-pub returns-then-is_err-clause-isolated : goal.returns-then-is_err-clause-isolated
-returns-then-is_err-clause-isolated g c = λ count. fresh_front g.S.Shelf.store c.args.self.now c.args.events.now c.requires IsIsolated lines_isolated count
 
 pub returns-clause-moments : goal.returns-clause-moments
 returns-clause-moments g c = run_is_moments
@@ -119,18 +103,6 @@ returns-clause-linear g c = λ count. fresh_front g.S.Shelf.store c.args.self.no
 
 pub returns-clause-isolated : goal.returns-clause-isolated
 returns-clause-isolated g c = λ count. fresh_front g.S.Shelf.store c.args.self.now c.args.events.now c.requires IsIsolated lines_isolated count
-
-pub returns-then-is_err-clause-numbered : goal.returns-then-is_err-clause-numbered
-returns-then-is_err-clause-numbered g c = λ m count. each_front g.S.Shelf.store c.args.self.now c.args.events.now c.requires IsNumbered deliveries_numbered.numbered m count
-
-pub returns-then-is_err-clause-textual : goal.returns-then-is_err-clause-textual
-returns-then-is_err-clause-textual g c = λ m count. each_front g.S.Shelf.store c.args.self.now c.args.events.now c.requires IsTextual text_goes_on m count
-
-pub returns-then-is_err-clause-never_full : goal.returns-then-is_err-clause-never_full
-returns-then-is_err-clause-never_full g c = λ count. fresh_front g.S.Shelf.store c.args.self.now c.args.events.now c.requires IsNeverFull pool_never_full count
-
-pub returns-then-is_err-clause-from_zero : goal.returns-then-is_err-clause-from_zero
-returns-then-is_err-clause-from_zero g c = λ count. fresh_front g.S.Shelf.store c.args.self.now c.args.events.now c.requires IsNumberedFromZero deliveries_numbered.from_zero count
 
 pub returns-clause-numbered : goal.returns-clause-numbered
 returns-clause-numbered g c = λ m count. each_front g.S.Shelf.store c.args.self.now c.args.events.now c.requires IsNumbered deliveries_numbered.numbered m count

@@ -1,6 +1,7 @@
 -- Hand-written answers for `FrameLines::held`.
 use Rattle.lapd_card.proofs.Vocabulary.{◌≡◌, ◌+◌, ◌<◌, length, sym, ap, ◌∙◌, arith, take_all, sum_by, held_in, held_sent, line_in}
-use Rattle.lapd_card.proofs.OneFrameLine.{IsAt, one_serves, one_holds}
+use Rattle.lapd_card.proofs.OneLine.{IsAt}
+use Rattle.lapd_card.proofs.OneFrameLine.{one_serves, one_holds}
 use Rattle.lapd_card.proofs.FrameAmounts.{held_more}
 use Rattle.lapd_card.proofs.frame_lines.FrameLines.held.Goals as goal
 

@@ -1,5 +1,5 @@
 -- An octet in which a flag ends: its first 1s go on the open gap, which the flag closes; the bits behind begin the next.
-use Rattle.lapd_bits.proofs.Vocabulary.{◌≡◌, ℕ, suc, zero, ◌+◌, ◌-◌, ◌/◌, ◌^◌, ◌<◌, ◌≤◌, Bool, true, false, not, ◌&&◌, List, [], ◌∷◌, ◌++◌, length, reverse, replicate, Option, Some, None, option_map, option_to_list, nat_eq, nat_lt, refl, ap, sym, ◌∙◌, subst, arith, append-nil, length-append, eqb-true, and_parts, ltb-true, lt-ltb, eq-eqb, false≢true, reverse-append, reverse-reverse, append_cancel_left, bits, low_bits, same_bits, unstuffed, Event, heard_until, heard_at, run_of, open_gap, closed_event, KeepsIn, Assembles, AssemblesIn, HoldsGap, HoldsPast, closing_event, with_bits, behind_zero, ends_nothing, IsFlagEnd, IsFlagBegun, IsJoined, Gap, length-replicate, length-low_bits, same_from_test, heard_at-flag, open_gap-flag, ones_after, unstuffed-counted, unstuffed_after, unstuffed_after-append}
+use Rattle.lapd_bits.proofs.Vocabulary.{◌≡◌, ℕ, suc, zero, ◌+◌, ◌-◌, ◌/◌, ◌^◌, ◌<◌, ◌≤◌, Bool, true, false, not, ◌&&◌, List, [], ◌∷◌, ◌++◌, length, reverse, replicate, Option, Some, None, option_map, option_to_list, nat_eq, nat_lt, refl, ap, sym, ◌∙◌, subst, arith, append-nil, length-append, eqb-true, and_parts, ltb-true, lt-ltb, eq-eqb, false≢true, reverse-append, reverse-reverse, append_cancel_left, length-replicate, bits, low_bits, same_bits, unstuffed, Event, heard_until, heard_at, run_of, open_gap, closed_event, KeepsIn, Assembles, AssemblesIn, HoldsGap, HoldsPast, closing_event, with_bits, behind_zero, ends_nothing, IsFlagEnd, IsFlagBegun, IsJoined, Gap, length-low_bits, same_from_test, heard_at-flag, open_gap-flag, ones_after, unstuffed-counted, unstuffed_after, unstuffed_after-append}
 use Rattle.lapd_bits.proofs.BitSteps.{closed_told}
 use Rattle.lapd_bits.proofs.AtOnce.{joined_after, same_map, run_of-ones, unstuffed-ones, onto, onto-reverse, onto-append, with_bits-onto, IsQuiet, ones_after-ones, unstuffed_after-ones}
 use Rattle.lapd_bits.proofs.Idle.{Calm, Calm-ones, calm, length-onto, onto-ones}

@@ -1,5 +1,5 @@
 -- The tables hold what stays of each octet after each number of 1s.
-use Rattle.lapd_bits.proofs.Vocabulary.{◌≡◌, ℕ, ◌+◌, ◌*◌, ◌/◌, ◌%◌, ◌^◌, ◌<◌, ◌≤◌, Bool, true, false, List, [], ◌∷◌, ◌++◌, length, drop, get_or, map, replicate, nat_eq, nat_le, if◌then◌else◌, refl, sym, ap, subst, ◌∙◌, arith, range_with_len, leb-true, drop_at, get_or-map, get_or-replicate, get_or-map-range_with_len, low_bits, number_of, unstuffed, run_of, with_bits, has_six, IsContent, TABLES, length-replicate, low_bits-number_of, number_of-lt, unstuffed_after}
+use Rattle.lapd_bits.proofs.Vocabulary.{◌≡◌, ℕ, ◌+◌, ◌*◌, ◌/◌, ◌%◌, ◌^◌, ◌<◌, ◌≤◌, Bool, true, false, List, [], ◌∷◌, ◌++◌, length, drop, get_or, map, replicate, nat_eq, nat_le, if◌then◌else◌, refl, sym, ap, subst, ◌∙◌, arith, range_with_len, leb-true, drop_at, get_or-map, get_or-replicate, length-replicate, get_or-map-range_with_len, low_bits, number_of, unstuffed, run_of, with_bits, has_six, IsContent, TABLES, low_bits-number_of, number_of-lt, unstuffed_after}
 use Rattle.lapd_bits.proofs.AtOnce.{unstuffed-ones}
 
 -- an octet after 1s, and what stays of it

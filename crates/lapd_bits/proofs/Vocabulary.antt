@@ -7,7 +7,7 @@ pub use Rattle.std.proofs.Math.Pow.{pow_mono, shr_lt}
 pub use Rattle.std.proofs.Math.Seq.{take-length}
 pub use Rattle.std.proofs.lemmas.Bool.{and_parts, cases_Bool, cases_lt, eq-eqb, eqb-true, false_from_ne_true, false≢true, le-ltb, leb-true, lt-ltb, ltb-false, ltb-true, ne_eqb}
 pub use Rattle.std.proofs.lemmas.Grind.{take-set_at}
-pub use Rattle.std.proofs.lemmas.List.{append_cancel_left, append_cancel_right, drop-drop, drop_all, drop_at, flat_map_more, get_or-map, get_or-replicate, length-drop, length-replicate, length-reverse, length-take-le, replicate-append-replicate, reverse-append, reverse-reverse, same_from_push, take-append-drop, take-append-le, take-take, take_all, take_more, take_more_set}
+pub use Rattle.std.proofs.lemmas.List.{append_cancel_left, append_cancel_right, drop-drop, drop_all, drop_at, get_or-map, get_or-replicate, length-drop, length-replicate, length-reverse, length-take-le, replicate-append-replicate, reverse-append, reverse-reverse, same_from_push, take-append-drop, take-append-le, take-take, take_all, take_more, take_more_set}
 pub use Rattle.std.proofs.lemmas.List.Elements.{All-append, All-cons, All-nil}
 pub use Rattle.std.proofs.lemmas.List.FromFn.{get_or-map-range_with_len}
 pub use Rattle.std.proofs.lemmas.List.Sums.{fold-append}
@@ -50,10 +50,10 @@ pub use Rattle.model_bits.proofs.StuffingShape.{ones_after-stuffed, stuffed-unst
 pub use Rattle.model_bits.specs.Bits.{bits, flag, number_of, same_bits}
 unfoldable pub use Rattle.model_bits.specs.Bits.{low_bits}
 pub use Rattle.model_bits.specs.Check.{brought_down, check, dividend, is_good, plus, remainder, residue}
-pub use Rattle.model_bits.specs.Framer.{Framing, Stands, item_octets, last_octets, refilled, still_held, with_idle}
-pub use Rattle.model_bits.specs.Heads.{first_four, head_of, latest_frame, or_later}
+pub use Rattle.model_bits.specs.Framer.{Framing, Stands, last_octets, refilled, still_held, with_idle}
+pub use Rattle.model_bits.specs.Heads.{first_four, head_of}
 pub use Rattle.model_bits.specs.OpenGap.{closed_event, given_up_event, kept_count, octets_held, one_more, open_gap, run_of}
-pub use Rattle.model_bits.specs.Sent.{Item, frame, frame_text, idle, item_text, line_text}
+pub use Rattle.model_bits.specs.Sent.{Item, frame, frame_text, idle, item_text}
 pub use Rattle.model_bits.specs.Stream.{Event, dropped, gap_event, has_abort, heard_at, heard_in, heard_until, is_short, judged, overlong, room_for, since_flag, text_event}
 pub use Rattle.model_bits.specs.Stuffing.{octets_sent, stuffed, unstuffed}
 pub use Rattle.model_bits.specs.StuffingLaws.{AreOctets}

@@ -1,5 +1,6 @@
 -- What stands in the machine for a card's place: a word, and what it owns.
-use Rattle.lapd_c.proofs.Vocabulary.{◌≡◌, ℕ, List, [], ◌∷◌, ◌++◌, IsSome, refl, subst, false≢true, None, Some, ghosts, box_owns, AnyCard, HeldCard, card_owns, card_row, heap}
+use Rattle.lapd_c.proofs.Vocabulary.{◌≡◌, ℕ, List, [], ◌∷◌, ◌++◌, IsSome, refl, subst, false≢true, Some, ghosts, box_owns, AnyCard, HeldCard, card_owns, card_row, heap}
+use Rattle.std.specs.declared.option.Option.TheVariants.{None}
 use mir.Raw.{raw as bare}
 use mir.Val.{Val, vptr, vstruct, of_list}
 use seplogic.Ra.Ura.{Ura}

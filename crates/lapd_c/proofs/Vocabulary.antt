@@ -1,5 +1,5 @@
 -- The words with which the proofs of this crate speak, from where they are defined.
-pub use Rattle.std.proofs.Common.{Bool, Err, IfOk, IfSome, IsSome, List, Ok, Option, Result, [], ap, arith, cond, drop, false, get_or, if◌then◌else◌, inl, inr, is_some, length, lit<, map, nat_lt, not, refl, replicate, set, subst, suc, sym, true, ℕ, ◌%◌, ◌&&◌, ◌*◌, ◌++◌, ◌+◌, ◌-◌, ◌/◌, ◌<◌, ◌==◌, ◌∙◌, ◌∷◌, ◌≡◌, ◌≤◌, ◌⊎◌}
+pub use Rattle.std.proofs.Common.{Bool, Err, IfOk, IfSome, IsSome, List, None, Ok, Option, Result, [], ap, arith, cond, drop, false, get_or, if◌then◌else◌, inl, inr, is_some, length, lit<, map, nat_lt, not, refl, replicate, set, subst, suc, sym, true, ℕ, ◌%◌, ◌&&◌, ◌*◌, ◌++◌, ◌+◌, ◌-◌, ◌/◌, ◌<◌, ◌==◌, ◌∙◌, ◌∷◌, ◌≡◌, ◌≤◌, ◌⊎◌}
 pub use Rattle.std.proofs.lemmas.Bool.{and_parts, cases_lt, eqb-true, false≢true, leb-true, ltb-false}
 pub use Rattle.std.proofs.lemmas.List.{set-get_or}
 pub use Rattle.std.proofs.lemmas.List.Sums.{fold-append}
@@ -7,16 +7,16 @@ pub use Rattle.std.proofs.lemmas.Option.{none-some}
 pub use Rattle.std.proofs.raw_atomic.Walks.{leaves, proved_at}
 pub use Rattle.std.specs.Option.{option_copied, option_map_or, option_or}
 pub use Rattle.std.specs.contracts.impls.GlobalAllocator.TheImpl.{ghosts}
-pub use Rattle.std.specs.declared.option.Option.TheVariants.{None, Some}
+pub use Rattle.std.specs.declared.option.Option.TheVariants.{Some}
 pub use Rattle.std_alloc.proofs.BoxSteps.Steps.{box_in, box_out}
 pub use Rattle.std_alloc.proofs.ResultValues.{and_tt}
 pub use Rattle.std_alloc.proofs.boxed.Box.from_raw.Met.{met}
 pub use Rattle.std_alloc.specs.Box.Ownership.{box_owns}
 pub use Rattle.core.proofs.alloc.Calls.{Al, Goes-blank, handle_tells}
+pub use Rattle.core.proofs.alloc.Shapes.{after}
 pub use Rattle.core.proofs.atomic.Steps.{fm}
 pub use Rattle.core.proofs.cell.Inside.{Good, one}
 pub use Rattle.core.specs.declared.alloc.Allocator.{Ghosts}
-pub use Rattle.model_bits.specs.Stream.{dropped}
 pub use Rattle.lapd_c.specs.CardSlots.{HeldCard, card_owns, card_row}
 pub use Rattle.lapd_c.specs.Cards.{ShowsAnswer}
 pub use Rattle.lapd_c.specs.ClockSlots.{HeldClock, clock_owns, heap}
@@ -32,6 +32,7 @@ pub use Rattle.lapd_c.specs.declared.kinds.AnyCard.TheVariants.{Frames, Octets}
 pub use Rattle.lapd_card.proofs.Counting.{moments-more}
 pub use Rattle.lapd_card.specs.Card.{Held}
 pub use Rattle.lapd_card.specs.Counted.{counters_in, frame_counters_in}
+pub use Rattle.lapd_card.specs.FrameStands.{Leads}
 pub use Rattle.lapd_card.specs.Lines.{told_at}
 pub use Rattle.lapd_card.specs.Reply.{answer_of_result}
 pub use Rattle.lapd_clock.specs.Timers.{Timers}
@@ -57,13 +58,14 @@ pub use Rattle.lapd_plain.specs.declared.reports.PlainReport.{PlainReport}
 pub use Rattle.lapd_store.specs.Store.{Store}
 pub use Rattle.lapd_tei.specs.declared.outcome.Change.{Change}
 pub use Rattle.lapd_tei.specs.declared.outcome.Change.TheVariants.{Gained, Left}
+pub use Rattle.model_bits.specs.Stream.{dropped}
 pub use Rattle.model_card.proofs.Fold.{run_is_moments}
 pub use Rattle.model_card.specs.Card.{Card, line_at}
 pub use Rattle.model_card.specs.Counted.{all_counted, moment_counted, moment_of}
 pub use Rattle.model_card.specs.Event.{Event, at}
 pub use Rattle.model_card.specs.Happening.{Happening, asks, events_of, expires, goes}
 pub use Rattle.model_card.specs.HappeningsCounted.{happening_counted}
-pub use Rattle.model_card.specs.Machine.{after, wants_room}
+pub use Rattle.model_card.specs.Machine.{wants_room}
 unfoldable pub use Rattle.model_card.specs.Machine.{answer}
 pub use Rattle.model_card.specs.Reached.{IsReached}
 pub use Rattle.model_card.specs.Run.{Run, one_more, run}
@@ -85,7 +87,6 @@ pub use Rattle.model_line.specs.Requested.{aim_of_request, at_requested}
 pub use Rattle.model_line.specs.Whole.{came, cause_of}
 pub use Rattle.model_line.specs.WholeAtLine.{of_heard, pulls_to_begin}
 pub use Rattle.model_line.specs.declared.config.Config.{Config}
-pub use Rattle.model_link.proofs.Leads.{Leads}
 pub use Rattle.model_link.proofs.Numbering.{delivered-at_once}
 pub use Rattle.model_link.proofs.TellRows.{cleared_tells, expired_tells, frames_in_4, frames_in_5, frames_in_6, frames_in_7, frames_in_8, granted_tells, malformed_tells}
 pub use Rattle.model_link.proofs.Telling.{HasTold, Telling, another, no_more}

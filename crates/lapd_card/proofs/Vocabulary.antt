@@ -1,5 +1,5 @@
 -- The words with which the proofs of this crate speak, from where they are defined.
-pub use Rattle.std.proofs.Common.{Bool, Err, Fits, IfErr, IfOk, IsSome, List, None, Ok, OnErr, Option, Result, Some, [], ap, arith, cond, false, get_or, if◌then◌else◌, length, length-set, map, nat_le, nat_lt, option_map, refl, replicate, reverse, set, slice_get, subst, suc, sym, take, true, vec_len, w32, w64, zero, ℕ, ◌&&◌, ◌*◌, ◌++◌, ◌+◌, ◌-◌, ◌/◌, ◌<◌, ◌==◌, ◌||◌, ◌∙◌, ◌∷◌, ◌≡◌, ◌≤◌}
+pub use Rattle.std.proofs.Common.{Bool, Err, Fits, IfErr, IfOk, IsSome, List, None, Ok, OnErr, Option, Result, Some, [], ap, arith, cond, false, get_or, if◌then◌else◌, length, length-set, map, nat_le, nat_lt, refl, replicate, reverse, rules, set, slice_get, subst, suc, sym, take, true, vec_len, w32, w64, zero, ℕ, ◌&&◌, ◌*◌, ◌++◌, ◌+◌, ◌-◌, ◌/◌, ◌<◌, ◌==◌, ◌||◌, ◌∙◌, ◌∷◌, ◌≡◌, ◌≤◌}
 pub use Rattle.std.proofs.Math.Nat.{mul-le-mul_left, mul-le-mul_right}
 pub use Rattle.std.proofs.Math.Seq.{take-suc}
 pub use Rattle.std.proofs.lemmas.Bool.{eqb-false, eqb-true, false≢true, lt-ltb, ltb-false, or_parts}
@@ -11,19 +11,17 @@ pub use Rattle.std.proofs.lemmas.Result.{IfErr-weaker, IfOk-weaker}
 pub use Rattle.std.specs.List.{All, AllByRecursion, flat_map, sum_by, zip}
 pub use Rattle.std.specs.Option.{option_map_or}
 pub use Rattle.std.specs.Prelude.{OnOk, is_err}
-pub use Rattle.model_bits.specs.OpenGap.{kept_count}
-pub use Rattle.model_bits.specs.Stream.{dropped, room_for}
-pub use Rattle.model_bits.specs.Stuffing.{unstuffed}
 pub use Rattle.lapd_card.specs.Card.{Held, line_count}
 pub use Rattle.lapd_card.specs.Counted.{counters_in, counters_of, frame_counters_in, frame_counters_of}
+pub use Rattle.lapd_card.specs.Drive.{MissesAt, MissesReply, Taken}
 pub use Rattle.lapd_card.specs.FrameCard.{frame_limit, frame_limit_in, room_for_frames}
-pub use Rattle.lapd_card.specs.FrameDrive.{MissesAt, MissesReply, Taken, after_happenings, all_of, happening_of}
-pub use Rattle.lapd_card.specs.FrameLines.{CountsAt, Serve}
-pub use Rattle.lapd_card.specs.FrameReply.{next_in}
+pub use Rattle.lapd_card.specs.FrameDrive.{after_happenings, all_of, happening_of}
+pub use Rattle.lapd_card.specs.FrameLines.{AreFresh, CountsAt, IsFit, IsFresh, Lead, Serve, Stand, owned}
+pub use Rattle.lapd_card.specs.FrameStands.{HasPast, Leads}
 pub use Rattle.lapd_card.specs.Kept.{kept_of}
-pub use Rattle.lapd_card.specs.Lines.{AreFresh, IsFit, IsFresh, Lead, Stand, after_event, line_in, owned, told_at, told_if_at, told_of}
+pub use Rattle.lapd_card.specs.Lines.{after_event, line_in, told_at, told_if_at, told_of}
 pub use Rattle.lapd_card.specs.Reply.{answer_of_result}
-pub use Rattle.lapd_card.specs.Stands.{HasPast, Leads, Stands}
+pub use Rattle.lapd_card.specs.Stands.{Stands}
 pub use Rattle.lapd_card.specs.Start.{is_too_small}
 pub use Rattle.lapd_card.specs.declared.happenings.Happening.TheVariants.{Comes}
 pub use Rattle.lapd_card.specs.declared.kept.KeptReply.{KeptReply}
@@ -34,13 +32,11 @@ pub use Rattle.lapd_frame.specs.declared.refusals.Refusal.{Refusal}
 pub use Rattle.lapd_frame.specs.declared.refusals.Refusal.TheVariants.{PoolFull}
 pub use Rattle.lapd_frame.specs.declared.services.Service.{Service}
 pub use Rattle.lapd_frame.specs.declared.timers.Timer.{Timer}
-pub use Rattle.lapd_line.proofs.FrameStood.{stands_on}
-pub use Rattle.lapd_line.proofs.Stood.{held_of, octets-pairs, slots-pairs}
-pub use Rattle.lapd_line.specs.FrameStands.{IsNext, config_of}
+pub use Rattle.lapd_line.proofs.FrameStood.{held_of, octets-pairs, slots-pairs, stands_on}
+pub use Rattle.lapd_line.specs.FrameStands.{IsNext, config_of, pairs_of}
 pub use Rattle.lapd_line.specs.Reports.{report_told, told_if}
-pub use Rattle.lapd_line.specs.Stands.{latest_frame, pairs_of}
+pub use Rattle.lapd_line.specs.Stands.{latest_frame}
 pub use Rattle.lapd_line.specs.declared.frame_line.FrameLine.{FrameLine}
-pub use Rattle.lapd_line.specs.declared.frame_line.NextFrame.{NextFrame}
 pub use Rattle.lapd_line.specs.declared.line.Line.{Line}
 pub use Rattle.lapd_line.specs.declared.reports.BareReport.{BareReport}
 pub use Rattle.lapd_line.specs.declared.reports.Report.{Report}
@@ -48,6 +44,9 @@ pub use Rattle.lapd_store.proofs.Focus.{FocusPair, focus_pair, octets-machines, 
 pub use Rattle.lapd_store.proofs.Ownership.{Holds-unused, stored_octets-held, used_slots-held}
 pub use Rattle.lapd_store.specs.Ownership.{Holds, Owned, owned_octets}
 pub use Rattle.lapd_store.specs.Store.{SameLimits, Store, stored_octets, used_slots}
+pub use Rattle.model_bits.specs.OpenGap.{kept_count}
+pub use Rattle.model_bits.specs.Stream.{dropped, room_for}
+pub use Rattle.model_bits.specs.Stuffing.{unstuffed}
 pub use Rattle.model_card.proofs.Amortised.{frames_amortised}
 pub use Rattle.model_card.proofs.ByEvent.{frames_by_event}
 pub use Rattle.model_card.proofs.Drops.{drop_costs_nothing, drops_change_nothing, drops_cost_nothing}
@@ -78,7 +77,7 @@ pub use Rattle.model_card.specs.Reached.{IsReached}
 pub use Rattle.model_card.specs.Room.{RefusesBy, room}
 pub use Rattle.model_card.specs.Run.{AreAtLines, IsAtLine, Moment, one_more, run}
 unfoldable pub use Rattle.model_card.specs.Run.{after_all, moments}
-pub use Rattle.model_card.specs.Said.{Said, gives, next_of, replies, said, says}
+pub use Rattle.model_card.specs.Said.{Said, replies, said, says}
 pub use Rattle.model_card.specs.Sound.{IsSound}
 pub use Rattle.model_card.specs.Stored.{limit, limit_in, stored}
 pub use Rattle.model_card.specs.declared.events.Event.TheVariants.{Octet}

@@ -1,11 +1,11 @@
 -- What a call on one link does to all of them: it is taken out of the list, and put back.
-use Rattle.lapd_line.proofs.Vocabulary.{◌≡◌, ℕ, ◌<◌, ◌≤◌, List, length, get_or, set, option_map, Result, Ok, Err, IfErr, IfOk, OnErr, OnOk, refl, sym, ap, subst, ◌∙◌, arith, Option, length-map, length-set, get_or_default, set-get_or, map-set_same, slice_get-map, slice_get-get_or, same_Some, Owned, Store, SameLimits, FocusPair, focus_pair, Link, Offer, Answer, terms_of, told_with, Terms, offer, Service, Config, terms, window, LinkFits, LinksStand, HasTerms, machine_at, link_pairs, terms_in, IsGiven, Offers, Refuses, Refusal, Bool}
+use Rattle.lapd_line.proofs.Vocabulary.{◌≡◌, ℕ, ◌<◌, ◌≤◌, List, length, get_or, set, option_map, Result, Ok, Err, IfErr, IfOk, OnErr, OnOk, refl, sym, ap, subst, ◌∙◌, arith, Option, Bool, length-map, length-set, get_or_default, set-get_or, map-set_same, slice_get-map, slice_get-get_or, same_Some, Owned, Store, SameLimits, FocusPair, focus_pair, Link, Offer, Answer, terms_of, told_with, Terms, offer, Service, Config, terms, window, LinkFits, LinksStand, HasTerms, machine_at, link_pairs, terms_in, IsGiven, Offers, Refuses, Refusal, GoesOn}
 use Rattle.lapd_link.specs.Stands.{Stands}
 use Rattle.model_link.specs.Events.{Event, Request}
 use Rattle.model_link.specs.Requests.{refusal}
 use Rattle.model_link.specs.Link as machine
 use Rattle.model_link.specs.Machine.{after, told}
-use Rattle.lapd_line.specs.Links.{Serves, GoesOn}
+use Rattle.lapd_line.specs.Links.{Serves}
 
 -- the link at a place, the machine for it, and what the shelf holds beside what it owns; and the way back
 pub record Taken (c : Config) (links : List Link) (s : Store) (others : List Owned) (ms : List machine.Link) (number : ℕ) (x : Link) : Type 0 where

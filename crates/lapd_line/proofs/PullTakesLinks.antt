@@ -1,5 +1,5 @@
 -- What a pull takes of the links.
-use Rattle.lapd_line.proofs.Vocabulary.{◌≡◌, ◌⊎◌, inl, inr, Bool, true, false, cond, ℕ, zero, suc, ◌+◌, ◌-◌, ◌≤◌, ◌<◌, List, [], ◌∷◌, ◌++◌, length, take, drop, get_or, set, slice_get, Option, Some, None, option_map, IfSome, refl, ap, sym, ◌∙◌, subst, arith, set-get_or, none-some, slice_get_cases, slice_get-map, range_with_len, option_or, unwrap_or, Address, Order, IsFrame, spelling, listed, Owned, Store, IsUsed, Link, Offer, contents_in, HasMessage, terms_of, ControlFrame, Terms, address_at, given, given_of, course, offer, Given, may_send_information, offer_among, send_information, send_acknowledgement, give_information, with_one_sent, next_information, first_unsent, is_awaiting_acknowledgement, Course, Sent, ◌then◌, changed, pending_is, start, T200, Config, Line, link_at, link_count, place_at, service_at, tei_at, terms, terms_at, Taken, with_given_frame, link_taken, first_taken, round, IsSoundAt, fresh_gives_nothing, TakesSoundly, link_sound, ranges_of, Awake, LinkLayer, Stands, Standing, IsAwake, IsAsleep, FallsAsleep, LinksStand, HasTerms, IsGiven, Offers, terms_in, Loading, Loads, room_in, HasTaken, Took, Takes, IsFree}
+use Rattle.lapd_line.proofs.Vocabulary.{◌≡◌, ◌⊎◌, inl, inr, Bool, true, false, cond, ℕ, zero, suc, ◌+◌, ◌-◌, ◌≤◌, ◌<◌, List, [], ◌∷◌, ◌++◌, length, take, drop, get_or, set, slice_get, Option, Some, None, option_map, IfSome, refl, ap, sym, ◌∙◌, subst, arith, set-get_or, none-some, slice_get_cases, slice_get-map, range_with_len, option_or, unwrap_or, Address, Order, IsFrame, spelling, listed, Owned, Store, IsUsed, Link, Offer, contents_in, HasMessage, terms_of, ControlFrame, Terms, address_at, given, given_of, course, offer, Given, may_send_information, offer_among, send_information, send_acknowledgement, give_information, with_one_sent, next_information, first_unsent, is_awaiting_acknowledgement, Course, Sent, ◌then◌, changed, pending_is, start, T200, Config, Line, link_at, link_count, place_at, service_at, tei_at, terms, terms_at, Taken, with_given_frame, link_taken, first_taken, round, IsSoundAt, fresh_gives_nothing, TakesSoundly, link_sound, ranges_of, Awake, LinkLayer, Stands, Standing, IsAwake, IsAsleep, FallsAsleep, LinksStand, HasTerms, IsGiven, Offers, terms_in, Loading, Loads, room_in, IsFree, HasTaken, Took, Takes}
 use Rattle.model_link.specs.Link as machine
 use Rattle.model_link.specs.Machine.{after}
 use Rattle.model_link.specs.Steps.{begun}

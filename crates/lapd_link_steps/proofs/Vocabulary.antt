@@ -14,7 +14,7 @@ pub use Rattle.lapd_frame.specs.Grammar.{spelling}
 pub use Rattle.lapd_frame.specs.Reading.{start_of}
 pub use Rattle.lapd_frame.specs.declared.addresses.Side.TheVariants.{Network}
 pub use Rattle.lapd_frame.specs.declared.controls.Control.{Control}
-pub use Rattle.lapd_frame.specs.declared.controls.Control.TheVariants.{Disc, Dm, Reject, Sabme, Ua}
+pub use Rattle.lapd_frame.specs.declared.controls.Control.TheVariants.{Disc, Dm, Information, Reject, Sabme, Ua}
 pub use Rattle.lapd_frame.specs.declared.notes.Note.{Note}
 pub use Rattle.lapd_link_steps.specs.Does.{Agrees, Does, DoesBy}
 pub use Rattle.lapd_link_steps.specs.Done.{Gives, IsNothing, Rests, Took, past_at}
@@ -22,7 +22,7 @@ pub use Rattle.lapd_link_steps.specs.Parts.{effect_of, particulars, renewed, sup
 pub use Rattle.lapd_link_steps.specs.Past.{Fits, Past, course_of, if_told, link_of, past_of}
 pub use Rattle.lapd_link_steps.specs.declared.entity.Entity.{Entity}
 pub use Rattle.lapd_link_steps.specs.declared.offers.Given.{Given}
-pub use Rattle.lapd_link_steps.specs.declared.states.multiple_frame.Bearer.TheVariants.{Information, Rej, Rnr, Rr}
+pub use Rattle.lapd_link_steps.specs.declared.states.multiple_frame.Bearer.TheVariants.{Rej, Rnr, Rr}
 pub use Rattle.lapd_link_steps.specs.declared.told.Told.{Told}
 pub use Rattle.lapd_seq.specs.Circle.{IsNamed, named}
 pub use Rattle.lapd_seq.specs.Numbers.{seq}

@@ -1,5 +1,6 @@
 -- What happens on a card of either kind.
-use Rattle.lapd_sim.proofs.Vocabulary.{◌≡◌, ℕ, ◌+◌, ◌-◌, ◌<◌, ◌≤◌, List, [], ◌∷◌, fold, length, Option, None, Some, Result, Ok, Err, refl, sym, ap, ◌∙◌, subst, arith, ∥∥₁_elim, props, length-take, listed, Order, Timer, IsNext, NextFrame, Store, Output, IsPut, IsStuck, Puts, Config, taken, Request, ranges_of, Event, at, after, after_all, happening_counted, Happening, expires, asks, line_of, events_of, HappensAt, Setup, ordered, Scene, at_once, orders_of, idle_after, config_stays, Board, Octets, Frames, Exchange, as_store, line_count, OnBoard, Leads, LeadsBy, IsTaken, scene, Tells, Holds}
+use Rattle.lapd_sim.proofs.Vocabulary.{◌≡◌, ℕ, ◌+◌, ◌-◌, ◌<◌, ◌≤◌, List, [], ◌∷◌, fold, length, Option, None, Some, Result, Ok, Err, refl, sym, ap, ◌∙◌, subst, arith, ∥∥₁_elim, props, length-take, listed, Order, IsNext, NextFrame, Store, Output, IsPut, IsStuck, Puts, Config, taken, Request, ranges_of, Event, at, after, after_all, happening_counted, Happening, expires, asks, line_of, events_of, HappensAt, Setup, ordered, Scene, at_once, orders_of, idle_after, config_stays, Board, Octets, Frames, Exchange, as_store, line_count, OnBoard, Leads, LeadsBy, IsTaken, scene, Tells, Holds}
+use Rattle.lapd_frame.specs.declared.timers.Timer.{Timer}
 use Rattle.lapd_card.specs.Card as octets_card
 use Rattle.lapd_card.specs.Stands as octets
 use Rattle.lapd_card.specs.FrameCard as frames_card

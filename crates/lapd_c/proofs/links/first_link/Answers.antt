@@ -1,6 +1,6 @@
 -- Hand-written answers for `first_link`: a place is free where the card tells no state of its link.
-use Rattle.lapd_c.proofs.Vocabulary.{arith}
-use Rattle.std.proofs.Common.{Some, None}
+use Rattle.lapd_c.proofs.Vocabulary.{arith, None}
+use Rattle.std.proofs.Common.{Some}
 use Rattle.lapd_c.proofs.Linking.{state_told, free_behind}
 use Rattle.lapd_c.proofs.links.first_link.Goals as goal
 

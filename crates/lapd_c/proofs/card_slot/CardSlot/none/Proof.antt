@@ -1,5 +1,6 @@
 -- A null word owns nothing.
-use Rattle.lapd_c.proofs.Vocabulary.{◌≡◌, List, [], ◌∷◌, refl, lit<, None, proved_at, leaves, HeldCard}
+use Rattle.lapd_c.proofs.Vocabulary.{◌≡◌, List, [], ◌∷◌, refl, lit<, proved_at, leaves, HeldCard}
+use Rattle.std.specs.declared.option.Option.TheVariants.{None}
 use mir.Val.{Val, vnull, vstruct, vcons, vnil}
 use base.Logic.{SProp, emp}
 use types.Kit.{‵, raw, ◌⊛◌, ◌$◌, ◌∵◌, !, qed, by, move, keep, drop, fjoin, fpack, use0, feq_i}

@@ -1,5 +1,5 @@
 -- The call makes the box of the two parts.
-use Rattle.lapd_c.proofs.Vocabulary.{◌≡◌, List, [], ◌∷◌, ◌++◌, refl, sym, ap, subst, Goes-blank, fm, Good, box_out, box_in, proved_at, leaves, met}
+use Rattle.lapd_c.proofs.Vocabulary.{◌≡◌, List, [], ◌∷◌, ◌++◌, refl, sym, ap, subst, Goes-blank, fm, Good, box_out, box_in, proved_at, leaves, met, after}
 use mir.Syntax.{a_type, dcons, dnil}
 use mir.Val.{Val, vptr}
 use mir.MapTy.{inst_fn}
@@ -24,7 +24,6 @@ use denote.Triple.Clauses.{Lasts, lasts}
 use denote.Triple.Spec.{triple_of}
 use denote.Triple.Call.{calls_at_last}
 use denote.Triple.Walked.{Stays, stay_dropped, walk_of}
-use Rattle.core.proofs.alloc.Shapes.{after}
 use Rattle.std_alloc.proofs.BoxSteps.Form as box
 use Rattle.lapd_c.proofs.Places.{two, Place, two_good, place_opens}
 use Rattle.std_alloc.specs.contracts.boxed.Box.from_raw as callee

@@ -1,5 +1,6 @@
 -- Hand-written answers for `Entity::frame_in_7_8`.
-use Rattle.lapd_link_steps.proofs.Vocabulary.{ap, sym, ◌∙◌, false, length, arith, lt-ltb, le-ltb, Dm, ◌then◌, by_number, particulars, effect_of, Information, Rr, Rnr, Rej}
+use Rattle.lapd_link_steps.proofs.Vocabulary.{ap, sym, ◌∙◌, false, length, arith, lt-ltb, le-ltb, Dm, ◌then◌, by_number, particulars, effect_of, Rr, Rnr, Rej}
+use Rattle.lapd_link_steps.specs.declared.states.multiple_frame.Bearer.TheVariants.{Information}
 use Rattle.lapd_frame.specs.declared.notes.ErrorCode.TheVariants as code
 use Rattle.model_link.specs.MultipleFrame as row
 use Rattle.lapd_link_steps.proofs.Steps.{◌▹◌, bit_yes, bit_no, with_known}

@@ -1,6 +1,5 @@
 -- Hand-written answers for `Entity::next_information`.
-use Rattle.lapd_link_steps.proofs.Vocabulary.{ℕ, ◌+◌, List, Option, Some, false, ap, ◌∙◌, slice_get, Seq, seq, command}
-use Rattle.lapd_frame.specs.declared.controls.Control.TheVariants.{Information}
+use Rattle.lapd_link_steps.proofs.Vocabulary.{ℕ, ◌+◌, List, Option, Some, false, ap, ◌∙◌, slice_get, Seq, seq, command, Information}
 use Rattle.lapd_link_steps.proofs.Queue.{contents_at-queue}
 use Rattle.lapd_link_steps.proofs.entity.Entity.next_information.Goals as goal
 

@@ -1,5 +1,5 @@
 -- A run as one fold is its moments.
-use Rattle.model_card.proofs.Vocabulary.{◌≡◌, List, [], ◌∷◌, ◌++◌, refl, sym, ◌∙◌, append_assoc, append-nil, fold, Event, reply_of, RunIsMoments, after, answer, Run, moments, after_all, map}
+use Rattle.model_card.proofs.Vocabulary.{◌≡◌, List, [], ◌∷◌, ◌++◌, refl, sym, ◌∙◌, append_assoc, append-nil, fold, map, Event, reply_of, RunIsMoments, after, answer, Run, moments, after_all}
 use Rattle.model_card.specs.Run.{one_more}
 
 folded_card : (events : List Event) (r : Run) → (fold one_more r events).card ≡ after_all r.card events

@@ -1,7 +1,7 @@
 -- Hand-written answers for `LinkLayer::held_by_links`.
-use Rattle.lapd_line.proofs.Vocabulary.{◌≡◌, ◌<◌, refl, ap, ◌∙◌, arith, sum_by, range_with_len, link_count, held_by_link}
+use Rattle.lapd_line.proofs.Vocabulary.{◌≡◌, ◌<◌, ap, ◌∙◌, arith, sum_by, range_with_len, link_count, held_by_link}
 use Rattle.lapd_line.proofs.LayerSteps.{beside_links, links_part}
-use Rattle.lapd_line.proofs.HeldSteps.{held_place, held_more, few_links}
+use Rattle.lapd_line.proofs.HeldSteps.{held_place, held_more}
 use Rattle.lapd_line.proofs.link_layer.LinkLayer.held_by_links.Goals as goal
 
 pub held-octets-requires-clause-stands : goal.held-octets-requires-clause-stands

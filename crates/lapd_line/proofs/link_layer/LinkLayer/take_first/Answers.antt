@@ -1,6 +1,6 @@
 -- Hand-written answers for `LinkLayer::take_first`.
 use Rattle.lapd_line.proofs.Vocabulary.{◌<◌, sym, subst, arith, link_count}
-use Rattle.lapd_line.proofs.PullTakesLinks.{none_among, one_more, found, passed, ready, still_ready}
+use Rattle.lapd_line.proofs.PullTakesLinks.{one_more, found, passed, ready, still_ready}
 use Rattle.lapd_line.proofs.link_layer.LinkLayer.take_first.Goals as goal
 
 pub returns-in-Some-take_link : goal.returns-in-Some-take_link

@@ -1,5 +1,5 @@
 -- The octets that a line holds: their sums, and that there are few.
-use Rattle.lapd_line.proofs.Vocabulary.{◌≡◌, ℕ, ◌+◌, ◌*◌, ◌/◌, ◌<◌, ◌≤◌, Bool, true, false, List, [], ◌∷◌, length, reverse, nat_lt, cond, Option, Some, None, refl, sym, ap, zero, suc, ◌∙◌, arith, ltb-false, All-head, All-tail, sum_by-cons, same_Some, All, sum_by, range_with_len, option_map_or, unwrap_or, bits, octets_held, kept_count, open_gap, unstuffed, room_for, Network, spelling, Owned, Store, Link, Fits, terms_of, Terms, frame_of, IsWaitingFrame, Config, Line, link_count, service_at, place_at, tei_at, terms, link_at, IsSoundAt, held_by_link, ranges_of, LinkLayer, Stands, Standing, HasTerms, LinksStand, machine_at}
+use Rattle.lapd_line.proofs.Vocabulary.{◌≡◌, ℕ, ◌+◌, ◌*◌, ◌/◌, ◌<◌, ◌≤◌, Bool, true, false, List, [], ◌∷◌, length, reverse, nat_lt, cond, Option, Some, None, refl, sym, ap, zero, suc, ◌∙◌, arith, ltb-false, All-head, All-tail, sum_by-cons, same_Some, All, sum_by, range_with_len, option_map_or, unwrap_or, bits, octets_held, kept_count, open_gap, unstuffed, room_for, Network, spelling, Owned, Store, Link, Fits, terms_of, Terms, frame_of, IsWaitingFrame, Config, Line, link_count, service_at, place_at, tei_at, terms, link_at, IsSoundAt, held_by_link, ranges_of, LinkLayer, Stands, Standing, HasTerms, LinksStand, machine_at, held}
 use Rattle.model_link.specs.Rises.{held}
 use Rattle.model_link.specs.Link as machine
 use Rattle.lapd_line.proofs.LayerSteps.{beside_links, links_part}
@@ -62,10 +62,6 @@ held_more f number octets result so_far here =
 
 pub four : (x y z r s m k : ℕ) → x ≡ r → y ≡ s → z ≡ m + k → x + y + z ≡ r + s + m + k
 four x y z r s m k a b d = omega (arith, a, b, d)
-
--- there are at most 16 links
-pub few_links : (e : LinkLayer) → (store : Store) × Standing e store → link_count e.config ≤ 16
-few_links e (store, (others, m, st)) = omega (arith, (ranges_of e.config st.range).terminals.most)
 
 -- a frame that is received is kept as far as there is room
 kept_few : (room n : ℕ) (b : Bool) → nat_lt room n ≡ b → cond b 4 n ≤ room + 4

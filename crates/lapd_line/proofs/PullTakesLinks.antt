@@ -193,16 +193,6 @@ among from n c m = first_taken c m (range_with_len from n)
 among_append : (c : Config) (m : Line) (a n k : ℕ) → option_or (among a n c m) (among (a + n) k c m) ≡ among a (n + k) c m
 among_append c m a n k = sym (ap (first_taken c m) (range_append a n k) ∙ first_append c m (range_with_len a n) (range_with_len (a + n) k))
 
-pub none_among : (e : LinkLayer) (s : Store) (f : Loading) (from : ℕ) → Takes (among from (from - from)) e s f e s f None
-none_among e s f from =
-    let none : 0 ≡ from - from = omega arith in
-    subst (λ n. Takes (among from n) e s f e s f None) none (record {
-      config = refl;
-      limits = record { slots = refl; width = refl };
-      room = refl;
-      took = λ others m st. (st, refl);
-    })
-
 -- one link more that has nothing to give
 pub one_more : (from number : ℕ) {a b c : LinkLayer} {s t u : Store} {f g h : Loading} → from ≤ number
     → Takes (among from (number - from)) a s f b t g None → Takes (λ c m. link_taken c m number) b t g c u h None

@@ -4,14 +4,6 @@ use Rattle.lapd_line.proofs.CountSteps.{counted_on}
 use Rattle.lapd_line.proofs.RequestSteps.{requested, request_told}
 use Rattle.lapd_line.proofs.line.Line.request.Goals as goal
 
-pub request-requires-clause-stands : goal.request-requires-clause-stands
-request-requires-clause-stands g c =
-    let (others, m, st) = c.requires.stands in
-    (others, m, st.layer)
-
-pub returns-in-Ok-clause-accepted : goal.returns-in-Ok-clause-accepted
-returns-in-Ok-clause-accepted g c = λ others m st. c.in-Ok.ensures.granted others m st.layer
-
 pub returns-in-Ok-clause-told : goal.returns-in-Ok-clause-told
 returns-in-Ok-clause-told g c = λ others m st. request_told (nat_le c.args.slots (used_slots (g.S.Shelf.store c.args.shelf.now))) (request_of c.args.request) c.report-report.result c.in-Ok.ensures.granted c.in-Ok.ensures.served c.report-report.ensures others m st.layer
 
@@ -22,9 +14,3 @@ returns-in-Ok-clause-after g c =
     c.in-Ok.ensures.granted c.in-Ok.ensures.served)
     c.count_told.new.self _ c.count_told.ensures
     (λ others m st. ap told_in_answer (sym (request_told (nat_le c.args.slots (used_slots (g.S.Shelf.store c.args.shelf.now))) (request_of c.args.request) c.report-report.result c.in-Ok.ensures.granted c.in-Ok.ensures.served c.report-report.ensures others m st.layer)))
-
-pub returns-in-Err-clause-refused : goal.returns-in-Err-clause-refused
-returns-in-Err-clause-refused g c = λ others m st. c.in-Err.ensures.refused others m st.layer
-
-pub returns-in-Err-clause-unchanged : goal.returns-in-Err-clause-unchanged
-returns-in-Err-clause-unchanged g c = ap (λ e. record c.args.self.now { layer = e }) c.in-Err.ensures.unchanged

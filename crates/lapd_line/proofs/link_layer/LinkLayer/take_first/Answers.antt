@@ -1,14 +1,7 @@
 -- Hand-written answers for `LinkLayer::take_first`.
 use Rattle.lapd_line.proofs.Vocabulary.{◌<◌, sym, subst, arith, link_count}
-use Rattle.lapd_line.proofs.PullTakesLinks.{none_among, one_more, found, passed, ready, still_ready}
+use Rattle.lapd_line.proofs.PullTakesLinks.{one_more, found, passed, ready, still_ready}
 use Rattle.lapd_line.proofs.link_layer.LinkLayer.take_first.Goals as goal
-
-pub loop-number-init : goal.loop-number-init
-loop-number-init g c = record {
-  order = omega arith;
-  within = c.requires.order;
-  so_far = none_among c.args.self.now (g.S.Shelf.store c.args.shelf.now) (g.O.Outlet.loading c.args.out.now) c.args.from;
-}
 
 pub returns-in-Some-take_link : goal.returns-in-Some-take_link
 returns-in-Some-take_link g c =

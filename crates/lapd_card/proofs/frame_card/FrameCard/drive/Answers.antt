@@ -1,5 +1,8 @@
 -- Hand-written answers for `FrameCard::drive`.
-use Rattle.lapd_card.proofs.Vocabulary.{rules, [], refl, sym, ◌∙◌, slice_get-get_or, Comes, answers_say_it, ArePriced, AreDropsWithoutCost, AreDropsWithoutEffect, frames_amortised, run_is_moments, lines_isolated, frames_linear, pool_never_full, deliveries_numbered, stored_within_limit, text_goes_on, refused_by_the_table, frames_by_event, drops_cost_nothing, drops_change_nothing, IsWithinLimit, IsAmortised, IsAmortisedFromZero, HasSixOctetsAFrame, HasSevenOctetsAReject, IsLinear, IsIsolated, IsNeverFull, IsNumbered, IsNumberedFromZero, IsTextual, after_all}
+use Rattle.lapd_card.proofs.Vocabulary.{rules, [], refl, sym, ◌∙◌, slice_get-get_or, Comes, answers_say_it, ArePriced, AreDropsWithoutCost, AreDropsWithoutEffect, frames_amortised, run_is_moments, lines_isolated, frames_linear, pool_never_full, deliveries_numbered, stored_within_limit, text_goes_on, refused_by_the_table, frames_by_event, drops_cost_nothing, drops_change_nothing, IsWithinLimit, IsAmortised, IsAmortisedFromZero, HasSixOctetsAFrame, HasSevenOctetsAReject, IsLinear, IsIsolated, IsNeverFull, IsNumbered, IsNumberedFromZero, IsTextual, after_all, ap, subst, arith, take_all, happening_of, all_of, Taken, after_happenings, replies, happenings_counted, frame_counters_in}
+use Rattle.std.proofs.Common.{rules}
+use Rattle.std.proofs.lemmas.List.{length-map}
+use Rattle.lapd_card.specs.FrameStands.{Stands}
 use Rattle.lapd_card.proofs.FrameTaken.{ran-more, counted-more, taken-more, missed-at}
 use Rattle.lapd_card.proofs.Taken.{at_ok, at_err}
 use Rattle.lapd_card.proofs.FrameCounting.{numbers_in_lists}
@@ -63,59 +66,41 @@ returns-then-is_err g c =
       textual = front IsTextual text_goes_on;
     }
 
-pub returns-clause-counters_add_up : goal.returns-clause-counters_add_up
-returns-clause-counters_add_up g c = numbers_in_lists
-
-pub returns-clause-moments : goal.returns-clause-moments
-returns-clause-moments g c = run_is_moments
-
-pub returns-clause-refused : goal.returns-clause-refused
-returns-clause-refused g c = refused_by_the_table
-
-pub returns-clause-by_event : goal.returns-clause-by_event
-returns-clause-by_event g c = λ m. whole_list g.S.Shelf.store c.args.self.now c.args.happenings.now c.requires ArePriced frames_by_event.in_runs m
-
-pub returns-clause-without_effect : goal.returns-clause-without_effect
-returns-clause-without_effect g c = λ m. whole_list g.S.Shelf.store c.args.self.now c.args.happenings.now c.requires AreDropsWithoutEffect (λ m es s within. drops_change_nothing m es) m
-
-pub returns-clause-drops : goal.returns-clause-drops
-returns-clause-drops g c = λ m. whole_list g.S.Shelf.store c.args.self.now c.args.happenings.now c.requires AreDropsWithoutCost drops_cost_nothing m
-
-pub returns-clause-within_limit : goal.returns-clause-within_limit
-returns-clause-within_limit g c = λ m count. each_front g.S.Shelf.store c.args.self.now c.args.happenings.now c.requires IsWithinLimit stored_within_limit.always m count
-
-pub returns-clause-amortised : goal.returns-clause-amortised
-returns-clause-amortised g c = λ m count. each_front g.S.Shelf.store c.args.self.now c.args.happenings.now c.requires IsAmortised frames_amortised m count
-
-pub returns-clause-amortised_from_zero : goal.returns-clause-amortised_from_zero
-returns-clause-amortised_from_zero g c = λ count. fresh_front g.S.Shelf.store c.args.self.now c.args.happenings.now c.requires IsAmortisedFromZero frames_linear.amortised count
-
-pub returns-clause-six_octets_a_frame : goal.returns-clause-six_octets_a_frame
-returns-clause-six_octets_a_frame g c = λ count. fresh_front g.S.Shelf.store c.args.self.now c.args.happenings.now c.requires HasSixOctetsAFrame frames_linear.frames count
-
-pub returns-clause-seven_octets_a_reject : goal.returns-clause-seven_octets_a_reject
-returns-clause-seven_octets_a_reject g c = λ count. fresh_front g.S.Shelf.store c.args.self.now c.args.happenings.now c.requires HasSevenOctetsAReject frames_linear.rejects count
-
-pub returns-clause-linear : goal.returns-clause-linear
-returns-clause-linear g c = λ count. fresh_front g.S.Shelf.store c.args.self.now c.args.happenings.now c.requires IsLinear frames_linear.linear count
-
-pub returns-clause-isolated : goal.returns-clause-isolated
-returns-clause-isolated g c = λ count. fresh_front g.S.Shelf.store c.args.self.now c.args.happenings.now c.requires IsIsolated lines_isolated count
-
-pub returns-clause-numbered : goal.returns-clause-numbered
-returns-clause-numbered g c = λ m count. each_front g.S.Shelf.store c.args.self.now c.args.happenings.now c.requires IsNumbered deliveries_numbered.numbered m count
-
-pub returns-clause-textual : goal.returns-clause-textual
-returns-clause-textual g c = λ m count. each_front g.S.Shelf.store c.args.self.now c.args.happenings.now c.requires IsTextual text_goes_on m count
-
-pub returns-clause-never_full : goal.returns-clause-never_full
-returns-clause-never_full g c = λ count. fresh_front g.S.Shelf.store c.args.self.now c.args.happenings.now c.requires IsNeverFull pool_never_full count
-
-pub returns-clause-from_zero : goal.returns-clause-from_zero
-returns-clause-from_zero g c = λ count. fresh_front g.S.Shelf.store c.args.self.now c.args.happenings.now c.requires IsNumberedFromZero deliveries_numbered.from_zero count
-
-pub returns-clause-answers : goal.returns-clause-answers
-returns-clause-answers g c = answers_say_it
-
-pub returns-clause-idle : goal.returns-clause-idle
-returns-clause-idle g c = λ m s. all-idle g.S.Shelf.store c.args.self.now m s
+pub returns : goal.returns
+returns g c =
+    let whole = whole_list g.S.Shelf.store c.args.self.now c.args.happenings.now c.requires in
+    let front = each_front g.S.Shelf.store c.args.self.now c.args.happenings.now c.requires in
+    let fresh = fresh_front g.S.Shelf.store c.args.self.now c.args.happenings.now c.requires in
+    let all = take_all c.loop-at.at (all_of c.args.happenings.now) (omega (arith, c.loop-at-test.false, length-map c.args.happenings.now happening_of)) in
+    record {
+      ok = search rules;
+      at = search rules;
+      failed = search rules;
+      not_failed = search rules;
+      config = search rules;
+      ran = λ m s. subst (λ hs. Stands g.S.Shelf.store c.loop-at.self (after_happenings m hs)) all (c.loop-at.invariant.ran m s);
+      taken = λ m s. subst (λ hs. Taken g.K.FrameSink.takes c.args.sink.now (replies m hs) c.loop-at.sink) all (c.loop-at.invariant.taken m s);
+      counters = λ m s. c.loop-at.invariant.counted m s ∙ ap (happenings_counted (frame_counters_in c.args.self.now.lines) m) all;
+      stopped = search rules;
+      taken_before = search rules;
+      counters_before = search rules;
+      idle = all-idle g.S.Shelf.store c.args.self.now;
+      answers = answers_say_it;
+      moments = run_is_moments;
+      refused = refused_by_the_table;
+      counters_add_up = numbers_in_lists;
+      by_event = whole ArePriced frames_by_event.in_runs;
+      drops = whole AreDropsWithoutCost drops_cost_nothing;
+      without_effect = whole AreDropsWithoutEffect (λ m es s within. drops_change_nothing m es);
+      within_limit = front IsWithinLimit stored_within_limit.always;
+      amortised = front IsAmortised frames_amortised;
+      amortised_from_zero = fresh IsAmortisedFromZero frames_linear.amortised;
+      six_octets_a_frame = fresh HasSixOctetsAFrame frames_linear.frames;
+      seven_octets_a_reject = fresh HasSevenOctetsAReject frames_linear.rejects;
+      linear = fresh IsLinear frames_linear.linear;
+      isolated = fresh IsIsolated lines_isolated;
+      never_full = fresh IsNeverFull pool_never_full;
+      numbered = front IsNumbered deliveries_numbered.numbered;
+      from_zero = fresh IsNumberedFromZero deliveries_numbered.from_zero;
+      textual = front IsTextual text_goes_on;
+    }

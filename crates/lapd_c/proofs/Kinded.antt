@@ -1,5 +1,5 @@
 -- A card of either kind.
-use Rattle.lapd_c.proofs.Vocabulary.{◌≡◌, ℕ, List, [], ◌∷◌, drop, get_or, map, replicate, set, Option, is_some, if◌then◌else◌, sym, ap, refl, subst, ◌∙◌, option_map_or, set-get_or, Config, NextFrame, IsNext, written, pull, Taken, pulls_to_begin, Event, at, Happening, goes, events_of, IsReached, after_all, moment_counted, moment_of, happening_counted, Counters, none_counted, with_all, taken_shown, Store, frame_counters_in, AnyCard, Octets, Frames, after_happening, next_at, AnyStands, AnyLeads, FrameCardStands, line_count, shelf_of, None, Leads}
+use Rattle.lapd_c.proofs.Vocabulary.{◌≡◌, ℕ, List, [], ◌∷◌, drop, get_or, map, replicate, set, Option, is_some, if◌then◌else◌, sym, ap, refl, subst, ◌∙◌, None, option_map_or, set-get_or, Config, NextFrame, IsNext, written, pull, Taken, pulls_to_begin, Event, at, Happening, goes, events_of, IsReached, after_all, moment_counted, moment_of, happening_counted, Counters, none_counted, with_all, taken_shown, Store, frame_counters_in, AnyCard, Octets, Frames, after_happening, next_at, AnyStands, AnyLeads, FrameCardStands, line_count, shelf_of, Leads}
 use Rattle.std.proofs.Common.{Some}
 use Rattle.model_card.specs.Card as machine
 use Rattle.lapd_card.specs.FrameCard.{Held}

@@ -1,5 +1,5 @@
 -- Looking for the first link of a line.
-use Rattle.lapd_c.proofs.Vocabulary.{◌≡◌, ◌+◌, ℕ, inl, inr, Option, sym, ◌∙◌, subst, arith, cases_lt, Service, service_at, tei_at, AreFree, state_at, None}
+use Rattle.lapd_c.proofs.Vocabulary.{◌≡◌, ◌+◌, ℕ, inl, inr, Option, sym, ◌∙◌, subst, arith, None, cases_lt, Service, service_at, tei_at, AreFree, state_at}
 use Rattle.model_card.specs.Card as machine
 
 -- what a link of the place's service is said to be in, its link is in

@@ -17,7 +17,6 @@ pub use Rattle.core.proofs.alloc.Shapes.{after}
 pub use Rattle.core.proofs.atomic.Steps.{fm}
 pub use Rattle.core.proofs.cell.Inside.{Good, one}
 pub use Rattle.core.specs.declared.alloc.Allocator.{Ghosts}
-pub use Rattle.model_bits.specs.Stream.{dropped}
 pub use Rattle.lapd_c.specs.CardSlots.{HeldCard, card_owns, card_row}
 pub use Rattle.lapd_c.specs.Cards.{ShowsAnswer}
 pub use Rattle.lapd_c.specs.ClockSlots.{HeldClock, clock_owns, heap}
@@ -66,8 +65,7 @@ pub use Rattle.model_card.specs.Counted.{all_counted, moment_counted, moment_of}
 pub use Rattle.model_card.specs.Event.{Event, at}
 pub use Rattle.model_card.specs.Happening.{Happening, asks, events_of, expires, goes}
 pub use Rattle.model_card.specs.HappeningsCounted.{happening_counted}
-pub use Rattle.model_card.specs.Machine.{wants_room}
-unfoldable pub use Rattle.model_card.specs.Machine.{answer}
+pub use Rattle.model_card.specs.Machine.{answer, wants_room}
 pub use Rattle.model_card.specs.Reached.{IsReached}
 pub use Rattle.model_card.specs.Run.{Run, one_more, run}
 unfoldable pub use Rattle.model_card.specs.Run.{after_all, moments}

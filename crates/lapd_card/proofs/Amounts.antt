@@ -1,6 +1,5 @@
 -- How many octets a card stores, line by line.
-use Rattle.lapd_card.proofs.Vocabulary.{◌≡◌, ℕ, ◌+◌, ◌*◌, ◌≤◌, ◌<◌, suc, List, [], ◌∷◌, length, take, refl, sym, ap, ◌∙◌, arith, Fits, w32, w64, mul-le-mul_left, take-suc, sum_by-append, sum_by-cons, sum_by, Config, IsInRange, held_in, octets_of, stored_in, ranges_of, Card, IsReached, stored, limit, reached-sound, stored_within_limit, Store, stored_octets, Held, line_in, Stands}
-use Rattle.lapd_card.specs.Lines.{Stand}
+use Rattle.lapd_card.proofs.Vocabulary.{◌≡◌, ℕ, ◌+◌, ◌*◌, ◌≤◌, ◌<◌, suc, List, [], ◌∷◌, length, take, refl, sym, ap, ◌∙◌, arith, Fits, w32, w64, mul-le-mul_left, take-suc, sum_by-append, sum_by-cons, sum_by, Config, IsInRange, held_in, octets_of, stored_in, ranges_of, Card, IsReached, stored, limit, reached-sound, stored_within_limit, Store, stored_octets, Held, Stand, line_in, Stands}
 use Rattle.model_line.specs.Line as line
 use Rattle.lapd_card.proofs.OneEvent.{octets_is}
 

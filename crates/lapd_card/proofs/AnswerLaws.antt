@@ -1,6 +1,5 @@
 -- What the laws of a card's machine say of an answer that is the machine's.
-use Rattle.lapd_card.proofs.Vocabulary.{◌≡◌, ℕ, ◌≤◌, ◌<◌, IsSome, sym, subst, Timer, LineTold, told, octet, expiry, orders_in, cause_in, starts, may_send, at, after, drop_costs_nothing, reached-sound, expiry_starts, Store, Held, line_count, Stands}
-use Rattle.lapd_card.specs.Stands.{HasPast}
+use Rattle.lapd_card.proofs.Vocabulary.{◌≡◌, ℕ, ◌≤◌, ◌<◌, IsSome, sym, subst, Timer, LineTold, told, octet, expiry, orders_in, cause_in, starts, may_send, at, after, drop_costs_nothing, reached-sound, expiry_starts, Store, Held, line_count, Stands, HasPast}
 use Rattle.model_card.specs.Card as machine
 use Rattle.model_card.specs.Machine.{answer}
 

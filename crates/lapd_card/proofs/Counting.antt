@@ -1,6 +1,5 @@
 -- What is counted over a run.
-use Rattle.lapd_card.proofs.Vocabulary.{◌≡◌, ℕ, ◌+◌, ◌<◌, ◌==◌, Bool, true, false, cond, List, [], ◌∷◌, ◌++◌, length, length-set, get_or, set, take, slice_get, Some, refl, sym, ap, subst, ◌∙◌, eqb-true, eqb-false, get_or-set_same, get_or-set_other, fold-append, Counters, More, none_counted, value_in, with_more, with_all, counters_are_numbers, shown, Card, line_at, Event, event_of, after, Moment, moments, after_all, run, run_is_moments, Store, Held, counters_in, moment_counted, all_counted, moment_of, shown_at, all_shown, CountersAreNumbers, Stands}
-use Rattle.lapd_card.specs.Stands.{Leads}
+use Rattle.lapd_card.proofs.Vocabulary.{◌≡◌, ℕ, ◌+◌, ◌<◌, ◌==◌, Bool, true, false, cond, List, [], ◌∷◌, ◌++◌, length, length-set, get_or, set, take, slice_get, Some, refl, sym, ap, subst, ◌∙◌, eqb-true, eqb-false, get_or-set_same, get_or-set_other, fold-append, Counters, More, none_counted, value_in, with_more, with_all, counters_are_numbers, shown, Card, line_at, Event, event_of, after, Moment, moments, after_all, run, run_is_moments, Store, Held, counters_in, moment_counted, all_counted, moment_of, shown_at, all_shown, CountersAreNumbers, Stands, Leads}
 use Rattle.model_card.specs.declared.events.Event as rust
 use Rattle.lapd_card.specs.Drive.{events_of}
 use Rattle.lapd_card.proofs.Taken.{one-more}

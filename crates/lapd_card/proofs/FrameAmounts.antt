@@ -1,10 +1,11 @@
 -- How many octets a card for frames stores, line by line: those of a card of octets but for what that holds of frames on
 -- their way.
-use Rattle.lapd_card.proofs.Vocabulary.{◌≡◌, ℕ, suc, ◌+◌, ◌*◌, ◌/◌, ◌≤◌, ◌<◌, List, [], ◌∷◌, length, take, reverse, get_or, sym, ap, subst, ◌∙◌, arith, mul-le-mul_left, mul-le-mul_right, All-head, All-tail, sum_by_more, sum_by-cons, option_map_or, kept_count, room_for, unstuffed, sum_by, Config, IsInRange, held_received, held_in, held_sent, octets_of, slots_of, stored_in, IsIdle, waiting_few, octets_few, Card, used, stored, limit_in, reached-sound, Store, stored_octets, frame_limit_in, frame_limit, line_in, Stand}
+use Rattle.lapd_card.proofs.Vocabulary.{◌≡◌, ℕ, suc, ◌+◌, ◌*◌, ◌/◌, ◌≤◌, ◌<◌, List, [], ◌∷◌, length, take, reverse, get_or, sym, ap, subst, ◌∙◌, arith, mul-le-mul_left, mul-le-mul_right, All-head, All-tail, sum_by_more, sum_by-cons, option_map_or, kept_count, room_for, unstuffed, sum_by, Config, IsInRange, held_received, held_in, held_sent, octets_of, slots_of, stored_in, IsIdle, waiting_few, octets_few, Card, used, stored, limit_in, reached-sound, Store, stored_octets, frame_limit_in, frame_limit, line_in}
 use Rattle.std.proofs.Common.{All}
 use Rattle.model_line.specs.Line as line
 use Rattle.model_line.specs.Sound.{IsSound}
 use Rattle.lapd_card.specs.FrameCard.{Held}
+use Rattle.lapd_card.specs.FrameLines.{Stand}
 use Rattle.lapd_card.specs.FrameStands.{Stands}
 use Rattle.lapd_card.proofs.Amounts.{sums, limit_small, stored_small}
 use Rattle.lapd_card.proofs.FrameHeadline.{all-idle}

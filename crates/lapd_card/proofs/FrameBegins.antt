@@ -1,5 +1,8 @@
 -- A card for frames as it begins.
-use Rattle.lapd_card.proofs.Vocabulary.{◌≡◌, ◌≤◌, List, [], ◌++◌, length, replicate, refl, sym, ap, subst, ◌∙◌, None, false, length-replicate, append-nil, All, flat_map, zip, FrameLine, Config, first_fault, fresh_line, fresh, reached-fresh, Holds, Store, used_slots-held, none_counted, frame_counters_of, frame_counters_in, is_too_small, pairs_of, held_of, IsFit, owned, IsFresh, AreFresh}
+use Rattle.lapd_card.proofs.Vocabulary.{◌≡◌, ◌≤◌, List, [], ◌++◌, length, replicate, refl, sym, ap, subst, ◌∙◌, None, false, length-replicate, append-nil, All, flat_map, zip, FrameLine, Config, first_fault, fresh_line, fresh, reached-fresh, Holds, Store, used_slots-held, none_counted, frame_counters_of, frame_counters_in, is_too_small}
+use Rattle.lapd_line.specs.FrameStands.{pairs_of}
+use Rattle.lapd_line.proofs.FrameStood.{held_of}
+use Rattle.lapd_card.specs.FrameLines.{IsFit, owned, IsFresh, AreFresh}
 use Rattle.lapd_card.specs.FrameStands.{Stands}
 use Rattle.lapd_card.proofs.Begins.{empty_list, each_fits, none_owned, each_is, has_room_for}
 

@@ -1,10 +1,10 @@
 -- A law of the machine holds of the events that a list of happenings at a card for frames means, and of every front of it.
-use Rattle.lapd_card.proofs.Vocabulary.{refl, ℕ, ◌<◌, List, [], ◌∷◌, take, sym, subst, All-nil, All-head, All-tail, All-append, All-map, All-take, All-weaker, All, Config, IsInRange, Card, fresh, Event, IsAtLine, AreAtLines, after_all, IsSound, reached-sound, Happening, events_at, events_of, spelled, AreIdle, IsIdle, all_at, config_stays, Store, happening_of, all_of, line_in, HasPast}
+use Rattle.lapd_card.proofs.Vocabulary.{refl, ℕ, ◌<◌, List, [], ◌∷◌, take, sym, subst, All-nil, All-head, All-tail, All-append, All-map, All-take, All-weaker, All, Config, IsInRange, Card, fresh, Event, IsAtLine, AreAtLines, after_all, IsSound, reached-sound, Happening, events_at, events_of, spelled, AreIdle, IsIdle, all_at, config_stays, Store, happening_of, all_of, line_in}
 use Rattle.model_card.specs.Happening as happenings
 use Rattle.lapd_card.specs.declared.happenings.Happening as rust
 use Rattle.lapd_card.specs.FrameCard.{Held, line_count}
 use Rattle.lapd_card.specs.FrameDrive.{line_of}
-use Rattle.lapd_card.specs.FrameStands.{Stands}
+use Rattle.lapd_card.specs.FrameStands.{Stands, HasPast}
 use Rattle.lapd_card.proofs.OneLine.{IsAt}
 use Rattle.lapd_card.proofs.OneFrameLine.{focused_at}
 use Rattle.lapd_card.proofs.OneHappening.{line-there, line-of}

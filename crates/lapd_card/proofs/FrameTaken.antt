@@ -1,10 +1,9 @@
 -- A list of happenings, one by one, and what a sink has taken of it.
-use Rattle.lapd_card.proofs.Vocabulary.{◌≡◌, ℕ, ◌+◌, List, [], ◌∷◌, ◌++◌, take, refl, sym, ap, subst, ◌∙◌, Some, slice_get, append-nil, Card, after_all, Happening, events_of, spelled, Said, said, replies, after_all-append, Counters, frame_counters_in, happening_counted, happenings_counted, happening_of, all_of, after_happenings, Store, Leads}
-use Rattle.lapd_card.specs.FrameDrive.{Taken, MissesReply, MissesAt}
+use Rattle.lapd_card.proofs.Vocabulary.{◌≡◌, ℕ, ◌+◌, List, [], ◌∷◌, ◌++◌, take, refl, sym, ap, subst, ◌∙◌, Some, slice_get, append-nil, Card, after_all, Happening, events_of, spelled, Said, said, replies, after_all-append, Counters, frame_counters_in, happening_counted, happenings_counted, happening_of, all_of, after_happenings, Taken, MissesReply, MissesAt, Store}
 use Rattle.model_card.specs.Happening as happenings
 use Rattle.lapd_card.specs.declared.happenings.Happening as rust
 use Rattle.lapd_card.specs.FrameCard.{Held}
-use Rattle.lapd_card.specs.FrameStands.{Stands}
+use Rattle.lapd_card.specs.FrameStands.{Stands, Leads}
 use Rattle.lapd_card.proofs.Taken.{one-more, one-at}
 
 -- one reply more

@@ -1,8 +1,5 @@
 -- An event at a card is one at one of its lines.
-use Rattle.lapd_card.proofs.Vocabulary.{if◌then◌else◌, ◌≡◌, ℕ, ◌≤◌, ◌<◌, Bool, true, false, ◌&&◌, List, [], ◌++◌, length, nat_le, refl, sym, ap, subst, ◌∙◌, Some, None, IsSome, Option, arith, Ok, Err, Result, IfOk, IfErr, OnErr, lt-ltb, append-nil, set-get_or, none-some, flat_map, sum_by, zip, Refusal, PoolFull, Service, none_counted, Line, Report, report_told, Config, refusal, Request, slots_of, octets_of, ranges_of, Card, line_at, used, is_full, state, Event, at, wants_room, after, IsReached, reached-after, reached-sound, refused_by_the_table, owned_octets, Store, used_slots, stored_octets, used_slots-held, stored_octets-held, slots-machines, octets-machines, Held, line_count, counters_in, one_counted, line_in, after_event, answer_of_result, Stands}
-use Rattle.lapd_line.proofs.Stood.{slots-pairs, octets-pairs}
-use Rattle.lapd_card.specs.Lines.{IsFit, owned, Stand, Lead}
-use Rattle.lapd_card.specs.Stands.{Leads, HasPast}
+use Rattle.lapd_card.proofs.Vocabulary.{if◌then◌else◌, ◌≡◌, ℕ, ◌≤◌, ◌<◌, Bool, true, false, ◌&&◌, List, [], ◌++◌, length, nat_le, refl, sym, ap, subst, ◌∙◌, Some, None, IsSome, Option, arith, Ok, Err, Result, IfOk, IfErr, OnErr, lt-ltb, append-nil, set-get_or, none-some, flat_map, sum_by, zip, Refusal, PoolFull, Service, none_counted, Line, Report, report_told, slots-pairs, octets-pairs, Config, refusal, Request, slots_of, octets_of, ranges_of, Card, line_at, used, is_full, state, Event, at, wants_room, after, IsReached, reached-after, reached-sound, refused_by_the_table, owned_octets, Store, used_slots, stored_octets, used_slots-held, stored_octets-held, slots-machines, octets-machines, Held, line_count, counters_in, one_counted, IsFit, owned, Stand, Lead, line_in, after_event, answer_of_result, Stands, Leads, HasPast}
 use Rattle.model_line.specs.Event as line_event
 use Rattle.model_line.specs.Line as line
 use Rattle.model_line.specs.Machine as lines

@@ -1,8 +1,10 @@
 -- One line of a card for frames, taken out of its lines and put back.
-use Rattle.lapd_card.proofs.Vocabulary.{◌≡◌, ℕ, ◌≤◌, ◌<◌, List, [], length, sym, ap, subst, ◌∙◌, arith, get_or, set, length-set, get_or_default, get_or-map, map-set, FrameLine, config_of, stands_on, Config, after_events, Owned, Store, SameLimits, FocusPair, focus_pair, line_in, More, none_counted, with_all, frame_counters_of, frame_counters_in, Serve, CountsAt, held_of, IsFit, owned, Stand, Lead}
+use Rattle.lapd_card.proofs.Vocabulary.{◌≡◌, ℕ, ◌≤◌, ◌<◌, List, [], length, sym, ap, subst, ◌∙◌, arith, get_or, set, length-set, get_or_default, get_or-map, map-set, FrameLine, config_of, stands_on, Config, after_events, Owned, Store, SameLimits, FocusPair, focus_pair, line_in, More, none_counted, with_all, frame_counters_of, frame_counters_in, Serve, CountsAt}
 use Rattle.lapd_line.specs.FrameStands as line
+use Rattle.lapd_line.proofs.FrameStood.{held_of}
 use Rattle.model_line.specs.Event.{Event}
 use Rattle.model_line.specs.Line as machine
+use Rattle.lapd_card.specs.FrameLines.{IsFit, owned, Stand, Lead}
 use Rattle.lapd_card.proofs.OneLine.{IsAt}
 
 -- A line stands for its part of the machine, beside what the other lines own; and whatever it and the shelf are

@@ -1,11 +1,13 @@
 -- A happening at a card for frames is one at one of its lines.
-use Rattle.lapd_card.proofs.Vocabulary.{if◌then◌else◌, false, ◌≡◌, ℕ, zero, suc, ◌+◌, get_or, ◌≤◌, ◌<◌, List, [], ◌∷◌, ◌++◌, length, map, nat_le, refl, sym, ap, subst, ◌∙◌, Some, None, IsSome, Option, arith, Ok, Err, Result, IfOk, IfErr, OnErr, lt-ltb, append-nil, set-get_or, All-head, All-tail, flat_map, sum_by, zip, Refusal, Service, Timer, FrameLine, Report, report_told, Config, refusal, Request, slots_of, octets_of, ranges_of, Card, line_at, used, is_full, state, Event, at, wants_room, after, IsReached, after_all, AreAtLines, IsAtLine, orders_in, starts, expiry_starts, reached-after, reached-sound, refused_by_the_table, Fault, Happening, comes, failed, goes, expires, asks, line_of, events_at, events_of, with_line, after_events, pulls_for, line_octets, fault_octets, says, said, all_at, config_stays, frames_are_of_lines, owned_octets, Store, used_slots, stored_octets, used_slots-held, stored_octets-held, slots-machines, octets-machines, room_for_frames, More, none_counted, told_in_answer, frame_counters_in, counted_at, happening_shown, CountsAt, line_in, answer_of_result, slots-pairs, octets-pairs, IsFit, owned, Stand, Lead, Leads, HasPast}
+use Rattle.lapd_card.proofs.Vocabulary.{if◌then◌else◌, false, ◌≡◌, ℕ, zero, suc, ◌+◌, get_or, ◌≤◌, ◌<◌, List, [], ◌∷◌, ◌++◌, length, map, nat_le, refl, sym, ap, subst, ◌∙◌, Some, None, IsSome, Option, arith, Ok, Err, Result, IfOk, IfErr, OnErr, lt-ltb, append-nil, set-get_or, All-head, All-tail, flat_map, sum_by, zip, Refusal, Service, Timer, FrameLine, Report, report_told, Config, refusal, Request, slots_of, octets_of, ranges_of, Card, line_at, used, is_full, state, Event, at, wants_room, after, IsReached, after_all, AreAtLines, IsAtLine, orders_in, starts, expiry_starts, reached-after, reached-sound, refused_by_the_table, Fault, Happening, comes, failed, goes, expires, asks, line_of, events_at, events_of, with_line, after_events, pulls_for, line_octets, fault_octets, says, said, all_at, config_stays, frames_are_of_lines, owned_octets, Store, used_slots, stored_octets, used_slots-held, stored_octets-held, slots-machines, octets-machines, room_for_frames, More, none_counted, told_in_answer, frame_counters_in, counted_at, happening_shown, CountsAt, line_in, answer_of_result}
+use Rattle.lapd_line.proofs.FrameStood.{slots-pairs, octets-pairs}
 use Rattle.model_line.specs.Event as line_event
 use Rattle.model_line.specs.Line as line
 use Rattle.model_line.specs.Machine as lines
 use Rattle.model_card.specs.Machine.{answer}
 use Rattle.lapd_card.specs.FrameCard.{Held, line_count}
-use Rattle.lapd_card.specs.FrameStands.{Stands}
+use Rattle.lapd_card.specs.FrameLines.{IsFit, owned, Stand, Lead}
+use Rattle.lapd_card.specs.FrameStands.{Stands, Leads, HasPast}
 use Rattle.lapd_card.proofs.OneLine.{IsAt}
 use Rattle.lapd_card.proofs.OneFrameLine.{focused_at}
 use Rattle.lapd_card.proofs.OneEvent.{after_served, answer_served, has_room, expiry_takes, accepted_has_room}

@@ -1,7 +1,5 @@
 -- One line of a card, taken out of its lines and put back.
-use Rattle.lapd_card.proofs.Vocabulary.{Option, None, Some, ◌≡◌, ℕ, ◌≤◌, ◌<◌, List, [], length, sym, ap, subst, ◌∙◌, arith, get_or, set, length-set, refl, get_or_default, get_or-set_same, get_or-map, map-set, slice_get-get_or, option_map_or, none_counted, with_all, shown, BareReport, Line, told_if, latest_frame, Config, nothing, answer, Owned, Store, SameLimits, FocusPair, focus_pair, counters_of, counters_in, line_in, told_of, told_at, told_if_at}
-use Rattle.lapd_line.proofs.Stood.{held_of}
-use Rattle.lapd_card.specs.Lines.{IsFit, owned, Stand, Lead}
+use Rattle.lapd_card.proofs.Vocabulary.{Option, None, Some, ◌≡◌, ℕ, ◌≤◌, ◌<◌, List, [], length, sym, ap, subst, ◌∙◌, arith, get_or, set, length-set, refl, get_or_default, get_or-set_same, get_or-map, map-set, slice_get-get_or, option_map_or, none_counted, with_all, shown, BareReport, Line, told_if, latest_frame, held_of, Config, nothing, answer, Owned, Store, SameLimits, FocusPair, focus_pair, counters_of, counters_in, IsFit, owned, Stand, Lead, line_in, told_of, told_at, told_if_at}
 use Rattle.lapd_line.specs.Stands as line
 use Rattle.lapd_line.specs.Stands.{config_of}
 use Rattle.lapd_line.proofs.Stood.{stands_on}

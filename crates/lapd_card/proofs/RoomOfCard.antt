@@ -1,6 +1,5 @@
 -- The room of a link of a card.
-use Rattle.lapd_card.proofs.Vocabulary.{◌≡◌, ℕ, ◌-◌, List, Result, Ok, Err, IfOk, sym, ap, ◌∙◌, Refusal, Service, Store, used_slots, Room, Config, room_in, Card, line_at, room, RefusesBy, refuses_by, Held, line_in, Stands}
-use Rattle.lapd_card.specs.Lines.{Stand}
+use Rattle.lapd_card.proofs.Vocabulary.{◌≡◌, ℕ, ◌-◌, List, Result, Ok, Err, IfOk, sym, ap, ◌∙◌, Refusal, Service, Store, used_slots, Room, Config, room_in, Card, line_at, room, RefusesBy, refuses_by, Held, Stand, line_in, Stands}
 use Rattle.model_line.specs.Line as line
 use Rattle.lapd_card.proofs.OneEvent.{used_is}
 

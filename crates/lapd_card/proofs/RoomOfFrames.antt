@@ -1,7 +1,8 @@
 -- The room of a link of a card for frames.
-use Rattle.lapd_card.proofs.Vocabulary.{◌≡◌, ℕ, ◌-◌, List, Result, sym, ap, ◌∙◌, Refusal, Service, Store, used_slots, Room, Config, room_in, Card, line_at, room, line_in, Stand}
+use Rattle.lapd_card.proofs.Vocabulary.{◌≡◌, ℕ, ◌-◌, List, Result, sym, ap, ◌∙◌, Refusal, Service, Store, used_slots, Room, Config, room_in, Card, line_at, room, line_in}
 use Rattle.model_line.specs.Line as line
 use Rattle.lapd_card.specs.FrameCard.{Held}
+use Rattle.lapd_card.specs.FrameLines.{Stand}
 use Rattle.lapd_card.specs.FrameStands.{Stands}
 use Rattle.lapd_card.proofs.OneHappening.{used_is}
 

@@ -1,10 +1,9 @@
 -- A list of events, event by event, and what a sink has taken of it.
-use Rattle.lapd_card.proofs.Vocabulary.{◌≡◌, ℕ, ◌+◌, zero, suc, List, [], ◌∷◌, ◌++◌, map, take, refl, sym, ap, subst, ◌∙◌, Some, slice_get, arith, false≢true, none-some, same_Some, is_err, OnOk, fold-append, Answer, Card, event_of, one_more, run, Held, Stands, Store, Taken, MissesReply, MissesAt}
-use Rattle.lapd_card.specs.Stands.{Leads}
+use Rattle.lapd_card.proofs.Vocabulary.{◌≡◌, ℕ, ◌+◌, zero, suc, List, [], ◌∷◌, ◌++◌, map, take, refl, sym, ap, subst, ◌∙◌, Some, slice_get, arith, false≢true, none-some, same_Some, is_err, OnOk, fold-append, Answer, Card, event_of, one_more, run, Held, Stands, Leads, Store}
 use Rattle.std.specs.Prelude.{Result, Ok, Err, OnErr, true, false}
 use Rattle.model_card.specs.declared.events.Event as rust
 use Rattle.model_card.specs.Machine.{answer}
-use Rattle.lapd_card.specs.Drive.{events_of}
+use Rattle.lapd_card.specs.Drive.{events_of, Taken, MissesReply, MissesAt}
 
 -- one reply more
 Taken-more : {K : Type 0} (takes : K → ℕ → Answer → K → Type 0) (old mid new : K) (replies : List (ℕ × Answer)) (line : ℕ) (reply : Answer) → Taken takes old replies mid → takes mid line reply new → Taken takes old (replies ++ (line, reply) ∷ []) new

@@ -3,7 +3,7 @@ pub use Rattle.std.proofs.Common.{Bool, Err, Fits, IfErr, IfOk, IsSome, List, No
 pub use Rattle.std.proofs.Math.Nat.{mul-le-mul_left, mul-le-mul_right}
 pub use Rattle.std.proofs.Math.Seq.{take-suc}
 pub use Rattle.std.proofs.lemmas.Bool.{eqb-false, eqb-true, false≢true, lt-ltb, ltb-false, or_parts}
-pub use Rattle.std.proofs.lemmas.List.{append-nil, get_or-map, get_or-set_other, get_or-set_same, get_or_default, length-replicate, map-append, map-set, set-get_or, take_all}
+pub use Rattle.std.proofs.lemmas.List.{append-nil, get_or-map, get_or-set_other, get_or-set_same, get_or_default, length-map, length-replicate, map-append, map-set, set-get_or, take_all}
 pub use Rattle.std.proofs.lemmas.List.Elements.{All-append, All-cons, All-head, All-map, All-nil, All-tail, All-take, All-weaker}
 pub use Rattle.std.proofs.lemmas.List.Sums.{fold-append, sum_by-append, sum_by-cons, sum_by_more}
 pub use Rattle.std.proofs.lemmas.Option.{none-some, same_Some, slice_get-get_or}
@@ -11,20 +11,15 @@ pub use Rattle.std.proofs.lemmas.Result.{IfErr-weaker, IfOk-weaker}
 pub use Rattle.std.specs.List.{All, AllByRecursion, flat_map, sum_by, zip}
 pub use Rattle.std.specs.Option.{option_map_or}
 pub use Rattle.std.specs.Prelude.{OnOk, is_err}
-pub use Rattle.model_bits.specs.OpenGap.{kept_count}
-pub use Rattle.model_bits.specs.Stream.{dropped, room_for}
-pub use Rattle.model_bits.specs.Stuffing.{unstuffed}
 pub use Rattle.lapd_card.specs.Card.{Held, line_count}
 pub use Rattle.lapd_card.specs.Counted.{counters_in, counters_of, frame_counters_in, frame_counters_of}
-pub use Rattle.lapd_card.specs.Drive.{MissesAt, MissesReply, Taken}
 pub use Rattle.lapd_card.specs.FrameCard.{frame_limit, frame_limit_in, room_for_frames}
-pub use Rattle.lapd_card.specs.FrameDrive.{after_happenings, all_of, happening_of}
-pub use Rattle.lapd_card.specs.FrameLines.{AreFresh, CountsAt, IsFit, IsFresh, Lead, Serve, Stand, owned}
-pub use Rattle.lapd_card.specs.FrameStands.{HasPast, Leads}
+pub use Rattle.lapd_card.specs.FrameDrive.{MissesAt, MissesReply, Taken, after_happenings, all_of, happening_of}
+pub use Rattle.lapd_card.specs.FrameLines.{CountsAt, Serve}
 pub use Rattle.lapd_card.specs.Kept.{kept_of}
-pub use Rattle.lapd_card.specs.Lines.{after_event, line_in, told_at, told_if_at, told_of}
+pub use Rattle.lapd_card.specs.Lines.{AreFresh, IsFit, IsFresh, Lead, Stand, after_event, line_in, owned, told_at, told_if_at, told_of}
 pub use Rattle.lapd_card.specs.Reply.{answer_of_result}
-pub use Rattle.lapd_card.specs.Stands.{Stands}
+pub use Rattle.lapd_card.specs.Stands.{HasPast, Leads, Stands}
 pub use Rattle.lapd_card.specs.Start.{is_too_small}
 pub use Rattle.lapd_card.specs.declared.happenings.Happening.TheVariants.{Comes}
 pub use Rattle.lapd_card.specs.declared.kept.KeptReply.{KeptReply}
@@ -35,10 +30,11 @@ pub use Rattle.lapd_frame.specs.declared.refusals.Refusal.{Refusal}
 pub use Rattle.lapd_frame.specs.declared.refusals.Refusal.TheVariants.{PoolFull}
 pub use Rattle.lapd_frame.specs.declared.services.Service.{Service}
 pub use Rattle.lapd_frame.specs.declared.timers.Timer.{Timer}
-pub use Rattle.lapd_line.proofs.FrameStood.{held_of, octets-pairs, slots-pairs, stands_on}
-pub use Rattle.lapd_line.specs.FrameStands.{IsNext, config_of, pairs_of}
+pub use Rattle.lapd_line.proofs.FrameStood.{stands_on}
+pub use Rattle.lapd_line.proofs.Stood.{held_of, octets-pairs, slots-pairs}
+pub use Rattle.lapd_line.specs.FrameStands.{IsNext, config_of}
 pub use Rattle.lapd_line.specs.Reports.{report_told, told_if}
-pub use Rattle.lapd_line.specs.Stands.{latest_frame}
+pub use Rattle.lapd_line.specs.Stands.{latest_frame, pairs_of}
 pub use Rattle.lapd_line.specs.declared.frame_line.FrameLine.{FrameLine}
 pub use Rattle.lapd_line.specs.declared.line.Line.{Line}
 pub use Rattle.lapd_line.specs.declared.reports.BareReport.{BareReport}

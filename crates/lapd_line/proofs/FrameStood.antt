@@ -1,6 +1,5 @@
 -- What a line for whole frames owns on the shelf, as `Stood` has it of a line of octets.
-use Rattle.lapd_line.proofs.Vocabulary.{◌≡◌, ◌≤◌, List, ◌++◌, length, Owned, Holds, owned_octets, Store, octets_of, FrameLine}
-use Rattle.model_line.specs.Stored.{slots_of}
+use Rattle.lapd_line.proofs.Vocabulary.{◌≡◌, ◌≤◌, List, ◌++◌, length, Owned, Holds, owned_octets, Store, slots_of, octets_of, FrameLine}
 use Rattle.model_line.specs.Line as machine
 use Rattle.lapd_line.specs.FrameStands.{Stands, config_of, pairs_of}
 use Rattle.lapd_line.proofs.Stood.{on_shelf, slots_owned, octets_owned}

@@ -1,7 +1,6 @@
 -- What a line owns on the shelf: that it is held there, that the line may stand on another shelf that holds it, and how
 -- many slots and octets it is.
-use Rattle.lapd_line.proofs.Vocabulary.{◌≡◌, ℕ, ◌+◌, ◌≤◌, zero, suc, List, ◌++◌, length, take, get_or, refl, sym, ap, ◌∙◌, arith, length-append, length-map, take_all, fold-map, sum_by_more, sum_by, range_with_len, Owned, Holds, owned_octets, Store, slots-machines, octets-machines, owned_octets-append, length-pairs_of, owned_octets-pairs_of, Link, queue_of, Config, UnitData, octets_of, sum_of_links, slots_by_link, octets_by_link, total_length, contents_of, unit_length, LinkLayer, QueuedUnit, LinkFits, link_pairs, links_pairs, config_of, AreFor, unit_pairs, messages_of}
-use Rattle.model_line.specs.Stored.{slots_of}
+use Rattle.lapd_line.proofs.Vocabulary.{◌≡◌, ℕ, ◌+◌, ◌≤◌, zero, suc, List, ◌++◌, length, take, get_or, refl, sym, ap, ◌∙◌, arith, length-append, length-map, take_all, fold-map, sum_by_more, sum_by, range_with_len, Owned, Holds, owned_octets, Store, slots-machines, octets-machines, owned_octets-append, length-pairs_of, owned_octets-pairs_of, Link, queue_of, Config, UnitData, slots_of, octets_of, sum_of_links, slots_by_link, octets_by_link, total_length, contents_of, unit_length, LinkLayer, QueuedUnit, LinkFits, link_pairs, links_pairs, config_of, AreFor, unit_pairs, messages_of}
 use Rattle.lapd_link.specs.Stands as link
 use Rattle.model_link.specs.Link as machine
 use Rattle.model_line.specs.Line as machine_line

@@ -16,22 +16,8 @@ pub use Rattle.std.specs.List.{All, list_any, prefix_len, range_with_len, sum_by
 pub use Rattle.std.specs.Option.{ok_or, option_map_or, option_or, unwrap_or}
 pub use Rattle.std.specs.Prelude.{vec_capacity}
 pub use Rattle.circular_buffer.proofs.Places.{slice_get-set_other, slice_get-set_same}
-pub use Rattle.lapd_bits.specs.Deframer.{latest_of}
 pub use Rattle.lapd_bits.specs.Ended.{without_octets}
 pub use Rattle.lapd_bits.specs.declared.deframer.Deframer.{Deframer}
-pub use Rattle.model_bits.proofs.BitLemmas.{bits-push}
-pub use Rattle.model_bits.specs.Bits.{bits, low_bits, number_of}
-pub use Rattle.model_bits.specs.OpenGap.{kept_count, octets_held, open_gap}
-pub use Rattle.model_bits.specs.Framer.{Framing, last_octets, refilled, runs_low, still_held, with_idle}
-pub use Rattle.model_bits.specs.Heads.{head_of}
-pub use Rattle.model_bits.specs.Heard.{heard_of}
-pub use Rattle.model_bits.specs.Sent.{Item, frame, idle, line_text}
-pub use Rattle.model_bits.specs.Stream.{heard_in, room_for}
-pub use Rattle.model_bits.specs.Stuffing.{unstuffed}
-pub use Rattle.model_bits.specs.StuffingLaws.{AreOctets}
-pub use Rattle.model_bits.specs.declared.heads.Head.{Head}
-pub use Rattle.model_bits.specs.declared.heard.Cause.{Cause}
-pub use Rattle.model_bits.specs.declared.heard.Cause.TheVariants.{Tei, Unserved}
 pub use Rattle.lapd_count.specs.Counters.{More, with_all, with_more}
 pub use Rattle.lapd_count.specs.Shown.{head_shown, heard_shown}
 pub use Rattle.lapd_count.specs.declared.counters.Counters.{Counters}
@@ -69,7 +55,7 @@ pub use Rattle.lapd_line.specs.Requests.{event_of, link_refusal, management_refu
 pub use Rattle.lapd_line.specs.Stands.{Moves, config_of, latest_frame}
 pub use Rattle.lapd_line.specs.Starts.{AreBegun, IsBegun}
 pub use Rattle.lapd_line.specs.TeiChanges.{Changing, IsAnswerTo, with_management}
-pub use Rattle.lapd_line.specs.Units.{AreFor, UnitRing, empty_ring, messages_of, slot_of, slots_of, unit_pairs, with_newest, without_oldest}
+pub use Rattle.lapd_line.specs.Units.{AreFor, UnitRing, empty_ring, messages_of, slot_of, unit_pairs, with_newest, without_oldest}
 pub use Rattle.lapd_line.specs.declared.addressing.Addressee.{Addressee}
 pub use Rattle.lapd_line.specs.declared.awake.Awake.{Awake}
 pub use Rattle.lapd_line.specs.declared.frame_line.FrameLine.{FrameLine}
@@ -93,7 +79,7 @@ pub use Rattle.lapd_store.specs.Store.{IsUsed, SameLimits, Store, empty_store, u
 pub use Rattle.lapd_tei.proofs.LawLemmas.{changes_are_told}
 pub use Rattle.lapd_tei.proofs.Tables.{at-within, is_on-at, place_of-is}
 pub use Rattle.lapd_tei.specs.Laws.{HasJoined, HasLeft}
-pub use Rattle.lapd_tei.specs.Machine.{Management, empty, held}
+pub use Rattle.lapd_tei.specs.Machine.{Management, empty}
 pub use Rattle.lapd_tei.specs.Outcome.{told_of}
 pub use Rattle.lapd_tei.specs.Sound.{IsAt}
 pub use Rattle.lapd_tei.specs.Table.{Places, has, is_on, place_of}
@@ -121,7 +107,7 @@ pub use Rattle.model_line.proofs.FramesGo.{frames_go_whole}
 pub use Rattle.model_line.proofs.FramesHeard.{frames_are_heard}
 pub use Rattle.model_line.proofs.FramesReceived.{nothing_else_is_received}
 pub use Rattle.model_line.proofs.LineSound.{after_sound, fresh_sound, with_due_given}
-pub use Rattle.model_line.proofs.Numbers.{at_place, number_within, other_place, place_at-number, place_within, service_at-number}
+pub use Rattle.model_line.proofs.Numbers.{number_within, other_place, place_at-number, place_within, service_at-number}
 pub use Rattle.model_line.proofs.Offered.{fresh_gives_nothing}
 pub use Rattle.model_line.proofs.PullSound.{TakesSoundly, link_sound, taken_sound}
 pub use Rattle.model_line.proofs.Ranges.{ranges_of}
@@ -138,7 +124,7 @@ pub use Rattle.model_line.specs.Laws.{cause_in, orders_in}
 pub use Rattle.model_line.specs.Line.{Line, UnitData, fresh_line, has_tei, link_at, link_count, link_in, link_number, link_of, place_at, place_in, service_at, state_in, state_of, tei_at, terms, terms_at, window, with_link}
 pub use Rattle.model_line.specs.Machine.{unless_refused, unless_refused_told}
 unfoldable pub use Rattle.model_line.specs.Machine.{after, answer}
-pub use Rattle.model_line.specs.Octet.{addressed, aim_of_long, aim_of_reading, drop_for, gained, group_tei, management_sapi, message_of, to_service, unless_at_link}
+pub use Rattle.model_line.specs.Octet.{addressed, aim_of_long, aim_of_reading, at_place, drop_for, gained, group_tei, management_sapi, message_of, to_service, unless_at_link}
 pub use Rattle.model_line.specs.Pull.{Taken, begun, first_taken, is_due, link_taken, message_taken, next_octet, orders_of, round, taken, unit_taken, with_due, with_given_frame, with_item, with_message, with_octet, with_unit}
 pub use Rattle.model_line.specs.Refusal.{Row, bad_tei, bad_tei_or_group, first_that_holds, no_link, no_link_nor_group, pool_full, queue_full, refusal, too_long, unit_queue_full, wrong_state}
 pub use Rattle.model_line.specs.Request.{Assign, Check, ClearBusy, Data, Establish, Release, Remove, Request, SetBusy, Unit, request_of}
@@ -146,9 +132,9 @@ pub use Rattle.model_line.specs.Requested.{aim_of_request, at_requested}
 pub use Rattle.model_line.specs.Room.{unless}
 pub use Rattle.model_line.specs.Sides.{at_side, group_told, has_management, last_unit_tei, managed_at, told_at, told_of_group, told_of_ui}
 pub use Rattle.model_line.specs.Sound.{IsInRange, IsSound, IsSoundAt, IsTextOf, IsUnitData}
-pub use Rattle.model_line.specs.Stored.{contents_of, held_by_link, held_received, held_sent, octets_by_link, octets_of, slots_by_link, sum_of_links, total_length, unit_length}
+pub use Rattle.model_line.specs.Stored.{contents_of, held_by_link, held_received, held_sent, octets_by_link, octets_of, slots_by_link, slots_of, sum_of_links, total_length, unit_length}
 pub use Rattle.model_line.specs.Whole.{IsIdle, came, cause_of, fault_octets, line_octets}
-pub use Rattle.model_line.specs.WholeAtLine.{AreOneEvent, after_events, of_heard, pulls_for, pulls_to_begin, receiving}
+pub use Rattle.model_line.specs.WholeAtLine.{after_events, of_heard, pulls_for, pulls_to_begin}
 pub use Rattle.model_line.specs.declared.config.Config.{Config}
 pub use Rattle.model_line.specs.declared.faults.Fault.{Fault}
 pub use Rattle.model_link.proofs.TellRows.{cleared-orders, cleared-tells}
@@ -157,6 +143,7 @@ pub use Rattle.model_link.specs.Link.{address_at, frame_of, fresh, queue_of, sta
 pub use Rattle.model_link.specs.Machine.{course, given, given_of}
 pub use Rattle.model_link.specs.Offers.{first_unsent, give_information, is_awaiting_acknowledgement, may_send_information, next_information, offer_among, send_acknowledgement, send_information, with_one_sent}
 pub use Rattle.model_link.specs.Requests.{refusal_for_room, serves}
+pub use Rattle.model_link.specs.Rises.{held}
 pub use Rattle.model_link.specs.Room.{room_of}
 pub use Rattle.model_link.specs.Sound.{IsWaitingFrame}
 pub use Rattle.model_link.specs.Steps.{Course, Sent, changed, ◌then◌}

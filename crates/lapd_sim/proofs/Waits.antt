@@ -1,5 +1,5 @@
 -- What has been written, and what an exchange stands for, while it waits.
-use Rattle.lapd_sim.proofs.Vocabulary.{◌≡◌, ℕ, ◌<◌, List, [], ◌++◌, Some, None, Ok, Err, refl, sym, ap, ◌∙◌, subst, ∥∥₁_elim, props, at, answer, AreInRange, Timers, due_at, time_until, Setup, happened, Scene, answer_text, with_event, at_expiry, expired, until, scene, Tells, OnBoard, counters_on, Holds, Plan, Board, Exchange, puts_nothing, puts_then, stuck_more, Output, IsPut, IsStuck, WriteFailed, expiry_lowers, until-expired, until-over, text_grows, Timer}
+use Rattle.lapd_sim.proofs.Vocabulary.{◌≡◌, ℕ, ◌<◌, List, [], ◌++◌, Some, None, Ok, Err, refl, sym, ap, ◌∙◌, subst, ∥∥₁_elim, props, at, answer, AreInRange, Timer, Timers, due_at, time_until, Setup, happened, Scene, answer_text, with_event, at_expiry, expired, until, scene, Tells, OnBoard, counters_on, Holds, Plan, Board, Exchange, puts_nothing, puts_then, stuck_more, Output, IsPut, IsStuck, WriteFailed, expiry_lowers, until-expired, until-over, text_grows}
 use Rattle.model_line.specs.Event as line_event
 
 -- From a setup, some timers have expired, and what they say has been written; what falls due until the end is the same.

@@ -1,7 +1,7 @@
 -- The invariants of the loops of `Card::drive`.
-use Rattle.lapd_card.proofs.Vocabulary.{◌≡◌, take, run, moments, counters_in, all_counted, Stands, Taken}
+use Rattle.lapd_card.proofs.Vocabulary.{◌≡◌, take, run, moments, counters_in, all_counted, Stands}
 use Rattle.model_card.specs.Card as machine
-use Rattle.lapd_card.specs.Drive.{events_of}
+use Rattle.lapd_card.specs.Drive.{events_of, Taken}
 use Rattle.lapd_card.proofs.card.Card.drive.Given as goal
 
 -- the events so far have happened and are counted, and the sink has taken their replies

@@ -1,6 +1,5 @@
 -- Hand-written answers for `Card::expire`.
-use Rattle.lapd_card.proofs.Vocabulary.{◌<◌, sym, subst, RisesByExpiry, at, frames_by_event, line_count, Stands, report_told}
-use Rattle.lapd_card.specs.Stands.{Leads}
+use Rattle.lapd_card.proofs.Vocabulary.{◌<◌, sym, subst, RisesByExpiry, at, frames_by_event, line_count, Stands, Leads, report_told}
 use Rattle.model_line.specs.Event as line_event
 use Rattle.lapd_card.proofs.AnswerLaws.{starts_one}
 use Rattle.lapd_card.proofs.Headline.{at_line}

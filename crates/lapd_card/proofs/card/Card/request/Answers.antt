@@ -1,6 +1,5 @@
 -- Hand-written answers for `Card::request`.
-use Rattle.lapd_card.proofs.Vocabulary.{◌<◌, sym, subst, Some, None, IfOk-weaker, IfErr-weaker, request_of, RisesByRequest, at, frames_by_event, line_count, Stands}
-use Rattle.lapd_card.specs.Stands.{Leads}
+use Rattle.lapd_card.proofs.Vocabulary.{◌<◌, sym, subst, Some, None, IfOk-weaker, IfErr-weaker, request_of, RisesByRequest, at, frames_by_event, line_count, Stands, Leads}
 use Rattle.model_line.specs.Event as line_event
 use Rattle.lapd_card.proofs.Headline.{at_line}
 use Rattle.lapd_card.proofs.OneEvent.{line-there, refusal_is, request_told, request_leads, past_after}

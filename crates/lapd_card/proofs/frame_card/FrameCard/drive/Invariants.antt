@@ -1,6 +1,5 @@
 -- The invariants of the loops of `FrameCard::drive`.
-use Rattle.lapd_card.proofs.Vocabulary.{◌≡◌, take, replies, frame_counters_in, happenings_counted, all_of, after_happenings}
-use Rattle.lapd_card.specs.FrameDrive.{Taken}
+use Rattle.lapd_card.proofs.Vocabulary.{◌≡◌, take, replies, frame_counters_in, happenings_counted, all_of, after_happenings, Taken}
 use Rattle.model_card.specs.Card as machine
 use Rattle.lapd_card.specs.FrameStands.{Stands}
 use Rattle.lapd_card.proofs.frame_card.FrameCard.drive.Given as goal

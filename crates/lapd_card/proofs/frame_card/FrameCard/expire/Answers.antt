@@ -1,7 +1,7 @@
 -- Hand-written answers for `FrameCard::expire`.
-use Rattle.lapd_card.proofs.Vocabulary.{◌<◌, sym, subst, frames_by_event, reached-sound, expires, report_told, answer, told_in_answer, Leads}
+use Rattle.lapd_card.proofs.Vocabulary.{◌<◌, sym, subst, frames_by_event, reached-sound, expires, report_told, answer, told_in_answer}
 use Rattle.lapd_card.specs.FrameCard.{line_count}
-use Rattle.lapd_card.specs.FrameStands.{Stands}
+use Rattle.lapd_card.specs.FrameStands.{Stands, Leads}
 use Rattle.model_line.specs.Event as line_event
 use Rattle.lapd_card.proofs.OneHappening.{line-there, lines-serve, happening_leads, past_after, expiry_alone, expiry_said, expiry_shown, starts_one}
 use Rattle.lapd_card.proofs.frame_card.FrameCard.expire.Goals as goal

@@ -1,7 +1,7 @@
 -- Hand-written answers for `FrameCard::failed`.
-use Rattle.lapd_card.proofs.Vocabulary.{◌<◌, refl, sym, subst, ap, dropped, told, failed, of_heard, says, cause_of, heard_counted, Leads}
+use Rattle.lapd_card.proofs.Vocabulary.{◌<◌, refl, sym, subst, ap, dropped, told, failed, of_heard, says, cause_of, heard_counted}
 use Rattle.lapd_card.specs.FrameCard.{line_count}
-use Rattle.lapd_card.specs.FrameStands.{Stands}
+use Rattle.lapd_card.specs.FrameStands.{Stands, Leads}
 use Rattle.lapd_card.proofs.OneHappening.{line-there, happening_leads, past_after, line_says, fault_alone}
 use Rattle.lapd_card.proofs.frame_card.FrameCard.failed.Goals as goal
 

@@ -1,7 +1,7 @@
 -- Hand-written answers for `FrameCard::frame`.
-use Rattle.lapd_card.proofs.Vocabulary.{◌<◌, refl, sym, subst, ap, told, frames_by_event, reached-sound, comes, events_of, of_heard, says, came, heard_counted, Leads}
+use Rattle.lapd_card.proofs.Vocabulary.{◌<◌, refl, sym, subst, ap, told, frames_by_event, reached-sound, comes, events_of, of_heard, says, came, heard_counted}
 use Rattle.lapd_card.specs.FrameCard.{line_count}
-use Rattle.lapd_card.specs.FrameStands.{Stands}
+use Rattle.lapd_card.specs.FrameStands.{Stands, Leads}
 use Rattle.lapd_card.proofs.OneHappening.{line-there, lines-serve, happening_leads, past_after, line_says, frame_alone, at_lines}
 use Rattle.lapd_card.proofs.frame_card.FrameCard.frame.Goals as goal
 

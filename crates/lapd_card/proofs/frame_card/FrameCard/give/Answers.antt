@@ -1,7 +1,7 @@
 -- Hand-written answers for `FrameCard::give`.
-use Rattle.lapd_card.proofs.Vocabulary.{◌≤◌, ◌<◌, [], length, refl, sym, subst, taken, goes, pulls_for, IsNext, room_for_frames, option_map_or, taken_shown, Leads}
+use Rattle.lapd_card.proofs.Vocabulary.{◌≤◌, ◌<◌, [], length, refl, sym, subst, taken, goes, pulls_for, IsNext, room_for_frames, option_map_or, taken_shown}
 use Rattle.lapd_card.specs.FrameCard.{line_count}
-use Rattle.lapd_card.specs.FrameStands.{Stands}
+use Rattle.lapd_card.specs.FrameStands.{Stands, Leads}
 use Rattle.lapd_card.proofs.OneHappening.{line-there, lines-serve, happening_leads, past_after, line_holds, call_alone, room_at}
 use Rattle.lapd_card.proofs.frame_card.FrameCard.give.Goals as goal
 

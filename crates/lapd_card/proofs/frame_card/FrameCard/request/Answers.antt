@@ -1,7 +1,7 @@
 -- Hand-written answers for `FrameCard::request`.
-use Rattle.lapd_card.proofs.Vocabulary.{◌<◌, sym, subst, Some, None, IfOk-weaker, IfErr-weaker, request_of, asks, frames_by_event, reached-sound, Leads}
+use Rattle.lapd_card.proofs.Vocabulary.{◌<◌, sym, subst, Some, None, IfOk-weaker, IfErr-weaker, request_of, asks, frames_by_event, reached-sound}
 use Rattle.lapd_card.specs.FrameCard.{line_count}
-use Rattle.lapd_card.specs.FrameStands.{Stands}
+use Rattle.lapd_card.specs.FrameStands.{Stands, Leads}
 use Rattle.lapd_card.proofs.OneHappening.{line-there, lines-serve, refusal_is, request_told, request_leads, past_after}
 use Rattle.lapd_card.proofs.frame_card.FrameCard.request.Goals as goal
 

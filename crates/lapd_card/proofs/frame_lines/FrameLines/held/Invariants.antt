@@ -1,6 +1,7 @@
 -- The invariants of the loops of `FrameLines::held`.
-use Rattle.lapd_card.proofs.Vocabulary.{◌≡◌, ◌+◌, ◌*◌, ◌≤◌, List, take, sum_by, Config, held_in, held_sent, Store, Stand}
+use Rattle.lapd_card.proofs.Vocabulary.{◌≡◌, ◌+◌, ◌*◌, ◌≤◌, List, take, sum_by, Config, held_in, held_sent, Store}
 use Rattle.model_line.specs.Line as machine
+use Rattle.lapd_card.specs.FrameLines.{Stand}
 use Rattle.lapd_card.proofs.frame_lines.FrameLines.held.Given as goal
 
 -- what the lines so far hold

@@ -1,5 +1,6 @@
 -- The invariants of the loops of `FrameLines::start`.
-use Rattle.lapd_card.proofs.Vocabulary.{◌≡◌, vec_len, AllByRecursion, IsFresh}
+use Rattle.lapd_card.proofs.Vocabulary.{◌≡◌, vec_len, AllByRecursion}
+use Rattle.lapd_card.specs.FrameLines.{IsFresh}
 use Rattle.lapd_card.proofs.frame_lines.FrameLines.start.Given as goal
 
 -- so many lines, each as it begins

@@ -1,6 +1,5 @@
 -- The invariants of the loops of `Lines::held`.
-use Rattle.lapd_card.proofs.Vocabulary.{◌≡◌, ◌*◌, ◌≤◌, List, take, sum_by, Config, held_in, Store}
-use Rattle.lapd_card.specs.Lines.{Stand}
+use Rattle.lapd_card.proofs.Vocabulary.{◌≡◌, ◌*◌, ◌≤◌, List, take, sum_by, Config, held_in, Store, Stand}
 use Rattle.model_line.specs.Line as machine
 use Rattle.lapd_card.proofs.lines.Lines.held.Given as goal
 

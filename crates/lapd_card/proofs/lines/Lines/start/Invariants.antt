@@ -1,6 +1,5 @@
 -- The invariants of the loops of `Lines::start`.
-use Rattle.lapd_card.proofs.Vocabulary.{◌≡◌, vec_len, AllByRecursion}
-use Rattle.lapd_card.specs.Lines.{IsFresh}
+use Rattle.lapd_card.proofs.Vocabulary.{◌≡◌, vec_len, AllByRecursion, IsFresh}
 use Rattle.lapd_card.proofs.lines.Lines.start.Given as goal
 
 -- so many lines, each as it begins

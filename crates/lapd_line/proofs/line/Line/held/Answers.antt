@@ -1,5 +1,6 @@
 -- Hand-written answers for `Line::held`.
-use Rattle.lapd_line.proofs.Vocabulary.{sym, ap, ◌∙◌, arith, still_held, last_octets, held_received, held_sent, held_by_link, sum_of_links, ranges_of, left_is, config_of, held}
+use Rattle.lapd_line.proofs.Vocabulary.{sym, ap, ◌∙◌, arith, still_held, last_octets, held_received, held_sent, held_by_link, sum_of_links, ranges_of, left_is, config_of}
+use Rattle.lapd_tei.specs.Machine.{held}
 use Rattle.lapd_line.proofs.HeldSteps.{received_few, four}
 use Rattle.lapd_line.proofs.line.Line.held.Goals as goal
 

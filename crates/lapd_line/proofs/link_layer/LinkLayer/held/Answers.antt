@@ -1,5 +1,6 @@
 -- Hand-written answers for `LinkLayer::held`.
-use Rattle.lapd_line.proofs.Vocabulary.{◌+◌, sym, ap, ◌∙◌, held}
+use Rattle.lapd_line.proofs.Vocabulary.{◌+◌, sym, ap, ◌∙◌}
+use Rattle.lapd_tei.specs.Machine.{held}
 use Rattle.lapd_line.proofs.link_layer.LinkLayer.held.Goals as goal
 
 pub returns-clause-held : goal.returns-clause-held

@@ -1,6 +1,5 @@
 -- Hand-written answers for `Links::held`.
-use Rattle.lapd_line.proofs.Vocabulary.{◌≡◌, arith}
-use Rattle.model_link.specs.Rises.{held}
+use Rattle.lapd_line.proofs.Vocabulary.{◌≡◌, arith, held}
 use Rattle.lapd_line.proofs.HeldSteps.{link_few}
 use Rattle.lapd_line.proofs.LinkSteps.{part_stands, of_part}
 use Rattle.lapd_line.proofs.links.Links.held.Goals as goal

@@ -1,5 +1,5 @@
 -- What each row of the table keeps.
-use Rattle.lapd_tei.proofs.Vocabulary.{◌≡◌, ℕ, ◌≤◌, ◌==◌, ◌&&◌, nat_le, Bool, true, false, not, cond, set, Option, Some, None, is_some, IfSome, subst, refl, sym, ap, arith, option_map, nat_tests, IdentityAssigned, IdentityDenied, IdentityCheckRequest, IdentityRemove, Heard, IdentityRequest, IdentityVerify, IdentityCheckResponse, Places, is_on, place_of, free_place, free_tei, Management, nothing, Check, Period, First, Second, Course, begun, no_room, with_message, freed, left, leave, check_is, begin_check, end_check, lose_one, send, unserved, assign, assign_new, request, remembered_in, verify, may_be_checked, counted, responses, doubled, count, respond, serve, expire_period, expire_check, expire, is_unanswered, removed, join_at, put_on, is_checked, take_off, nothing_happens, IsSoundCheck, IsSoundQueue, IsSound, Moves}
+use Rattle.lapd_tei.proofs.Vocabulary.{◌≡◌, ℕ, ◌≤◌, ◌==◌, ◌&&◌, nat_le, Bool, true, false, not, cond, set, Option, Some, None, is_some, IfSome, subst, refl, sym, ap, arith, option_map, nat_tests, IdentityAssigned, IdentityDenied, IdentityCheckRequest, IdentityRemove, Heard, IdentityRequest, IdentityVerify, IdentityCheckResponse, Places, is_on, place_of, free_place, free_tei, Management, nothing, Check, Period, First, Second, Course, begun, no_room, with_message, freed, left, leave, check_is, begin_check, end_check, lose_one, send, unserved, assign, assign_new, request, remembered_in, verify, may_be_checked, counted, responses, doubled, count, respond, serve, expire_period, expire_check, expire, is_unanswered, removed, join_at, put_on, is_checked, take_off, nothing_happens, IsSoundCheck, IsSoundQueue, IsSound, Moves, List, filter, is_of_other, TeiTold, IsSoundTable, IsSoundMemory, Message}
 use Rattle.lapd_tei.proofs.Tables.{table-put, table-freed, on-newcomer, on-range, free_tei-is, free_place-is, place_of-is}
 use Rattle.lapd_tei.proofs.Memories.{memory-put, memory-remember, memory-freed, remembered-range}
 use Rattle.lapd_tei.proofs.SoundWords.{queue-sent, check-put, check-freed, check-begun, check-again, check-counted}
@@ -15,15 +15,22 @@ stands_still m c sound at change = record {
   moves = subst (λ o. Moves m.places o c.now.places) (sym change) (ap (λ n. n.places) at);
 }
 
--- an identity request
-denied : (ri : ℕ) (m : Management) → IsSound m → IsSoundQueue (with_message (IdentityDenied ri) m.waiting)
-denied ri m sound = queue-sent (IdentityDenied ri) m.waiting sound.queue (omega arith)
-
-leads-deny : (ri : ℕ) (m : Management) → IsSound m → Leads m (assign_new ri None None (begun m))
-leads-deny ri m sound = record {
-  sound = record { table = sound.table; memory = sound.memory; checked = sound.checked; queue = denied ri m sound };
-  moves = refl;
+-- the table stays as it is,
+leads-stays : (m : Management) (c : Course) → IsSound m → c.now.places ≡ m.places → c.now.remembered ≡ m.remembered → c.told.change ≡ None
+    → IfSome c.now.check (IsSoundCheck m.places) → IsSoundQueue c.now.waiting → Leads m c
+leads-stays m c sound places remembered change checked queue = record {
+  sound = record {
+    table = subst IsSoundTable (sym places) sound.table;
+    memory = subst (λ r. IsSoundMemory c.now.places r) (sym remembered) (subst (λ p. IsSoundMemory p m.remembered) (sym places) sound.memory);
+    checked = subst (λ p. IfSome c.now.check (IsSoundCheck p)) (sym places) checked;
+    queue = queue;
+  };
+  moves = subst (λ o. Moves m.places o c.now.places) (sym change) places;
 }
+
+-- an identity request
+leads-deny : (ri : ℕ) (m : Management) → IsSound m → Leads m (assign_new ri None None (begun m))
+leads-deny ri m sound = leads-stays m _ sound refl refl refl sound.checked (queue-sent (IdentityDenied ri) m.waiting sound.queue (omega arith))
 
 leads-new : (ri : ℕ) (m : Management) (place tei : ℕ) → IsSound m → remembered_in ri m.remembered ≡ None → free_place m.places ≡ Some place → free_tei m.places ≡ Some tei → Leads m (assign_new ri (Some place) (Some tei) (begun m))
 leads-new ri m place tei sound new at free =
@@ -42,15 +49,8 @@ leads-new ri m place tei sound new at free =
     }
 
 leads-again : (ri tei : ℕ) (m : Management) → IsSound m → remembered_in ri m.remembered ≡ Some tei → Leads m (assign ri (Some tei) (begun m))
-leads-again ri tei m sound e = record {
-  sound = record {
-    table = sound.table;
-    memory = sound.memory;
-    checked = sound.checked;
-    queue = queue-sent (IdentityAssigned ri tei) m.waiting sound.queue (remembered-range m.places m.remembered ri tei sound.table sound.memory e);
-  };
-  moves = refl;
-}
+leads-again ri tei m sound e =
+    leads-stays m _ sound refl refl refl sound.checked (queue-sent (IdentityAssigned ri tei) m.waiting sound.queue (remembered-range m.places m.remembered ri tei sound.table sound.memory e))
 
 leads-assign_new : (ri : ℕ) (m : Management) → IsSound m → remembered_in ri m.remembered ≡ None → (place tei : Option ℕ) → free_place m.places ≡ place → free_tei m.places ≡ tei → Leads m (assign_new ri place tei (begun m))
 leads-assign_new ri m sound new None None a b = leads-deny ri m sound
@@ -71,15 +71,8 @@ leads-request ri m sound =
 
 -- a check
 leads-begin : (tei : ℕ) (m : Management) → IsSound m → is_on tei m.places ≡ true → Leads m (begin_check tei (begun m))
-leads-begin tei m sound on = record {
-  sound = record {
-    table = sound.table;
-    memory = sound.memory;
-    checked = check-begun m.places tei on;
-    queue = queue-sent (IdentityCheckRequest tei) m.waiting sound.queue (omega (arith, on-range m.places tei sound.table on));
-  };
-  moves = refl;
-}
+leads-begin tei m sound on =
+    leads-stays m _ sound refl refl refl (check-begun m.places tei on) (queue-sent (IdentityCheckRequest tei) m.waiting sound.queue (omega (arith, on-range m.places tei sound.table on)))
 
 leads-unserved : (m : Management) → IsSound m → Leads m (unserved (begun m))
 leads-unserved m sound = stands_still m (unserved (begun m)) sound refl refl
@@ -103,30 +96,22 @@ moved_out places tei =
       | Some place ↦ λ e. record { within = (place_of-is places tei place e).0; was_there = (place_of-is places tei place e).1; is_free = refl }
     ] refl
 
-leads-doubled : (tei : ℕ) (m : Management) → IsSound m → is_on tei m.places ≡ true → Leads m (doubled tei (begun m))
-leads-doubled tei m sound on = record {
-  sound = record {
-    table = table-freed m.places tei sound.table;
-    memory = memory-freed m.places m.remembered tei sound.memory;
-    checked = tt;
-    queue = queue-sent (IdentityRemove tei) m.waiting sound.queue (omega (arith, on-range m.places tei sound.table on));
-  };
-  moves = moved_out m.places tei;
+leads-left : (tei : ℕ) (m : Management) (check : Option Check) (waiting : List Message) (told : TeiTold) → IsSound m → told.change ≡ option_map (left tei) (place_of tei m.places)
+    → IfSome check (IsSoundCheck (freed m.places (place_of tei m.places))) → IsSoundQueue waiting
+    → Leads m (record { now = record m { places = freed m.places (place_of tei m.places); remembered = filter (is_of_other tei) m.remembered; check = check; waiting = waiting }; told = told })
+leads-left tei m check waiting told sound change checked queue = record {
+  sound = record { table = table-freed m.places tei sound.table; memory = memory-freed m.places m.remembered tei sound.memory; checked = checked; queue = queue };
+  moves = subst (λ o. Moves m.places o (freed m.places (place_of tei m.places))) (sym change) (moved_out m.places tei);
 }
+
+leads-doubled : (tei : ℕ) (m : Management) → IsSound m → is_on tei m.places ≡ true → Leads m (doubled tei (begun m))
+leads-doubled tei m sound on = leads-left tei m None _ _ sound refl tt (queue-sent (IdentityRemove tei) m.waiting sound.queue (omega (arith, on-range m.places tei sound.table on)))
 
 checked_is : (m : Management) (check : Check) → IsSound m → m.check ≡ Some check → IsSoundCheck m.places check
 checked_is m check sound e = subst (λ o. IfSome o (IsSoundCheck m.places)) e sound.checked
 
 leads-counted : (check : Check) (m : Management) → IsSound m → m.check ≡ Some check → nat_le 2 (responses (counted check)) ≡ false → Leads m (record { now = record m { check = Some (counted check) }; told = nothing })
-leads-counted check m sound e few = record {
-  sound = record {
-    table = sound.table;
-    memory = sound.memory;
-    checked = check-counted m.places check (checked_is m check sound e) few;
-    queue = sound.queue;
-  };
-  moves = refl;
-}
+leads-counted check m sound e few = leads-stays m _ sound refl refl refl (check-counted m.places check (checked_is m check sound e) few) sound.queue
 
 same_number : (a b : ℕ) → (a == b) ≡ true → a ≡ b
 same_number a b e = grind (arith, nat_tests)
@@ -156,32 +141,14 @@ leads-serve (Some (IdentityCheckResponse tei)) m sound = leads-respond tei m sou
 leads-again_asked : (check : Check) (m : Management) → IsSound m → m.check ≡ Some check → Leads m (expire_period check First (begun m))
 leads-again_asked check m sound e =
     let checked = checked_is m check sound e in
-    record {
-      sound = record {
-        table = sound.table;
-        memory = sound.memory;
-        checked = check-again m.places check checked;
-        queue = queue-sent (IdentityCheckRequest check.tei) m.waiting sound.queue (omega (arith, on-range m.places check.tei sound.table checked.on_line));
-      };
-      moves = refl;
-    }
+    leads-stays m _ sound refl refl refl (check-again m.places check checked)
+    (queue-sent (IdentityCheckRequest check.tei) m.waiting sound.queue (omega (arith, on-range m.places check.tei sound.table checked.on_line)))
 
 leads-removed : (tei : ℕ) (m : Management) → IsSound m → Leads m (removed tei (begun m))
-leads-removed tei m sound = record {
-  sound = record {
-    table = table-freed m.places tei sound.table;
-    memory = memory-freed m.places m.remembered tei sound.memory;
-    checked = tt;
-    queue = sound.queue;
-  };
-  moves = moved_out m.places tei;
-}
+leads-removed tei m sound = leads-left tei m None _ _ sound refl tt sound.queue
 
 leads-ended : (m : Management) → IsSound m → Leads m (end_check (begun m))
-leads-ended m sound = record {
-  sound = record { table = sound.table; memory = sound.memory; checked = tt; queue = sound.queue };
-  moves = refl;
-}
+leads-ended m sound = leads-stays m _ sound refl refl refl tt sound.queue
 
 leads-expire_period : (check : Check) (m : Management) → IsSound m → m.check ≡ Some check → (period : Period) → Leads m (expire_period check period (begun m))
 leads-expire_period check m sound e First = leads-again_asked check m sound e
@@ -221,26 +188,11 @@ leads-put_on tei m sound low off = leads-join_at tei m sound low off (free_place
 
 -- of this TEI, and of another
 leads-off_checked : (tei : ℕ) (m : Management) → IsSound m → is_on tei m.places ≡ true → Leads m (leave tei (end_check (send (IdentityRemove tei) (begun m))))
-leads-off_checked tei m sound on = record {
-  sound = record {
-    table = table-freed m.places tei sound.table;
-    memory = memory-freed m.places m.remembered tei sound.memory;
-    checked = tt;
-    queue = queue-sent (IdentityRemove tei) m.waiting sound.queue (omega (arith, on-range m.places tei sound.table on));
-  };
-  moves = moved_out m.places tei;
-}
+leads-off_checked tei m sound on = leads-left tei m None _ _ sound refl tt (queue-sent (IdentityRemove tei) m.waiting sound.queue (omega (arith, on-range m.places tei sound.table on)))
 
 leads-off_other : (tei : ℕ) (m : Management) → IsSound m → is_on tei m.places ≡ true → is_checked tei m.check ≡ false → Leads m (leave tei (send (IdentityRemove tei) (begun m)))
-leads-off_other tei m sound on other = record {
-  sound = record {
-    table = table-freed m.places tei sound.table;
-    memory = memory-freed m.places m.remembered tei sound.memory;
-    checked = check-freed m.places m.check tei other sound.checked;
-    queue = queue-sent (IdentityRemove tei) m.waiting sound.queue (omega (arith, on-range m.places tei sound.table on));
-  };
-  moves = moved_out m.places tei;
-}
+leads-off_other tei m sound on other =
+    leads-left tei m m.check _ _ sound refl (check-freed m.places m.check tei other sound.checked) (queue-sent (IdentityRemove tei) m.waiting sound.queue (omega (arith, on-range m.places tei sound.table on)))
 
 pub leads-take_off : (tei : ℕ) (m : Management) → IsSound m → is_on tei m.places ≡ true → Leads m (take_off tei (begun m))
 leads-take_off tei m sound on =

@@ -1,5 +1,5 @@
 -- What each row of the table keeps.
-use Rattle.lapd_tei.proofs.Vocabulary.{◌≡◌, ℕ, ◌≤◌, ◌==◌, ◌&&◌, nat_le, Bool, true, false, not, cond, set, Option, Some, None, is_some, IfSome, subst, refl, sym, ap, arith, option_map, nat_tests, IdentityAssigned, IdentityDenied, IdentityCheckRequest, IdentityRemove, Heard, IdentityRequest, IdentityVerify, IdentityCheckResponse, Places, is_on, place_of, free_place, free_tei, Management, nothing, Check, Period, First, Second, Course, begun, no_room, with_message, freed, left, leave, check_is, begin_check, end_check, lose_one, send, unserved, assign, assign_new, request, remembered_in, verify, may_be_checked, counted, responses, doubled, count, respond, serve, expire_period, expire_check, expire, is_unanswered, removed, join_at, put_on, is_checked, take_off, nothing_happens, IsSoundCheck, IsSoundQueue, IsSound, Moves, List, filter, is_of_other, TeiTold, IsSoundTable, IsSoundMemory, Message}
+use Rattle.lapd_tei.proofs.Vocabulary.{◌≡◌, ℕ, ◌≤◌, ◌==◌, ◌&&◌, nat_le, Bool, true, false, not, cond, set, Option, Some, None, is_some, IfSome, subst, refl, sym, ap, arith, List, option_map, nat_tests, IdentityAssigned, IdentityDenied, IdentityCheckRequest, IdentityRemove, Heard, IdentityRequest, IdentityVerify, IdentityCheckResponse, Message, Places, is_on, place_of, free_place, free_tei, Management, nothing, Check, Period, First, Second, TeiTold, Course, begun, no_room, with_message, freed, left, leave, check_is, begin_check, end_check, lose_one, send, unserved, is_of_other, assign, assign_new, request, remembered_in, verify, may_be_checked, counted, responses, doubled, count, respond, serve, expire_period, expire_check, expire, is_unanswered, removed, join_at, put_on, is_checked, take_off, nothing_happens, IsSoundCheck, IsSoundQueue, IsSound, IsSoundTable, IsSoundMemory, Moves, filter}
 use Rattle.lapd_tei.proofs.Tables.{table-put, table-freed, on-newcomer, on-range, free_tei-is, free_place-is, place_of-is}
 use Rattle.lapd_tei.proofs.Memories.{memory-put, memory-remember, memory-freed, remembered-range}
 use Rattle.lapd_tei.proofs.SoundWords.{queue-sent, check-put, check-freed, check-begun, check-again, check-counted}

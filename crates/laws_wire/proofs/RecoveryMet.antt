@@ -17,20 +17,23 @@ use Rattle.model_card.specs.Run.{after_all}
 use Rattle.laws_wire.specs.Wire.{Station, Wire, requests, times_out, gives, loses, at_near, at_far, doing, doing_all, turns, IsStill}
 use Rattle.laws_wire.specs.Call.{confirmed, indicated, data_told}
 use Rattle.laws_wire.specs.Losing.{heard_in, is_error, HasNoError, IsRoughTalk}
-use Rattle.laws_wire.specs.Recovering.{HasNoErrors, StayTimely, HasMissing, HasArrived, with_t200_expired}
+use Rattle.laws_wire.specs.Facing.{end_of}
+use Rattle.laws_wire.specs.Timely.{is_poll, is_final, IsNoneOpen, HasNoErrors, StayTimely}
+use Rattle.laws_wire.specs.Recovering.{HasMissing, HasArrived, with_t200_expired}
 use Rattle.laws_wire.specs.Worked.{user, network, begins}
 use Rattle.laws_wire.specs.WorkedRecovering.{loses_three, lost, recovered}
 use Rattle.laws_wire.proofs.PremisesMet.{can, octet, none, all-rough}
 use Rattle.laws_wire.proofs.TimelyRun.{what-is-lost-arrives}
+use Rattle.laws_wire.proofs.TimelyUp.{none-of}
 
-rough : All (IsRoughTalk Call 0) loses_three
+pub rough : All (IsRoughTalk Call 0) loses_three
 rough =
     let near : IsRoughTalk Call 0 (at_near (requests (Data Call 0 (0xAB ∷ [])))) = (refl, refl, octet 0xAB [] (omega arith) none) in
     let far : IsRoughTalk Call 0 (at_far (requests (Data Call 0 (0xCD ∷ [])))) = (refl, refl, octet 0xCD [] (omega arith) none) in
     let expires : IsRoughTalk Call 0 (at_near (times_out (T200 Call 0))) = (refl, refl) in
     all-rough loses_three (tt, (tt, (expires, (tt, (tt, (tt, (tt, (near, (tt, (tt, (far, (tt, (tt, tt)))))))))))))
 
-abbrev IsFair : LineTold → Type 0
+abbrev pub IsFair : LineTold → Type 0
 IsFair t = list_any is_error t.notes ≡ false
 
 told-none : (s : Station) → s.told ≡ [] → HasNoError s
@@ -46,9 +49,19 @@ silent = doing_all (at_near gives ∷ at_near loses ∷ []) begins
 abbrev asks_again : Wire
 asks_again = doing (at_near (times_out (T200 Call 0))) silent
 
-silent-still : IsStill silent
+silent-near : ((end_of Call 0 silent.near).link.waiting ≡ []) × ((end_of Call 0 silent.near).way ≡ [])
 unfolding after_all lines.after lines.answer lines.takes_slot reading header_of control_of unnumbered_of supervisory_of teis.course teis.refusal low_bits seq distance_of named doing_all turns
-silent-still = record { near = refl; far = refl; near_way = refl; far_way = refl }
+silent-near = (refl, refl)
+
+silent-far : ((end_of Call 0 silent.far).link.waiting ≡ []) × ((end_of Call 0 silent.far).way ≡ [])
+unfolding after_all lines.after lines.answer lines.takes_slot reading header_of control_of unnumbered_of supervisory_of teis.course teis.refusal low_bits seq distance_of named doing_all turns
+silent-far = (refl, refl)
+
+silent-open : IsNoneOpen (end_of Call 0 silent.near) (end_of Call 0 silent.far)
+silent-open = record {
+  commands = none-of Call 0 is_poll (end_of Call 0 silent.near) silent-near.0 silent-near.1;
+  responses = none-of Call 0 is_final (end_of Call 0 silent.far) silent-far.0 silent-far.1;
+}
 
 again-near : asks_again.near.told ≡ []
 unfolding after_all lines.after lines.answer lines.takes_slot reading header_of control_of unnumbered_of supervisory_of teis.course teis.refusal low_bits seq distance_of named doing_all turns
@@ -59,7 +72,7 @@ unfolding after_all lines.after lines.answer lines.takes_slot reading header_of 
 again-far = refl
 
 -- the other's I-frame is lost only behind its UA
-heard-it : (hs : List LineTold) (t : LineTold) → hs ≡ t ∷ [] → hs ≢ []
+pub heard-it : (hs : List LineTold) (t : LineTold) → hs ≡ t ∷ [] → hs ≢ []
 heard-it hs t is e = let wrong : t ∷ [] ≡ [] = sym is ∙ e in absurd (cc)
 
 lost-near : heard_in lost.near ≡ confirmed Call 0 ∷ []
@@ -70,25 +83,25 @@ lost-far : heard_in lost.far ≡ indicated Call 0 ∷ []
 unfolding after_all lines.after lines.answer lines.takes_slot reading header_of control_of unnumbered_of supervisory_of teis.course teis.refusal low_bits seq distance_of named doing_all turns
 lost-far = refl
 
-timely : StayTimely loses_three begins
+pub timely : StayTimely loses_three begins
 unfolding doing_all StayTimely
 timely = (
   tt,
   (
     tt,
     (
-      (silent-still, (told-none asks_again.near again-near, told-none asks_again.far again-far)),
+      (λ no. silent-open, (told-none asks_again.near again-near, told-none asks_again.far again-far)),
       (tt, ((tt, tt), ((tt, tt), (tt, (tt, (tt, (tt, ((tt, tt), ((tt, tt), ((tt, heard-it (heard_in lost.near) (confirmed Call 0) lost-near), tt)))))))))),
     ),
   ),
 )
 
-still : IsStill lost
+pub still : IsStill lost
 unfolding after_all lines.after lines.answer lines.takes_slot reading header_of control_of unnumbered_of supervisory_of teis.course teis.refusal low_bits seq distance_of named doing_all turns
 still = record { near = refl; far = refl; near_way = refl; far_way = refl }
 
 -- one note is missing at each end
-one-missing : (first : LineTold) (x : List ℕ) (granted : List (List ℕ)) (heard : List LineTold) → granted ≡ x ∷ [] → heard ≡ first ∷ []
+pub one-missing : (first : LineTold) (x : List ℕ) (granted : List (List ℕ)) (heard : List LineTold) → granted ≡ x ∷ [] → heard ≡ first ∷ []
     → length (first ∷ map (data_told Call 0) granted) ≤ length heard + 1
 one-missing first x granted heard e e' =
     subst (λ xs. length (first ∷ map (data_told Call 0) xs) ≤ length heard + 1) (sym e) (subst (λ hs. 2 ≤ length hs + 1) (sym e') (omega arith))
@@ -118,7 +131,7 @@ far-told : expired.far.told ≡ indicated Call 0 ∷ []
 unfolding after_all lines.after lines.answer lines.takes_slot reading header_of control_of unnumbered_of supervisory_of teis.course teis.refusal low_bits seq distance_of named doing_all turns
 far-told = refl
 
-fair : HasNoErrors expired
+pub fair : HasNoErrors expired
 fair = (told-one expired.near (confirmed Call 0) near-told refl, told-one expired.far (indicated Call 0) far-told refl)
 
 -- so the law says of it that no error is told, and that all arrives

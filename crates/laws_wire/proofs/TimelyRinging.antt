@@ -25,7 +25,9 @@ use Rattle.model_card.specs.Happening.{comes, expires}
 use Rattle.laws_wire.specs.Wire.{Station, Wire, happens, with_first_of, Act, requests, times_out, gives, takes, loses, acting, turned, IsStill}
 use Rattle.laws_wire.specs.Call.{confirmed, indicated}
 use Rattle.laws_wire.specs.Losing.{HasNoError, IsRoughTalkOf}
-use Rattle.laws_wire.specs.Recovering.{IsTimelyOf}
+use Rattle.laws_wire.specs.Timely.{is_poll, IsLongEnough, IsTimelyOf}
+use Rattle.laws_wire.specs.Facing.{end_of}
+use Rattle.laws_wire.proofs.Awaited.{waits-first, goes-first}
 use Rattle.laws_wire.proofs.Calling.{sabme, end, answering, called, takes-sabme, told-of-sabme}
 use Rattle.laws_wire.proofs.Fair.{HasError}
 use Rattle.laws_wire.proofs.Held.{Held, TellsIt, now-erred, not-erred, held-given, held-lost, held-first, taken-told, taken-stands, expired-told, held-expired}
@@ -36,7 +38,7 @@ use Rattle.laws_wire.proofs.Talking.{Face}
 use Rattle.laws_wire.proofs.TimelyFirst.{firm-first, takes-none, loses-none, gives-nothing, asks-refused}
 use Rattle.laws_wire.proofs.TimelyUp.{each-timer, hushed}
 use Rattle.laws_wire.proofs.TimelyPhases as phases
-use Rattle.laws_wire.proofs.TimelyPhases.{silent-t203}
+use Rattle.laws_wire.proofs.TimelyPhases.{silent-t203, ringing-open}
 
 module _ (service : Service) (tei : ℕ) (c d : Config) (p q : ℕ) (face : Face c d) (back : Face d c) (rt : IsInRange (terms c service tei)) (ru : IsInRange (terms d service tei)) where
   abbrev t : Terms
@@ -166,7 +168,7 @@ module _ (service : Service) (tei : ℕ) (c d : Config) (p q : ℕ) (face : Face
     pub asking-near : (act : Act) → IsRoughTalkOf service tei act → IsTimelyOf act w → Goes (acting act w)
     asking-near (requests r) is x = for-data service tei (λ r. Goes (acting (requests r) w)) (λ octets are. as-asking (rings-asks (its_sabme ∷ []) [] w h octets are)) r is
     asking-near (times_out timer) is x =
-        each-timer service tei (λ timer. IsTimelyOf (times_out timer) w → Goes (acting (times_out timer) w)) (λ x. absurd (not-still x.0))
+        each-timer service tei (λ timer. IsTimelyOf (times_out timer) w → Goes (acting (times_out timer) w)) (λ x. absurd (waits-first is_poll asker its_sabme [] refl refl (ringing-open service tei c d p q h.repeats (its_sabme ∷ []) [] w (end u fresh []) [] h.near h.far x.0).commands))
         (λ x. as-asking (rings-t203 (its_sabme ∷ []) [] w h)) timer is x
     asking-near gives is x = as-called gives-sabme
     asking-near takes is x = as-asking (rings-takes (its_sabme ∷ []) [] w h)
@@ -183,7 +185,7 @@ module _ (service : Service) (tei : ℕ) (c d : Config) (p q : ℕ) (face : Face
     pub called-near : (act : Act) → IsRoughTalkOf service tei act → IsTimelyOf act w → Goes (acting act w)
     called-near (requests r) is x = for-data service tei (λ r. Goes (acting (requests r) w)) (λ octets are. as-called (rings-asks [] (sabme t ∷ []) w h octets are)) r is
     called-near (times_out timer) is x =
-        each-timer service tei (λ timer. IsTimelyOf (times_out timer) w → Goes (acting (times_out timer) w)) (λ x. absurd (called-still x.0))
+        each-timer service tei (λ timer. IsTimelyOf (times_out timer) w → Goes (acting (times_out timer) w)) (λ x. absurd (goes-first is_poll caller_end (sabme t) [] refl refl (ringing-open service tei c d p q h.repeats [] (sabme t ∷ []) w (end u fresh []) [] h.near h.far x.0).commands))
         (λ x. as-called (rings-t203 [] (sabme t ∷ []) w h)) timer is x
     called-near gives is x = as-called (record { repeats = h.repeats; near = gives-nothing service tei c p [] w.near caller_end h.near refl; far = h.far })
     called-near takes is x = as-called (rings-takes [] (sabme t ∷ []) w h)

@@ -2,6 +2,7 @@
 pub mod Wire
 pub mod Call
 pub mod Losing
+pub mod Timely
 pub mod Recovering
 pub mod Facing
 pub mod Worked

@@ -1,5 +1,5 @@
 -- What is awaited at a station is awaited at the end for which it stands: there a T200 that is long enough is timely.
-use Rattle.std.proofs.Common.{◌≡◌, ◌≢◌, ℕ, Bool, true, false, List, [], ◌∷◌, ◌++◌, map, Ok, refl, sym, ap, subst, ◌∙◌, true≢false}
+use Rattle.std.proofs.Common.{◌≡◌, ℕ, ◌<◌, Bool, true, false, List, [], ◌∷◌, ◌++◌, map, Ok, refl, sym, ap, subst, ◌∙◌, true≢false}
 use Rattle.std.specs.Prelude.{All, flat_map}
 use Rattle.std.specs.Option.{option_map_or}
 use Rattle.std.proofs.lemmas.List.Elements.{All-nil, All-head, All-tail, All-weaker}
@@ -7,16 +7,18 @@ use Rattle.lapd_frame.specs.declared.controls.Control.{Control}
 use Rattle.lapd_frame.specs.declared.controls.Control.TheVariants.{Information, ReceiveReady, ReceiveNotReady, Reject, Sabme, Disc, Ui, Ua, Dm, Frmr, Xid}
 use Rattle.lapd_frame.specs.declared.services.Service.{Service}
 use Rattle.lapd_frame.specs.Grammar.{Parts, spelling}
+use Rattle.model_link.specs.declared.states.State.{State}
 use Rattle.model_link.specs.declared.frames.ControlFrame.{ControlFrame}
 use Rattle.model_link.specs.Link.{fresh}
 use Rattle.model_link.specs.TwoEnds.{End}
 use Rattle.model_line.specs.declared.config.Config.{Config}
-use Rattle.model_line.specs.Line.{link_in}
+use Rattle.model_line.specs.Line.{link_in, terms}
+use Rattle.laws_link.specs.Flags.{awaits_answer}
 use Rattle.laws_two_links.specs.Timely.{is_enquiry, is_answer, supervisory_bit, HasNo}
 use Rattle.laws_two_links.specs.Timely as two_links
 use Rattle.laws_wire.specs.Wire.{Station}
 use Rattle.laws_wire.specs.Facing.{line_of, read_as, parts_of, end_of}
-use Rattle.laws_wire.specs.Timely.{bit_of, is_poll, is_final, IsNoneOpen}
+use Rattle.laws_wire.specs.Timely.{bit_of, is_poll, is_final, IsNoneOpen, MayRepeat}
 use Rattle.laws_wire.proofs.Standing.{IsCarried, Stands}
 
 -- ---- of two links less is asked
@@ -82,6 +84,23 @@ module _ (service : Service) (tei : ℕ) (c : Config) (place : ℕ) (s : Station
     waiting = subst (λ l. All (λ (f : ControlFrame). asked f.command f.control ≡ false) l.waiting) (sym link-is) x.waiting;
     way = subst (All (λ (f : Parts). asked f.address.command f.control ≡ false)) (sym way-is) x.way;
   }
+
+  -- and it may be repeated as often
+  terms-are : (end_of service tei s).terms ≡ n.terms
+  terms-are = ap (λ k. terms k service tei) h.config ∙ sym h.terms
+
+  pub as-here : {x : State} → n.link.state ≡ x → (end_of service tei s).link.state ≡ x
+  as-here e = ap (λ l. l.state) link-is ∙ e
+
+  pub may-there : MayRepeat (end_of service tei s) → MayRepeat n
+  may-there x awaits =
+      let few = x (ap (λ l. awaits_answer l.state) link-is ∙ awaits) in
+      subst (λ l. l.repeats < n.terms.n200) link-is (subst (λ t. (end_of service tei s).link.repeats < t.n200) terms-are few)
+
+  pub may-here : MayRepeat n → MayRepeat (end_of service tei s)
+  may-here x awaits =
+      let few = x (ap (λ l. awaits_answer l.state) (sym link-is) ∙ awaits) in
+      subst (λ t. (end_of service tei s).link.repeats < t.n200) (sym terms-are) (subst (λ l. l.repeats < n.terms.n200) (sym link-is) few)
 
 -- what waits, or is on its way, first
 pub waits-first : (asked : Bool → Control → Bool) (n : End) (f : ControlFrame) (fs : List ControlFrame) → n.link.waiting ≡ f ∷ fs → asked f.command f.control ≡ true → HasNo asked n → ⊥

@@ -1,8 +1,7 @@
 -- The premises of the law on what is lost are met: by the worked call in which SABME is lost, and then an I-frame of each end.
-use Rattle.std.proofs.Common.{◌≡◌, ◌≢◌, ℕ, ◌+◌, ◌≤◌, false, List, [], ◌∷◌, length, map, refl, sym, subst, ◌∙◌, arith}
+use Rattle.std.proofs.Common.{◌≡◌, ◌≢◌, ℕ, ◌+◌, ◌<◌, ◌≤◌, List, [], ◌∷◌, length, map, refl, sym, ap, subst, ◌∙◌, true≢false, arith}
 use Rattle.std.specs.Prelude.{All}
-use Rattle.std.specs.List.{list_any}
-use Rattle.std.proofs.lemmas.List.Elements.{All-nil, All-cons}
+use Rattle.std.proofs.lemmas.List.Elements.{All-nil}
 use Rattle.lapd_bits.specs.Bits.{low_bits}
 use Rattle.lapd_frame.specs.declared.services.Service.TheVariants.{Call}
 use Rattle.lapd_frame.specs.declared.timers.Timer.TheVariants.{T200}
@@ -10,16 +9,19 @@ use Rattle.lapd_frame.specs.Reading.{reading, header_of, control_of, unnumbered_
 use Rattle.lapd_seq.specs.Circle.{distance_of, named}
 use Rattle.lapd_seq.specs.Numbers.{seq}
 use Rattle.lapd_tei.specs.Events as teis
+use Rattle.model_link.specs.declared.states.State.TheVariants.{Established}
+use Rattle.model_link.specs.TwoEnds.{End}
 use Rattle.model_line.specs.Event.{LineTold}
 use Rattle.model_line.specs.Machine as lines
 use Rattle.model_line.specs.Request.{Data}
 use Rattle.model_card.specs.Run.{after_all}
+use Rattle.laws_link.specs.Flags.{awaits_answer}
 use Rattle.laws_wire.specs.Wire.{Station, Wire, requests, times_out, gives, loses, at_near, at_far, doing, doing_all, turns, IsStill}
 use Rattle.laws_wire.specs.Call.{confirmed, indicated, data_told}
-use Rattle.laws_wire.specs.Losing.{heard_in, is_error, HasNoError, IsRoughTalk}
+use Rattle.laws_wire.specs.Losing.{heard_in, IsRoughTalk}
 use Rattle.laws_wire.specs.Facing.{end_of}
-use Rattle.laws_wire.specs.Timely.{is_poll, is_final, IsNoneOpen, HasNoErrors, StayTimely}
-use Rattle.laws_wire.specs.Recovering.{HasMissing, HasArrived, with_t200_expired}
+use Rattle.laws_wire.specs.Timely.{is_poll, is_final, IsNoneOpen, MayRepeat, StayTimely}
+use Rattle.laws_wire.specs.Recovering.{HasNoErrors, BothMayRepeat, HasMissing, HasArrived}
 use Rattle.laws_wire.specs.Worked.{user, network, begins}
 use Rattle.laws_wire.specs.WorkedRecovering.{loses_three, lost, recovered}
 use Rattle.laws_wire.proofs.PremisesMet.{can, octet, none, all-rough}
@@ -33,21 +35,9 @@ rough =
     let expires : IsRoughTalk Call 0 (at_near (times_out (T200 Call 0))) = (refl, refl) in
     all-rough loses_three (tt, (tt, (expires, (tt, (tt, (tt, (tt, (near, (tt, (tt, (far, (tt, (tt, tt)))))))))))))
 
-abbrev pub IsFair : LineTold → Type 0
-IsFair t = list_any is_error t.notes ≡ false
-
-told-none : (s : Station) → s.told ≡ [] → HasNoError s
-told-none s e = subst (All IsFair) (sym e) (All-nil IsFair)
-
-told-one : (s : Station) (t : LineTold) → s.told ≡ t ∷ [] → IsFair t → HasNoError s
-told-one s t e fair = subst (All IsFair) (sym e) (All-cons IsFair t [] fair (All-nil IsFair))
-
 -- SABME was lost
 abbrev silent : Wire
 silent = doing_all (at_near gives ∷ at_near loses ∷ []) begins
-
-abbrev asks_again : Wire
-asks_again = doing (at_near (times_out (T200 Call 0))) silent
 
 silent-near : ((end_of Call 0 silent.near).link.waiting ≡ []) × ((end_of Call 0 silent.near).way ≡ [])
 unfolding after_all lines.after lines.answer lines.takes_slot reading header_of control_of unnumbered_of supervisory_of teis.course teis.refusal low_bits seq distance_of named doing_all turns
@@ -63,13 +53,15 @@ silent-open = record {
   responses = none-of Call 0 is_final (end_of Call 0 silent.far) silent-far.0 silent-far.1;
 }
 
-again-near : asks_again.near.told ≡ []
+silent-repeats : ((end_of Call 0 silent.near).link.repeats ≡ 0) × ((end_of Call 0 silent.near).terms.n200 ≡ 3)
 unfolding after_all lines.after lines.answer lines.takes_slot reading header_of control_of unnumbered_of supervisory_of teis.course teis.refusal low_bits seq distance_of named doing_all turns
-again-near = refl
+silent-repeats = (refl, refl)
 
-again-far : asks_again.far.told ≡ []
-unfolding after_all lines.after lines.answer lines.takes_slot reading header_of control_of unnumbered_of supervisory_of teis.course teis.refusal low_bits seq distance_of named doing_all turns
-again-far = refl
+pub fewer : (a b k n : ℕ) → (a ≡ k) × (b ≡ n) → k < n → a < b
+fewer a b k n (e, e') less = omega (arith, e, e', less)
+
+silent-may : MayRepeat (end_of Call 0 silent.near)
+silent-may awaits = fewer _ _ 0 3 silent-repeats (omega arith)
 
 -- the other's I-frame is lost only behind its UA
 pub heard-it : (hs : List LineTold) (t : LineTold) → hs ≡ t ∷ [] → hs ≢ []
@@ -90,7 +82,7 @@ timely = (
   (
     tt,
     (
-      (λ no. silent-open, (told-none asks_again.near again-near, told-none asks_again.far again-far)),
+      (λ awaits. silent-open, silent-may),
       (tt, ((tt, tt), ((tt, tt), (tt, (tt, (tt, (tt, ((tt, tt), ((tt, tt), ((tt, heard-it (heard_in lost.near) (confirmed Call 0) lost-near), tt)))))))))),
     ),
   ),
@@ -120,23 +112,20 @@ missing = record {
   far = one-missing (indicated Call 0) (0xAB ∷ []) lost.near.granted (heard_in lost.far) near-granted lost-far;
 }
 
-abbrev expired : Wire
-expired = with_t200_expired Call 0 lost
-
-near-told : expired.near.told ≡ confirmed Call 0 ∷ []
+lost-states : ((end_of Call 0 lost.near).link.state ≡ Established) × ((end_of Call 0 lost.far).link.state ≡ Established)
 unfolding after_all lines.after lines.answer lines.takes_slot reading header_of control_of unnumbered_of supervisory_of teis.course teis.refusal low_bits seq distance_of named doing_all turns
-near-told = refl
+lost-states = (refl, refl)
 
-far-told : expired.far.told ≡ indicated Call 0 ∷ []
-unfolding after_all lines.after lines.answer lines.takes_slot reading header_of control_of unnumbered_of supervisory_of teis.course teis.refusal low_bits seq distance_of named doing_all turns
-far-told = refl
+-- in state 7 N200 counts nothing
+pub free : (n : End) → n.link.state ≡ Established → MayRepeat n
+free n state awaits = absurd (true≢false (sym awaits ∙ ap awaits_answer state))
 
-pub fair : HasNoErrors expired
-fair = (told-one expired.near (confirmed Call 0) near-told refl, told-one expired.far (indicated Call 0) far-told refl)
+pub may : BothMayRepeat Call 0 lost
+may = (free (end_of Call 0 lost.near) lost-states.0, free (end_of Call 0 lost.far) lost-states.1)
 
 -- so the law says of it that no error is told, and that all arrives
 pub no-error : HasNoErrors lost
 no-error = (what-is-lost-arrives Call user network 0 0 0 loses_three can rough timely).no_error
 
 pub arrives : HasArrived Call 0 lost recovered
-arrives = (what-is-lost-arrives Call user network 0 0 0 loses_three can rough timely).arrives 1 still missing fair
+arrives = (what-is-lost-arrives Call user network 0 0 0 loses_three can rough timely).arrives 1 still missing may

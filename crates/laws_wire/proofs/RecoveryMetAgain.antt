@@ -1,5 +1,5 @@
 -- Such a run goes on behind its recovery: the worked call loses more, and recovers again.
-use Rattle.std.proofs.Common.{◌≡◌, ℕ, ◌+◌, ◌≤◌, List, [], ◌∷◌, ◌++◌, length, map, refl, sym, ap, subst, ◌∙◌, arith}
+use Rattle.std.proofs.Common.{◌≡◌, ℕ, ◌+◌, ◌≤◌, List, [], ◌∷◌, ◌++◌, length, map, refl, sym, ap, subst, ◌∙◌, true≢false, arith}
 use Rattle.std.specs.Prelude.{All}
 use Rattle.std.proofs.lemmas.List.Elements.{All-nil, All-cons, All-append}
 use Rattle.lapd_bits.specs.Bits.{low_bits}
@@ -14,16 +14,17 @@ use Rattle.model_line.specs.Event.{LineTold}
 use Rattle.model_line.specs.Machine as lines
 use Rattle.model_line.specs.Request.{Data}
 use Rattle.model_card.specs.Run.{after_all}
+use Rattle.laws_link.specs.Flags.{awaits_answer}
 use Rattle.laws_wire.specs.Wire.{Station, Wire, requests, times_out, gives, loses, Doing, at_near, at_far, doing, doing_all, turns, IsStill}
 use Rattle.laws_wire.specs.Call.{confirmed, indicated, data_told}
-use Rattle.laws_wire.specs.Losing.{heard_in, HasNoError, IsRoughTalk}
+use Rattle.laws_wire.specs.Losing.{heard_in, IsRoughTalk}
 use Rattle.laws_wire.specs.Facing.{end_of}
-use Rattle.laws_wire.specs.Timely.{HasNoErrors, StayTimely}
-use Rattle.laws_wire.specs.Recovering.{round, both_expire, HasMissing, HasArrived, with_t200_expired}
+use Rattle.laws_wire.specs.Timely.{StayTimely}
+use Rattle.laws_wire.specs.Recovering.{round, both_expire, BothMayRepeat, HasMissing, HasArrived, with_t200_expired}
 use Rattle.laws_wire.specs.Worked.{user, network, begins}
 use Rattle.laws_wire.specs.WorkedRecovering.{loses_three, lost, loses_again, lost_again, recovered_again}
 use Rattle.laws_wire.proofs.PremisesMet.{can, octet, none, all-rough}
-use Rattle.laws_wire.proofs.RecoveryMet.{rough, IsFair, heard-it, timely, still, fair}
+use Rattle.laws_wire.proofs.RecoveryMet.{rough, timely, fewer, free, still, may}
 use Rattle.laws_wire.proofs.TimelyRun.{what-is-lost-arrives}
 
 -- a run goes on
@@ -52,7 +53,7 @@ recovers-timely =
     let w2 = doing_all round w1 in
     let w3 = doing_all round w2 in
     let w4 = doing_all round w3 in
-    let goes_on = (what-is-lost-arrives Call user network 0 0 0 loses_three can rough timely).goes_on still fair in
+    let goes_on = (what-is-lost-arrives Call user network 0 0 0 loses_three can rough timely).goes_on still may in
     timely-append (both_expire Call 0) (round ++ round ++ round ++ round) lost goes_on
     (timely-append round (round ++ round ++ round) w1 (round-timely w1) (timely-append round (round ++ round) w2 (round-timely w2) (timely-append round round w3 (round-timely w3) (round-timely w4))))
 
@@ -63,29 +64,9 @@ found = doing_all recovers lost
 abbrev sent : Wire
 sent = doing_all (at_near (requests (Data Call 0 (0xEF ∷ []))) ∷ at_near gives ∷ []) found
 
-abbrev asking : Wire
-asking = doing (at_near (times_out (T200 Call 0))) sent
-
 state-7 : (end_of Call 0 sent.near).link.state ≡ Established
 unfolding after_all lines.after lines.answer lines.takes_slot reading header_of control_of unnumbered_of supervisory_of teis.course teis.refusal low_bits seq distance_of named doing_all turns
 state-7 = refl
-
-two-told : (s : Station) (t u : LineTold) → s.told ≡ t ∷ u ∷ [] → IsFair t → IsFair u → HasNoError s
-two-told s t u e x y = subst (All IsFair) (sym e) (All-cons IsFair t (u ∷ []) x (All-cons IsFair u [] y (All-nil IsFair)))
-
-asking-near : asking.near.told ≡ confirmed Call 0 ∷ data_told Call 0 (0xCD ∷ []) ∷ []
-unfolding after_all lines.after lines.answer lines.takes_slot reading header_of control_of unnumbered_of supervisory_of teis.course teis.refusal low_bits seq distance_of named doing_all turns
-asking-near = refl
-
-asking-far : asking.far.told ≡ indicated Call 0 ∷ data_told Call 0 (0xAB ∷ []) ∷ []
-unfolding after_all lines.after lines.answer lines.takes_slot reading header_of control_of unnumbered_of supervisory_of teis.course teis.refusal low_bits seq distance_of named doing_all turns
-asking-far = refl
-
-asking-fair : HasNoErrors asking
-asking-fair = (
-  two-told asking.near (confirmed Call 0) (data_told Call 0 (0xCD ∷ [])) asking-near refl refl,
-  two-told asking.far (indicated Call 0) (data_told Call 0 (0xAB ∷ [])) asking-far refl refl,
-)
 
 last-heard : heard_in lost_again.near ≡ confirmed Call 0 ∷ data_told Call 0 (0xCD ∷ []) ∷ []
 unfolding after_all lines.after lines.answer lines.takes_slot reading header_of control_of unnumbered_of supervisory_of teis.course teis.refusal low_bits seq distance_of named doing_all turns
@@ -101,7 +82,7 @@ more-timely = (
   (
     tt,
     (
-      (λ no. absurd (no state-7), asking-fair),
+      (λ awaits. absurd (true≢false (sym awaits ∙ ap awaits_answer state-7)), free (end_of Call 0 sent.near) state-7),
       (tt, (tt, (tt, ((tt, tt), ((tt, tt), ((tt, some-heard (heard_in lost_again.near) (confirmed Call 0) (data_told Call 0 (0xCD ∷ [])) last-heard), tt)))))),
     ),
   ),
@@ -149,25 +130,19 @@ missing-again = record {
   far = one-missing (indicated Call 0) (data_told Call 0 (0xAB ∷ [])) (0xAB ∷ []) (0xEF ∷ []) lost_again.near.granted (heard_in lost_again.far) near-granted far-heard;
 }
 
-abbrev expired_again : Wire
-expired_again = with_t200_expired Call 0 lost_again
-
-near-told : expired_again.near.told ≡ confirmed Call 0 ∷ data_told Call 0 (0xCD ∷ []) ∷ []
+last-repeats : ((end_of Call 0 lost_again.near).link.repeats ≡ 0) × ((end_of Call 0 lost_again.near).terms.n200 ≡ 3)
 unfolding after_all lines.after lines.answer lines.takes_slot reading header_of control_of unnumbered_of supervisory_of teis.course teis.refusal low_bits seq distance_of named doing_all turns
-near-told = refl
+last-repeats = (refl, refl)
 
-far-told : expired_again.far.told ≡ indicated Call 0 ∷ data_told Call 0 (0xAB ∷ []) ∷ []
+last-state : (end_of Call 0 lost_again.far).link.state ≡ Established
 unfolding after_all lines.after lines.answer lines.takes_slot reading header_of control_of unnumbered_of supervisory_of teis.course teis.refusal low_bits seq distance_of named doing_all turns
-far-told = refl
+last-state = refl
 
-fair-again : HasNoErrors expired_again
-fair-again = (
-  two-told expired_again.near (confirmed Call 0) (data_told Call 0 (0xCD ∷ [])) near-told refl refl,
-  two-told expired_again.far (indicated Call 0) (data_told Call 0 (0xAB ∷ [])) far-told refl refl,
-)
+may-again : BothMayRepeat Call 0 lost_again
+may-again = (λ awaits. fewer _ _ 0 3 last-repeats (omega arith), free (end_of Call 0 lost_again.far) last-state)
 
 pub arrives-again : HasArrived Call 0 lost_again recovered_again
 unfolding doing_all
 arrives-again =
     let all = All-append (IsRoughTalk Call 0) loses_three loses_again rough again-rough in
-    (what-is-lost-arrives Call user network 0 0 0 (loses_three ++ loses_again) can all all-timely).arrives 1 still-again missing-again fair-again
+    (what-is-lost-arrives Call user network 0 0 0 (loses_three ++ loses_again) can all all-timely).arrives 1 still-again missing-again may-again

@@ -25,9 +25,10 @@ use Rattle.laws_wire.specs.Call.{confirmed, indicated}
 use Rattle.laws_wire.specs.Losing.{IsRoughTalkOf}
 use Rattle.laws_wire.specs.Facing.{end_of}
 use Rattle.laws_wire.specs.Timely.{is_final, IsLongEnough, IsTimelyOf, IsSpared}
+use Rattle.laws_link.specs.Flags.{awaits_answer}
 use Rattle.laws_two_links.specs.Ahead.{CanRepeat}
 use Rattle.laws_two_links.specs.Timely as two_links_timely
-use Rattle.laws_wire.proofs.Awaited.{closed, link-is, open-there, waits-first, goes-first}
+use Rattle.laws_wire.proofs.Awaited.{closed, link-is, as-here, may-there, open-there, waits-first, goes-first}
 use Rattle.laws_wire.proofs.Asking.{with_more, asked-form}
 use Rattle.laws_wire.proofs.Calling.{its_ua, ua, end, with_ua_waiting, with_ua_first}
 use Rattle.laws_wire.proofs.Firm.{Firm, firm-turned, firm-sends, firm-asks, firm-expires}
@@ -36,7 +37,7 @@ use Rattle.laws_wire.proofs.LossyPhases.{made, for-data, Aims, first-way, empty}
 use Rattle.laws_wire.proofs.Ringing.{ringing, answered}
 use Rattle.laws_wire.proofs.Talking.{Face}
 use Rattle.laws_wire.proofs.TimelyFirst.{takes-none, loses-none, gives-nothing, asks-refused}
-use Rattle.laws_wire.proofs.TimelyUp.{not-7, each-timer, hushed, timer-held, never, repeats-left, BothUp, AreUp}
+use Rattle.laws_wire.proofs.TimelyUp.{each-timer, hushed, timer-held, never, BothUp, AreUp}
 use Rattle.laws_wire.proofs.TimelyPhases as phases
 use Rattle.laws_wire.proofs.TimelyPhases.{silent-t203, ringing-open}
 
@@ -222,7 +223,7 @@ module _ (service : Service) (tei : ℕ) (c d : Config) (p q : ℕ) (face : Face
     far-none : m.link.state ≡ TimerRecovery → IsLongEnough (end_of service tei w.far) (end_of service tei w.near) → two_links_timely.IsNoneOpen m (end t (answered h.repeats []) [])
     far-none state long =
         let far = with_ua_first m in
-        let open_ = open-there service tei d c q p w.far w.near far comes_end h.far.stands h.near.stands (long (not-7 (ap (λ l. l.state) (link-is service tei d q w.far far h.far.stands) ∙ state))) in
+        let open_ = open-there service tei d c q p w.far w.near far comes_end h.far.stands h.near.stands (long (ap awaits_answer (as-here service tei d q w.far far h.far.stands state))) in
         let both = closed far comes_end open_ in
         record {
           enquiries = record { waiting = both.enquiries.waiting; way = All-tail (λ (f : Parts). two_links_timely.is_enquiry f.address.command f.control ≡ false) (ua m.terms) m.way both.enquiries.way };
@@ -230,10 +231,9 @@ module _ (service : Service) (tei : ℕ) (c d : Config) (p q : ℕ) (face : Face
         }
 
     comes-t200 : IsTimelyOf (times_out (timers.T200 service tei)) (turned w) → Goes (turned (acting (times_out (timers.T200 service tei)) (turned w)))
-    comes-t200 (long, fair) =
-        let timer = timers.T200 service tei in
-        comes-expires timer T200 (λ l. refl)
-        (λ state running. repeats-left service tei d q first_far w.far (with_ua_first m) h.far h.firm.far_sane.timed timer (λ l. refl) fair.0 state) (λ state running. far-none state long)
+    comes-t200 (long, may) =
+        let there = may-there service tei d q w.far (with_ua_first m) h.far.stands may in
+        comes-expires (timers.T200 service tei) T200 (λ l. refl) (λ state running. there (ap awaits_answer state)) (λ state running. far-none state long)
 
     comes-t203 : Goes (turned (acting (times_out (timers.T203 service tei)) (turned w)))
     comes-t203 =

@@ -28,17 +28,18 @@ use Rattle.laws_two_links.proofs.Expiring.{Asking, Resting, expires-one}
 use Rattle.laws_two_links.proofs.Recovery.{all-recovered}
 use Rattle.laws_two_links.proofs.Shapes.{enquiry_with}
 use Rattle.laws_two_links.proofs.Waiting.{nothing-to_send}
+use Rattle.laws_link.specs.Flags.{awaits_answer}
 use Rattle.laws_wire.specs.Wire.{Station, Wire, times_out, acting, turned, IsStill}
 use Rattle.laws_wire.specs.Call.{confirmed, indicated, data_told}
 use Rattle.laws_wire.specs.Losing.{heard_in}
-use Rattle.laws_wire.specs.Timely.{is_poll, is_final, IsNoneOpen, HasNoErrors, StayTimely}
-use Rattle.laws_wire.specs.Recovering.{both_expire, rounds, HasMissing, HasArrived, with_t200_expired}
-use Rattle.laws_wire.proofs.Awaited.{closed, link-is, open-here}
+use Rattle.laws_wire.specs.Timely.{is_poll, is_final, IsNoneOpen, StayTimely}
+use Rattle.laws_wire.specs.Recovering.{both_expire, rounds, HasMissing, HasArrived, with_t200_expired, BothMayRepeat}
+use Rattle.laws_wire.proofs.Awaited.{closed, link-is, may-there, open-here}
 use Rattle.laws_wire.proofs.Firm.{Firm, not-behind}
 use Rattle.laws_wire.proofs.Held.{Held}
 use Rattle.laws_wire.proofs.Standing.{Stands, gives-none}
 use Rattle.laws_wire.proofs.Talking.{Face}
-use Rattle.laws_wire.proofs.TimelyUp.{IsHushed, hushed, none-waits, none-of, none-open, BothUp, turned-up, up-expires, repeats-left, rounds-up}
+use Rattle.laws_wire.proofs.TimelyUp.{IsHushed, hushed, none-waits, none-of, none-open, BothUp, turned-up, up-expires, rounds-up}
 
 -- all frames on the way were lost
 cut-off : (n m : End) → Firm n m → n.link.waiting ≡ [] → n.way ≡ [] → (n.link.state ≡ TimerRecovery → n.link.repeats < n.terms.n200) → IsCutOff n m
@@ -118,7 +119,7 @@ module _ (service : Service) (tei : ℕ) where
       };
     }
 
-    module _ (w : Wire) (n m : End) (h : Up w n m) (still : IsStill w) (fair : HasNoErrors (with_t200_expired service tei w)) where
+    module _ (w : Wire) (n m : End) (h : Up w n m) (still : IsStill w) (may : BothMayRepeat service tei w) where
       abbrev timer : Timer
       timer = timers.T200 service tei
 
@@ -143,12 +144,12 @@ module _ (service : Service) (tei : ℕ) where
       near-cut : IsCutOff n m
       near-cut =
           cut-off n m h.firm (none-waits service tei n near-hushed) near-hushed.way
-          (repeats-left service tei c p first_near w.near n h.near h.firm.near_sane.timed timer (λ l. refl) fair.0)
+          (λ state. may-there service tei c p w.near n h.near.stands may.0 (ap awaits_answer state))
 
       far-cut : IsCutOff m n
       far-cut =
           cut-off m n other.firm (none-waits service tei m far-hushed) far-hushed.way
-          (repeats-left service tei d q first_far w.far m h.far h.firm.far_sane.timed timer (λ l. refl) fair.1)
+          (λ state. may-there service tei d q w.far m h.far.stands may.1 (ap awaits_answer state))
 
       -- at the first end, and then at the other, which has no answer to come
       abbrev w' : Wire
@@ -168,13 +169,13 @@ module _ (service : Service) (tei : ℕ) where
           (up-expires service tei d c q p back first_far first_near (turned w') m n' (turned-up service tei c d p q first_near first_far w' n' m near-expired) timer T200 (λ l. refl) (λ state running. far-cut.repeats state) (λ state running. closed m n' far-open))
 
       -- so both are timely
-      pub up-goes_on : HasNoErrors w → StayTimely (both_expire service tei) w
+      pub up-goes_on : StayTimely (both_expire service tei) w
       unfolding StayTimely
-      up-goes_on now = (
-        (λ no. open-here service tei c d p q w.near w.far n m h.near.stands h.far.stands (none-open service tei n m near-hushed far-hushed), (fair.0, now.1)),
+      up-goes_on = (
+        (λ no. open-here service tei c d p q w.near w.far n m h.near.stands h.far.stands (none-open service tei n m near-hushed far-hushed), may.0),
         (
           (
-            (λ no. open-here service tei d c q p w'.far w'.near m n' near-expired.far.stands near-expired.near.stands far-open, (fair.1, fair.0)),
+            (λ no. open-here service tei d c q p w'.far w'.near m n' near-expired.far.stands near-expired.near.stands far-open, may.1),
             λ none. ap (λ l. l.waiting) (link-is service tei d q w.far m h.far.stands) ∙ none-waits service tei m far-hushed,
           ),
           tt,

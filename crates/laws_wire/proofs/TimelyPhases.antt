@@ -1,11 +1,9 @@
 -- A call in which T200 is timely: SABME waits, is on its way, or was lost; then UA waits, and is on its way; then both ends are up.
-use Rattle.std.proofs.Common.{◌≡◌, ◌≢◌, ℕ, List, [], ◌∷◌, refl, sym, ap, ◌∙◌, ◌⊎◌}
+use Rattle.std.proofs.Common.{◌≡◌, ℕ, List, [], ◌∷◌, refl, ap, ◌⊎◌}
 use Rattle.lapd_frame.specs.declared.services.Service.{Service}
 use Rattle.lapd_frame.specs.declared.timers.Timer.TheVariants as timers
 use Rattle.lapd_frame.specs.Grammar.{Parts}
 use Rattle.model_link.specs.declared.frames.ControlFrame.{ControlFrame}
-use Rattle.model_link.specs.declared.states.State.{State}
-use Rattle.model_link.specs.declared.states.State.TheVariants.{AwaitingEstablishment, Established}
 use Rattle.model_link.specs.declared.terms.Terms.{Terms}
 use Rattle.model_link.specs.declared.timers.LinkTimer.TheVariants.{T203}
 use Rattle.model_link.specs.Link.{fresh}
@@ -14,19 +12,17 @@ use Rattle.model_line.specs.declared.config.Config.{Config}
 use Rattle.model_line.specs.Event.{LineTold}
 use Rattle.model_line.specs.Line.{terms}
 use Rattle.model_card.specs.Happening.{expires}
+use Rattle.laws_link.specs.Flags.{awaits_answer}
 use Rattle.laws_wire.specs.Wire.{Station, Wire, happens}
 use Rattle.laws_wire.specs.Call.{confirmed, indicated}
 use Rattle.laws_wire.specs.Facing.{end_of}
 use Rattle.laws_wire.specs.Timely.{IsLongEnough, IsNoneOpen}
-use Rattle.laws_wire.proofs.Awaited.{link-is, open-there}
+use Rattle.laws_wire.proofs.Awaited.{as-here, open-there}
 use Rattle.laws_wire.proofs.Calling.{sabme, end, with_ua_waiting, with_ua_first}
 use Rattle.laws_wire.proofs.Firm.{Firm}
 use Rattle.laws_wire.proofs.Held.{Held, held-expired}
 use Rattle.laws_wire.proofs.Ringing.{ringing, answered, its_sabme}
 use Rattle.laws_wire.proofs.TimelyUp.{AreUp}
-
-not-7 : {x : State} → x ≡ AwaitingEstablishment → x ≢ Established
-not-7 e e' = let wrong : AwaitingEstablishment ≡ Established = sym e ∙ e' in absurd (cc)
 
 module _ (service : Service) (tei : ℕ) (c d : Config) (p q : ℕ) where
   abbrev t : Terms
@@ -78,7 +74,7 @@ module _ (service : Service) (tei : ℕ) (c d : Config) (p q : ℕ) where
       → IsLongEnough (end_of service tei w.near) (end_of service tei w.far) → IsNoneOpen (end t (ringing k ws) way) m
   ringing-open k ws way w m past near far long =
       let n = end t (ringing k ws) way in
-      open-there service tei c d p q w.near w.far n m near.stands far.stands (long (not-7 (ap (λ l. l.state) (link-is service tei c p w.near n near.stands))))
+      open-there service tei c d p q w.near w.far n m near.stands far.stands (long (ap awaits_answer (as-here service tei c p w.near n near.stands refl)))
 
   -- while an end rings T203 does not run
   pub silent-t203 : (k : ℕ) (ws : List ControlFrame) (way : List Parts) (s : Station) → Held c service tei p [] s (end t (ringing k ws) way)

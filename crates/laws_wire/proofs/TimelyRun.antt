@@ -1,5 +1,5 @@
 -- A whole call in which timers are timely: both ends stay up, and what was lost arrives.
-use Rattle.std.proofs.Common.{◌≡◌, ℕ, suc, ◌+◌, Bool, true, false, cond, not, ◌&&◌, ◌||◌, ◌==◌, List, [], ◌∷◌, ◌++◌, length, map, is_some, refl, sym, ap, subst, ◌∙◌, inl, inr, eqb-true, arith}
+use Rattle.std.proofs.Common.{◌≡◌, ℕ, suc, ◌+◌, ◌<◌, Bool, true, false, cond, not, ◌&&◌, ◌||◌, ◌==◌, List, [], ◌∷◌, ◌++◌, length, map, is_some, refl, sym, ap, subst, ◌∙◌, inl, inr, eqb-true, arith}
 use Rattle.std.specs.Prelude.{All, flat_map}
 use Rattle.std.specs.List.{list_any}
 use Rattle.std.proofs.lemmas.Bool.{and_parts, or_parts}
@@ -24,8 +24,8 @@ use Rattle.laws_two_links.proofs.Arriving.{all-arrived}
 use Rattle.laws_wire.specs.Wire.{Station, Wire, Act, gives, takes, times_out, Doing, at_near, at_far, acting, turned, doing, doing_all, IsStill}
 use Rattle.laws_wire.specs.Call.{calling, CanCall, confirmed, indicated, data_told}
 use Rattle.laws_wire.specs.Losing.{for_layer_3, heard_in, is_error, HasNoError, IsRoughTalkOf, IsRoughTalk}
-use Rattle.laws_wire.specs.Timely.{is_poll, is_final, IsNoneOpen, HasNoErrors, IsTimelyOf, IsSpared, IsTimely, StayTimely}
-use Rattle.laws_wire.specs.Recovering.{both_expire, round, rounds, HasMissing, HasArrived, with_t200_expired, WhatIsLostArrives}
+use Rattle.laws_wire.specs.Timely.{is_poll, is_final, IsNoneOpen, IsTimelyOf, IsSpared, IsTimely, StayTimely}
+use Rattle.laws_wire.specs.Recovering.{both_expire, round, rounds, HasNoErrors, BothMayRepeat, HasMissing, HasArrived, with_t200_expired, WhatIsLostArrives}
 use Rattle.laws_wire.proofs.Awaited.{link-is, open-here}
 use Rattle.laws_wire.proofs.Beginning.{calls, answers}
 use Rattle.laws_wire.proofs.Calling.{asked, end, called}
@@ -39,7 +39,7 @@ use Rattle.laws_wire.proofs.TimelyFirst.{near-ready, far-ready, there-taken, bac
 use Rattle.laws_wire.proofs.TimelyAnswered.{gives-ua, confirms, waits-still, waits-near, waits-far, comes-still, comes-near, comes-far}
 use Rattle.laws_wire.proofs.TimelyPhases.{Rings, UaWaits, UaGoes, Goes}
 use Rattle.laws_wire.proofs.TimelyRinging as ringing
-use Rattle.laws_wire.proofs.TimelyRinging.{down-expires, down-acts, repeats-sabme, silent-near, gives-sabme, not-still, asking-near, called-still, called-near, called-far}
+use Rattle.laws_wire.proofs.TimelyRinging.{down-expires, down-acts, repeats-sabme, few-repeats, silent-near, gives-sabme, not-still, asking-near, called-still, called-near, called-far}
 use Rattle.laws_wire.proofs.TimelyUp.{hushed, none-of, none-open, BothUp, AreUp, turned-are, up-acts, rounds-up}
 
 -- ---- what layer 3 heard has the errors that were told
@@ -150,17 +150,20 @@ module _ (service : Service) (tei : ℕ) (c d : Config) (p q : ℕ) (face : Face
   )
 
   -- SABME was lost: it goes again, and both are up
-  module _ (w : Wire) (h : Rings service tei c d p q [] [] w) (u : ℕ) (fair : HasNoErrors (with_t200_expired service tei w)) where
+  module _ (w : Wire) (h : Rings service tei c d p q [] [] w) (may : BothMayRepeat service tei w) where
     abbrev timer : Timer
     timer = timers.T200 service tei
 
     abbrev expired : Wire
     expired = with_t200_expired service tei w
 
+    few : h.repeats < (terms c service tei).n200
+    few = few-repeats service tei c d p q face back rt ru w h may.0
+
     again : Rings service tei c d p q (its_sabme ∷ []) [] expired
     again =
         let w' = acting (times_out timer) w in
-        down-expires service tei c d p q face back rt ru (its_sabme ∷ []) [] w' (repeats-sabme service tei c d p q face back rt ru w h timer (λ l. refl) fair.0) timer T200 (λ l. refl)
+        down-expires service tei c d p q face back rt ru (its_sabme ∷ []) [] w' (repeats-sabme service tei c d p q face back rt ru w h timer (λ l. refl) few) timer T200 (λ l. refl)
 
     -- the first round
     record First (w' : Wire) : Type 0 where
@@ -179,8 +182,8 @@ module _ (service : Service) (tei : ℕ) (c d : Config) (p q : ℕ) (face : Face
         let h3 : UaGoes service tei c d p q m w3 = gives-ua service tei c d p q face back rt ru w2 m h2 in
         record { repeats = h3.repeats; up = confirms service tei c d p q face back rt ru w3 m h3 }
 
-    pub lost-arrives : HasArrived service tei w (rounds (u + 3) expired)
-    lost-arrives =
+    pub lost-arrives : (u : ℕ) → HasArrived service tei w (rounds (u + 3) expired)
+    lost-arrives u =
         let t = terms c service tei in
         let v = terms d service tei in
         let k = first.repeats in
@@ -195,9 +198,9 @@ module _ (service : Service) (tei : ℕ) (c d : Config) (p q : ℕ) (face : Face
         (arrived service tei c d p q face back w (rounds j w') (two_links.rounds j e) [] [] last all.0 all.1 h.near.granted h.far.granted)
 
     -- and that is timely at both ends
-    pub lost-goes_on : IsStill w → HasNoErrors w → StayTimely (both_expire service tei) w
+    pub lost-goes_on : IsStill w → StayTimely (both_expire service tei) w
     unfolding StayTimely
-    lost-goes_on still now =
+    lost-goes_on still =
         let t = terms c service tei in
         let v = terms d service tei in
         let n = end t (ringing_as h.repeats []) [] in
@@ -205,14 +208,14 @@ module _ (service : Service) (tei : ℕ) (c d : Config) (p q : ℕ) (face : Face
         let near = hushed service tei c p [] w.near n h.near still.near still.near_way in
         let far = hushed service tei d q [] w.far m h.far still.far still.far_way in
         let w' = acting (times_out timer) w in
-        let next = repeats-sabme service tei c d p q face back rt ru w h timer (λ l. refl) fair.0 in
+        let next = repeats-sabme service tei c d p q face back rt ru w h timer (λ l. refl) few in
         let n' = end t (ringing_as next.repeats (its_sabme ∷ [])) [] in
         let sabme-alone = All-cons (λ (f : ControlFrame). is_final f.command f.control ≡ false) its_sabme [] refl (All-nil (λ (f : ControlFrame). is_final f.command f.control ≡ false)) in
         let open_ : IsNoneOpen m n' = record { commands = none-of service tei is_poll m refl refl; responses = record { waiting = sabme-alone; way = All-nil (λ (f : Parts). is_final f.address.command f.control ≡ false) } } in (
-          (λ no. open-here service tei c d p q w.near w.far n m h.near.stands h.far.stands (none-open service tei n m near far), (fair.0, now.1)),
+          (λ no. open-here service tei c d p q w.near w.far n m h.near.stands h.far.stands (none-open service tei n m near far), may.0),
           (
             (
-              (λ no. open-here service tei d c q p w.far w'.near m n' h.far.stands next.near.stands open_, (fair.1, fair.0)),
+              (λ no. open-here service tei d c q p w.far w'.near m n' h.far.stands next.near.stands open_, may.1),
               λ none. ap (λ l. l.waiting) (link-is service tei d q w.far m h.far.stands),
             ),
             tt,
@@ -223,22 +226,22 @@ module _ (service : Service) (tei : ℕ) (c d : Config) (p q : ℕ) (face : Face
   Arrives u w = HasArrived service tei w (rounds (u + 3) (with_t200_expired service tei w))
 
   -- where no turn is left before both are up SABME was lost
-  pub arrives : (w : Wire) → On w → (u : ℕ) → IsStill w → HasMissing service tei u w → HasNoErrors (with_t200_expired service tei w) → Arrives u w
-  arrives w (inl h) u still few fair = lost-arrives w h u fair
-  arrives w (inr (inl h)) u still few fair = absurd (not-still service tei c d p q face back rt ru w h still)
-  arrives w (inr (inr (inl h))) u still few fair = absurd (called-still service tei c d p q face back rt ru w h still)
-  arrives w (inr (inr (inr (inl h)))) u still few fair = absurd (waits-still service tei c d p q face back rt ru w h.m h.is still)
-  arrives w (inr (inr (inr (inr (inl h))))) u still few fair = absurd (comes-still service tei c d p q face back rt ru w h.m h.is still)
-  arrives w (inr (inr (inr (inr (inr h))))) u still few fair = up-arrives service tei c d p q face back w h.n h.m h.up still fair u few
+  pub arrives : (w : Wire) → On w → (u : ℕ) → IsStill w → HasMissing service tei u w → BothMayRepeat service tei w → Arrives u w
+  arrives w (inl h) u still few may = lost-arrives w h may u
+  arrives w (inr (inl h)) u still few may = absurd (not-still service tei c d p q face back rt ru w h still)
+  arrives w (inr (inr (inl h))) u still few may = absurd (called-still service tei c d p q face back rt ru w h still)
+  arrives w (inr (inr (inr (inl h)))) u still few may = absurd (waits-still service tei c d p q face back rt ru w h.m h.is still)
+  arrives w (inr (inr (inr (inr (inl h))))) u still few may = absurd (comes-still service tei c d p q face back rt ru w h.m h.is still)
+  arrives w (inr (inr (inr (inr (inr h))))) u still few may = up-arrives service tei c d p q face back w h.n h.m h.up still may u few
 
   -- and there T200 of both ends is timely
-  pub goes-on : (w : Wire) → On w → IsStill w → HasNoErrors (with_t200_expired service tei w) → StayTimely (both_expire service tei) w
-  goes-on w (inl h) still expired = lost-goes_on w h 0 expired still (fair w (inl h))
-  goes-on w (inr (inl h)) still expired = absurd (not-still service tei c d p q face back rt ru w h still)
-  goes-on w (inr (inr (inl h))) still expired = absurd (called-still service tei c d p q face back rt ru w h still)
-  goes-on w (inr (inr (inr (inl h)))) still expired = absurd (waits-still service tei c d p q face back rt ru w h.m h.is still)
-  goes-on w (inr (inr (inr (inr (inl h))))) still expired = absurd (comes-still service tei c d p q face back rt ru w h.m h.is still)
-  goes-on w (inr (inr (inr (inr (inr h))))) still expired = up-goes_on service tei c d p q face back w h.n h.m h.up still expired (fair w (as-up w h))
+  pub goes-on : (w : Wire) → On w → IsStill w → BothMayRepeat service tei w → StayTimely (both_expire service tei) w
+  goes-on w (inl h) still may = lost-goes_on w h may still
+  goes-on w (inr (inl h)) still may = absurd (not-still service tei c d p q face back rt ru w h still)
+  goes-on w (inr (inr (inl h))) still may = absurd (called-still service tei c d p q face back rt ru w h still)
+  goes-on w (inr (inr (inr (inl h)))) still may = absurd (waits-still service tei c d p q face back rt ru w h.m h.is still)
+  goes-on w (inr (inr (inr (inr (inl h))))) still may = absurd (comes-still service tei c d p q face back rt ru w h.m h.is still)
+  goes-on w (inr (inr (inr (inr (inr h))))) still may = up-goes_on service tei c d p q face back w h.n h.m h.up still may
 
 -- a call as it begins
 pub record Setting (service : Service) (c d : Config) (line other tei : ℕ) : Type 0 where

@@ -22,6 +22,7 @@ use Rattle.model_link.specs.Machine
 use Rattle.model_link.specs.Machine.{course, given, is_running}
 use Rattle.model_link.specs.MultipleFrame
 use Rattle.model_link.specs.Steps.{begun, ◌then◌}
+use Rattle.laws_link.specs.Flags.{awaits_answer}
 use Rattle.laws_link.specs.Timed.{IsTimed, IsTimedIn}
 use Rattle.model_link.specs.Told.{runs}
 use Rattle.model_link.specs.TwoEnds.{End, Ends, with_link, with_sent}
@@ -43,7 +44,7 @@ use Rattle.laws_wire.specs.Losing.{is_error, HasNoError, IsOfLink, IsRoughTalkOf
 use Rattle.laws_wire.specs.Timely.{is_poll, is_final, IsNoneOpen, IsTimelyOf}
 use Rattle.laws_wire.specs.Recovering.{round, rounds}
 use Rattle.laws_wire.proofs.Asking.{with_more, asked-form}
-use Rattle.laws_wire.proofs.Awaited.{closed, link-is, open-there}
+use Rattle.laws_wire.proofs.Awaited.{closed, as-here, may-there, open-there}
 use Rattle.laws_wire.proofs.Fair.{HasError, Fine, timer-fair}
 use Rattle.laws_wire.proofs.Firm.{timer-quiet, Firm, firm-turned, firm-sends, firm-loses, firm-asks, firm-expires, firm-takes, takes-fine, takes-kept}
 use Rattle.laws_wire.proofs.Held.{Held, now-erred, not-erred, held-given, held-lost, held-taken, expired-told, held-expired, Grants, held-asked}
@@ -51,15 +52,6 @@ use Rattle.laws_wire.proofs.Joint.{timer-goes}
 use Rattle.laws_wire.proofs.LossyPhases.{for-data, Aims}
 use Rattle.laws_wire.proofs.Standing.{IsCarried, Stands, still-gives-none}
 use Rattle.laws_wire.proofs.Talking.{Face}
-
--- where N200 is reached an error is told
-ran-out : (t : Terms) (l : Link) → l.state ≡ TimerRecovery → is_running T200 l ≡ true → nat_lt l.repeats t.n200 ≡ false → HasError (course t (link.expired T200) l).notes
-ran-out t l state ran over =
-    (λ i. list_any is_error (cond (ran i) (Machine.expired_in (state i) T200 t (begun l)) (begun l)).notes)
-    ∙ ap (λ b. list_any is_error (cond b ((Words.enquire t then Words.repeated then Words.start T200) (begun l)) (MultipleFrame.failed t code.I (begun l))).notes) over
-
-pub not-7 : {x : State} → x ≡ TimerRecovery → x ≢ Established
-not-7 e e' = let wrong : TimerRecovery ≡ Established = sym e ∙ e' in absurd (cc)
 
 no-way : (f : Parts → List ℕ) (way : List Parts) → map f way ≡ [] → way ≡ []
 no-way f [] e = refl
@@ -123,19 +115,6 @@ module _ (service : Service) (tei : ℕ) where
 
     pub never : IsTimed n.link → n.link.state ≡ TimerRecovery → is_running T203 n.link ≡ true → ⊥
     never timed state running = true≢false (sym running ∙ ap (runs T203) (timed-8 timed state))
-
-    -- where no error is told as it expires it can be repeated
-    pub repeats-left : IsTimed n.link → (timer : Timer) → Aims service tei timer T200 → HasNoError (after timer) → n.link.state ≡ TimerRecovery → n.link.repeats < n.terms.n200
-    repeats-left timed timer aims fair state = go (nat_lt n.link.repeats n.terms.n200) refl
-      where
-        no-error : HasError (course n.terms (link.expired T200) n.link).notes → ⊥
-        no-error error =
-            let s' = after timer in
-            not-erred s' fair (now-erred s s' (course n.terms (link.expired T200) n.link) (expired-told service tei place past k s n h timer T200 aims) error)
-
-        go : (b : Bool) → nat_lt n.link.repeats n.terms.n200 ≡ b → n.link.repeats < n.terms.n200
-        go true e = ltb-true n.link.repeats n.terms.n200 e
-        go false e = absurd (no-error (ran-out n.terms n.link state (ap (runs T200) (timed-8 timed state)) e))
 
   pub record BothUp (c d : Config) (p q : ℕ) (past other : List LineTold) (w : Wire) (n m : End) : Type 0 where
     pub near : Held c service tei p past w.near n
@@ -201,14 +180,14 @@ module _ (service : Service) (tei : ℕ) where
         record { near = timer-held c p past w.near n h.near h.firm.joined.near_up timer its aims firm.joined.near_up; far = h.far; firm = firm }
 
     up-t200 : IsTimelyOf (times_out (timers.T200 service tei)) w → AreUp c d p q past other (acting (times_out (timers.T200 service tei)) w)
-    up-t200 (long, fair) =
-        let timer = timers.T200 service tei in
+    up-t200 (long, may) =
+        let there = may-there service tei c p w.near n h.near.stands may in
         let none = λ (state : n.link.state ≡ TimerRecovery).
-        closed n m (open-there service tei c d p q w.near w.far n m h.near.stands h.far.stands (long (not-7 (ap (λ l. l.state) (link-is service tei c p w.near n h.near.stands) ∙ state)))) in
+        closed n m (open-there service tei c d p q w.near w.far n m h.near.stands h.far.stands (long (ap awaits_answer (as-here service tei c p w.near n h.near.stands state)))) in
         record {
           n = with_link (link.expired T200) n;
           m = m;
-          up = up-expires timer T200 (λ l. refl) (λ state running. repeats-left c p past w.near n h.near h.firm.near_sane.timed timer (λ l. refl) fair.0 state) (λ state running. none state);
+          up = up-expires (timers.T200 service tei) T200 (λ l. refl) (λ state running. there (ap awaits_answer state)) (λ state running. none state);
         }
 
     up-t203 : AreUp c d p q past other (acting (times_out (timers.T203 service tei)) w)

@@ -5,8 +5,9 @@ use Rattle.lapd_frame.specs.declared.timers.Timer.TheVariants.{T200}
 use Rattle.model_line.specs.declared.config.Config.{Config}
 use Rattle.laws_wire.specs.Wire.{Wire, times_out, gives, takes, Doing, at_near, at_far, doing, doing_all, IsStill}
 use Rattle.laws_wire.specs.Call.{calling, CanCall, confirmed, indicated, all_told}
-use Rattle.laws_wire.specs.Losing.{IsRoughTalk, heard_in}
-use Rattle.laws_wire.specs.Timely.{HasNoErrors, StayTimely}
+use Rattle.laws_wire.specs.Losing.{IsRoughTalk, heard_in, HasNoError}
+use Rattle.laws_wire.specs.Facing.{end_of}
+use Rattle.laws_wire.specs.Timely.{MayRepeat, StayTimely}
 
 -- A round: each end in turn gives its next frame, if it has one, and the other takes it. Nothing is lost.
 abbrev pub round : List Doing
@@ -35,14 +36,20 @@ both_expire service tei = at_near (times_out (T200 service tei)) ∷ at_far (tim
 abbrev pub with_t200_expired : Service → ℕ → Wire → Wire
 with_t200_expired service tei w = doing (at_far (times_out (T200 service tei))) (doing (at_near (times_out (T200 service tei))) w)
 
+abbrev pub HasNoErrors : Wire → Type 0
+HasNoErrors w = HasNoError w.near × HasNoError w.far
+
+abbrev pub BothMayRepeat : Service → ℕ → Wire → Type 0
+BothMayRepeat service tei w = MayRepeat (end_of service tei w.near) × MayRepeat (end_of service tei w.far)
+
 -- Both stay up: no error is told. And where no turn is left what is lost arrives: once T200 expires at both ends, as many rounds as
 -- notes are missing, and three more, are enough. T200 is long enough for that, so that the same holds again behind it, wherever the
 -- call goes on from there.
 pub record Recovers (service : Service) (tei : ℕ) (w : Wire) : Type 0 where
   pub no_error : HasNoErrors w
-  pub arrives : (u : ℕ) → IsStill w → HasMissing service tei u w → HasNoErrors (with_t200_expired service tei w) →
+  pub arrives : (u : ℕ) → IsStill w → HasMissing service tei u w → BothMayRepeat service tei w →
       HasArrived service tei w (rounds (u + 3) (with_t200_expired service tei w))
-  pub goes_on : IsStill w → HasNoErrors (with_t200_expired service tei w) → StayTimely (both_expire service tei) w
+  pub goes_on : IsStill w → BothMayRepeat service tei w → StayTimely (both_expire service tei) w
 
 abbrev pub WhatIsLostArrives : Type 0
 WhatIsLostArrives =

@@ -1,17 +1,14 @@
 -- A T200 that is long enough in a call in which frames are lost (Q.921 clauses 5.5.1.3, 5.6.7 and 5.9.1).
-use Rattle.std.specs.Prelude.{◌≡◌, ◌≢◌, Bool, ◌&&◌, not, List, [], ◌∷◌}
+use Rattle.std.specs.Prelude.{◌≡◌, ◌≢◌, ◌<◌, Bool, true, ◌&&◌, not, List, [], ◌∷◌}
 use Rattle.lapd_frame.specs.declared.controls.Control.{Control}
 use Rattle.lapd_frame.specs.declared.controls.Control.TheVariants.{Information, ReceiveReady, ReceiveNotReady, Reject, Sabme, Disc, Ui, Ua, Dm, Frmr, Xid}
 use Rattle.lapd_frame.specs.declared.timers.Timer.TheVariants.{T200, T203}
-use Rattle.model_link.specs.declared.states.State.TheVariants.{Established}
 use Rattle.model_link.specs.TwoEnds.{End}
+use Rattle.laws_link.specs.Flags.{awaits_answer}
 use Rattle.laws_two_links.specs.Timely.{HasNo}
-use Rattle.laws_wire.specs.Wire.{Wire, Act, times_out, loses, acting, turned, Doing, at_near, at_far, doing}
-use Rattle.laws_wire.specs.Losing.{heard_in, HasNoError}
+use Rattle.laws_wire.specs.Wire.{Wire, Act, times_out, loses, turned, Doing, at_near, at_far, doing}
+use Rattle.laws_wire.specs.Losing.{heard_in}
 use Rattle.laws_wire.specs.Facing.{end_of}
-
-abbrev pub HasNoErrors : Wire → Type 0
-HasNoErrors w = HasNoError w.near × HasNoError w.far
 
 -- The P or F bit of a frame. A command with P=1 waits for its answer, which is a response with F=1.
 abbrev pub bit_of : Control → Bool
@@ -39,15 +36,19 @@ pub record IsNoneOpen (n m : End) : Type 0 where
   pub commands : HasNo is_poll n
   pub responses : HasNo is_final m
 
--- In state 7 T200 expires at any time; in the others, where it runs for a command that waits for its answer (SABME in state 5, an
--- enquiry in state 8), only where none is to come.
+-- In state 7 T200 expires at any time. In the others where it runs, for SABME in state 5 and for an enquiry in state 8, it expires only
+-- where no answer is to come,
 abbrev pub IsLongEnough : End → End → Type 0
-IsLongEnough n m = n.link.state ≢ Established → IsNoneOpen n m
+IsLongEnough n m = awaits_answer n.link.state ≡ true → IsNoneOpen n m
 
--- And N200 is not used up: no error is told as it expires. T203 may expire at any time.
+-- and where N200 is not used up: this command was repeated fewer times.
+abbrev pub MayRepeat : End → Type 0
+MayRepeat n = awaits_answer n.link.state ≡ true → n.link.repeats < n.terms.n200
+
+-- T203 may expire at any time.
 abbrev pub IsTimelyOf : Act → Wire → Type 0
 IsTimelyOf (times_out (T200 service tei)) w =
-    IsLongEnough (end_of service tei w.near) (end_of service tei w.far) × HasNoErrors (acting (times_out (T200 service tei)) w)
+    IsLongEnough (end_of service tei w.near) (end_of service tei w.far) × MayRepeat (end_of service tei w.near)
 IsTimelyOf other w = Unit {0}
 
 -- And UA is not lost: before the other has heard that the link is established the end that was called loses no frame, and no timer

@@ -34,8 +34,10 @@ pub mod TimelyAnswered
 pub mod TimelyRun
 pub mod TimelyArrives
 pub mod StillIsTimely
+pub mod Counting
 pub mod Again
 pub mod Delivering
 pub mod PremisesMet
 pub mod RecoveryMet
 pub mod RecoveryMetAgain
+pub mod CountedMet

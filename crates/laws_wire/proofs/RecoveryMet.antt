@@ -36,7 +36,7 @@ rough =
     all-rough loses_three (tt, (tt, (expires, (tt, (tt, (tt, (tt, (near, (tt, (tt, (far, (tt, (tt, tt)))))))))))))
 
 -- SABME was lost
-abbrev silent : Wire
+abbrev pub silent : Wire
 silent = doing_all (at_near gives ∷ at_near loses ∷ []) begins
 
 silent-near : ((end_of Call 0 silent.near).link.waiting ≡ []) × ((end_of Call 0 silent.near).way ≡ [])
@@ -47,13 +47,13 @@ silent-far : ((end_of Call 0 silent.far).link.waiting ≡ []) × ((end_of Call 0
 unfolding after_all lines.after lines.answer lines.takes_slot reading header_of control_of unnumbered_of supervisory_of teis.course teis.refusal low_bits seq distance_of named doing_all turns
 silent-far = (refl, refl)
 
-silent-open : IsNoneOpen (end_of Call 0 silent.near) (end_of Call 0 silent.far)
+pub silent-open : IsNoneOpen (end_of Call 0 silent.near) (end_of Call 0 silent.far)
 silent-open = record {
   commands = none-of Call 0 is_poll (end_of Call 0 silent.near) silent-near.0 silent-near.1;
   responses = none-of Call 0 is_final (end_of Call 0 silent.far) silent-far.0 silent-far.1;
 }
 
-silent-repeats : ((end_of Call 0 silent.near).link.repeats ≡ 0) × ((end_of Call 0 silent.near).terms.n200 ≡ 3)
+pub silent-repeats : ((end_of Call 0 silent.near).link.repeats ≡ 0) × ((end_of Call 0 silent.near).terms.n200 ≡ 3)
 unfolding after_all lines.after lines.answer lines.takes_slot reading header_of control_of unnumbered_of supervisory_of teis.course teis.refusal low_bits seq distance_of named doing_all turns
 silent-repeats = (refl, refl)
 
@@ -67,7 +67,7 @@ silent-may awaits = fewer _ _ 0 3 silent-repeats (omega arith)
 pub heard-it : (hs : List LineTold) (t : LineTold) → hs ≡ t ∷ [] → hs ≢ []
 heard-it hs t is e = let wrong : t ∷ [] ≡ [] = sym is ∙ e in absurd (cc)
 
-lost-near : heard_in lost.near ≡ confirmed Call 0 ∷ []
+pub lost-near : heard_in lost.near ≡ confirmed Call 0 ∷ []
 unfolding after_all lines.after lines.answer lines.takes_slot reading header_of control_of unnumbered_of supervisory_of teis.course teis.refusal low_bits seq distance_of named doing_all turns
 lost-near = refl
 

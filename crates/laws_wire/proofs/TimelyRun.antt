@@ -29,6 +29,7 @@ use Rattle.laws_wire.specs.Recovering.{both_expire, round, rounds, HasNoErrors, 
 use Rattle.laws_wire.proofs.Awaited.{link-is, open-here}
 use Rattle.laws_wire.proofs.Beginning.{calls, answers}
 use Rattle.laws_wire.proofs.Calling.{asked, end, called}
+use Rattle.laws_wire.proofs.Held.{Held}
 use Rattle.laws_wire.proofs.LossyRun.{from-nothing}
 use Rattle.laws_wire.proofs.Ringing.{answered, its_sabme}
 use Rattle.laws_wire.proofs.Ringing.{ringing as ringing_as}
@@ -249,21 +250,23 @@ pub record Setting (service : Service) (c d : Config) (line other tei : ℕ) : T
   pub back : Face d c
   pub near : IsInRange (terms c service tei)
   pub far : IsInRange (terms d service tei)
+  pub near_held : Held c service tei 0 [] (calling service tei c line d other).near (end (terms c service tei) asked [])
+  pub far_held : Held d service tei 0 [] (calling service tei c line d other).far (end (terms d service tei) fresh [])
   pub begun : Goes service tei c d 0 0 (calling service tei c line d other)
 
 pub setting : (service : Service) (c d : Config) (line other tei : ℕ) → CanCall c line d other tei → Setting service c d line other tei
 setting service c d line other tei can =
     let w = calling service tei c line d other in
-    let begun : Rings service tei c d 0 0 (its_sabme ∷ []) [] w = record {
-      repeats = 0;
-      near = from-nothing c service tei 0 w.near (end (terms c service tei) asked []) (calls service tei c can.near can.terminal line can.near_line) refl;
-      far = from-nothing d service tei 0 w.far (end (terms d service tei) fresh []) (answers service tei d can.far can.terminal other can.far_line) refl;
-    } in
+    let near : Held c service tei 0 [] w.near (end (terms c service tei) asked []) = from-nothing c service tei 0 w.near (end (terms c service tei) asked []) (calls service tei c can.near can.terminal line can.near_line) refl in
+    let far : Held d service tei 0 [] w.far (end (terms d service tei) fresh []) = from-nothing d service tei 0 w.far (end (terms d service tei) fresh []) (answers service tei d can.far can.terminal other can.far_line) refl in
+    let begun : Rings service tei c d 0 0 (its_sabme ∷ []) [] w = record { repeats = 0; near = near; far = far } in
     record {
       face = record { side = sym can.sides; n201 = can.n201 };
       back = record { side = ap other_side can.sides ∙ twice-other c.side; n201 = sym can.n201 };
       near = terms_in_range c can.near service tei can.terminal;
       far = terms_in_range d can.far service tei can.terminal;
+      near_held = near;
+      far_held = far;
       begun = inr (inl begun);
     }
 

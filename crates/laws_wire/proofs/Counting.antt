@@ -11,7 +11,7 @@ use Rattle.model_link.specs.declared.terms.Terms.{Terms}
 use Rattle.model_link.specs.declared.timers.LinkTimer.TheVariants.{T200, T203}
 use Rattle.model_link.specs.Events as link
 use Rattle.model_link.specs.Events.{Event}
-use Rattle.model_link.specs.Link.{Link, fresh, state_number}
+use Rattle.model_link.specs.Link.{Link, state_number}
 use Rattle.model_link.specs.Machine.{after}
 use Rattle.model_link.specs.Sound.{IsInRange}
 use Rattle.model_link.specs.TwoEnds.{End}
@@ -31,11 +31,8 @@ use Rattle.laws_wire.specs.Facing.{end_of}
 use Rattle.laws_wire.specs.Timely.{IsTimelyOf, IsTimely, StayTimely}
 use Rattle.laws_wire.specs.Counted.{Counts, is_in_7, counted, counting, IsCountedOf, IsCounted, StayCounted, ExpiriesAreCounted}
 use Rattle.laws_wire.proofs.Awaited.{link-is}
-use Rattle.laws_wire.proofs.Calling.{end}
 use Rattle.laws_wire.proofs.Held.{Held, taken-stands, Grants, held-asked}
 use Rattle.laws_wire.proofs.LossyPhases.{for-data}
-use Rattle.laws_wire.proofs.Ringing.{ringing, its_sabme}
-use Rattle.laws_wire.proofs.Calling.{sabme, with_ua_waiting, with_ua_first}
 use Rattle.laws_wire.proofs.Standing.{IsCarried, Stands, gives-stands, expires-stands}
 use Rattle.laws_wire.proofs.Talking.{Face}
 use Rattle.laws_wire.proofs.TimelyPhases.{Goes}

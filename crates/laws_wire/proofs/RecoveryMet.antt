@@ -1,7 +1,6 @@
 -- The premises of the law on what is lost are met: by the worked call in which SABME is lost, and then an I-frame of each end.
 use Rattle.std.proofs.Common.{◌≡◌, ◌≢◌, ℕ, ◌+◌, ◌<◌, ◌≤◌, List, [], ◌∷◌, length, map, refl, sym, ap, subst, ◌∙◌, true≢false, arith}
 use Rattle.std.specs.Prelude.{All}
-use Rattle.std.proofs.lemmas.List.Elements.{All-nil}
 use Rattle.lapd_bits.specs.Bits.{low_bits}
 use Rattle.lapd_frame.specs.declared.services.Service.TheVariants.{Call}
 use Rattle.lapd_frame.specs.declared.timers.Timer.TheVariants.{T200}
@@ -16,7 +15,7 @@ use Rattle.model_line.specs.Machine as lines
 use Rattle.model_line.specs.Request.{Data}
 use Rattle.model_card.specs.Run.{after_all}
 use Rattle.laws_link.specs.Flags.{awaits_answer}
-use Rattle.laws_wire.specs.Wire.{Station, Wire, requests, times_out, gives, loses, at_near, at_far, doing, doing_all, turns, IsStill}
+use Rattle.laws_wire.specs.Wire.{Wire, requests, times_out, gives, loses, at_near, at_far, doing_all, turns, IsStill}
 use Rattle.laws_wire.specs.Call.{confirmed, indicated, data_told}
 use Rattle.laws_wire.specs.Losing.{heard_in, IsRoughTalk}
 use Rattle.laws_wire.specs.Facing.{end_of}

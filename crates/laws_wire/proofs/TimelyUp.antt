@@ -1,33 +1,24 @@
 -- Two stations whose links are up, where each timer is timely: both stay up, whatever is lost.
-use Rattle.std.proofs.Common.{◌≡◌, ◌≢◌, ℕ, zero, suc, ◌<◌, Bool, true, false, cond, IsTrue, List, [], ◌∷◌, map, Some, None, refl, sym, ap, subst, ◌∙◌, ◌⊎◌, inl, inr, append-nil, true≢false}
-use Rattle.std.specs.Prelude.{All, nat_lt}
-use Rattle.std.specs.List.{list_any}
-use Rattle.std.proofs.lemmas.Bool.{ltb-true}
+use Rattle.std.proofs.Common.{◌≡◌, ℕ, zero, suc, Bool, true, false, IsTrue, List, [], ◌∷◌, map, Some, None, refl, sym, ap, subst, ◌∙◌, ◌⊎◌, inl, inr, append-nil, true≢false}
+use Rattle.std.specs.Prelude.{All}
 use Rattle.std.proofs.lemmas.List.Elements.{All-nil, All-head}
 use Rattle.lapd_frame.specs.declared.controls.Control.{Control}
-use Rattle.lapd_frame.specs.declared.notes.ErrorCode.TheVariants as code
 use Rattle.lapd_frame.specs.declared.services.Service.{Service}
 use Rattle.lapd_frame.specs.declared.timers.Timer.{Timer}
 use Rattle.lapd_frame.specs.declared.timers.Timer.TheVariants as timers
 use Rattle.lapd_frame.specs.Grammar.{Parts, AreOctets, spelling}
 use Rattle.model_link.specs.declared.frames.ControlFrame.{ControlFrame}
-use Rattle.model_link.specs.declared.states.State.{State}
-use Rattle.model_link.specs.declared.states.State.TheVariants.{Established, TimerRecovery}
+use Rattle.model_link.specs.declared.states.State.TheVariants.{TimerRecovery}
 use Rattle.model_link.specs.declared.timers.LinkTimer.{LinkTimer}
 use Rattle.model_link.specs.declared.timers.LinkTimer.TheVariants.{T200, T203}
-use Rattle.model_link.specs.declared.terms.Terms.{Terms}
 use Rattle.model_link.specs.Events as link
-use Rattle.model_link.specs.Link.{Link, is_multiple_frame}
-use Rattle.model_link.specs.Machine
+use Rattle.model_link.specs.Link.{is_multiple_frame}
 use Rattle.model_link.specs.Machine.{course, given, is_running}
-use Rattle.model_link.specs.MultipleFrame
-use Rattle.model_link.specs.Steps.{begun, ◌then◌}
 use Rattle.laws_link.specs.Flags.{awaits_answer}
 use Rattle.laws_link.specs.Timed.{IsTimed, IsTimedIn}
 use Rattle.model_link.specs.Told.{runs}
 use Rattle.model_link.specs.TwoEnds.{End, Ends, with_link, with_sent}
 use Rattle.model_link.specs.TwoEnds as two_ends
-use Rattle.model_link.specs.Words
 use Rattle.model_link.proofs.Sending.{offer-gave}
 use Rattle.model_line.specs.declared.config.Config.{Config}
 use Rattle.model_line.specs.Event.{LineTold}
@@ -40,14 +31,14 @@ use Rattle.laws_two_links.specs.Rounds as two_links
 use Rattle.laws_two_links.specs.Timely as two_links_timely
 use Rattle.laws_two_links.proofs.Waiting.{nothing-given}
 use Rattle.laws_wire.specs.Wire.{Station, Wire, happens, with_first_of, Act, requests, times_out, gives, takes, loses, acting, turned, doing_all}
-use Rattle.laws_wire.specs.Losing.{is_error, HasNoError, IsOfLink, IsRoughTalkOf}
+use Rattle.laws_wire.specs.Losing.{IsOfLink, IsRoughTalkOf}
 use Rattle.laws_wire.specs.Timely.{is_poll, is_final, IsNoneOpen, IsTimelyOf}
 use Rattle.laws_wire.specs.Recovering.{round, rounds}
 use Rattle.laws_wire.proofs.Asking.{with_more, asked-form}
 use Rattle.laws_wire.proofs.Awaited.{closed, as-here, may-there, open-there}
 use Rattle.laws_wire.proofs.Fair.{HasError, Fine, timer-fair}
 use Rattle.laws_wire.proofs.Firm.{timer-quiet, Firm, firm-turned, firm-sends, firm-loses, firm-asks, firm-expires, firm-takes, takes-fine, takes-kept}
-use Rattle.laws_wire.proofs.Held.{Held, now-erred, not-erred, held-given, held-lost, held-taken, expired-told, held-expired, Grants, held-asked}
+use Rattle.laws_wire.proofs.Held.{Held, held-given, held-lost, held-taken, held-expired, Grants, held-asked}
 use Rattle.laws_wire.proofs.Joint.{timer-goes}
 use Rattle.laws_wire.proofs.LossyPhases.{for-data, Aims}
 use Rattle.laws_wire.proofs.Standing.{IsCarried, Stands, still-gives-none}

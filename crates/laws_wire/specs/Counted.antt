@@ -12,8 +12,8 @@ use Rattle.laws_wire.specs.Losing.{IsRoughTalk}
 use Rattle.laws_wire.specs.Facing.{end_of}
 use Rattle.laws_wire.specs.Timely.{IsLongEnough, IsSpared, StayTimely}
 
--- How often T200 expired at each end since its link was last in state 7, or since the call began. The expiry that led out of
--- state 7 is not among them.
+-- How often T200 expired at each end since its link was last in state 7, or since the call began. The expiry that led
+-- out of state 7 is not among them.
 pub record Counts : Type 0 where
   pub near : ℕ
   pub far : ℕ

@@ -22,8 +22,8 @@ pub record HasMissing (service : Service) (tei u : ℕ) (w : Wire) : Type 0 wher
   pub near : length (all_told service tei (confirmed service tei) w.far) ≤ length (heard_in w.near) + u
   pub far : length (all_told service tei (indicated service tei) w.near) ≤ length (heard_in w.far) + u
 
--- Nothing is missing: one establishment, and then all the data that the other had been granted to send, in order, each once, and
--- nothing else; and no turn is left.
+-- Nothing is missing: one establishment, and then all the data that the other had been granted to send, in order, each
+-- once, and nothing else; and no turn is left.
 pub record HasArrived (service : Service) (tei : ℕ) (before w : Wire) : Type 0 where
   pub near : heard_in w.near ≡ all_told service tei (confirmed service tei) before.far
   pub far : heard_in w.far ≡ all_told service tei (indicated service tei) before.near
@@ -42,9 +42,9 @@ HasNoErrors w = HasNoError w.near × HasNoError w.far
 abbrev pub BothMayRepeat : Service → ℕ → Wire → Type 0
 BothMayRepeat service tei w = MayRepeat (end_of service tei w.near) × MayRepeat (end_of service tei w.far)
 
--- Both stay up: no error is told. And where no turn is left what is lost arrives: once T200 expires at both ends, as many rounds as
--- notes are missing, and three more, are enough. T200 is long enough for that, so that the same holds again behind it, wherever the
--- call goes on from there.
+-- Both stay up: no error is told. And where no turn is left what is lost arrives: once T200 expires at both ends, as
+-- many rounds as notes are missing, and three more, are enough. T200 is long enough for that, so that the same holds
+-- again behind it, wherever the call goes on from there.
 pub record Recovers (service : Service) (tei : ℕ) (w : Wire) : Type 0 where
   pub no_error : HasNoErrors w
   pub arrives : (u : ℕ) → IsStill w → HasMissing service tei u w → BothMayRepeat service tei w →

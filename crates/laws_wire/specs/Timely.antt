@@ -30,14 +30,14 @@ is_poll command control = command && bit_of control
 abbrev pub is_final : Bool → Control → Bool
 is_final command control = not command && bit_of control
 
--- No answer is to come for the first end: no command of it with P=1, and no response of the other with F=1, waits to go or is on
--- its way. A lost one is not.
+-- No answer is to come for the first end: no command of it with P=1, and no response of the other with F=1, waits to go
+-- or is on its way. A lost one is not.
 pub record IsNoneOpen (n m : End) : Type 0 where
   pub commands : HasNo is_poll n
   pub responses : HasNo is_final m
 
--- In state 7 T200 expires at any time. In the others where it runs, for SABME in state 5 and for an enquiry in state 8, it expires only
--- where no answer is to come,
+-- In state 7 T200 expires at any time. In the others where it runs, for SABME in state 5 and for an enquiry in state 8,
+-- it expires only where no answer is to come,
 abbrev pub IsLongEnough : End → End → Type 0
 IsLongEnough n m = awaits_answer n.link.state ≡ true → IsNoneOpen n m
 
@@ -51,8 +51,8 @@ IsTimelyOf (times_out (T200 service tei)) w =
     IsLongEnough (end_of service tei w.near) (end_of service tei w.far) × MayRepeat (end_of service tei w.near)
 IsTimelyOf other w = Unit {0}
 
--- And UA is not lost: before the other has heard that the link is established the end that was called loses no frame, and no timer
--- expires there while UA waits to go.
+-- And UA is not lost: before the other has heard that the link is established the end that was called loses no frame,
+-- and no timer expires there while UA waits to go.
 abbrev pub IsSpared : Act → Wire → Type 0
 IsSpared loses w = heard_in w.near ≢ []
 IsSpared (times_out (T200 service tei)) w = heard_in w.near ≡ [] → (end_of service tei w.far).link.waiting ≡ []

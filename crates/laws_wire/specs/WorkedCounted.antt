@@ -16,7 +16,8 @@ use Rattle.laws_wire.specs.Wire.{times_out, gives, loses, Doing, at_near, doing_
 use Rattle.laws_wire.specs.Losing.{heard_in}
 use Rattle.laws_wire.specs.Worked.{begins}
 
--- N200 is 3. Each SABME is lost: three expiries repeat it, and the fourth, at a count of 3, tells error G, and that the link is released.
+-- N200 is 3. Each SABME is lost: three expiries repeat it, and the fourth, at a count of 3, tells error G, and that the
+-- link is released.
 abbrev pub is_lost : List Doing
 is_lost = at_near gives ∷ at_near loses ∷ at_near (times_out (T200 Call 0)) ∷ []
 

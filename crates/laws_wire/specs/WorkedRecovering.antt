@@ -46,8 +46,8 @@ recovered_far : heard_in recovered.far ≡ indicated Call 0 ∷ data_told Call 0
 unfolding after_all lines.after lines.answer lines.takes_slot reading header_of control_of unnumbered_of supervisory_of teis.course teis.refusal low_bits seq distance_of named doing_all turns rounds
 recovered_far = refl
 
--- Then each end loses an I-frame again, and one an enquiry, too: T200 expires in state 7 while its I-frame is on its way. And all is
--- recovered again.
+-- Then each end loses an I-frame again, and one an enquiry, too: T200 expires in state 7 while its I-frame is on its
+-- way. And all is recovered again.
 abbrev pub loses_again : List Doing
 loses_again =
     both_expire Call 0 ++ round ++ round ++ round ++ round
@@ -68,7 +68,8 @@ again_far : heard_in recovered_again.far ≡ indicated Call 0 ∷ data_told Call
 unfolding after_all lines.after lines.answer lines.takes_slot reading header_of control_of unnumbered_of supervisory_of teis.course teis.refusal low_bits seq distance_of named doing_all turns rounds
 again_far = refl
 
--- In state 5 T200 has to be long enough, too: where it expires while SABME is on its way SABME comes twice, and error F is told.
+-- In state 5 T200 has to be long enough, too: where it expires while SABME is on its way SABME comes twice, and error F
+-- is told.
 abbrev pub rings_twice : List Doing
 rings_twice = at_near gives ∷ at_near (times_out (T200 Call 0)) ∷ at_near gives ∷ at_far takes ∷ at_far takes ∷ []
 

@@ -7,6 +7,7 @@ use Rattle.lapd_frame.specs.declared.controls.Control.TheVariants.{Sabme, Ua}
 use Rattle.lapd_frame.specs.Grammar.{Parts}
 use Rattle.model_link.specs.declared.states.State.TheVariants as state
 use Rattle.model_link.specs.declared.timers.LinkTimer.TheVariants.{T200, T203}
+use Rattle.model_link.specs.declared.frames.ControlFrame.{ControlFrame}
 use Rattle.model_link.specs.declared.terms.Terms.{Terms}
 use Rattle.model_link.specs.Link.{Link, fresh, frame_of}
 use Rattle.model_link.specs.Events.{frame, received, requested, offer, Establish, Data}
@@ -112,9 +113,12 @@ first-pair t u rt ru =
       back = record { lane = (refl, omega arith, λ e. refl); delivered = refl; sizes = All-nil (λ octets. length octets ≤ t.n201) };
     }
 
+abbrev pub its_ua : ControlFrame
+its_ua = response (Ua true)
+
 -- The end that answers, with its UA in the ring, and on its way before all else.
 abbrev pub with_ua_waiting : End → End
-with_ua_waiting n = record n { link = record n.link { waiting = response (Ua true) ∷ [] } }
+with_ua_waiting n = record n { link = record n.link { waiting = its_ua ∷ [] } }
 
 abbrev pub with_ua_first : End → End
 with_ua_first n = record n { way = ua n.terms ∷ n.way }

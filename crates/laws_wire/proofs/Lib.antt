@@ -25,6 +25,7 @@ pub mod LossyHalf
 pub mod LossyUp
 pub mod LossyRun
 pub mod Firm
+pub mod Awaited
 pub mod TimelyFirst
 pub mod TimelyUp
 pub mod TimelyPhases
@@ -32,7 +33,11 @@ pub mod TimelyRinging
 pub mod TimelyAnswered
 pub mod TimelyRun
 pub mod TimelyArrives
+pub mod StillIsTimely
+pub mod Counting
 pub mod Again
 pub mod Delivering
 pub mod PremisesMet
 pub mod RecoveryMet
+pub mod RecoveryMetAgain
+pub mod CountedMet

@@ -1,5 +1,5 @@
 -- The premises of the law on what is lost are met: by the worked call in which SABME is lost, and then an I-frame of each end.
-use Rattle.std.proofs.Common.{◌≡◌, ◌≢◌, ℕ, ◌+◌, ◌≤◌, false, List, [], ◌∷◌, length, map, refl, sym, subst, ◌∙◌, arith}
+use Rattle.std.proofs.Common.{◌≡◌, ◌≢◌, ℕ, ◌+◌, ◌<◌, ◌≤◌, List, [], ◌∷◌, length, map, refl, sym, ap, subst, ◌∙◌, true≢false, arith}
 use Rattle.std.specs.Prelude.{All}
 use Rattle.std.specs.List.{list_any}
 use Rattle.std.proofs.lemmas.List.Elements.{All-nil, All-cons}
@@ -10,59 +10,65 @@ use Rattle.lapd_frame.specs.Reading.{reading, header_of, control_of, unnumbered_
 use Rattle.lapd_seq.specs.Circle.{distance_of, named}
 use Rattle.lapd_seq.specs.Numbers.{seq}
 use Rattle.lapd_tei.specs.Events as teis
+use Rattle.model_link.specs.declared.states.State.TheVariants.{Established}
+use Rattle.model_link.specs.TwoEnds.{End}
 use Rattle.model_line.specs.Event.{LineTold}
 use Rattle.model_line.specs.Machine as lines
 use Rattle.model_line.specs.Request.{Data}
 use Rattle.model_card.specs.Run.{after_all}
-use Rattle.laws_wire.specs.Wire.{Station, Wire, requests, times_out, gives, loses, at_near, at_far, doing, doing_all, turns, IsStill}
+use Rattle.laws_link.specs.Flags.{awaits_answer}
+use Rattle.laws_wire.specs.Wire.{Wire, requests, times_out, gives, loses, at_near, at_far, doing_all, turns, IsStill}
 use Rattle.laws_wire.specs.Call.{confirmed, indicated, data_told}
-use Rattle.laws_wire.specs.Losing.{heard_in, is_error, HasNoError, IsRoughTalk}
-use Rattle.laws_wire.specs.Recovering.{HasNoErrors, StayTimely, HasMissing, HasArrived, with_t200_expired}
+use Rattle.laws_wire.specs.Losing.{heard_in, IsRoughTalk}
+use Rattle.laws_wire.specs.Facing.{end_of}
+use Rattle.laws_wire.specs.Timely.{is_poll, is_final, IsNoneOpen, MayRepeat, StayTimely}
+use Rattle.laws_wire.specs.Recovering.{HasNoErrors, BothMayRepeat, HasMissing, HasArrived}
 use Rattle.laws_wire.specs.Worked.{user, network, begins}
 use Rattle.laws_wire.specs.WorkedRecovering.{loses_three, lost, recovered}
 use Rattle.laws_wire.proofs.PremisesMet.{can, octet, none, all-rough}
 use Rattle.laws_wire.proofs.TimelyRun.{what-is-lost-arrives}
+use Rattle.laws_wire.proofs.TimelyUp.{none-of}
 
-rough : All (IsRoughTalk Call 0) loses_three
+pub rough : All (IsRoughTalk Call 0) loses_three
 rough =
     let near : IsRoughTalk Call 0 (at_near (requests (Data Call 0 (0xAB ∷ [])))) = (refl, refl, octet 0xAB [] (omega arith) none) in
     let far : IsRoughTalk Call 0 (at_far (requests (Data Call 0 (0xCD ∷ [])))) = (refl, refl, octet 0xCD [] (omega arith) none) in
     let expires : IsRoughTalk Call 0 (at_near (times_out (T200 Call 0))) = (refl, refl) in
     all-rough loses_three (tt, (tt, (expires, (tt, (tt, (tt, (tt, (near, (tt, (tt, (far, (tt, (tt, tt)))))))))))))
 
-abbrev IsFair : LineTold → Type 0
-IsFair t = list_any is_error t.notes ≡ false
-
-told-none : (s : Station) → s.told ≡ [] → HasNoError s
-told-none s e = subst (All IsFair) (sym e) (All-nil IsFair)
-
-told-one : (s : Station) (t : LineTold) → s.told ≡ t ∷ [] → IsFair t → HasNoError s
-told-one s t e fair = subst (All IsFair) (sym e) (All-cons IsFair t [] fair (All-nil IsFair))
-
 -- SABME was lost
-abbrev silent : Wire
+abbrev pub silent : Wire
 silent = doing_all (at_near gives ∷ at_near loses ∷ []) begins
 
-abbrev asks_again : Wire
-asks_again = doing (at_near (times_out (T200 Call 0))) silent
-
-silent-still : IsStill silent
+silent-near : ((end_of Call 0 silent.near).link.waiting ≡ []) × ((end_of Call 0 silent.near).way ≡ [])
 unfolding after_all lines.after lines.answer lines.takes_slot reading header_of control_of unnumbered_of supervisory_of teis.course teis.refusal low_bits seq distance_of named doing_all turns
-silent-still = record { near = refl; far = refl; near_way = refl; far_way = refl }
+silent-near = (refl, refl)
 
-again-near : asks_again.near.told ≡ []
+silent-far : ((end_of Call 0 silent.far).link.waiting ≡ []) × ((end_of Call 0 silent.far).way ≡ [])
 unfolding after_all lines.after lines.answer lines.takes_slot reading header_of control_of unnumbered_of supervisory_of teis.course teis.refusal low_bits seq distance_of named doing_all turns
-again-near = refl
+silent-far = (refl, refl)
 
-again-far : asks_again.far.told ≡ []
+pub silent-open : IsNoneOpen (end_of Call 0 silent.near) (end_of Call 0 silent.far)
+silent-open = record {
+  commands = none-of Call 0 is_poll (end_of Call 0 silent.near) silent-near.0 silent-near.1;
+  responses = none-of Call 0 is_final (end_of Call 0 silent.far) silent-far.0 silent-far.1;
+}
+
+pub silent-repeats : ((end_of Call 0 silent.near).link.repeats ≡ 0) × ((end_of Call 0 silent.near).terms.n200 ≡ 3)
 unfolding after_all lines.after lines.answer lines.takes_slot reading header_of control_of unnumbered_of supervisory_of teis.course teis.refusal low_bits seq distance_of named doing_all turns
-again-far = refl
+silent-repeats = (refl, refl)
+
+pub fewer : (a b k n : ℕ) → (a ≡ k) × (b ≡ n) → k < n → a < b
+fewer a b k n (e, e') less = omega (arith, e, e', less)
+
+silent-may : MayRepeat (end_of Call 0 silent.near)
+silent-may awaits = fewer _ _ 0 3 silent-repeats (omega arith)
 
 -- the other's I-frame is lost only behind its UA
-heard-it : (hs : List LineTold) (t : LineTold) → hs ≡ t ∷ [] → hs ≢ []
+pub heard-it : (hs : List LineTold) (t : LineTold) → hs ≡ t ∷ [] → hs ≢ []
 heard-it hs t is e = let wrong : t ∷ [] ≡ [] = sym is ∙ e in absurd (cc)
 
-lost-near : heard_in lost.near ≡ confirmed Call 0 ∷ []
+pub lost-near : heard_in lost.near ≡ confirmed Call 0 ∷ []
 unfolding after_all lines.after lines.answer lines.takes_slot reading header_of control_of unnumbered_of supervisory_of teis.course teis.refusal low_bits seq distance_of named doing_all turns
 lost-near = refl
 
@@ -70,25 +76,25 @@ lost-far : heard_in lost.far ≡ indicated Call 0 ∷ []
 unfolding after_all lines.after lines.answer lines.takes_slot reading header_of control_of unnumbered_of supervisory_of teis.course teis.refusal low_bits seq distance_of named doing_all turns
 lost-far = refl
 
-timely : StayTimely loses_three begins
+pub timely : StayTimely loses_three begins
 unfolding doing_all StayTimely
 timely = (
   tt,
   (
     tt,
     (
-      (silent-still, (told-none asks_again.near again-near, told-none asks_again.far again-far)),
+      (λ awaits. silent-open, silent-may),
       (tt, ((tt, tt), ((tt, tt), (tt, (tt, (tt, (tt, ((tt, tt), ((tt, tt), ((tt, heard-it (heard_in lost.near) (confirmed Call 0) lost-near), tt)))))))))),
     ),
   ),
 )
 
-still : IsStill lost
+pub still : IsStill lost
 unfolding after_all lines.after lines.answer lines.takes_slot reading header_of control_of unnumbered_of supervisory_of teis.course teis.refusal low_bits seq distance_of named doing_all turns
 still = record { near = refl; far = refl; near_way = refl; far_way = refl }
 
 -- one note is missing at each end
-one-missing : (first : LineTold) (x : List ℕ) (granted : List (List ℕ)) (heard : List LineTold) → granted ≡ x ∷ [] → heard ≡ first ∷ []
+pub one-missing : (first : LineTold) (x : List ℕ) (granted : List (List ℕ)) (heard : List LineTold) → granted ≡ x ∷ [] → heard ≡ first ∷ []
     → length (first ∷ map (data_told Call 0) granted) ≤ length heard + 1
 one-missing first x granted heard e e' =
     subst (λ xs. length (first ∷ map (data_told Call 0) xs) ≤ length heard + 1) (sym e) (subst (λ hs. 2 ≤ length hs + 1) (sym e') (omega arith))
@@ -107,23 +113,20 @@ missing = record {
   far = one-missing (indicated Call 0) (0xAB ∷ []) lost.near.granted (heard_in lost.far) near-granted lost-far;
 }
 
-abbrev expired : Wire
-expired = with_t200_expired Call 0 lost
-
-near-told : expired.near.told ≡ confirmed Call 0 ∷ []
+lost-states : ((end_of Call 0 lost.near).link.state ≡ Established) × ((end_of Call 0 lost.far).link.state ≡ Established)
 unfolding after_all lines.after lines.answer lines.takes_slot reading header_of control_of unnumbered_of supervisory_of teis.course teis.refusal low_bits seq distance_of named doing_all turns
-near-told = refl
+lost-states = (refl, refl)
 
-far-told : expired.far.told ≡ indicated Call 0 ∷ []
-unfolding after_all lines.after lines.answer lines.takes_slot reading header_of control_of unnumbered_of supervisory_of teis.course teis.refusal low_bits seq distance_of named doing_all turns
-far-told = refl
+-- in state 7 N200 counts nothing
+pub free : (n : End) → n.link.state ≡ Established → MayRepeat n
+free n state awaits = absurd (true≢false (sym awaits ∙ ap awaits_answer state))
 
-fair : HasNoErrors expired
-fair = (told-one expired.near (confirmed Call 0) near-told refl, told-one expired.far (indicated Call 0) far-told refl)
+pub may : BothMayRepeat Call 0 lost
+may = (free (end_of Call 0 lost.near) lost-states.0, free (end_of Call 0 lost.far) lost-states.1)
 
 -- so the law says of it that no error is told, and that all arrives
 pub no-error : HasNoErrors lost
 no-error = (what-is-lost-arrives Call user network 0 0 0 loses_three can rough timely).no_error
 
 pub arrives : HasArrived Call 0 lost recovered
-arrives = (what-is-lost-arrives Call user network 0 0 0 loses_three can rough timely).arrives 1 still missing fair
+arrives = (what-is-lost-arrives Call user network 0 0 0 loses_three can rough timely).arrives 1 still missing may

@@ -1,7 +1,8 @@
 -- A link that awaits its establishment, as often as SABME was repeated and whatever waits; and what comes of it.
-use Rattle.std.proofs.Common.{◌≡◌, ℕ, ◌+◌, Bool, true, false, cond, List, [], ◌∷◌, ◌++◌, length, drop, None, Some, refl, sym, ap, subst, ◌∙◌, ◌⊎◌, inl, inr, append-nil, append_assoc}
+use Rattle.std.proofs.Common.{◌≡◌, ℕ, ◌+◌, ◌<◌, Bool, true, false, cond, List, [], ◌∷◌, ◌++◌, length, drop, None, Some, refl, sym, ap, subst, ◌∙◌, ◌⊎◌, inl, inr, append-nil, append_assoc}
 use Rattle.std.specs.Prelude.{All, nat_lt}
 use Rattle.std.specs.List.{list_any}
+use Rattle.std.proofs.lemmas.Bool.{lt-ltb}
 use Rattle.std.proofs.lemmas.List.Elements.{All-nil, All-cons, All-tail, All-append}
 use Rattle.lapd_frame.specs.declared.controls.Control.{Control}
 use Rattle.lapd_frame.specs.declared.controls.Control.TheVariants.{Information, ReceiveReady, ReceiveNotReady, Reject, Sabme, Disc, Ui, Ua, Dm, Frmr, Xid}
@@ -71,6 +72,10 @@ module _ (t : Terms) (k : ℕ) (ws : List ControlFrame) where
       go true true = inr (record { repeats = k + 1; waiting = ws ++ its_sabme ∷ []; becomes = refl; more = inr refl; notes = refl; delivered = refl; unit = refl })
       go true false = inr (record { repeats = k + 1; waiting = ws; becomes = refl; more = inl refl; notes = refl; delivered = refl; unit = refl })
 
+  -- where N200 is used up an error is told
+  pub t200-over : nat_lt k t.n200 ≡ false → HasError (course t (expired T200) l).notes
+  t200-over over = ap (λ b. list_any is_error (cond b (again (nat_lt (length ws) t.control)) given_up).notes) over
+
   pub t203-rings : Rings k ws (course t (expired T203) l)
   t203-rings = record { repeats = k; waiting = ws; becomes = refl; more = inl refl; notes = refl; delivered = refl; unit = refl }
 
@@ -117,12 +122,8 @@ module _ (t : Terms) (k : ℕ) (room : nat_lt 0 t.control ≡ true) where
   abbrev pub repeated : Course
   repeated = record (begun (ringing (k + 1) (its_sabme ∷ []))) { started = Some T200 }
 
-  pub t200-repeats : HasError (course t (expired T200) (ringing k [])).notes ⊎ (course t (expired T200) (ringing k []) ≡ repeated)
-  t200-repeats = go (nat_lt k t.n200) refl
-    where
-      go : (b : Bool) → nat_lt k t.n200 ≡ b → HasError (course t (expired T200) (ringing k [])).notes ⊎ (course t (expired T200) (ringing k []) ≡ repeated)
-      go true e = inr (ap (λ b. cond b (again t k [] (nat_lt 0 t.control)) (given_up t k [])) e ∙ ap (again t k []) room)
-      go false e = inl (ap (λ b. list_any is_error (cond b (again t k [] (nat_lt 0 t.control)) (given_up t k [])).notes) e)
+  pub t200-repeats : k < t.n200 → course t (expired T200) (ringing k []) ≡ repeated
+  t200-repeats few = ap (λ b. cond b (again t k [] (nat_lt 0 t.control)) (given_up t k [])) (lt-ltb k t.n200 few) ∙ ap (again t k []) room
 
 -- what waits goes to the way
 pub record RingsOn (t : Terms) (k : ℕ) (ws : List ControlFrame) (way : List Parts) : Type 0 where

@@ -1,14 +1,19 @@
 -- The next phases of such a call: the other end is up, and its UA waits, or is on its way before all else.
-use Rattle.std.proofs.Common.{◌≡◌, ℕ, ◌+◌, false, List, [], ◌∷◌, ◌++◌, None, refl, sym, ap, subst, ◌∙◌, ◌⊎◌, inl, inr, append-nil}
+use Rattle.std.proofs.Common.{◌≡◌, ℕ, false, List, [], ◌∷◌, ◌++◌, None, refl, sym, ap, subst, ◌∙◌, ◌⊎◌, inl, inr, append-nil}
+use Rattle.std.proofs.lemmas.List.Elements.{All-tail}
 use Rattle.lapd_frame.specs.declared.services.Service.{Service}
+use Rattle.lapd_frame.specs.declared.timers.Timer.{Timer}
 use Rattle.lapd_frame.specs.declared.timers.Timer.TheVariants as timers
-use Rattle.lapd_frame.specs.Grammar.{AreOctets, spelling}
+use Rattle.lapd_frame.specs.Grammar.{Parts, AreOctets, spelling}
 use Rattle.model_link.specs.declared.terms.Terms.{Terms}
+use Rattle.model_link.specs.declared.states.State.TheVariants.{TimerRecovery}
+use Rattle.model_link.specs.declared.timers.LinkTimer.{LinkTimer}
+use Rattle.model_link.specs.declared.timers.LinkTimer.TheVariants.{T200, T203}
 use Rattle.model_link.specs.Events as link
 use Rattle.model_link.specs.Machine.{course, given}
 use Rattle.model_link.specs.Requests.{refusal}
 use Rattle.model_link.specs.Sound.{IsInRange}
-use Rattle.model_link.specs.TwoEnds.{End, with_sent}
+use Rattle.model_link.specs.TwoEnds.{End, with_link, with_sent}
 use Rattle.model_link.proofs.Sending.{offer-gave}
 use Rattle.model_line.specs.declared.config.Config.{Config}
 use Rattle.model_line.specs.Event.{LineTold}
@@ -18,18 +23,23 @@ use Rattle.model_card.specs.Happening.{comes, goes, expires, asks}
 use Rattle.laws_wire.specs.Wire.{Station, Wire, happens, with_first_of, Act, requests, times_out, gives, takes, loses, acting, turned, IsStill}
 use Rattle.laws_wire.specs.Call.{confirmed, indicated}
 use Rattle.laws_wire.specs.Losing.{IsRoughTalkOf}
-use Rattle.laws_wire.specs.Recovering.{IsTimelyOf, IsSpared}
+use Rattle.laws_wire.specs.Facing.{end_of}
+use Rattle.laws_wire.specs.Timely.{is_final, IsLongEnough, IsTimelyOf, IsSpared}
+use Rattle.laws_link.specs.Flags.{awaits_answer}
+use Rattle.laws_two_links.specs.Ahead.{CanRepeat}
+use Rattle.laws_two_links.specs.Timely as two_links_timely
+use Rattle.laws_wire.proofs.Awaited.{closed, link-is, as-here, may-there, open-there, waits-first, goes-first}
 use Rattle.laws_wire.proofs.Asking.{with_more, asked-form}
-use Rattle.laws_wire.proofs.Calling.{ua, end, with_ua_waiting, with_ua_first}
-use Rattle.laws_wire.proofs.Firm.{Firm, firm-turned, firm-sends, firm-asks}
+use Rattle.laws_wire.proofs.Calling.{its_ua, ua, end, with_ua_waiting, with_ua_first}
+use Rattle.laws_wire.proofs.Firm.{Firm, firm-turned, firm-sends, firm-asks, firm-expires}
 use Rattle.laws_wire.proofs.Held.{Held, held-given, held-lost, held-first, taken-told, taken-stands, Grants, held-asked}
-use Rattle.laws_wire.proofs.LossyPhases.{made, for-data, first-way, empty}
+use Rattle.laws_wire.proofs.LossyPhases.{made, for-data, Aims, first-way, empty}
 use Rattle.laws_wire.proofs.Ringing.{ringing, answered}
 use Rattle.laws_wire.proofs.Talking.{Face}
 use Rattle.laws_wire.proofs.TimelyFirst.{takes-none, loses-none, gives-nothing, asks-refused}
-use Rattle.laws_wire.proofs.TimelyUp.{each-timer, hushed, BothUp, AreUp}
+use Rattle.laws_wire.proofs.TimelyUp.{each-timer, hushed, timer-held, never, BothUp, AreUp}
 use Rattle.laws_wire.proofs.TimelyPhases as phases
-use Rattle.laws_wire.proofs.TimelyPhases.{silent-t203}
+use Rattle.laws_wire.proofs.TimelyPhases.{silent-t203, ringing-open}
 
 sends-ua : (n : End) → n.link.waiting ≡ [] → n.way ≡ [] → with_sent (with_ua_waiting n) ≡ with_ua_first n
 sends-ua n waiting none =
@@ -105,7 +115,7 @@ module _ (service : Service) (tei : ℕ) (c d : Config) (p q : ℕ) (face : Face
         for-data service tei (λ r. Goes (acting (requests r) w))
         (λ octets are. as-waits m (subst (λ s. UaWaits m (record w { near = s })) (sym (asks-refused service tei c p [] w.near waits_end h.near (λ octets none. cc none) octets are)) h)) r is
     waits-near (times_out timer) is x =
-        each-timer service tei (λ timer. IsTimelyOf (times_out timer) w → Goes (acting (times_out timer) w)) (λ x. absurd (waits-still x.0))
+        each-timer service tei (λ timer. IsTimelyOf (times_out timer) w → Goes (acting (times_out timer) w)) (λ x. absurd (waits-first is_final (with_ua_waiting m) its_ua [] refl refl (ringing-open service tei c d p q h.repeats [] [] w (with_ua_waiting m) first_far h.near h.far x.0).responses))
         (λ x. as-waits m (still-waits (happens (expires w.near.line (timers.T203 service tei)) w.near) (silent-t203 service tei c d p q h.repeats [] [] w.near h.near))) timer is x
     waits-near gives is x = as-waits m (still-waits (happens (goes w.near.line) w.near) (gives-nothing service tei c p [] w.near waits_end h.near refl))
     waits-near takes is x = as-waits m (subst (UaWaits m) (sym (takes-none w (empty service tei d q first_far w.far (with_ua_waiting m) h.far h.way))) h)
@@ -134,7 +144,10 @@ module _ (service : Service) (tei : ℕ) (c d : Config) (p q : ℕ) (face : Face
 
     pub waits-far : (act : Act) → IsRoughTalkOf service tei act → IsSpared act w → Goes (turned (acting act (turned w)))
     waits-far (requests r) is y = for-data service tei (λ r. Goes (turned (acting (requests r) (turned w)))) waits-asks r is
-    waits-far (times_out timer) is y = absurd (y h.near.heard)
+    waits-far (times_out timer) is y =
+        let ua-first : (end_of service tei w.far).link.waiting ≡ its_ua ∷ [] = ap (λ l. l.waiting) (link-is service tei d q w.far (with_ua_waiting m) h.far.stands) in
+        each-timer service tei (λ timer. IsSpared (times_out timer) w → Goes (turned (acting (times_out timer) (turned w))))
+        (λ y. let none = sym ua-first ∙ y h.near.heard in absurd (cc)) (λ y. let none = sym ua-first ∙ y h.near.heard in absurd (cc)) timer is y
     waits-far gives is y = as-comes m gives-ua
     waits-far takes is y = as-waits m (subst (λ w'. UaWaits m (turned w')) (sym (takes-none (turned w) (empty service tei c p [] w.near waits_end h.near refl))) h)
     waits-far loses is y = absurd (y h.near.heard)
@@ -167,7 +180,7 @@ module _ (service : Service) (tei : ℕ) (c d : Config) (p q : ℕ) (face : Face
         for-data service tei (λ r. Goes (acting (requests r) w))
         (λ octets are. as-comes m (subst (λ s. UaGoes m (record w { near = s })) (sym (asks-refused service tei c p [] w.near comes_end h.near (λ octets none. cc none) octets are)) h)) r is
     comes-near (times_out timer) is x =
-        each-timer service tei (λ timer. IsTimelyOf (times_out timer) w → Goes (acting (times_out timer) w)) (λ x. absurd (comes-still x.0))
+        each-timer service tei (λ timer. IsTimelyOf (times_out timer) w → Goes (acting (times_out timer) w)) (λ x. absurd (goes-first is_final (with_ua_first m) (ua m.terms) m.way refl refl (ringing-open service tei c d p q h.repeats [] [] w (with_ua_first m) first_far h.near h.far x.0).responses))
         (λ x. as-comes m (record { repeats = h.repeats; near = silent-t203 service tei c d p q h.repeats [] [] w.near h.near; far = h.far; firm = h.firm })) timer is x
     comes-near gives is x = as-comes m (record { repeats = h.repeats; near = gives-nothing service tei c p [] w.near comes_end h.near refl; far = h.far; firm = h.firm })
     comes-near takes is x = as-up (record { n = end t (answered h.repeats []) []; m = m; up = confirms })
@@ -194,9 +207,43 @@ module _ (service : Service) (tei : ℕ) (c d : Config) (p q : ℕ) (face : Face
           firm = firm-turned (with_sent m) near (firm-sends m near (firm-turned near m h.firm));
         }
 
-    pub comes-far : (act : Act) → IsRoughTalkOf service tei act → IsSpared act w → Goes (turned (acting act (turned w)))
-    comes-far (requests r) is y = for-data service tei (λ r. Goes (turned (acting (requests r) (turned w)))) comes-asks r is
-    comes-far (times_out timer) is y = absurd (y h.near.heard)
-    comes-far gives is y = as-comes (with_sent m) comes-gives
-    comes-far takes is y = as-comes m (subst (λ w'. UaGoes m (turned w')) (sym (takes-none (turned w) (empty service tei c p [] w.near comes_end h.near refl))) h)
-    comes-far loses is y = absurd (y h.near.heard)
+    -- a timer of the other end, behind its UA
+    comes-expires : (timer : Timer) (its : LinkTimer) → Aims service tei timer its → CanRepeat its m → two_links_timely.IsTimely its m (end t (answered h.repeats []) [])
+        → Goes (turned (acting (times_out timer) (turned w)))
+    comes-expires timer its aims can timely =
+        let near = end t (answered h.repeats []) [] in
+        let firm = firm-expires m near (firm-turned near m h.firm) its can timely in
+        as-comes (with_link (link.expired its) m) (record {
+          repeats = h.repeats;
+          near = h.near;
+          far = timer-held service tei d q first_far w.far (with_ua_first m) h.far h.firm.joined.far_up timer its aims firm.joined.near_up;
+          firm = firm-turned (with_link (link.expired its) m) near firm;
+        })
+
+    far-none : m.link.state ≡ TimerRecovery → IsLongEnough (end_of service tei w.far) (end_of service tei w.near) → two_links_timely.IsNoneOpen m (end t (answered h.repeats []) [])
+    far-none state long =
+        let far = with_ua_first m in
+        let open_ = open-there service tei d c q p w.far w.near far comes_end h.far.stands h.near.stands (long (ap awaits_answer (as-here service tei d q w.far far h.far.stands state))) in
+        let both = closed far comes_end open_ in
+        record {
+          enquiries = record { waiting = both.enquiries.waiting; way = All-tail (λ (f : Parts). two_links_timely.is_enquiry f.address.command f.control ≡ false) (ua m.terms) m.way both.enquiries.way };
+          answers = record { waiting = both.answers.waiting; way = both.answers.way };
+        }
+
+    comes-t200 : IsTimelyOf (times_out (timers.T200 service tei)) (turned w) → Goes (turned (acting (times_out (timers.T200 service tei)) (turned w)))
+    comes-t200 (long, may) =
+        let there = may-there service tei d q w.far (with_ua_first m) h.far.stands may in
+        comes-expires (timers.T200 service tei) T200 (λ l. refl) (λ state running. there (ap awaits_answer state)) (λ state running. far-none state long)
+
+    comes-t203 : Goes (turned (acting (times_out (timers.T203 service tei)) (turned w)))
+    comes-t203 =
+        let not-there = λ (state : m.link.state ≡ TimerRecovery). never service tei d q first_far w.far (with_ua_first m) h.far h.firm.far_sane.timed state in
+        comes-expires (timers.T203 service tei) T203 (λ l. refl) (λ state running. absurd (not-there state running)) (λ state running. absurd (not-there state running))
+
+    pub comes-far : (act : Act) → IsRoughTalkOf service tei act → IsTimelyOf act (turned w) → IsSpared act w → Goes (turned (acting act (turned w)))
+    comes-far (requests r) is x y = for-data service tei (λ r. Goes (turned (acting (requests r) (turned w)))) comes-asks r is
+    comes-far (times_out timer) is x y =
+        each-timer service tei (λ timer. IsTimelyOf (times_out timer) (turned w) → Goes (turned (acting (times_out timer) (turned w)))) comes-t200 (λ x. comes-t203) timer is x
+    comes-far gives is x y = as-comes (with_sent m) comes-gives
+    comes-far takes is x y = as-comes m (subst (λ w'. UaGoes m (turned w')) (sym (takes-none (turned w) (empty service tei c p [] w.near comes_end h.near refl))) h)
+    comes-far loses is x y = absurd (y h.near.heard)

@@ -23,20 +23,23 @@ use Rattle.model_card.specs.Said.{said}
 use Rattle.laws_two_links.specs.CutOff as cut_off
 use Rattle.laws_two_links.specs.CutOff.{IsCutOff}
 use Rattle.laws_two_links.specs.Rounds as two_links
-use Rattle.laws_two_links.specs.Timely.{is_enquiry, is_answer, HasNo, IsNoneOpen}
+use Rattle.laws_two_links.specs.Timely.{HasNo}
 use Rattle.laws_two_links.proofs.Expiring.{Asking, Resting, expires-one}
 use Rattle.laws_two_links.proofs.Recovery.{all-recovered}
 use Rattle.laws_two_links.proofs.Shapes.{enquiry_with}
 use Rattle.laws_two_links.proofs.Waiting.{nothing-to_send}
+use Rattle.laws_link.specs.Flags.{awaits_answer}
 use Rattle.laws_wire.specs.Wire.{Station, Wire, times_out, acting, turned, IsStill}
 use Rattle.laws_wire.specs.Call.{confirmed, indicated, data_told}
 use Rattle.laws_wire.specs.Losing.{heard_in}
-use Rattle.laws_wire.specs.Recovering.{rounds, HasNoErrors, HasMissing, HasArrived, with_t200_expired}
+use Rattle.laws_wire.specs.Timely.{is_poll, is_final, IsNoneOpen, StayTimely}
+use Rattle.laws_wire.specs.Recovering.{both_expire, rounds, HasMissing, HasArrived, with_t200_expired, BothMayRepeat}
+use Rattle.laws_wire.proofs.Awaited.{closed, link-is, may-there, open-here}
 use Rattle.laws_wire.proofs.Firm.{Firm, not-behind}
 use Rattle.laws_wire.proofs.Held.{Held}
 use Rattle.laws_wire.proofs.Standing.{Stands, gives-none}
 use Rattle.laws_wire.proofs.Talking.{Face}
-use Rattle.laws_wire.proofs.TimelyUp.{IsHushed, hushed, none-waits, none-of, none-open, BothUp, turned-up, up-expires, repeats-left, rounds-up}
+use Rattle.laws_wire.proofs.TimelyUp.{IsHushed, hushed, none-waits, none-of, none-open, BothUp, turned-up, up-expires, rounds-up}
 
 -- all frames on the way were lost
 cut-off : (n m : End) → Firm n m → n.link.waiting ≡ [] → n.way ≡ [] → (n.link.state ≡ TimerRecovery → n.link.repeats < n.terms.n200) → IsCutOff n m
@@ -57,23 +60,23 @@ cut-off n m h waiting way repeats = record {
 }
 
 abbrev IsNone : ControlFrame → Type 0
-IsNone f = is_answer f.command f.control ≡ false
+IsNone f = is_final f.command f.control ≡ false
 
 -- once it expires nothing waits but an enquiry
-no-answer : (n m : End) → IsCutOff n m → HasNo is_answer (with_link (link.expired T200) n)
+no-answer : (n m : End) → IsCutOff n m → HasNo is_final (with_link (link.expired T200) n)
 no-answer n m h = go (expires-one false n m h)
   where
     n' : End
     n' = with_link (link.expired T200) n
 
-    go : Asking false n n' ⊎ Resting false n n' → HasNo is_answer n'
+    go : Asking false n n' ⊎ Resting false n n' → HasNo is_final n'
     go (inl x) = record {
       waiting = subst (All IsNone) (sym (ap (λ (y : End). y.link.waiting) x.is)) (All-cons IsNone (enquiry_with false n.link.r) [] refl (All-nil IsNone));
-      way = subst (All (λ f. is_answer f.address.command f.control ≡ false)) (sym h.way) (All-nil (λ f. is_answer f.address.command f.control ≡ false));
+      way = subst (All (λ f. is_final f.address.command f.control ≡ false)) (sym h.way) (All-nil (λ f. is_final f.address.command f.control ≡ false));
     }
     go (inr x) = record {
       waiting = subst (All IsNone) (sym (ap (λ (y : End). y.link.waiting) x.is)) (All-nil IsNone);
-      way = subst (All (λ f. is_answer f.address.command f.control ≡ false)) (sym h.way) (All-nil (λ f. is_answer f.address.command f.control ≡ false));
+      way = subst (All (λ f. is_final f.address.command f.control ≡ false)) (sym h.way) (All-nil (λ f. is_final f.address.command f.control ≡ false));
     }
 
 -- what is missing at layer 3 is missing at the link
@@ -116,12 +119,18 @@ module _ (service : Service) (tei : ℕ) where
       };
     }
 
-    module _ (w : Wire) (n m : End) (h : Up w n m) (still : IsStill w) (u : ℕ) (few : HasMissing service tei u w) (fair : HasNoErrors (with_t200_expired service tei w)) where
+    module _ (w : Wire) (n m : End) (h : Up w n m) (still : IsStill w) (may : BothMayRepeat service tei w) where
       abbrev timer : Timer
       timer = timers.T200 service tei
 
       abbrev e : Ends
       e = record { near = n; far = m }
+
+      abbrev n' : End
+      n' = with_link (link.expired T200) n
+
+      abbrev m' : End
+      m' = with_link (link.expired T200) m
 
       near-hushed : IsHushed service tei n
       near-hushed = hushed service tei c p first_near w.near n h.near still.near still.near_way
@@ -135,25 +144,46 @@ module _ (service : Service) (tei : ℕ) where
       near-cut : IsCutOff n m
       near-cut =
           cut-off n m h.firm (none-waits service tei n near-hushed) near-hushed.way
-          (repeats-left service tei c d p q face first_near first_far w n m h timer (λ l. refl) fair.0)
+          (λ state. may-there service tei c p w.near n h.near.stands may.0 (ap awaits_answer state))
 
       far-cut : IsCutOff m n
       far-cut =
           cut-off m n other.firm (none-waits service tei m far-hushed) far-hushed.way
-          (repeats-left service tei d c q p back first_far first_near (turned w) m n other timer (λ l. refl) fair.1)
+          (λ state. may-there service tei d q w.far m h.far.stands may.1 (ap awaits_answer state))
 
-      both-expired : Up (with_t200_expired service tei w) (with_link (link.expired T200) n) (with_link (link.expired T200) m)
+      -- at the first end, and then at the other, which has no answer to come
+      abbrev w' : Wire
+      w' = acting (times_out timer) w
+
+      near-expired : Up w' n' m
+      near-expired =
+          up-expires service tei c d p q face first_near first_far w n m h timer T200 (λ l. refl) (λ state running. near-cut.repeats state)
+          (λ state running. closed n m (none-open service tei n m near-hushed far-hushed))
+
+      far-open : IsNoneOpen m n'
+      far-open = record { commands = none-of service tei is_poll m (none-waits service tei m far-hushed) far-hushed.way; responses = no-answer n m near-cut }
+
+      both-expired : Up (with_t200_expired service tei w) n' m'
       both-expired =
-          let n' = with_link (link.expired T200) n in
-          let m' = with_link (link.expired T200) m in
-          let w' = acting (times_out timer) w in
-          let first : Up w' n' m = up-expires service tei c d p q face first_near first_far w n m h timer T200 (λ l. refl) (λ state running. near-cut.repeats state) (λ state running. none-open service tei n m near-hushed far-hushed) in
-          let open_ : IsNoneOpen m n' = record { enquiries = none-of service tei is_enquiry m (none-waits service tei m far-hushed) far-hushed.way; answers = no-answer n m near-cut } in
           turned-up service tei d c q p first_far first_near (acting (times_out timer) (turned w')) m' n'
-          (up-expires service tei d c q p back first_far first_near (turned w') m n' (turned-up service tei c d p q first_near first_far w' n' m first) timer T200 (λ l. refl) (λ state running. far-cut.repeats state) (λ state running. open_))
+          (up-expires service tei d c q p back first_far first_near (turned w') m n' (turned-up service tei c d p q first_near first_far w' n' m near-expired) timer T200 (λ l. refl) (λ state running. far-cut.repeats state) (λ state running. closed m n' far-open))
 
-      pub up-arrives : HasArrived service tei w (rounds (u + 3) (with_t200_expired service tei w))
-      up-arrives =
+      -- so both are timely
+      pub up-goes_on : StayTimely (both_expire service tei) w
+      unfolding StayTimely
+      up-goes_on = (
+        (λ no. open-here service tei c d p q w.near w.far n m h.near.stands h.far.stands (none-open service tei n m near-hushed far-hushed), may.0),
+        (
+          (
+            (λ no. open-here service tei d c q p w'.far w'.near m n' near-expired.far.stands near-expired.near.stands far-open, may.1),
+            λ none. ap (λ l. l.waiting) (link-is service tei d q w.far m h.far.stands) ∙ none-waits service tei m far-hushed,
+          ),
+          tt,
+        ),
+      )
+
+      pub up-arrives : (u : ℕ) → HasMissing service tei u w → HasArrived service tei w (rounds (u + 3) (with_t200_expired service tei w))
+      up-arrives u few =
           let e' = cut_off.with_t200_expired e in
           let last = rounds-up service tei c d p q face back first_near first_far (u + 3) (with_t200_expired service tei w) e' both-expired in
           let there : cut_off.HasMissing u n m =

@@ -1,5 +1,5 @@
 -- A call in which T200 is timely: SABME waits, is on its way, or was lost; then UA waits, and is on its way; then both ends are up.
-use Rattle.std.proofs.Common.{◌≡◌, ℕ, List, [], ◌∷◌, refl, ◌⊎◌}
+use Rattle.std.proofs.Common.{◌≡◌, ℕ, List, [], ◌∷◌, refl, ap, ◌⊎◌}
 use Rattle.lapd_frame.specs.declared.services.Service.{Service}
 use Rattle.lapd_frame.specs.declared.timers.Timer.TheVariants as timers
 use Rattle.lapd_frame.specs.Grammar.{Parts}
@@ -12,8 +12,12 @@ use Rattle.model_line.specs.declared.config.Config.{Config}
 use Rattle.model_line.specs.Event.{LineTold}
 use Rattle.model_line.specs.Line.{terms}
 use Rattle.model_card.specs.Happening.{expires}
+use Rattle.laws_link.specs.Flags.{awaits_answer}
 use Rattle.laws_wire.specs.Wire.{Station, Wire, happens}
 use Rattle.laws_wire.specs.Call.{confirmed, indicated}
+use Rattle.laws_wire.specs.Facing.{end_of}
+use Rattle.laws_wire.specs.Timely.{IsLongEnough, IsNoneOpen}
+use Rattle.laws_wire.proofs.Awaited.{as-here, open-there}
 use Rattle.laws_wire.proofs.Calling.{sabme, end, with_ua_waiting, with_ua_first}
 use Rattle.laws_wire.proofs.Firm.{Firm}
 use Rattle.laws_wire.proofs.Held.{Held, held-expired}
@@ -64,6 +68,13 @@ module _ (service : Service) (tei : ℕ) (c d : Config) (p q : ℕ) where
 
   abbrev pub Goes : Wire → Type 0
   Goes w = Rings [] [] w ⊎ Rings (its_sabme ∷ []) [] w ⊎ Rings [] (sabme t ∷ []) w ⊎ Waits w ⊎ Comes w ⊎ AreUp service tei c d p q first_near first_far w
+
+  -- while it rings no answer is to come as T200 expires
+  pub ringing-open : (k : ℕ) (ws : List ControlFrame) (way : List Parts) (w : Wire) (m : End) (past : List LineTold) → Held c service tei p [] w.near (end t (ringing k ws) way) → Held d service tei q past w.far m
+      → IsLongEnough (end_of service tei w.near) (end_of service tei w.far) → IsNoneOpen (end t (ringing k ws) way) m
+  ringing-open k ws way w m past near far long =
+      let n = end t (ringing k ws) way in
+      open-there service tei c d p q w.near w.far n m near.stands far.stands (long (ap awaits_answer (as-here service tei c p w.near n near.stands refl)))
 
   -- while an end rings T203 does not run
   pub silent-t203 : (k : ℕ) (ws : List ControlFrame) (way : List Parts) (s : Station) → Held c service tei p [] s (end t (ringing k ws) way)

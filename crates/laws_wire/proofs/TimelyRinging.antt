@@ -1,5 +1,5 @@
 -- The first phases of such a call: one end rings, and the other is down.
-use Rattle.std.proofs.Common.{◌≡◌, ℕ, ◌+◌, true, List, [], ◌∷◌, map, None, refl, sym, ap, subst, ◌∙◌, ◌⊎◌, inl, inr, append-nil, arith}
+use Rattle.std.proofs.Common.{◌≡◌, ℕ, ◌+◌, ◌<◌, true, List, [], ◌∷◌, map, None, refl, sym, ap, subst, ◌∙◌, inl, inr, append-nil, arith}
 use Rattle.std.specs.Prelude.{nat_lt, option_to_list}
 use Rattle.std.proofs.lemmas.Bool.{lt-ltb}
 use Rattle.lapd_frame.specs.declared.notes.Note.TheVariants as notes
@@ -22,13 +22,14 @@ use Rattle.model_line.specs.Event.{LineTold}
 use Rattle.model_line.specs.Line.{terms}
 use Rattle.model_line.specs.Request.{Data}
 use Rattle.model_card.specs.Happening.{comes, expires}
-use Rattle.laws_wire.specs.Wire.{Station, Wire, happens, with_first_of, Act, requests, times_out, gives, takes, loses, acting, turned, IsStill}
+use Rattle.laws_wire.specs.Wire.{Wire, happens, with_first_of, Act, requests, times_out, gives, takes, loses, acting, turned, IsStill}
 use Rattle.laws_wire.specs.Call.{confirmed, indicated}
-use Rattle.laws_wire.specs.Losing.{HasNoError, IsRoughTalkOf}
-use Rattle.laws_wire.specs.Recovering.{IsTimelyOf}
+use Rattle.laws_wire.specs.Losing.{IsRoughTalkOf}
+use Rattle.laws_wire.specs.Timely.{is_poll, MayRepeat, IsTimelyOf}
+use Rattle.laws_wire.specs.Facing.{end_of}
+use Rattle.laws_wire.proofs.Awaited.{may-there, waits-first, goes-first}
 use Rattle.laws_wire.proofs.Calling.{sabme, end, answering, called, takes-sabme, told-of-sabme}
-use Rattle.laws_wire.proofs.Fair.{HasError}
-use Rattle.laws_wire.proofs.Held.{Held, TellsIt, now-erred, not-erred, held-given, held-lost, held-first, taken-told, taken-stands, expired-told, held-expired}
+use Rattle.laws_wire.proofs.Held.{Held, TellsIt, held-given, held-lost, held-first, taken-told, taken-stands, held-expired}
 use Rattle.laws_wire.proofs.LossyPhases.{made, for-data, for-timer, Aims, first-way, empty}
 use Rattle.laws_wire.proofs.Ringing.{ringing, its_sabme, repeated, t200-repeats}
 use Rattle.laws_wire.proofs.Standing.{Stands}
@@ -36,7 +37,7 @@ use Rattle.laws_wire.proofs.Talking.{Face}
 use Rattle.laws_wire.proofs.TimelyFirst.{firm-first, takes-none, loses-none, gives-nothing, asks-refused}
 use Rattle.laws_wire.proofs.TimelyUp.{each-timer, hushed}
 use Rattle.laws_wire.proofs.TimelyPhases as phases
-use Rattle.laws_wire.proofs.TimelyPhases.{silent-t203}
+use Rattle.laws_wire.proofs.TimelyPhases.{silent-t203, ringing-open}
 
 module _ (service : Service) (tei : ℕ) (c d : Config) (p q : ℕ) (face : Face c d) (back : Face d c) (rt : IsInRange (terms c service tei)) (ru : IsInRange (terms d service tei)) where
   abbrev t : Terms
@@ -117,37 +118,33 @@ module _ (service : Service) (tei : ℕ) (c d : Config) (p q : ℕ) (face : Face
     room : nat_lt 0 t.control ≡ true
     room = let low = rt.control_low in lt-ltb 0 t.control (omega (arith, low))
 
-    pub repeats-sabme : (timer : Timer) → Aims service tei timer T200 → HasNoError (happens (expires w.near.line timer) w.near) → Rings (its_sabme ∷ []) [] (acting (times_out timer) w)
-    repeats-sabme timer aims fair = go (t200-repeats t h.repeats room)
-      where
-        s' : Station
-        s' = happens (expires w.near.line timer) w.near
+    pub repeats-sabme : (timer : Timer) → Aims service tei timer T200 → h.repeats < t.n200 → Rings (its_sabme ∷ []) [] (acting (times_out timer) w)
+    repeats-sabme timer aims few =
+        let s' = happens (expires w.near.line timer) w.near in
+        let x : Course = course t (link.expired T200) (ringing h.repeats []) in
+        let is : x ≡ repeated t h.repeats room = t200-repeats t h.repeats room few in
+        let delivered = ap (λ (y : Course). y.delivered) is in
+        let tells : TellsIt service tei x = record {
+          its_notes = ap (λ (y : Course). y.notes) is ∙ ap (λ o. map (λ octets. notes.Data service tei) (option_to_list o)) (sym delivered);
+          no_unit = ap (λ (y : Course). y.unit) is;
+        } in
+        let kept : x.link.contents ≡ [] = ap (λ (y : Course). y.link.contents) is in
+        let becomes : with_link (link.expired T200) rung ≡ end t (ringing (h.repeats + 1) (its_sabme ∷ [])) [] =
+        (λ i. record rung { link = (is i).link; delivered = option_to_list (is i).delivered }) in
+        record {
+          repeats = h.repeats + 1;
+          near = subst (Held c service tei p [] s') becomes (held-expired service tei p [] c w.near rung h.near timer T200 aims tells kept);
+          far = h.far;
+        }
 
-        x : Course
-        x = course t (link.expired T200) (ringing h.repeats [])
-
-        go : HasError x.notes ⊎ (x ≡ repeated t h.repeats room) → Rings (its_sabme ∷ []) [] (record w { near = s' })
-        go (inl error) = absurd (not-erred s' fair (now-erred w.near s' x (expired-told service tei p [] c w.near rung h.near timer T200 aims) error))
-        go (inr is) =
-            let delivered = ap (λ (y : Course). y.delivered) is in
-            let tells : TellsIt service tei x = record {
-              its_notes = ap (λ (y : Course). y.notes) is ∙ ap (λ o. map (λ octets. notes.Data service tei) (option_to_list o)) (sym delivered);
-              no_unit = ap (λ (y : Course). y.unit) is;
-            } in
-            let kept : x.link.contents ≡ [] = ap (λ (y : Course). y.link.contents) is in
-            let becomes : with_link (link.expired T200) rung ≡ end t (ringing (h.repeats + 1) (its_sabme ∷ [])) [] =
-            (λ i. record rung { link = (is i).link; delivered = option_to_list (is i).delivered }) in
-            record {
-              repeats = h.repeats + 1;
-              near = subst (Held c service tei p [] s') becomes (held-expired service tei p [] c w.near rung h.near timer T200 aims tells kept);
-              far = h.far;
-            }
+    pub few-repeats : MayRepeat (end_of service tei w.near) → h.repeats < t.n200
+    few-repeats may = may-there service tei c p w.near rung h.near.stands may refl
 
     pub silent-near : (act : Act) → IsRoughTalkOf service tei act → IsTimelyOf act w → Goes (acting act w)
     silent-near (requests r) is x = for-data service tei (λ r. Goes (acting (requests r) w)) (λ octets are. as-lost (rings-asks [] [] w h octets are)) r is
     silent-near (times_out timer) is x =
         each-timer service tei (λ timer. IsTimelyOf (times_out timer) w → Goes (acting (times_out timer) w))
-        (λ x. as-asking (repeats-sabme (timers.T200 service tei) (λ l. refl) x.1.0)) (λ x. as-lost (rings-t203 [] [] w h)) timer is x
+        (λ x. as-asking (repeats-sabme (timers.T200 service tei) (λ l. refl) (few-repeats x.1))) (λ x. as-lost (rings-t203 [] [] w h)) timer is x
     silent-near gives is x = as-lost (record { repeats = h.repeats; near = gives-nothing service tei c p [] w.near rung h.near refl; far = h.far })
     silent-near takes is x = as-lost (rings-takes [] [] w h)
     silent-near loses is x = as-lost (subst (Rings [] []) (sym (loses-none w (empty service tei c p [] w.near rung h.near refl))) h)
@@ -166,7 +163,7 @@ module _ (service : Service) (tei : ℕ) (c d : Config) (p q : ℕ) (face : Face
     pub asking-near : (act : Act) → IsRoughTalkOf service tei act → IsTimelyOf act w → Goes (acting act w)
     asking-near (requests r) is x = for-data service tei (λ r. Goes (acting (requests r) w)) (λ octets are. as-asking (rings-asks (its_sabme ∷ []) [] w h octets are)) r is
     asking-near (times_out timer) is x =
-        each-timer service tei (λ timer. IsTimelyOf (times_out timer) w → Goes (acting (times_out timer) w)) (λ x. absurd (not-still x.0))
+        each-timer service tei (λ timer. IsTimelyOf (times_out timer) w → Goes (acting (times_out timer) w)) (λ x. absurd (waits-first is_poll asker its_sabme [] refl refl (ringing-open service tei c d p q h.repeats (its_sabme ∷ []) [] w (end u fresh []) [] h.near h.far x.0).commands))
         (λ x. as-asking (rings-t203 (its_sabme ∷ []) [] w h)) timer is x
     asking-near gives is x = as-called gives-sabme
     asking-near takes is x = as-asking (rings-takes (its_sabme ∷ []) [] w h)
@@ -183,7 +180,7 @@ module _ (service : Service) (tei : ℕ) (c d : Config) (p q : ℕ) (face : Face
     pub called-near : (act : Act) → IsRoughTalkOf service tei act → IsTimelyOf act w → Goes (acting act w)
     called-near (requests r) is x = for-data service tei (λ r. Goes (acting (requests r) w)) (λ octets are. as-called (rings-asks [] (sabme t ∷ []) w h octets are)) r is
     called-near (times_out timer) is x =
-        each-timer service tei (λ timer. IsTimelyOf (times_out timer) w → Goes (acting (times_out timer) w)) (λ x. absurd (called-still x.0))
+        each-timer service tei (λ timer. IsTimelyOf (times_out timer) w → Goes (acting (times_out timer) w)) (λ x. absurd (goes-first is_poll caller_end (sabme t) [] refl refl (ringing-open service tei c d p q h.repeats [] (sabme t ∷ []) w (end u fresh []) [] h.near h.far x.0).commands))
         (λ x. as-called (rings-t203 [] (sabme t ∷ []) w h)) timer is x
     called-near gives is x = as-called (record { repeats = h.repeats; near = gives-nothing service tei c p [] w.near caller_end h.near refl; far = h.far })
     called-near takes is x = as-called (rings-takes [] (sabme t ∷ []) w h)

@@ -1,5 +1,5 @@
 -- A whole call in which timers are timely: both ends stay up, and what was lost arrives.
-use Rattle.std.proofs.Common.{◌≡◌, ℕ, suc, ◌+◌, Bool, true, false, cond, not, ◌&&◌, ◌||◌, ◌==◌, List, [], ◌∷◌, ◌++◌, length, map, is_some, refl, sym, ap, subst, ◌∙◌, inl, inr, eqb-true, arith}
+use Rattle.std.proofs.Common.{◌≡◌, ℕ, suc, ◌+◌, ◌<◌, Bool, true, false, cond, not, ◌&&◌, ◌||◌, ◌==◌, List, [], ◌∷◌, ◌++◌, length, map, is_some, refl, sym, ap, subst, ◌∙◌, inl, inr, eqb-true, arith}
 use Rattle.std.specs.Prelude.{All, flat_map}
 use Rattle.std.specs.List.{list_any}
 use Rattle.std.proofs.lemmas.Bool.{and_parts, or_parts}
@@ -22,22 +22,26 @@ use Rattle.model_line.proofs.Ranges.{terms_in_range}
 use Rattle.laws_two_links.specs.Rounds as two_links
 use Rattle.laws_two_links.proofs.Arriving.{all-arrived}
 use Rattle.laws_wire.specs.Wire.{Station, Wire, Act, gives, takes, times_out, Doing, at_near, at_far, acting, turned, doing, doing_all, IsStill}
-use Rattle.laws_wire.specs.Call.{calling, confirmed, indicated, data_told}
+use Rattle.laws_wire.specs.Call.{calling, CanCall, confirmed, indicated, data_told}
 use Rattle.laws_wire.specs.Losing.{for_layer_3, heard_in, is_error, HasNoError, IsRoughTalkOf, IsRoughTalk}
-use Rattle.laws_wire.specs.Recovering.{round, rounds, HasNoErrors, IsTimelyOf, IsSpared, IsTimely, StayTimely, HasMissing, HasArrived, with_t200_expired, WhatIsLostArrives}
+use Rattle.laws_wire.specs.Timely.{is_poll, is_final, IsNoneOpen, IsTimelyOf, IsSpared, IsTimely, StayTimely}
+use Rattle.laws_wire.specs.Recovering.{both_expire, round, rounds, HasNoErrors, BothMayRepeat, HasMissing, HasArrived, with_t200_expired, WhatIsLostArrives}
+use Rattle.laws_wire.proofs.Awaited.{link-is, open-here}
 use Rattle.laws_wire.proofs.Beginning.{calls, answers}
 use Rattle.laws_wire.proofs.Calling.{asked, end, called}
+use Rattle.laws_wire.proofs.Held.{Held}
 use Rattle.laws_wire.proofs.LossyRun.{from-nothing}
 use Rattle.laws_wire.proofs.Ringing.{answered, its_sabme}
+use Rattle.laws_wire.proofs.Ringing.{ringing as ringing_as}
 use Rattle.laws_wire.proofs.Spelled.{twice-other}
 use Rattle.laws_wire.proofs.Talking.{Face}
-use Rattle.laws_wire.proofs.TimelyArrives.{arrived, up-arrives}
+use Rattle.laws_wire.proofs.TimelyArrives.{arrived, up-goes_on, up-arrives}
 use Rattle.laws_wire.proofs.TimelyFirst.{near-ready, far-ready, there-taken, back-taken}
 use Rattle.laws_wire.proofs.TimelyAnswered.{gives-ua, confirms, waits-still, waits-near, waits-far, comes-still, comes-near, comes-far}
 use Rattle.laws_wire.proofs.TimelyPhases.{Rings, UaWaits, UaGoes, Goes}
 use Rattle.laws_wire.proofs.TimelyRinging as ringing
-use Rattle.laws_wire.proofs.TimelyRinging.{down-expires, down-acts, repeats-sabme, silent-near, gives-sabme, not-still, asking-near, called-still, called-near, called-far}
-use Rattle.laws_wire.proofs.TimelyUp.{BothUp, AreUp, turned-are, up-acts, rounds-up}
+use Rattle.laws_wire.proofs.TimelyRinging.{down-expires, down-acts, repeats-sabme, few-repeats, silent-near, gives-sabme, not-still, asking-near, called-still, called-near, called-far}
+use Rattle.laws_wire.proofs.TimelyUp.{hushed, none-of, none-open, BothUp, AreUp, turned-are, up-acts, rounds-up}
 
 -- ---- what layer 3 heard has the errors that were told
 
@@ -115,13 +119,13 @@ module _ (service : Service) (tei : ℕ) (c d : Config) (p q : ℕ) (face : Face
   far-goes act is w x y (inr (inl h)) = inr (inl (down-acts service tei c d p q face back rt ru (its_sabme ∷ []) [] w h refl act is))
   far-goes act is w x y (inr (inr (inl h))) = called-far service tei c d p q face back rt ru w h act is
   far-goes act is w x y (inr (inr (inr (inl h)))) = waits-far service tei c d p q face back rt ru w h.m h.is act is y
-  far-goes act is w x y (inr (inr (inr (inr (inl h))))) = comes-far service tei c d p q face back rt ru w h.m h.is act is y
+  far-goes act is w x y (inr (inr (inr (inr (inl h))))) = comes-far service tei c d p q face back rt ru w h.m h.is act is x y
   far-goes act is w x y (inr (inr (inr (inr (inr h))))) =
       let other = turned-are service tei c d p q first_near first_far w h in
       as-up (turned (acting act (turned w)))
       (turned-are service tei d c q p first_far first_near (acting act (turned w)) (up-acts service tei d c q p back first_far first_near (turned w) other.n other.m other.up act is x))
 
-  step : (k : Doing) → IsRoughTalk service tei k → (w : Wire) → IsTimely k w → On w → On (doing k w)
+  pub step : (k : Doing) → IsRoughTalk service tei k → (w : Wire) → IsTimely k w → On w → On (doing k w)
   step (at_near act) is w x h = near-goes act is w x h
   step (at_far act) is w x h = far-goes act is w x.0 x.1 h
 
@@ -147,17 +151,20 @@ module _ (service : Service) (tei : ℕ) (c d : Config) (p q : ℕ) (face : Face
   )
 
   -- SABME was lost: it goes again, and both are up
-  module _ (w : Wire) (h : Rings service tei c d p q [] [] w) (u : ℕ) (fair : HasNoErrors (with_t200_expired service tei w)) where
+  module _ (w : Wire) (h : Rings service tei c d p q [] [] w) (may : BothMayRepeat service tei w) where
     abbrev timer : Timer
     timer = timers.T200 service tei
 
     abbrev expired : Wire
     expired = with_t200_expired service tei w
 
+    few : h.repeats < (terms c service tei).n200
+    few = few-repeats service tei c d p q face back rt ru w h may.0
+
     again : Rings service tei c d p q (its_sabme ∷ []) [] expired
     again =
         let w' = acting (times_out timer) w in
-        down-expires service tei c d p q face back rt ru (its_sabme ∷ []) [] w' (repeats-sabme service tei c d p q face back rt ru w h timer (λ l. refl) fair.0) timer T200 (λ l. refl)
+        down-expires service tei c d p q face back rt ru (its_sabme ∷ []) [] w' (repeats-sabme service tei c d p q face back rt ru w h timer (λ l. refl) few) timer T200 (λ l. refl)
 
     -- the first round
     record First (w' : Wire) : Type 0 where
@@ -176,8 +183,8 @@ module _ (service : Service) (tei : ℕ) (c d : Config) (p q : ℕ) (face : Face
         let h3 : UaGoes service tei c d p q m w3 = gives-ua service tei c d p q face back rt ru w2 m h2 in
         record { repeats = h3.repeats; up = confirms service tei c d p q face back rt ru w3 m h3 }
 
-    pub lost-arrives : HasArrived service tei w (rounds (u + 3) expired)
-    lost-arrives =
+    pub lost-arrives : (u : ℕ) → HasArrived service tei w (rounds (u + 3) expired)
+    lost-arrives u =
         let t = terms c service tei in
         let v = terms d service tei in
         let k = first.repeats in
@@ -191,41 +198,85 @@ module _ (service : Service) (tei : ℕ) (c d : Config) (p q : ℕ) (face : Face
         subst (HasArrived service tei w) (sym (one-round (u + 3) j (same-count u) expired))
         (arrived service tei c d p q face back w (rounds j w') (two_links.rounds j e) [] [] last all.0 all.1 h.near.granted h.far.granted)
 
+    -- and that is timely at both ends
+    pub lost-goes_on : IsStill w → StayTimely (both_expire service tei) w
+    unfolding StayTimely
+    lost-goes_on still =
+        let t = terms c service tei in
+        let v = terms d service tei in
+        let n = end t (ringing_as h.repeats []) [] in
+        let m = end v fresh [] in
+        let near = hushed service tei c p [] w.near n h.near still.near still.near_way in
+        let far = hushed service tei d q [] w.far m h.far still.far still.far_way in
+        let w' = acting (times_out timer) w in
+        let next = repeats-sabme service tei c d p q face back rt ru w h timer (λ l. refl) few in
+        let n' = end t (ringing_as next.repeats (its_sabme ∷ [])) [] in
+        let sabme-alone = All-cons (λ (f : ControlFrame). is_final f.command f.control ≡ false) its_sabme [] refl (All-nil (λ (f : ControlFrame). is_final f.command f.control ≡ false)) in
+        let open_ : IsNoneOpen m n' = record { commands = none-of service tei is_poll m refl refl; responses = record { waiting = sabme-alone; way = All-nil (λ (f : Parts). is_final f.address.command f.control ≡ false) } } in (
+          (λ no. open-here service tei c d p q w.near w.far n m h.near.stands h.far.stands (none-open service tei n m near far), may.0),
+          (
+            (
+              (λ no. open-here service tei d c q p w.far w'.near m n' h.far.stands next.near.stands open_, may.1),
+              λ none. ap (λ l. l.waiting) (link-is service tei d q w.far m h.far.stands),
+            ),
+            tt,
+          ),
+        )
+
   abbrev Arrives : ℕ → Wire → Type 0
   Arrives u w = HasArrived service tei w (rounds (u + 3) (with_t200_expired service tei w))
 
   -- where no turn is left before both are up SABME was lost
-  pub arrives : (w : Wire) → On w → (u : ℕ) → IsStill w → HasMissing service tei u w → HasNoErrors (with_t200_expired service tei w) → Arrives u w
-  arrives w (inl h) u still few fair = lost-arrives w h u fair
-  arrives w (inr (inl h)) u still few fair = absurd (not-still service tei c d p q face back rt ru w h still)
-  arrives w (inr (inr (inl h))) u still few fair = absurd (called-still service tei c d p q face back rt ru w h still)
-  arrives w (inr (inr (inr (inl h)))) u still few fair = absurd (waits-still service tei c d p q face back rt ru w h.m h.is still)
-  arrives w (inr (inr (inr (inr (inl h))))) u still few fair = absurd (comes-still service tei c d p q face back rt ru w h.m h.is still)
-  arrives w (inr (inr (inr (inr (inr h))))) u still few fair = up-arrives service tei c d p q face back w h.n h.m h.up still u few fair
+  pub arrives : (w : Wire) → On w → (u : ℕ) → IsStill w → HasMissing service tei u w → BothMayRepeat service tei w → Arrives u w
+  arrives w (inl h) u still few may = lost-arrives w h may u
+  arrives w (inr (inl h)) u still few may = absurd (not-still service tei c d p q face back rt ru w h still)
+  arrives w (inr (inr (inl h))) u still few may = absurd (called-still service tei c d p q face back rt ru w h still)
+  arrives w (inr (inr (inr (inl h)))) u still few may = absurd (waits-still service tei c d p q face back rt ru w h.m h.is still)
+  arrives w (inr (inr (inr (inr (inl h))))) u still few may = absurd (comes-still service tei c d p q face back rt ru w h.m h.is still)
+  arrives w (inr (inr (inr (inr (inr h))))) u still few may = up-arrives service tei c d p q face back w h.n h.m h.up still may u few
+
+  -- and there T200 of both ends is timely
+  pub goes-on : (w : Wire) → On w → IsStill w → BothMayRepeat service tei w → StayTimely (both_expire service tei) w
+  goes-on w (inl h) still may = lost-goes_on w h may still
+  goes-on w (inr (inl h)) still may = absurd (not-still service tei c d p q face back rt ru w h still)
+  goes-on w (inr (inr (inl h))) still may = absurd (called-still service tei c d p q face back rt ru w h still)
+  goes-on w (inr (inr (inr (inl h)))) still may = absurd (waits-still service tei c d p q face back rt ru w h.m h.is still)
+  goes-on w (inr (inr (inr (inr (inl h))))) still may = absurd (comes-still service tei c d p q face back rt ru w h.m h.is still)
+  goes-on w (inr (inr (inr (inr (inr h))))) still may = up-goes_on service tei c d p q face back w h.n h.m h.up still may
+
+-- a call as it begins
+pub record Setting (service : Service) (c d : Config) (line other tei : ℕ) : Type 0 where
+  pub face : Face c d
+  pub back : Face d c
+  pub near : IsInRange (terms c service tei)
+  pub far : IsInRange (terms d service tei)
+  pub near_held : Held c service tei 0 [] (calling service tei c line d other).near (end (terms c service tei) asked [])
+  pub far_held : Held d service tei 0 [] (calling service tei c line d other).far (end (terms d service tei) fresh [])
+  pub begun : Goes service tei c d 0 0 (calling service tei c line d other)
+
+pub setting : (service : Service) (c d : Config) (line other tei : ℕ) → CanCall c line d other tei → Setting service c d line other tei
+setting service c d line other tei can =
+    let w = calling service tei c line d other in
+    let near : Held c service tei 0 [] w.near (end (terms c service tei) asked []) = from-nothing c service tei 0 w.near (end (terms c service tei) asked []) (calls service tei c can.near can.terminal line can.near_line) refl in
+    let far : Held d service tei 0 [] w.far (end (terms d service tei) fresh []) = from-nothing d service tei 0 w.far (end (terms d service tei) fresh []) (answers service tei d can.far can.terminal other can.far_line) refl in
+    let begun : Rings service tei c d 0 0 (its_sabme ∷ []) [] w = record { repeats = 0; near = near; far = far } in
+    record {
+      face = record { side = sym can.sides; n201 = can.n201 };
+      back = record { side = ap other_side can.sides ∙ twice-other c.side; n201 = sym can.n201 };
+      near = terms_in_range c can.near service tei can.terminal;
+      far = terms_in_range d can.far service tei can.terminal;
+      near_held = near;
+      far_held = far;
+      begun = inr (inl begun);
+    }
 
 pub what-is-lost-arrives : WhatIsLostArrives
 what-is-lost-arrives service c d line other tei ds can talk = λ timely.
-    let h = runs service tei c d 0 0 face back rt ru ds talk w timely (inr (inl begun)) in
-    record { no_error = fair service tei c d 0 0 face back rt ru (doing_all ds w) h; arrives = arrives service tei c d 0 0 face back rt ru (doing_all ds w) h }
-  where
-    face : Face c d
-    face = record { side = sym can.sides; n201 = can.n201 }
-
-    back : Face d c
-    back = record { side = ap other_side can.sides ∙ twice-other c.side; n201 = sym can.n201 }
-
-    rt : IsInRange (terms c service tei)
-    rt = terms_in_range c can.near service tei can.terminal
-
-    ru : IsInRange (terms d service tei)
-    ru = terms_in_range d can.far service tei can.terminal
-
-    w : Wire
-    w = calling service tei c line d other
-
-    begun : Rings service tei c d 0 0 (its_sabme ∷ []) [] w
-    begun = record {
-      repeats = 0;
-      near = from-nothing c service tei 0 w.near (end (terms c service tei) asked []) (calls service tei c can.near can.terminal line can.near_line) refl;
-      far = from-nothing d service tei 0 w.far (end (terms d service tei) fresh []) (answers service tei d can.far can.terminal other can.far_line) refl;
+    let x = setting service c d line other tei can in
+    let w = calling service tei c line d other in
+    let h = runs service tei c d 0 0 x.face x.back x.near x.far ds talk w timely x.begun in
+    record {
+      no_error = fair service tei c d 0 0 x.face x.back x.near x.far (doing_all ds w) h;
+      arrives = arrives service tei c d 0 0 x.face x.back x.near x.far (doing_all ds w) h;
+      goes_on = goes-on service tei c d 0 0 x.face x.back x.near x.far (doing_all ds w) h;
     }

@@ -1,11 +1,8 @@
 -- Two stations whose links are up, where each timer is timely: both stay up, whatever is lost.
-use Rattle.std.proofs.Common.{◌≡◌, ℕ, zero, suc, ◌<◌, Bool, true, false, cond, List, [], ◌∷◌, map, Some, None, refl, sym, ap, subst, ◌∙◌, ◌⊎◌, inl, inr, append-nil, true≢false}
-use Rattle.std.specs.Prelude.{All, nat_lt}
-use Rattle.std.specs.List.{list_any}
-use Rattle.std.proofs.lemmas.Bool.{ltb-true}
+use Rattle.std.proofs.Common.{◌≡◌, ℕ, zero, suc, Bool, true, false, IsTrue, List, [], ◌∷◌, map, Some, None, refl, sym, ap, subst, ◌∙◌, ◌⊎◌, inl, inr, append-nil, true≢false}
+use Rattle.std.specs.Prelude.{All}
 use Rattle.std.proofs.lemmas.List.Elements.{All-nil, All-head}
 use Rattle.lapd_frame.specs.declared.controls.Control.{Control}
-use Rattle.lapd_frame.specs.declared.notes.ErrorCode.TheVariants as code
 use Rattle.lapd_frame.specs.declared.services.Service.{Service}
 use Rattle.lapd_frame.specs.declared.timers.Timer.{Timer}
 use Rattle.lapd_frame.specs.declared.timers.Timer.TheVariants as timers
@@ -14,18 +11,14 @@ use Rattle.model_link.specs.declared.frames.ControlFrame.{ControlFrame}
 use Rattle.model_link.specs.declared.states.State.TheVariants.{TimerRecovery}
 use Rattle.model_link.specs.declared.timers.LinkTimer.{LinkTimer}
 use Rattle.model_link.specs.declared.timers.LinkTimer.TheVariants.{T200, T203}
-use Rattle.model_link.specs.declared.terms.Terms.{Terms}
 use Rattle.model_link.specs.Events as link
-use Rattle.model_link.specs.Link.{Link}
-use Rattle.model_link.specs.Machine
+use Rattle.model_link.specs.Link.{is_multiple_frame}
 use Rattle.model_link.specs.Machine.{course, given, is_running}
-use Rattle.model_link.specs.MultipleFrame
-use Rattle.model_link.specs.Steps.{begun, ◌then◌}
-use Rattle.laws_link.specs.Timed.{IsTimedIn}
+use Rattle.laws_link.specs.Flags.{awaits_answer}
+use Rattle.laws_link.specs.Timed.{IsTimed, IsTimedIn}
 use Rattle.model_link.specs.Told.{runs}
 use Rattle.model_link.specs.TwoEnds.{End, Ends, with_link, with_sent}
 use Rattle.model_link.specs.TwoEnds as two_ends
-use Rattle.model_link.specs.Words
 use Rattle.model_link.proofs.Sending.{offer-gave}
 use Rattle.model_line.specs.declared.config.Config.{Config}
 use Rattle.model_line.specs.Event.{LineTold}
@@ -38,22 +31,18 @@ use Rattle.laws_two_links.specs.Rounds as two_links
 use Rattle.laws_two_links.specs.Timely as two_links_timely
 use Rattle.laws_two_links.proofs.Waiting.{nothing-given}
 use Rattle.laws_wire.specs.Wire.{Station, Wire, happens, with_first_of, Act, requests, times_out, gives, takes, loses, acting, turned, doing_all}
-use Rattle.laws_wire.specs.Losing.{is_error, HasNoError, IsOfLink, IsRoughTalkOf}
-use Rattle.laws_wire.specs.Recovering.{round, rounds, IsTimelyOf}
+use Rattle.laws_wire.specs.Losing.{IsOfLink, IsRoughTalkOf}
+use Rattle.laws_wire.specs.Timely.{is_poll, is_final, IsNoneOpen, IsTimelyOf}
+use Rattle.laws_wire.specs.Recovering.{round, rounds}
 use Rattle.laws_wire.proofs.Asking.{with_more, asked-form}
+use Rattle.laws_wire.proofs.Awaited.{closed, as-here, may-there, open-there}
 use Rattle.laws_wire.proofs.Fair.{HasError, Fine, timer-fair}
 use Rattle.laws_wire.proofs.Firm.{timer-quiet, Firm, firm-turned, firm-sends, firm-loses, firm-asks, firm-expires, firm-takes, takes-fine, takes-kept}
-use Rattle.laws_wire.proofs.Held.{Held, now-erred, not-erred, held-given, held-lost, held-taken, expired-told, held-expired, Grants, held-asked}
+use Rattle.laws_wire.proofs.Held.{Held, held-given, held-lost, held-taken, held-expired, Grants, held-asked}
 use Rattle.laws_wire.proofs.Joint.{timer-goes}
 use Rattle.laws_wire.proofs.LossyPhases.{for-data, Aims}
 use Rattle.laws_wire.proofs.Standing.{IsCarried, Stands, still-gives-none}
 use Rattle.laws_wire.proofs.Talking.{Face}
-
--- where N200 is reached an error is told
-ran-out : (t : Terms) (l : Link) → l.state ≡ TimerRecovery → is_running T200 l ≡ true → nat_lt l.repeats t.n200 ≡ false → HasError (course t (link.expired T200) l).notes
-ran-out t l state ran over =
-    (λ i. list_any is_error (cond (ran i) (Machine.expired_in (state i) T200 t (begun l)) (begun l)).notes)
-    ∙ ap (λ b. list_any is_error (cond b ((Words.enquire t then Words.repeated then Words.start T200) (begun l)) (MultipleFrame.failed t code.I (begun l))).notes) over
 
 no-way : (f : Parts → List ℕ) (way : List Parts) → map f way ≡ [] → way ≡ []
 no-way f [] e = refl
@@ -81,18 +70,42 @@ module _ (service : Service) (tei : ℕ) where
   pub none-waits : (n : End) → IsHushed n → n.link.waiting ≡ []
   none-waits n h = (nothing-given n.terms n.link h.given).waiting
 
-  -- so no enquiry is open
+  -- so no answer is to come
   pub none-of : (asked : Bool → Control → Bool) (n : End) → n.link.waiting ≡ [] → n.way ≡ [] → two_links_timely.HasNo asked n
   none-of asked n waiting way = record {
     waiting = subst (All (λ (f : ControlFrame). asked f.command f.control ≡ false)) (sym waiting) (All-nil (λ (f : ControlFrame). asked f.command f.control ≡ false));
     way = subst (All (λ (f : Parts). asked f.address.command f.control ≡ false)) (sym way) (All-nil (λ (f : Parts). asked f.address.command f.control ≡ false));
   }
 
-  pub none-open : (n m : End) → IsHushed n → IsHushed m → two_links_timely.IsNoneOpen n m
-  none-open n m h k = record {
-    enquiries = none-of two_links_timely.is_enquiry n (none-waits n h) h.way;
-    answers = none-of two_links_timely.is_answer m (none-waits m k) k.way;
-  }
+  pub none-open : (n m : End) → IsHushed n → IsHushed m → IsNoneOpen n m
+  none-open n m h k = record { commands = none-of is_poll n (none-waits n h) h.way; responses = none-of is_final m (none-waits m k) k.way }
+
+  -- a station whose link is up, and stays so as a timer expires
+  module _ (k : Config) (place : ℕ) (past : List LineTold) (s : Station) (n : End) (h : Held k service tei place past s n) where
+    abbrev IsUpAt : End → Type 0
+    IsUpAt n = IsTrue (is_multiple_frame n.link.state)
+
+    abbrev after : Timer → Station
+    after timer = happens (expires s.line timer) s
+
+    pub timer-held : IsUpAt n → (timer : Timer) (its : LinkTimer) → Aims service tei timer its → IsUpAt (with_link (link.expired its) n)
+        → Held k service tei place past (after timer) (with_link (link.expired its) n)
+    timer-held up timer its aims stays =
+        go (timer-quiet n.terms n.link its up stays) (timer-fair n.terms n.link up its).fair
+      where
+        go : let x = course n.terms (link.expired its) n.link in (HasError x.notes → ⊥)
+            → HasError x.notes ⊎ Fine n.terms x.link.state x.notes x.delivered x.unit → Held k service tei place past (after timer) (with_link (link.expired its) n)
+        go quiet (inl error) = absurd (quiet error)
+        go quiet (inr fine) =
+            let kept = (timer-goes n.terms n.link up its fine.up).same ∙ append-nil n.link.contents in
+            held-expired service tei place past k s n h timer its aims (record { its_notes = fine.its_notes; no_unit = fine.no_unit }) kept
+
+    -- in state 8 T200 runs, and T203 does not
+    pub timed-8 : IsTimed n.link → n.link.state ≡ TimerRecovery → n.link.running ≡ Some T200
+    timed-8 timed state = subst (λ here. IsTimedIn here n.link) state timed.timer
+
+    pub never : IsTimed n.link → n.link.state ≡ TimerRecovery → is_running T203 n.link ≡ true → ⊥
+    never timed state running = true≢false (sym running ∙ ap (runs T203) (timed-8 timed state))
 
   pub record BothUp (c d : Config) (p q : ℕ) (past other : List LineTold) (w : Wire) (n m : End) : Type 0 where
     pub near : Held c service tei p past w.near n
@@ -155,53 +168,24 @@ module _ (service : Service) (tei : ℕ) where
         → Now (acting (times_out timer) w) (with_link (link.expired its) n) m
     up-expires timer its aims can timely =
         let firm = firm-expires n m h.firm its can timely in
-        go firm (timer-quiet n.terms n.link its h.firm.joined.near_up firm.joined.near_up) (timer-fair n.terms n.link h.firm.joined.near_up its).fair
-      where
-        go : Firm (with_link (link.expired its) n) m → let x = course n.terms (link.expired its) n.link in (HasError x.notes → ⊥)
-            → HasError x.notes ⊎ Fine n.terms x.link.state x.notes x.delivered x.unit → Now (acting (times_out timer) w) (with_link (link.expired its) n) m
-        go firm quiet (inl error) = absurd (quiet error)
-        go firm quiet (inr fine) =
-            let kept = (timer-goes n.terms n.link h.firm.joined.near_up its fine.up).same ∙ append-nil n.link.contents in
-            record {
-              near = held-expired service tei p past c w.near n h.near timer its aims (record { its_notes = fine.its_notes; no_unit = fine.no_unit }) kept;
-              far = h.far;
-              firm = firm;
-            }
-
-    timed-8 : n.link.state ≡ TimerRecovery → n.link.running ≡ Some T200
-    timed-8 state = subst (λ here. IsTimedIn here n.link) state h.firm.near_sane.timed.timer
-
-    never : n.link.state ≡ TimerRecovery → is_running T203 n.link ≡ true → ⊥
-    never state running = true≢false (sym running ∙ ap (runs T203) (timed-8 state))
-
-    pub repeats-left : (timer : Timer) → Aims service tei timer T200 → HasNoError (happens (expires w.near.line timer) w.near) → n.link.state ≡ TimerRecovery
-        → n.link.repeats < n.terms.n200
-    repeats-left timer aims fair state = go (nat_lt n.link.repeats n.terms.n200) refl
-      where
-        no-error : HasError (course n.terms (link.expired T200) n.link).notes → ⊥
-        no-error error =
-            let s' = happens (expires w.near.line timer) w.near in
-            not-erred s' fair (now-erred w.near s' (course n.terms (link.expired T200) n.link) (expired-told service tei p past c w.near n h.near timer T200 aims) error)
-
-        go : (b : Bool) → nat_lt n.link.repeats n.terms.n200 ≡ b → n.link.repeats < n.terms.n200
-        go true e = ltb-true n.link.repeats n.terms.n200 e
-        go false e = absurd (no-error (ran-out n.terms n.link state (ap (runs T200) (timed-8 state)) e))
+        record { near = timer-held c p past w.near n h.near h.firm.joined.near_up timer its aims firm.joined.near_up; far = h.far; firm = firm }
 
     up-t200 : IsTimelyOf (times_out (timers.T200 service tei)) w → AreUp c d p q past other (acting (times_out (timers.T200 service tei)) w)
-    up-t200 (still, fair) =
-        let open_ = none-open n m (hushed c p past w.near n h.near still.near still.near_way) (hushed d q other w.far m h.far still.far still.far_way) in
-        let timer = timers.T200 service tei in
+    up-t200 (long, may) =
+        let there = may-there service tei c p w.near n h.near.stands may in
+        let none = λ (state : n.link.state ≡ TimerRecovery).
+        closed n m (open-there service tei c d p q w.near w.far n m h.near.stands h.far.stands (long (ap awaits_answer (as-here service tei c p w.near n h.near.stands state)))) in
         record {
           n = with_link (link.expired T200) n;
           m = m;
-          up = up-expires timer T200 (λ l. refl) (λ state running. repeats-left timer (λ l. refl) fair.0 state) (λ state running. open_);
+          up = up-expires (timers.T200 service tei) T200 (λ l. refl) (λ state running. there (ap awaits_answer state)) (λ state running. none state);
         }
 
     up-t203 : AreUp c d p q past other (acting (times_out (timers.T203 service tei)) w)
     up-t203 = record {
       n = with_link (link.expired T203) n;
       m = m;
-      up = up-expires (timers.T203 service tei) T203 (λ l. refl) (λ state running. absurd (never state running)) (λ state running. absurd (never state running));
+      up = up-expires (timers.T203 service tei) T203 (λ l. refl) (λ state running. absurd (never c p past w.near n h.near h.firm.near_sane.timed state running)) (λ state running. absurd (never c p past w.near n h.near h.firm.near_sane.timed state running));
     }
 
     -- each act that is timely

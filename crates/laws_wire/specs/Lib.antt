@@ -2,9 +2,12 @@
 pub mod Wire
 pub mod Call
 pub mod Losing
+pub mod Timely
 pub mod Recovering
+pub mod Counted
 pub mod Facing
 pub mod Worked
 pub mod WorkedLosing
 pub mod WorkedRecovering
+pub mod WorkedCounted
 pub mod WorkedBroken

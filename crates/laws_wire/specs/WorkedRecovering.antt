@@ -13,7 +13,7 @@ use Rattle.model_card.specs.Run.{after_all}
 use Rattle.laws_wire.specs.Wire.{Wire, requests, times_out, gives, takes, loses, Doing, at_near, at_far, doing_all, turns}
 use Rattle.laws_wire.specs.Call.{confirmed, indicated, data_told}
 use Rattle.laws_wire.specs.Losing.{heard_in}
-use Rattle.laws_wire.specs.Recovering.{round, rounds, with_t200_expired}
+use Rattle.laws_wire.specs.Recovering.{round, rounds, both_expire, with_t200_expired}
 use Rattle.laws_wire.specs.Worked.{begins}
 use Rattle.laws_wire.specs.WorkedLosing.{error_f}
 
@@ -45,6 +45,37 @@ recovered_near = refl
 recovered_far : heard_in recovered.far ≡ indicated Call 0 ∷ data_told Call 0 (0xAB ∷ []) ∷ []
 unfolding after_all lines.after lines.answer lines.takes_slot reading header_of control_of unnumbered_of supervisory_of teis.course teis.refusal low_bits seq distance_of named doing_all turns rounds
 recovered_far = refl
+
+-- Then each end loses an I-frame again, and one an enquiry, too: T200 expires in state 7 while its I-frame is on its
+-- way. And all is recovered again.
+abbrev pub loses_again : List Doing
+loses_again =
+    both_expire Call 0 ++ round ++ round ++ round ++ round
+    ++ at_near (requests (Data Call 0 (0xEF ∷ []))) ∷ at_near gives ∷ at_near (times_out (T200 Call 0)) ∷ at_near loses ∷ at_near gives ∷ at_near loses
+    ∷ at_far (requests (Data Call 0 (0x12 ∷ []))) ∷ at_far gives ∷ at_far loses ∷ []
+
+abbrev pub lost_again : Wire
+lost_again = doing_all loses_again lost
+
+abbrev pub recovered_again : Wire
+recovered_again = rounds 4 (with_t200_expired Call 0 lost_again)
+
+again_near : heard_in recovered_again.near ≡ confirmed Call 0 ∷ data_told Call 0 (0xCD ∷ []) ∷ data_told Call 0 (0x12 ∷ []) ∷ []
+unfolding after_all lines.after lines.answer lines.takes_slot reading header_of control_of unnumbered_of supervisory_of teis.course teis.refusal low_bits seq distance_of named doing_all turns rounds
+again_near = refl
+
+again_far : heard_in recovered_again.far ≡ indicated Call 0 ∷ data_told Call 0 (0xAB ∷ []) ∷ data_told Call 0 (0xEF ∷ []) ∷ []
+unfolding after_all lines.after lines.answer lines.takes_slot reading header_of control_of unnumbered_of supervisory_of teis.course teis.refusal low_bits seq distance_of named doing_all turns rounds
+again_far = refl
+
+-- In state 5 T200 has to be long enough, too: where it expires while SABME is on its way SABME comes twice, and error F
+-- is told.
+abbrev pub rings_twice : List Doing
+rings_twice = at_near gives ∷ at_near (times_out (T200 Call 0)) ∷ at_near gives ∷ at_far takes ∷ at_far takes ∷ []
+
+heard_ringing : heard_in (doing_all rings_twice begins).far ≡ indicated Call 0 ∷ error_f ∷ []
+unfolding after_all lines.after lines.answer lines.takes_slot reading header_of control_of unnumbered_of supervisory_of teis.course teis.refusal low_bits seq distance_of named doing_all turns
+heard_ringing = refl
 
 -- That UA is not lost is needed: as SABME comes again error F is told.
 abbrev pub loses_ua : List Doing

@@ -1,0 +1,52 @@
+-- The premises of the law on counted expiries are met, by the worked call that recovers from its losses.
+use Rattle.std.proofs.Common.{◌≡◌, refl, arith}
+use Rattle.model_bits.specs.Bits.{low_bits}
+use Rattle.lapd_frame.specs.declared.services.Service.TheVariants.{Call}
+use Rattle.lapd_frame.specs.Reading.{reading, header_of, control_of, unnumbered_of, supervisory_of}
+use Rattle.lapd_seq.specs.Circle.{distance_of, named}
+use Rattle.lapd_seq.specs.Numbers.{seq}
+use Rattle.lapd_tei.specs.Events as teis
+use Rattle.model_line.specs.Machine as lines
+use Rattle.model_card.specs.Run.{after_all}
+use Rattle.laws_wire.specs.Wire.{gives, loses, at_near, doing, doing_all, turns}
+use Rattle.laws_wire.specs.Call.{confirmed}
+use Rattle.laws_wire.specs.Losing.{heard_in}
+use Rattle.laws_wire.specs.Facing.{end_of}
+use Rattle.laws_wire.specs.Timely.{StayTimely}
+use Rattle.laws_wire.specs.Counted.{Counts, counting, IsBelow, StayCounted}
+use Rattle.laws_wire.specs.Worked.{user, network, begins}
+use Rattle.laws_wire.specs.WorkedRecovering.{loses_three, lost}
+use Rattle.laws_wire.proofs.Counting.{expiries-are-counted}
+use Rattle.laws_wire.proofs.PremisesMet.{can}
+use Rattle.laws_wire.proofs.RecoveryMet.{silent, silent-open, silent-repeats, fewer, heard-it, lost-near, rough}
+
+abbrev none_yet : Counts
+none_yet = record { near = 0; far = 0 }
+
+-- SABME was lost
+abbrev so_far : Counts
+so_far = counting Call 0 (at_near loses) (doing (at_near gives) begins) (counting Call 0 (at_near gives) begins none_yet)
+
+none-expired : so_far.near ≡ 0
+unfolding after_all lines.after lines.answer lines.takes_slot reading header_of control_of unnumbered_of supervisory_of teis.course teis.refusal low_bits seq distance_of named doing_all turns
+none-expired = refl
+
+few : IsBelow (end_of Call 0 silent.near) so_far.near
+few awaits = fewer _ _ 0 3 (none-expired, silent-repeats.1) (omega arith)
+
+counted : StayCounted Call 0 loses_three none_yet begins
+unfolding doing_all StayCounted
+counted = (
+  tt,
+  (
+    tt,
+    (
+      (λ awaits. silent-open, few),
+      (tt, ((tt, tt), ((tt, tt), (tt, (tt, (tt, (tt, ((tt, tt), ((tt, tt), ((tt, heard-it (heard_in lost.near) (confirmed Call 0) lost-near), tt)))))))))),
+    ),
+  ),
+)
+
+-- so the law says of it that T200 is timely
+pub timely : StayTimely loses_three begins
+timely = expiries-are-counted Call user network 0 0 0 loses_three can rough counted

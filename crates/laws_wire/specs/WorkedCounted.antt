@@ -1,0 +1,33 @@
+-- Worked values of expiries that N200 counts. Each computes.
+use Rattle.std.specs.Prelude.{◌≡◌, List, [], ◌∷◌, ◌++◌, refl}
+use Rattle.model_bits.specs.Bits.{low_bits}
+use Rattle.lapd_frame.specs.declared.notes.ErrorCode.TheVariants.{G}
+use Rattle.lapd_frame.specs.declared.notes.Note.TheVariants.{Error, ReleaseIndication}
+use Rattle.lapd_frame.specs.declared.services.Service.TheVariants.{Call}
+use Rattle.lapd_frame.specs.declared.timers.Timer.TheVariants.{T200}
+use Rattle.lapd_frame.specs.Reading.{reading, header_of, control_of, unnumbered_of, supervisory_of}
+use Rattle.lapd_seq.specs.Circle.{distance_of, named}
+use Rattle.lapd_seq.specs.Numbers.{seq}
+use Rattle.lapd_tei.specs.Events as teis
+use Rattle.model_line.specs.Event.{LineTold, nothing}
+use Rattle.model_line.specs.Machine as lines
+use Rattle.model_card.specs.Run.{after_all}
+use Rattle.laws_wire.specs.Wire.{times_out, gives, loses, Doing, at_near, doing_all, turns}
+use Rattle.laws_wire.specs.Losing.{heard_in}
+use Rattle.laws_wire.specs.Worked.{begins}
+
+-- N200 is 3. Each SABME is lost: three expiries repeat it, and the fourth, at a count of 3, tells error G, and that the
+-- link is released.
+abbrev pub is_lost : List Doing
+is_lost = at_near gives ∷ at_near loses ∷ at_near (times_out (T200 Call 0)) ∷ []
+
+abbrev pub given_up : LineTold
+given_up = record nothing { notes = Error Call 0 G ∷ ReleaseIndication Call 0 ∷ [] }
+
+heard_of_three : heard_in (doing_all (is_lost ++ is_lost ++ is_lost) begins).near ≡ []
+unfolding after_all lines.after lines.answer lines.takes_slot reading header_of control_of unnumbered_of supervisory_of teis.course teis.refusal low_bits seq distance_of named doing_all turns
+heard_of_three = refl
+
+heard_of_four : heard_in (doing_all (is_lost ++ is_lost ++ is_lost ++ is_lost) begins).near ≡ given_up ∷ []
+unfolding after_all lines.after lines.answer lines.takes_slot reading header_of control_of unnumbered_of supervisory_of teis.course teis.refusal low_bits seq distance_of named doing_all turns
+heard_of_four = refl

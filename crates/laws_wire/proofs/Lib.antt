@@ -34,5 +34,12 @@ pub mod TimelyRun
 pub mod TimelyArrives
 pub mod Again
 pub mod Delivering
+pub mod Loads
+pub mod LoadsHeard
+pub mod LoadsTimed
+pub mod Weighing
+pub mod Rested
+pub mod RestedRun
+pub mod RestedRounds
 pub mod PremisesMet
 pub mod RecoveryMet

@@ -1,7 +1,7 @@
 -- What a link has to send, in turns, where w turns go again at most: what waits, what is unsent, an acknowledgement that is owed,
 -- a REJ that may still be sent, and in state 8 what the answer may bring back.
-use Rattle.std.proofs.Common.{◌≡◌, ℕ, ◌+◌, ◌-◌, ◌*◌, ◌<◌, ◌≤◌, Bool, true, false, cond, not, ◌&&◌, IsTrue, List, [], ◌∷◌, ◌++◌, length, Option, Some, None, refl, sym, ap, subst, ◌∙◌, ◌⊎◌, inl, inr, length-append, true≢false, le_refl, arith}
-use Rattle.std.specs.Prelude.{nat_lt, unwrap_or, slice_get}
+use Rattle.std.proofs.Common.{◌≡◌, ℕ, ◌+◌, ◌-◌, ◌*◌, ◌<◌, ◌≤◌, Bool, true, false, cond, not, ◌&&◌, List, [], ◌∷◌, ◌++◌, length, refl, ap, arith}
+use Rattle.std.specs.Prelude.{nat_lt}
 use Rattle.std.proofs.lemmas.Bool.{and_parts, ltb-true}
 use Rattle.lapd_frame.specs.declared.controls.Control.{Control}
 use Rattle.lapd_frame.specs.declared.controls.Control.TheVariants.{Information, ReceiveReady, ReceiveNotReady, Reject, Sabme, Disc, Ui, Ua, Dm, Frmr, Xid}
@@ -11,10 +11,9 @@ use Rattle.model_link.specs.declared.states.State.{State}
 use Rattle.model_link.specs.declared.states.State.TheVariants.{TeiAssigned, AwaitingEstablishment, AwaitingRelease, Established, TimerRecovery}
 use Rattle.model_link.specs.declared.frames.ControlFrame.{ControlFrame}
 use Rattle.model_link.specs.declared.terms.Terms.{Terms}
-use Rattle.model_link.specs.Link.{Link, unsent, frame_of}
+use Rattle.model_link.specs.Link.{Link, unsent}
 use Rattle.model_link.specs.Events.{offer}
-use Rattle.model_link.specs.Machine
-use Rattle.model_link.specs.Machine.{course, given, given_of}
+use Rattle.model_link.specs.Machine.{course, given_of}
 use Rattle.model_link.specs.Offers
 use Rattle.model_link.specs.Steps.{Course, begun}
 use Rattle.model_link.specs.TwoEnds.{frame_given}

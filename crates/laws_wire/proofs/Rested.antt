@@ -1,6 +1,5 @@
 -- What is done at one end of a call in which frames are lost and timers expire makes what is still to do less, or tells an error.
-use Rattle.std.proofs.Common.{◌≡◌, ℕ, ◌+◌, ◌-◌, ◌*◌, ◌≤◌, Bool, true, false, cond, IsTrue, List, [], ◌∷◌, ◌++◌, length, map, drop, refl, sym, ap, subst, ◌∙◌, ◌⊎◌, inl, inr, length-append, append-nil, arith}
-use Rattle.std.specs.Prelude.{All}
+use Rattle.std.proofs.Common.{◌≡◌, ℕ, ◌+◌, ◌-◌, ◌*◌, ◌≤◌, cond, List, [], ◌∷◌, ◌++◌, length, map, drop, refl, sym, ap, subst, ◌∙◌, ◌⊎◌, inl, inr, length-append, arith}
 use Rattle.lapd_frame.specs.declared.services.Service.{Service}
 use Rattle.lapd_frame.specs.declared.timers.Timer.{Timer}
 use Rattle.lapd_frame.specs.Grammar.{Parts, AreOctets, spelling}
@@ -13,10 +12,9 @@ use Rattle.model_link.specs.TwoEnds.{End, with_link, with_sent, frame_given}
 use Rattle.model_link.specs.TwoEnds as two_ends
 use Rattle.model_line.specs.declared.config.Config.{Config}
 use Rattle.model_line.specs.Event.{LineTold}
-use Rattle.model_card.specs.Happening.{comes, goes, expires, asks}
-use Rattle.model_card.specs.Said.{said}
+use Rattle.model_card.specs.Happening.{comes, expires, asks}
 use Rattle.model_line.specs.Request.{Data}
-use Rattle.laws_wire.specs.Wire.{Station, Wire, happens, with_first_of, with_first_lost, Act, requests, times_out, gives, takes, loses, acting, frames_by, is_any}
+use Rattle.laws_wire.specs.Wire.{Station, Wire, happens, with_first_of, with_first_lost, Act, requests, times_out, gives, takes, loses, acting, is_any}
 use Rattle.laws_wire.specs.Losing.{IsRoughTalkOf}
 use Rattle.laws_wire.specs.Resting.{is_move_of, expiries_of}
 use Rattle.laws_wire.proofs.Asking.{with_more}
@@ -27,7 +25,7 @@ use Rattle.laws_wire.proofs.LoadsTimed.{Expires, timer-expires}
 use Rattle.laws_wire.proofs.LossyPhases.{Aims, for-data, for-timer, first-way}
 use Rattle.laws_wire.proofs.Standing.{IsCarried, Stands, expires-stands, gives-frames}
 use Rattle.laws_wire.proofs.Talking.{Face}
-use Rattle.laws_wire.proofs.Weighing.{Fell, weigh, undelivered, accepts-more, goes as goes_on, delivers}
+use Rattle.laws_wire.proofs.Weighing.{Fell, undelivered, accepts-more, goes as goes_on, delivers}
 
 -- what a frame does to the link that hears it
 pub record TakesWell (v : ℕ) (l l' : Link) (f : Parts) : Type 0 where
@@ -146,7 +144,7 @@ module _ (service : Service) (tei : ℕ) (c d : Config) (p q : ℕ) (past_n past
 
       heavier : (len : ℕ) → len ≡ length n.link.contents + 1
           → Rattle.laws_wire.proofs.Loads.load_waiting v n.link.waiting + 2 * (len - n.link.s) + Rattle.laws_wire.proofs.Loads.owes n.link.pending + Rattle.laws_wire.proofs.Loads.may_reject v n.link.rejecting
-              + Rattle.laws_wire.proofs.Loads.back v n.link.state ≤ load v n.link + 2
+          + Rattle.laws_wire.proofs.Loads.back v n.link.state ≤ load v n.link + 2
       heavier len e = omega (arith, e)
 
       total : (l' l way other u' u z y : ℕ) → l' ≤ l + 2 → u' ≡ u + (v + 4) → 0 + ((l' + way) + other + (u' + z)) ≤ (l + way) + other + (u + z) + y + (v + 6) * 1
@@ -171,8 +169,8 @@ module _ (service : Service) (tei : ℕ) (c d : Config) (p q : ℕ) (past_n past
   -- ---- it takes
 
   then-takes : ((f : Parts) (fs : List Parts) → m.way ≡ f ∷ fs
-          → HasError (course n.terms (link.received (link.frame f)) n.link).notes
-              ⊎ (TakesWell v n.link (after n.terms (link.received (link.frame f)) n.link) f × (after n.terms (link.received (link.frame f)) n.link).r ≤ length m.link.contents))
+      → HasError (course n.terms (link.received (link.frame f)) n.link).notes
+      ⊎ (TakesWell v n.link (after n.terms (link.received (link.frame f)) n.link) f × (after n.terms (link.received (link.frame f)) n.link).r ≤ length m.link.contents))
       → Leads takes
   then-takes well = go m.way refl
     where
@@ -244,8 +242,8 @@ module _ (service : Service) (tei : ℕ) (c d : Config) (p q : ℕ) (past_n past
 
   pub then-acts : (act : Act) → IsRoughTalkOf service tei act
       → ((f : Parts) (fs : List Parts) → m.way ≡ f ∷ fs
-          → HasError (course n.terms (link.received (link.frame f)) n.link).notes
-              ⊎ (TakesWell v n.link (after n.terms (link.received (link.frame f)) n.link) f × (after n.terms (link.received (link.frame f)) n.link).r ≤ length m.link.contents))
+      → HasError (course n.terms (link.received (link.frame f)) n.link).notes
+      ⊎ (TakesWell v n.link (after n.terms (link.received (link.frame f)) n.link) f × (after n.terms (link.received (link.frame f)) n.link).r ≤ length m.link.contents))
       → Leads act
   then-acts (requests r) is well = for-data service tei (λ r. Leads (requests r)) then-asks r is
   then-acts (times_out timer) is well = for-timer service tei (λ timer. Leads (times_out timer)) then-expires timer is

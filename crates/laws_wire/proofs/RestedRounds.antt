@@ -4,9 +4,8 @@ use Rattle.std.specs.Prelude.{All}
 use Rattle.std.proofs.lemmas.List.Elements.{All-nil, All-cons, All-append}
 use Rattle.lapd_frame.specs.declared.services.Service.{Service}
 use Rattle.model_line.specs.Event as line_event
-use Rattle.model_line.specs.Line.{terms}
 use Rattle.model_card.specs.Card.{line_at}
-use Rattle.model_card.specs.Happening.{Happening, comes, goes}
+use Rattle.model_card.specs.Happening.{comes, goes}
 use Rattle.model_card.specs.Said.{Said, says, gives, Next, next_of, said}
 use Rattle.model_line.specs.Pull.{taken}
 use Rattle.laws_wire.specs.Wire as wire
@@ -15,7 +14,7 @@ use Rattle.laws_wire.specs.Call.{calling}
 use Rattle.laws_wire.specs.Facing.{granted_of}
 use Rattle.laws_wire.specs.Losing.{IsRoughTalk}
 use Rattle.laws_wire.specs.Recovering.{round, rounds, HasNoErrors}
-use Rattle.laws_wire.specs.Resting.{is_move, moves, expiries_in, expiries, most_frames, RoundsComeToRest}
+use Rattle.laws_wire.specs.Resting.{is_move, moves, expiries, most_frames, RoundsComeToRest}
 use Rattle.laws_wire.proofs.RestedRun.{moves-come-to-an-end}
 
 -- ---- one thing done after another
@@ -176,7 +175,7 @@ finds (suc n) w few = go (λ less. finds n (w4 w) less) (moves round w) refl
     both : moves (many (suc n)) w ≡ moves round w + moves (many n) (w4 w)
     both = moves-append round (many n) w
 
-    fewer : (all first rest : ℕ) → all ≡ (suc first) + rest → all < n + 1 → rest < n
+    fewer : (all first rest : ℕ) → all ≡ (suc first) + rest → all < suc n → rest < n
     fewer all first rest e less = omega (arith, e, less)
 
     later : Rests n (w4 w) → Rests (suc n) w

@@ -1,5 +1,5 @@
 -- A whole call in which frames are lost and timers expire: its moves are at most what there was to do, and what was asked for since.
-use Rattle.std.proofs.Common.{◌≡◌, ℕ, ◌+◌, ◌*◌, ◌≤◌, Bool, true, false, cond, IsTrue, List, [], ◌∷◌, ◌++◌, length, refl, sym, ap, subst, ◌∙◌, ◌⊎◌, inl, inr, arith}
+use Rattle.std.proofs.Common.{◌≡◌, ℕ, ◌+◌, ◌*◌, ◌≤◌, true, cond, List, [], ◌∷◌, ◌++◌, length, refl, sym, ap, subst, ◌∙◌, ◌⊎◌, inl, inr, arith}
 use Rattle.std.specs.Prelude.{All}
 use Rattle.std.proofs.lemmas.List.Elements.{All-nil, All-cons, All-head, All-tail}
 use Rattle.lapd_frame.specs.declared.services.Service.{Service}
@@ -15,19 +15,19 @@ use Rattle.model_line.specs.declared.config.Config.{Config}
 use Rattle.model_line.specs.Event.{LineTold}
 use Rattle.model_line.specs.Line.{terms}
 use Rattle.model_line.proofs.Ranges.{terms_in_range}
-use Rattle.laws_wire.specs.Wire.{Station, Wire, Act, Doing, at_near, at_far, acting, turned, doing, doing_all}
+use Rattle.laws_wire.specs.Wire.{Station, Wire, Doing, at_near, at_far, acting, turned, doing, doing_all}
 use Rattle.laws_wire.specs.Call.{calling, confirmed, indicated}
 use Rattle.laws_wire.specs.Facing.{granted_of}
 use Rattle.laws_wire.specs.Losing.{HasNoError, IsRoughTalk}
 use Rattle.laws_wire.specs.Resting.{is_move, moves, expiries_in, expiries, most_frames, MovesComeToAnEnd}
 use Rattle.laws_wire.proofs.Acting.{First, Before, which, UpAt, ranges, sound}
 use Rattle.laws_wire.proofs.Beginning.{calls, answers}
-use Rattle.laws_wire.proofs.Calling.{asked, sabme, ua, end, caller, answering, takes-sabme}
+use Rattle.laws_wire.proofs.Calling.{asked, sabme, ua, end, caller, takes-sabme}
 use Rattle.laws_wire.proofs.Fair.{HasError, Fine, frame-fair, sabme-error}
 use Rattle.laws_wire.proofs.Held.{Held, not-erred}
 use Rattle.laws_wire.proofs.Joint.{Joint, turned-joint, IsMeant, first-means, hears-on}
 use Rattle.laws_wire.proofs.LoadsHeard.{frame-hears}
-use Rattle.laws_wire.proofs.LossyPhases.{IsRinging, IsHalf, IsUp, UaOrNone, Goes, HasErred, Went}
+use Rattle.laws_wire.proofs.LossyPhases.{IsRinging, IsHalf, UaOrNone, Goes, HasErred, Went}
 use Rattle.laws_wire.proofs.LossyRun.{goes, errs, from-nothing}
 use Rattle.laws_wire.proofs.Rested.{TakesWell, Then, then-acts}
 use Rattle.laws_wire.proofs.Ringing.{ringing, IsSabme, AreSabmes, ignores}
@@ -59,7 +59,7 @@ module _ (service : Service) (tei v : ℕ) where
 
       go : HasError (course n.terms (link.received (link.frame f)) n.link).notes
           ⊎ Fine n.terms (course n.terms (link.received (link.frame f)) n.link).link.state (course n.terms (link.received (link.frame f)) n.link).notes
-              (course n.terms (link.received (link.frame f)) n.link).delivered (course n.terms (link.received (link.frame f)) n.link).unit
+          (course n.terms (link.received (link.frame f)) n.link).delivered (course n.terms (link.received (link.frame f)) n.link).unit
           → Well n m f
       go (inl error) = inl error
       go (inr fine) =

@@ -11,9 +11,10 @@ use Rattle.lapd_tei.specs.Events as teis
 use Rattle.model_line.specs.Machine as lines
 use Rattle.model_line.specs.Request.{Data}
 use Rattle.model_card.specs.Run.{after_all}
-use Rattle.laws_wire.specs.Wire.{requests, times_out, gives, takes, loses, Doing, at_near, at_far, doing_all}
+use Rattle.laws_wire.specs.Wire.{requests, times_out, gives, takes, loses, Wire, Doing, at_near, at_far, doing_all, IsStill}
 use Rattle.laws_wire.specs.Losing.{heard_in}
 use Rattle.laws_wire.specs.Call.{indicated, data_told}
+use Rattle.laws_wire.specs.Recovering.{rounds}
 use Rattle.laws_wire.specs.Resting.{moves, expiries, most_frames}
 use Rattle.laws_wire.specs.Worked.{begins, establishes}
 
@@ -59,3 +60,11 @@ expiries_of_losses = refl
 
 none_again : 40 ≤ 2 * most_frames 0 3 3 → ⊥
 none_again less = omega (arith, less)
+
+-- Two contents are accepted: two rounds later no turn is left.
+abbrev pub two_accepted : Wire
+two_accepted = doing_all (establishes ++ at_near (requests (Data Call 0 (1 ∷ []))) ∷ at_near (requests (Data Call 0 (2 ∷ []))) ∷ []) begins
+
+rests : IsStill (rounds 2 two_accepted)
+unfolding after_all lines.after lines.answer lines.takes_slot reading header_of control_of unnumbered_of supervisory_of teis.course teis.refusal low_bits seq distance_of named doing_all rounds
+rests = record { near = refl; far = refl; near_way = refl; far_way = refl }

@@ -41,5 +41,6 @@ pub mod Weighing
 pub mod Rested
 pub mod RestedRun
 pub mod RestedRounds
+pub mod RestedTimely
 pub mod PremisesMet
 pub mod RecoveryMet

@@ -87,9 +87,6 @@ pub ready-brings : (w : ℕ) (c own_busy : Bool) (l : Link) → l.own_busy ≡ o
 ready-brings w c true l e = ap (λ b. brings w c (cond b (ReceiveNotReady (seq l.r) true) (ReceiveReady (seq l.r) true))) e
 ready-brings w c false l e = ap (λ b. brings w c (cond b (ReceiveNotReady (seq l.r) true) (ReceiveReady (seq l.r) true))) e
 
-pub owes-some : (b : Bool) → 0 ≤ owes b
-owes-some b = omega arith
-
 -- ---- what is given goes to the way
 
 module _ (w : ℕ) (t : Terms) (l : Link) where

@@ -20,7 +20,7 @@ use Rattle.laws_wire.specs.Resting.{is_move_of, expiries_of}
 use Rattle.laws_wire.proofs.Asking.{with_more}
 use Rattle.laws_wire.proofs.Fair.{HasError}
 use Rattle.laws_wire.proofs.Held.{Held, Erred, now-erred, held-given, held-lost, taken-told, taken-stands, expired-told, Grants, held-asked}
-use Rattle.laws_wire.proofs.Loads.{load, load_way, brings, way-append, Gives, offer-gives}
+use Rattle.laws_wire.proofs.Loads.{load, load_way, load_waiting, owes, may_reject, back, brings, way-append, Gives, offer-gives}
 use Rattle.laws_wire.proofs.LoadsTimed.{Expires, timer-expires}
 use Rattle.laws_wire.proofs.LossyPhases.{Aims, for-data, for-timer, first-way}
 use Rattle.laws_wire.proofs.Standing.{IsCarried, Stands, expires-stands, gives-frames}
@@ -143,8 +143,8 @@ module _ (service : Service) (tei : ℕ) (c d : Config) (p q : ℕ) (past_n past
       sum a b c e = omega (arith, e)
 
       heavier : (len : ℕ) → len ≡ length n.link.contents + 1
-          → Rattle.laws_wire.proofs.Loads.load_waiting v n.link.waiting + 2 * (len - n.link.s) + Rattle.laws_wire.proofs.Loads.owes n.link.pending + Rattle.laws_wire.proofs.Loads.may_reject v n.link.rejecting
-          + Rattle.laws_wire.proofs.Loads.back v n.link.state ≤ load v n.link + 2
+          → load_waiting v n.link.waiting + 2 * (len - n.link.s) + owes n.link.pending + may_reject v n.link.rejecting
+          + back v n.link.state ≤ load v n.link + 2
       heavier len e = omega (arith, e)
 
       total : (l' l way other u' u z y : ℕ) → l' ≤ l + 2 → u' ≡ u + (v + 4) → 0 + ((l' + way) + other + (u' + z)) ≤ (l + way) + other + (u + z) + y + (v + 6) * 1

@@ -19,7 +19,7 @@ use Rattle.laws_wire.proofs.RestedRun.{moves-come-to-an-end}
 
 -- ---- one thing done after another
 
-doing-append : (ds es : List Doing) (w : Wire) → doing_all (ds ++ es) w ≡ doing_all es (doing_all ds w)
+pub doing-append : (ds es : List Doing) (w : Wire) → doing_all (ds ++ es) w ≡ doing_all es (doing_all ds w)
 unfolding doing_all
 doing-append [] es w = refl
 doing-append (d ∷ ds) es w = doing-append ds es (doing d w)
@@ -38,11 +38,11 @@ expiries-append (d ∷ ds) es = let rest : expiries (ds ++ es) ≡ expiries ds +
 
 -- ---- rounds, as a list
 
-many : ℕ → List Doing
+unfoldable pub many : ℕ → List Doing
 many zero = []
 many (suc n) = at_near wire.gives ∷ at_far wire.takes ∷ at_far wire.gives ∷ at_near wire.takes ∷ many n
 
-many-rounds : (n : ℕ) (w : Wire) → doing_all (many n) w ≡ rounds n w
+pub many-rounds : (n : ℕ) (w : Wire) → doing_all (many n) w ≡ rounds n w
 unfolding many doing_all rounds
 many-rounds zero w = refl
 many-rounds (suc n) w = many-rounds n (doing_all round w)
@@ -52,7 +52,7 @@ unfolding many expiries
 none-expires zero = refl
 none-expires (suc n) = let rest : expiries (many n) ≡ 0 = none-expires n in omega (arith, rest)
 
-all-rough : (service : Service) (tei n : ℕ) → All (IsRoughTalk service tei) (many n)
+pub all-rough : (service : Service) (tei n : ℕ) → All (IsRoughTalk service tei) (many n)
 unfolding many
 all-rough service tei zero = All-nil (IsRoughTalk service tei)
 all-rough service tei (suc n) =

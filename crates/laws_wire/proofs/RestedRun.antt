@@ -4,6 +4,7 @@ use Rattle.std.specs.Prelude.{All}
 use Rattle.std.proofs.lemmas.List.Elements.{All-nil, All-cons, All-head, All-tail}
 use Rattle.lapd_frame.specs.declared.services.Service.{Service}
 use Rattle.lapd_frame.specs.Grammar.{Parts, other_side}
+use Rattle.model_link.specs.declared.frames.ControlFrame.{ControlFrame}
 use Rattle.model_link.specs.declared.terms.Terms.{Terms}
 use Rattle.model_link.specs.Events as link
 use Rattle.model_link.specs.Link.{Link, fresh}
@@ -24,7 +25,7 @@ use Rattle.laws_wire.proofs.Acting.{First, Before, which, UpAt, ranges, sound}
 use Rattle.laws_wire.proofs.Beginning.{calls, answers}
 use Rattle.laws_wire.proofs.Calling.{asked, sabme, ua, end, caller, takes-sabme}
 use Rattle.laws_wire.proofs.Fair.{HasError, Fine, frame-fair, sabme-error}
-use Rattle.laws_wire.proofs.Held.{Held, not-erred}
+use Rattle.laws_wire.proofs.Held.{Held, Erred, not-erred}
 use Rattle.laws_wire.proofs.Joint.{Joint, turned-joint, IsMeant, first-means, hears-on}
 use Rattle.laws_wire.proofs.LoadsHeard.{frame-hears}
 use Rattle.laws_wire.proofs.LossyPhases.{IsRinging, IsHalf, UaOrNone, Goes, HasErred, Went}
@@ -157,7 +158,7 @@ module _ (service : Service) (tei : ℕ) (c d : Config) (p q : ℕ) (face : Face
 
   -- ---- what the far end takes
 
-  sabme-first : (way : List Parts) (waiting : List Rattle.model_link.specs.declared.frames.ControlFrame.ControlFrame) (f : Parts) (fs : List Parts) → way ≡ f ∷ fs → AreSabmes t way waiting → f ≡ sabme t
+  sabme-first : (way : List Parts) (waiting : List ControlFrame) (f : Parts) (fs : List Parts) → way ≡ f ∷ fs → AreSabmes t way waiting → f ≡ sabme t
   sabme-first way waiting f fs e are = All-head (IsSabme t) f (fs ++ frames_of t waiting) (subst (λ way. AreSabmes t way waiting) e are)
 
   called : (n : End) (f : Parts) → f ≡ sabme t → Well service tei v (end u fresh []) n f
@@ -203,7 +204,7 @@ module _ (service : Service) (tei : ℕ) (c d : Config) (p q : ℕ) (face : Face
       x = seen w h
 
       go : Then service tei c d p q x.past_n x.past_m face v w x.n x.m x.near x.far x.there (acting act w) (cond {A = ℕ} (is_move (at_near act) w) 1 0) (expiries_in (at_near act))
-          ⊎ Rattle.laws_wire.proofs.Held.Erred (acting act w).near
+          ⊎ Erred (acting act w).near
           → Next (acting act w) (cond {A = ℕ} (is_move (at_near act) w) 1 0) (expiries_in (at_near act)) x.n x.m ⊎ Errs (acting act w)
       go (inl y) = inl (record { n' = y.n'; m' = y.m'; near = y.near'; far = y.far'; fell = y.fell })
       go (inr e) = inr (inl e)
@@ -213,7 +214,7 @@ module _ (service : Service) (tei : ℕ) (c d : Config) (p q : ℕ) (face : Face
       x = seen w h
 
       go : Then service tei d c q p x.past_m x.past_n back v (turned w) x.m x.n x.far x.near x.here (acting act (turned w)) (cond {A = ℕ} (is_move (at_far act) w) 1 0) (expiries_in (at_far act))
-          ⊎ Rattle.laws_wire.proofs.Held.Erred (acting act (turned w)).near
+          ⊎ Erred (acting act (turned w)).near
           → Next (turned (acting act (turned w))) (cond {A = ℕ} (is_move (at_far act) w) 1 0) (expiries_in (at_far act)) x.n x.m ⊎ Errs (turned (acting act (turned w)))
       go (inl y) =
           inl (record {

@@ -54,9 +54,6 @@ pub record Fell (v moved expired : ℕ) (n m n' m' : End) : Type 0 where
   pub grown : length n'.link.contents + length m'.link.contents ≡ length n.link.contents + length m.link.contents + more
   pub falls : moved + weigh v n' m' ≤ weigh v n m + (v + 4) * expired + (v + 6) * more
 
-turned-sum : (a b c x y c' x' y' z : ℕ) → a + ((x + y) + c) ≤ ((x' + y') + c') + z → a + ((y + x) + c) ≤ ((y' + x') + c') + z
-turned-sum a b c x y c' x' y' z h = omega (arith, h)
-
 swapped : (moved a b p q a' b' p' q' x y : ℕ) → moved + ((a + b) + (p + q)) ≤ ((a' + b') + (p' + q')) + x + y → moved + ((b + a) + (q + p)) ≤ ((b' + a') + (q' + p')) + x + y
 swapped moved a b p q a' b' p' q' x y h = omega (arith, h)
 

@@ -7,7 +7,7 @@ use Rattle.laws_wire.specs.Wire.{Wire, Act, requests, times_out, gives, takes, l
 use Rattle.laws_wire.specs.Call.{calling, CanCall}
 use Rattle.laws_wire.specs.Losing.{IsRoughTalk, HasNoError}
 use Rattle.laws_wire.specs.Facing.{granted_of}
-use Rattle.laws_wire.specs.Recovering.{rounds, HasNoErrors}
+use Rattle.laws_wire.specs.Recovering.{rounds, HasNoErrors, StayTimely}
 
 -- A move is a turn, or that a frame is lost on its way: an end gives a frame, or one is taken or lost. So many of what is done
 -- are moves.
@@ -64,3 +64,11 @@ RoundsComeToRest =
     (terms c service tei).k ≤ k → (terms d service tei).k ≤ k →
     let w = doing_all ds (calling service tei c line d other) in let most = 2 * most_frames k (expiries ds) (granted_of w) in
     HasNoErrors (rounds (most + 1) w) → (n : ℕ) × (n ≤ most) × IsStill (rounds n w)
+
+-- And no error is told where T200 is long enough and UA is not lost.
+abbrev pub TimelyRoundsComeToRest : Type 0
+TimelyRoundsComeToRest =
+    (service : Service) (c d : Config) (line other tei k : ℕ) (ds : List Doing) → CanCall c line d other tei → All (IsRoughTalk service tei) ds →
+    (terms c service tei).k ≤ k → (terms d service tei).k ≤ k → StayTimely ds (calling service tei c line d other) →
+    let w = doing_all ds (calling service tei c line d other) in let most = 2 * most_frames k (expiries ds) (granted_of w) in
+    (n : ℕ) × (n ≤ most) × IsStill (rounds n w)

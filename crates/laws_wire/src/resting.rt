@@ -1,6 +1,6 @@
 //! Turns come to an end. Each law is the contract of a call that does nothing.
 
-ghost use Rattle.laws_wire.specs.Resting.{MovesComeToAnEnd, RoundsComeToRest};
+ghost use Rattle.laws_wire.specs.Resting.{MovesComeToAnEnd, RoundsComeToRest, TimelyRoundsComeToRest};
 
 /// Turns come to an end, whatever is lost and whichever timers expire. Two cards have just begun as in
 /// [`crate::a_call_comes_through`], and one is asked to establish. Then, as in [`crate::told_in_order`], data is asked for, T200
@@ -16,8 +16,10 @@ pub fn turns_come_to_an_end()
 
 /// Rounds come to rest. After any such call, where nothing more is asked for and no timer expires, rounds in which nothing is lost
 /// lead to where no turn is left: neither end has a frame to give, and none is on its way. At most as many rounds are needed as
-/// the bound of [`turns_come_to_an_end`] says, if no error is told in as many rounds and one more. In a round each end in turn
-/// gives its next frame, if it has one, and the other takes it.
+/// the bound of [`turns_come_to_an_end`] says, if no error is told in as many rounds and one more (`rounds`). So it always is where
+/// the call was timely, as in [`crate::what_is_lost_arrives`] (`timely`): that law speaks of where no turn is left, and there rounds
+/// always lead. In a round each end in turn gives its next frame, if it has one, and the other takes it.
 pub fn rounds_come_to_rest()
-    ensures { RoundsComeToRest }
+    ensures rounds { RoundsComeToRest }
+    ensures timely { TimelyRoundsComeToRest }
 {}

@@ -43,13 +43,13 @@ unfoldable pub expiries : List Doing → ℕ
 expiries [] = 0
 expiries (d ∷ ds) = expiries_in d + expiries ds
 
--- So many frames there are at most, where at most k are outstanding at either end: SABME and UA, and at each end a REJ for which
--- k go again; for each expiry an enquiry and its answer, for which k go again; and for each request that was granted an I-frame,
--- its acknowledgement, and a REJ for which k go again.
+-- What the bound reckons with, in frames, where at most k are outstanding at either end: SABME and UA, and at each end a REJ for
+-- which k go again; for each expiry an enquiry and its answer, for which k go again; and for each request that was granted an
+-- I-frame, its acknowledgement, and a REJ for which k go again.
 abbrev pub most_frames : ℕ → ℕ → ℕ → ℕ
 most_frames k expired granted = 2 * (k + 2) + (k + 2) * expired + (k + 3) * granted
 
--- Each is given, and is taken or lost; so there are at most twice as many moves, as long as no error was told.
+-- There are at most twice as many moves, as long as no error was told: a frame is given, and then taken or lost.
 abbrev pub MovesComeToAnEnd : Type 0
 MovesComeToAnEnd =
     (service : Service) (c d : Config) (line other tei k : ℕ) (ds : List Doing) → CanCall c line d other tei → All (IsRoughTalk service tei) ds →

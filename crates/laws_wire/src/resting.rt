@@ -4,12 +4,12 @@ ghost use Rattle.laws_wire.specs.Resting.{MovesComeToAnEnd, RoundsComeToRest, Ti
 
 /// Turns come to an end, whatever is lost and whichever timers expire. Two cards have just begun as in
 /// [`crate::a_call_comes_through`], and one is asked to establish. Then, as in [`crate::told_in_order`], data is asked for, T200
-/// and T203 of the link expire at either end, and frames are given, taken or lost, in any order and at any time. Where k is at
-/// least the window of either end, at most 2 (k + 2) frames are given, and k + 2 for each expiry, and k + 3 for each request that
-/// was granted: for the establishment SABME and UA, and at each end a REJ for which k go again; for an expiry an enquiry and its
-/// answer, for which k go again; for a request an I-frame, its acknowledgement, and a REJ for which k go again. Each is taken or
-/// lost, so there are at most twice as many moves: frames given, taken or lost. So with no further request and no further expiry
-/// moves come to an end. So it is as long as neither end tells an error: of the moves after an error no law speaks.
+/// and T203 of the link expire at either end, and frames are given, taken or lost, in any order and at any time; each frame that is
+/// given, taken or lost is a move. Where k is at least the window of either end, there are at most 4 (k + 2) moves, and 2 (k + 2)
+/// more for each expiry, and 2 (k + 3) more for each request that was granted. That is two for each of these frames: for the
+/// establishment SABME and UA, and at each end a REJ for which k go again; for an expiry an enquiry and its answer, for which k go
+/// again; for a request an I-frame, its acknowledgement, and a REJ for which k go again. So with no further request and no further
+/// expiry moves come to an end. So it is as long as neither end tells an error: of the moves after an error no law speaks.
 pub fn turns_come_to_an_end()
     ensures { MovesComeToAnEnd }
 {}

@@ -25,6 +25,7 @@ pub use Rattle.lapd_bits.specs.Deframer.{latest_of}
 pub use Rattle.model_bits.specs.Framer.{Framing, last_octets, refilled, runs_low, still_held, with_idle}
 pub use Rattle.model_bits.specs.Heads.{head_of}
 pub use Rattle.model_bits.specs.Heard.{heard_of}
+pub use Rattle.lapd_bits.specs.Ended.{without_octets}
 pub use Rattle.model_bits.specs.Sent.{Item, frame, idle, line_text}
 pub use Rattle.model_bits.specs.Stream.{heard_in, room_for}
 pub use Rattle.model_bits.specs.Stuffing.{unstuffed}

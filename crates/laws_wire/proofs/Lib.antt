@@ -37,6 +37,14 @@ pub mod StillIsTimely
 pub mod Counting
 pub mod Again
 pub mod Delivering
+pub mod Loads
+pub mod LoadsHeard
+pub mod LoadsTimed
+pub mod Weighing
+pub mod Rested
+pub mod RestedRun
+pub mod RestedRounds
+pub mod RestedTimely
 pub mod PremisesMet
 pub mod RecoveryMet
 pub mod RecoveryMetAgain

@@ -56,7 +56,7 @@ module _ (service : Service) (tei : ℕ) (c d : Config) (p q : ℕ) (face : Face
   abbrev Leads : Wire → Type 0
   Leads w = Went service tei c d p q w
 
-  goes : (k : Doing) → IsRoughTalk service tei k → (w : Wire) → Goes service tei c d p q w → Leads (doing k w)
+  pub goes : (k : Doing) → IsRoughTalk service tei k → (w : Wire) → Goes service tei c d p q w → Leads (doing k w)
   goes (at_near act) is w (inl h) = ringing-near service tei c d p q face back rt ru w h act is
   goes (at_near act) is w (inr (inl h)) = half-near service tei c d p q face back rt ru w h act is
   goes (at_near act) is w (inr (inr h)) = up-near_acts service tei c d p q face back rt ru w h act is
@@ -64,7 +64,7 @@ module _ (service : Service) (tei : ℕ) (c d : Config) (p q : ℕ) (face : Face
   goes (at_far act) is w (inr (inl h)) = half-far service tei c d p q face back rt ru w h act is
   goes (at_far act) is w (inr (inr h)) = up-far_acts service tei c d p q face back rt ru w h act is
 
-  errs : (k : Doing) (w : Wire) → HasErred service tei c d p q w → HasErred service tei c d p q (doing k w)
+  pub errs : (k : Doing) (w : Wire) → HasErred service tei c d p q w → HasErred service tei c d p q (doing k w)
   errs (at_near act) w (inl h) = inl (still-errs w.near (acting act w).near (near-more act w) h)
   errs (at_near act) w (inr h) = inr (still-errs w.far (acting act w).far (far-more act w) h)
   errs (at_far act) w (inl h) = inl (still-errs w.near (acting act (turned w)).far (far-more act (turned w)) h)

@@ -6,8 +6,10 @@ pub mod Timely
 pub mod Recovering
 pub mod Counted
 pub mod Facing
+pub mod Resting
 pub mod Worked
 pub mod WorkedLosing
 pub mod WorkedRecovering
 pub mod WorkedCounted
+pub mod WorkedResting
 pub mod WorkedBroken

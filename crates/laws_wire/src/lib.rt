@@ -3,19 +3,22 @@
 //!
 //! `specs/` has the wire and what can happen at its ends (`Wire`), a call between two cards that have just begun, in
 //! the words of the calls of a card alone (`Call`), the same where frames are lost and timers expire (`Losing`), a T200
-//! that is long enough (`Timely`), what it recovers (`Recovering`) and how often it may expire (`Counted`), two cards
-//! that face each other by links in state 7 (`Facing`), and worked values that compute (`Worked`, `WorkedLosing`,
-//! `WorkedRecovering`, `WorkedCounted`). What a card does at a happening is the machine of `model_card`, to the octet;
-//! the laws of two links are those of `laws_two_links`.
+//! that is long enough (`Timely`), what it recovers (`Recovering`) and how often it may expire (`Counted`), how many
+//! turns there are at most (`Resting`), two cards that face each other by links in state 7 (`Facing`), and worked values
+//! that compute (`Worked`, `WorkedLosing`, `WorkedRecovering`, `WorkedCounted`, `WorkedResting`). What a card does at a
+//! happening is the machine of `model_card`, to the octet; the laws of two links are those of `laws_two_links`.
 //!
 //! # Open
 //!
-//! What is told after an error, so also where a UA was lost; a timer of the called end that expires while its UA waits to
-//! go; that a given T200 is long enough; the octets that one card's pulls give, taken one by one by the other.
+//! What is told after an error, so also where a UA was lost, and whether turns come to an end then; a timer of the called
+//! end that expires while its UA waits to go; that a given T200 is long enough; the octets that one card's pulls give,
+//! taken one by one by the other.
 #![tactic(auto)]
 
 mod laws;
+mod resting;
 
 pub use laws::{
     a_call_comes_through, cards_deliver, expiries_are_counted, told_in_order, what_is_lost_arrives,
 };
+pub use resting::{rounds_come_to_rest, turns_come_to_an_end};

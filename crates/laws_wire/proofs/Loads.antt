@@ -1,0 +1,130 @@
+-- What a link has to send, in turns, where w turns go again at most: what waits, what is unsent, an acknowledgement that is owed,
+-- a REJ that may still be sent, and in state 8 what the answer may bring back.
+use Rattle.std.proofs.Common.{◌≡◌, ℕ, ◌+◌, ◌-◌, ◌*◌, ◌<◌, ◌≤◌, Bool, true, false, cond, not, ◌&&◌, List, [], ◌∷◌, ◌++◌, length, refl, ap, arith}
+use Rattle.std.specs.Prelude.{nat_lt}
+use Rattle.std.proofs.lemmas.Bool.{and_parts, ltb-true}
+use Rattle.lapd_frame.specs.declared.controls.Control.{Control}
+use Rattle.lapd_frame.specs.declared.controls.Control.TheVariants.{Information, ReceiveReady, ReceiveNotReady, Reject, Sabme, Disc, Ui, Ua, Dm, Frmr, Xid}
+use Rattle.lapd_frame.specs.Grammar.{Parts}
+use Rattle.lapd_seq.specs.Numbers.{seq}
+use Rattle.model_link.specs.declared.states.State.{State}
+use Rattle.model_link.specs.declared.states.State.TheVariants.{TeiAssigned, AwaitingEstablishment, AwaitingRelease, Established, TimerRecovery}
+use Rattle.model_link.specs.declared.frames.ControlFrame.{ControlFrame}
+use Rattle.model_link.specs.declared.terms.Terms.{Terms}
+use Rattle.model_link.specs.Link.{Link, unsent}
+use Rattle.model_link.specs.Events.{offer}
+use Rattle.model_link.specs.Machine.{course, given_of}
+use Rattle.model_link.specs.Offers
+use Rattle.model_link.specs.Steps.{Course, begun}
+use Rattle.model_link.specs.TwoEnds.{frame_given}
+use Rattle.model_link.specs.Words
+
+-- what a frame brings about, beyond itself
+abbrev pub answer_to : Bool → ℕ
+answer_to asks = cond {A = ℕ} asks 2 0
+
+abbrev pub brings : ℕ → Bool → Control → ℕ
+brings w command (Information ns nr p) = answer_to p
+brings w command (ReceiveReady nr pf) = answer_to (command && pf)
+brings w command (ReceiveNotReady nr pf) = answer_to (command && pf)
+brings w command (Reject nr pf) = w + answer_to (command && pf)
+brings w command (Sabme p) = 0
+brings w command (Disc p) = 0
+brings w command (Ui p) = 0
+brings w command (Ua f) = 0
+brings w command (Dm f) = 0
+brings w command (Frmr f) = 0
+brings w command (Xid pf) = 0
+
+-- a frame that waits is still to be given and taken, one on its way to be taken
+abbrev pub load_waiting : ℕ → List ControlFrame → ℕ
+load_waiting w [] = 0
+load_waiting w (f ∷ fs) = 2 + brings w f.command f.control + load_waiting w fs
+
+abbrev pub load_way : ℕ → List Parts → ℕ
+load_way w [] = 0
+load_way w (f ∷ fs) = 1 + brings w f.address.command f.control + load_way w fs
+
+abbrev pub back : ℕ → State → ℕ
+back w TeiAssigned = 2
+back w AwaitingEstablishment = 0
+back w AwaitingRelease = 0
+back w Established = 0
+back w TimerRecovery = w
+
+abbrev pub owes : Bool → ℕ
+owes pending = cond {A = ℕ} pending 2 0
+
+abbrev pub may_reject : ℕ → Bool → ℕ
+may_reject w rejecting = cond {A = ℕ} rejecting 0 (w + 2)
+
+abbrev pub load : ℕ → Link → ℕ
+load w l = load_waiting w l.waiting + 2 * unsent l + owes l.pending + may_reject w l.rejecting + back w l.state
+
+-- ---- lists
+
+pub waiting-append : (w : ℕ) (fs gs : List ControlFrame) → load_waiting w (fs ++ gs) ≡ load_waiting w fs + load_waiting w gs
+waiting-append w [] gs = omega arith
+waiting-append w (f ∷ fs) gs =
+    let rest : load_waiting w (fs ++ gs) ≡ load_waiting w fs + load_waiting w gs = waiting-append w fs gs in
+    omega (arith, rest)
+
+pub way-append : (w : ℕ) (fs gs : List Parts) → load_way w (fs ++ gs) ≡ load_way w fs + load_way w gs
+way-append w [] gs = omega arith
+way-append w (f ∷ fs) gs =
+    let rest : load_way w (fs ++ gs) ≡ load_way w fs + load_way w gs = way-append w fs gs in
+    omega (arith, rest)
+
+-- a frame more waits, where there is room
+pub one-waits : (w : ℕ) (b : Bool) (ws : List ControlFrame) (f : ControlFrame) (n : ℕ) → brings w f.command f.control ≡ n
+    → load_waiting w (cond b (ws ++ f ∷ []) ws) ≤ load_waiting w ws + (2 + n)
+one-waits w true ws f n e =
+    let more : load_waiting w (ws ++ f ∷ []) ≡ load_waiting w ws + (2 + brings w f.command f.control + 0) = waiting-append w ws (f ∷ []) in
+    omega (arith, more, e)
+one-waits w false ws f n e = omega arith
+
+pub ready-brings : (w : ℕ) (c own_busy : Bool) (l : Link) → l.own_busy ≡ own_busy → brings w c (Words.ready_to_receive true l) ≡ answer_to (c && true)
+ready-brings w c true l e = ap (λ b. brings w c (cond b (ReceiveNotReady (seq l.r) true) (ReceiveReady (seq l.r) true))) e
+ready-brings w c false l e = ap (λ b. brings w c (cond b (ReceiveNotReady (seq l.r) true) (ReceiveReady (seq l.r) true))) e
+
+-- ---- what is given goes to the way
+
+module _ (w : ℕ) (t : Terms) (l : Link) where
+  -- the link keeps its contents and V(R), and has less to send by what it gives
+  pub record Gives (c : Course) : Type 0 where
+    pub contents : c.link.contents ≡ l.contents
+    pub received : c.link.r ≡ l.r
+    pub falls : load w c.link + (load_way w (frame_given t (given_of t l c c.sent)) + length (frame_given t (given_of t l c c.sent))) ≤ load w l
+
+  either : (b : Bool) (u v : Course) → Gives u → Gives v → Gives (cond b u v)
+  either true u v x y = x
+  either false u v x y = y
+
+  tested : (b : Bool) (u v : Course) → (b ≡ true → Gives u) → (b ≡ false → Gives v) → Gives (cond b u v)
+  tested true u v x y = x refl
+  tested false u v x y = y refl
+
+  information : Offers.may_send_information t l ≡ true → Gives (Offers.send_information (begun l))
+  information e =
+      let parts = and_parts (Offers.is_established l.state && not l.peer_busy && nat_lt (l.s - l.a) t.k) (nat_lt l.s (length l.contents)) e in
+      let some : l.s < length l.contents = ltb-true l.s (length l.contents) parts.1 in
+      either (Offers.is_awaiting_acknowledgement (Offers.with_one_sent l)) _ _
+      (record { contents = refl; received = refl; falls = omega (arith, some) })
+      (record { contents = refl; received = refl; falls = omega (arith, some) })
+
+  acknowledgement : l.pending ≡ true → Gives (Offers.send_acknowledgement (begun l))
+  acknowledgement e =
+      let due : owes l.pending ≡ 2 = ap owes e in
+      record { contents = refl; received = refl; falls = omega (arith, due) }
+
+  idle : Gives (begun l)
+  idle = record { contents = refl; received = refl; falls = omega arith }
+
+  offered : (ws : List ControlFrame) → l.waiting ≡ ws → Gives (Offers.offer_among t ws (begun l))
+  offered [] e = tested (Offers.may_send_information t l) _ _ information (λ x. tested l.pending _ _ acknowledgement (λ y. idle))
+  offered (f ∷ fs) e =
+      let all : load_waiting w l.waiting ≡ 2 + brings w f.command f.control + load_waiting w fs = ap (load_waiting w) e in
+      record { contents = refl; received = refl; falls = omega (arith, all) }
+
+  pub offer-gives : Gives (course t offer l)
+  offer-gives = offered l.waiting refl

@@ -1,0 +1,252 @@
+-- What is done at one end of a call in which frames are lost and timers expire makes what is still to do less, or tells an error.
+use Rattle.std.proofs.Common.{◌≡◌, ℕ, ◌+◌, ◌-◌, ◌*◌, ◌≤◌, cond, List, [], ◌∷◌, ◌++◌, length, map, drop, refl, sym, ap, subst, ◌∙◌, ◌⊎◌, inl, inr, length-append, arith}
+use Rattle.lapd_frame.specs.declared.services.Service.{Service}
+use Rattle.lapd_frame.specs.declared.timers.Timer.{Timer}
+use Rattle.lapd_frame.specs.Grammar.{Parts, AreOctets, spelling}
+use Rattle.model_link.specs.declared.timers.LinkTimer.{LinkTimer}
+use Rattle.model_link.specs.Events as link
+use Rattle.model_link.specs.Link.{Link}
+use Rattle.model_link.specs.Machine.{course, given, after}
+use Rattle.model_link.specs.Steps.{Course}
+use Rattle.model_link.specs.TwoEnds.{End, with_link, with_sent, frame_given}
+use Rattle.model_link.specs.TwoEnds as two_ends
+use Rattle.model_line.specs.declared.config.Config.{Config}
+use Rattle.model_line.specs.Event.{LineTold}
+use Rattle.model_card.specs.Happening.{comes, expires, asks}
+use Rattle.model_line.specs.Request.{Data}
+use Rattle.laws_wire.specs.Wire.{Station, Wire, happens, with_first_of, with_first_lost, Act, requests, times_out, gives, takes, loses, acting, is_any}
+use Rattle.laws_wire.specs.Losing.{IsRoughTalkOf}
+use Rattle.laws_wire.specs.Resting.{is_move_of, expiries_of}
+use Rattle.laws_wire.proofs.Asking.{with_more}
+use Rattle.laws_wire.proofs.Fair.{HasError}
+use Rattle.laws_wire.proofs.Held.{Held, Erred, now-erred, held-given, held-lost, taken-told, taken-stands, expired-told, Grants, held-asked}
+use Rattle.laws_wire.proofs.Loads.{load, load_way, load_waiting, owes, may_reject, back, brings, way-append, Gives, offer-gives}
+use Rattle.laws_wire.proofs.LoadsTimed.{Expires, timer-expires}
+use Rattle.laws_wire.proofs.LossyPhases.{Aims, for-data, for-timer, first-way}
+use Rattle.laws_wire.proofs.Standing.{IsCarried, Stands, expires-stands, gives-frames}
+use Rattle.laws_wire.proofs.Talking.{Face}
+use Rattle.laws_wire.proofs.Weighing.{Fell, undelivered, accepts-more, goes as goes_on, delivers}
+
+-- what a frame does to the link that hears it
+pub record TakesWell (v : ℕ) (l l' : Link) (f : Parts) : Type 0 where
+  pub contents : l'.contents ≡ l.contents
+  pub falls : ((l'.r ≡ l.r) × (load v l' ≤ load v l + brings v f.address.command f.control)) ⊎ ((l'.r ≡ l.r + 1) × (load v l' ≤ load v l + brings v f.address.command f.control + (v + 4)))
+
+any-mapped : (f : Parts → List ℕ) (xs : List Parts) → cond {A = ℕ} (is_any (map f xs)) 1 0 ≤ length xs
+any-mapped f [] = omega arith
+any-mapped f (x ∷ xs) = omega arith
+
+any-lost : (v : ℕ) (f : Parts → List ℕ) (xs : List Parts) → cond {A = ℕ} (is_any (map f xs)) 1 0 + load_way v (drop 1 xs) ≤ load_way v xs
+any-lost v f [] = omega arith
+any-lost v f (x ∷ xs) = omega arith
+
+module _ (service : Service) (tei : ℕ) (c d : Config) (p q : ℕ) (past_n past_m : List LineTold) (face : Face c d) (v : ℕ) (w : Wire) (n m : End)
+    (near : Held c service tei p past_n w.near n) (far : Held d service tei q past_m w.far m) (low : m.link.r ≤ length n.link.contents) where
+  -- the stations stand for other ends, of which so much is left to do
+  pub record Then (w' : Wire) (moved expired : ℕ) : Type 0 where
+    pub n' : End
+    pub m' : End
+    pub near' : Stands c service tei p w'.near n'
+    pub far' : Stands d service tei q w'.far m'
+    pub fell : Fell v moved expired n m n' m'
+
+  abbrev moved_by : Act → ℕ
+  moved_by act = cond {A = ℕ} (is_move_of act w) 1 0
+
+  abbrev Leads : Act → Type 0
+  Leads act = Then (acting act w) (moved_by act) (expiries_of act) ⊎ Erred (acting act w).near
+
+  own : Stands w.near.card.config service tei p w.near n
+  own = subst (λ k. Stands k service tei p w.near n) (sym near.stands.config) near.stands
+
+  -- ---- it gives
+
+  then-gives : Leads gives
+  then-gives = inl (record {
+    n' = with_sent n;
+    m' = m;
+    near' = (held-given service tei p past_n c w.near n near x.contents).stands;
+    far' = far.stands;
+    fell = goes_on v n m (with_sent n) m x.contents refl (moved_by gives) 0 x.received
+        (total (moved_by gives) (load v (with_sent n).link) (load_way v n.way) (load_way v news) (load_way v (n.way ++ news)) (load v m.link + load_way v m.way) (load v n.link) (length news) ((v + 4) * 0)
+        (way-append v n.way news) (subst (λ xs. cond {A = ℕ} (is_any xs) 1 0 ≤ length news) (sym (gives-frames service tei p w.near n own)) (any-mapped (spelling w.near.card.config.side) news)) x.falls);
+  })
+    where
+      news : List Parts
+      news = frame_given n.terms (given n.terms n.link)
+
+      x : Gives v n.terms n.link (course n.terms link.offer n.link)
+      x = offer-gives v n.terms n.link
+
+      total : (moved l' way news all other l count z : ℕ) → all ≡ way + news → moved ≤ count → l' + (news + count) ≤ l → moved + (l' + all) + other ≤ l + way + other + z
+      total moved l' way news all other l count z e few less = omega (arith, e, few, less)
+
+  -- ---- the first on its way is lost
+
+  then-loses : Leads loses
+  then-loses = inl (record {
+    n' = two_ends.with_first_lost n;
+    m' = m;
+    near' = (held-lost service tei p past_n c w.near n near).stands;
+    far' = far.stands;
+    fell = goes_on v n m (two_ends.with_first_lost n) m refl refl (moved_by loses) 0 refl
+        (total (moved_by loses) (load v n.link) (load_way v (drop 1 n.way)) (load_way v n.way) (load v m.link + load_way v m.way) ((v + 4) * 0)
+        (subst (λ way. cond {A = ℕ} (is_any way) 1 0 + load_way v (drop 1 n.way) ≤ load_way v n.way) (sym near.stands.way) (any-lost v (spelling c.side) n.way)));
+  })
+    where
+      total : (moved l way way' other z : ℕ) → moved + way ≤ way' → moved + (l + way) + other ≤ l + way' + other + z
+      total moved l way way' other z less = omega (arith, less)
+
+  -- ---- a timer expires
+
+  then-expires : (timer : Timer) (its : LinkTimer) → Aims service tei timer its → Leads (times_out timer)
+  then-expires timer its aims = go (timer-expires v n.terms n.link its)
+    where
+      s' : Station
+      s' = happens (expires w.near.line timer) w.near
+
+      x : Course
+      x = course n.terms (link.expired its) n.link
+
+      n1 : End
+      n1 = with_link (link.expired its) n
+
+      total : (l' l way other : ℕ) → l' ≤ l + (v + 4) → 0 + (l' + way) + other ≤ l + way + other + (v + 4) * 1
+      total l' l way other less = omega (arith, less)
+
+      go : HasError x.notes ⊎ Expires v n.terms n.link x → Leads (times_out timer)
+      go (inl error) = inr (now-erred w.near s' x (expired-told service tei p past_n c w.near n near timer its aims) error)
+      go (inr y) = inl (record {
+        n' = n1;
+        m' = m;
+        near' = subst (λ k. Stands k service tei p s' n1) near.stands.config (expires-stands service tei p w.near n own timer its aims);
+        far' = far.stands;
+        fell = goes_on v n m n1 m y.contents refl 0 1 y.received (total (load v x.link) (load v n.link) (load_way v n.way) (load v m.link + load_way v m.way) y.within);
+      })
+
+  -- ---- its layer 3 asks for more
+
+  more-accepted : (octets : List ℕ) → Fell v 0 0 n m (with_more octets n) m
+  more-accepted octets =
+      let long : length (n.link.contents ++ octets ∷ []) ≡ length n.link.contents + 1 = length-append n.link.contents (octets ∷ []) in
+      record {
+        more = 1;
+        grown = sum (length (n.link.contents ++ octets ∷ [])) (length n.link.contents) (length m.link.contents) long;
+        falls =
+            total (load v (with_more octets n).link) (load v n.link) (load_way v n.way) (load v m.link + load_way v m.way) ((v + 4) * undelivered (with_more octets n).link m.link)
+            ((v + 4) * undelivered n.link m.link) ((v + 4) * undelivered m.link n.link) ((v + 4) * 0)
+            (heavier (length (n.link.contents ++ octets ∷ [])) long)
+            (ap (λ len. (v + 4) * (len - m.link.r)) long ∙ accepts-more (v + 4) (length n.link.contents) m.link.r low);
+      }
+    where
+      sum : (a b c : ℕ) → a ≡ b + 1 → a + c ≡ b + c + 1
+      sum a b c e = omega (arith, e)
+
+      heavier : (len : ℕ) → len ≡ length n.link.contents + 1
+          → load_waiting v n.link.waiting + 2 * (len - n.link.s) + owes n.link.pending + may_reject v n.link.rejecting
+          + back v n.link.state ≤ load v n.link + 2
+      heavier len e = omega (arith, e)
+
+      total : (l' l way other u' u z y : ℕ) → l' ≤ l + 2 → u' ≡ u + (v + 4) → 0 + ((l' + way) + other + (u' + z)) ≤ (l + way) + other + (u + z) + y + (v + 6) * 1
+      total l' l way other u' u z y less e = omega (arith, less, e)
+
+  then-asks : (octets : List ℕ) → AreOctets octets → Leads (requests (Data service tei octets))
+  then-asks octets are = go (held-asked service tei p past_n c w.near n near octets are)
+    where
+      s' : Station
+      s' = happens (asks w.near.line (Data service tei octets)) w.near
+
+      go : (s' ≡ w.near) ⊎ Grants service tei p past_n c w.near n near octets s' → Leads (requests (Data service tei octets))
+      go (inl same) = inl (record {
+        n' = n;
+        m' = m;
+        near' = subst (λ s. Stands c service tei p s n) (sym same) near.stands;
+        far' = far.stands;
+        fell = goes_on v n m n m refl refl 0 0 refl (omega arith);
+      })
+      go (inr x) = inl (record { n' = with_more octets n; m' = m; near' = x.held.stands; far' = far.stands; fell = more-accepted octets })
+
+  -- ---- it takes
+
+  then-takes : ((f : Parts) (fs : List Parts) → m.way ≡ f ∷ fs
+      → HasError (course n.terms (link.received (link.frame f)) n.link).notes
+      ⊎ (TakesWell v n.link (after n.terms (link.received (link.frame f)) n.link) f × (after n.terms (link.received (link.frame f)) n.link).r ≤ length m.link.contents))
+      → Leads takes
+  then-takes well = go m.way refl
+    where
+      m1 : End
+      m1 = two_ends.with_first_lost m
+
+      lost : Stands d service tei q (with_first_lost w.far) m1
+      lost = (held-lost service tei q past_m d w.far m far).stands
+
+      none : w.far.way ≡ [] → (m.way ≡ []) → Leads takes
+      none e e' = inl (record {
+        n' = n;
+        m' = m1;
+        near' = subst (λ ways. Stands c service tei p (with_first_of ways w.near) n) (sym e) near.stands;
+        far' = lost;
+        fell = subst (λ ways. Fell v (cond {A = ℕ} (is_any ways) 1 0) 0 n m n m1) (sym e) (goes_on v n m n m1 refl refl 0 0 refl (same (load_way v (drop 1 m.way)) (load_way v m.way) ((v + 4) * 0) (ap (λ way. load_way v (drop 1 way)) e' ∙ sym (ap (load_way v) e'))));
+      })
+        where
+          same : (x y z : ℕ) → x ≡ y → 0 + (load v n.link + load_way v n.way) + (load v m.link + x) ≤ load v n.link + load_way v n.way + (load v m.link + y) + z
+          same x y z e = omega (arith, e)
+
+      hears : (f : Parts) (fs : List Parts) → m.way ≡ f ∷ fs → w.far.way ≡ spelling d.side f ∷ map (spelling d.side) fs → IsCarried d service tei f → Leads takes
+      hears f fs e way from = by (well f fs e)
+        where
+          s' : Station
+          s' = happens (comes w.near.line (spelling d.side f)) w.near
+
+          x : Course
+          x = course n.terms (link.received (link.frame f)) n.link
+
+          n1 : End
+          n1 = with_link (link.received (link.frame f)) n
+
+          behind : load_way v m.way ≡ 1 + brings v f.address.command f.control + load_way v (drop 1 m.way)
+          behind = ap (load_way v) e ∙ sym (ap (λ way. 1 + brings v f.address.command f.control + load_way v (drop 1 way)) e)
+
+          stays : (l' l way m' back rest b z : ℕ) → back ≡ 1 + b + rest → l' ≤ l + b → 1 + (l' + way) + (m' + rest) ≤ l + way + (m' + back) + z
+          stays l' l way m' back rest b z e less = omega (arith, e, less)
+
+          counts : (l' l way m' back rest b : ℕ) → back ≡ 1 + b + rest → l' ≤ l + b + (v + 4) → 1 + (l' + way) + (m' + rest) ≤ l + way + (m' + back) + (v + 4)
+          counts l' l way m' back rest b e less = omega (arith, e, less)
+
+          fell : TakesWell v n.link x.link f → x.link.r ≤ length m.link.contents → Fell v 1 0 n m n1 m1
+          fell y few = which y.falls
+            where
+              which : ((x.link.r ≡ n.link.r) × (load v x.link ≤ load v n.link + brings v f.address.command f.control))
+                  ⊎ ((x.link.r ≡ n.link.r + 1) × (load v x.link ≤ load v n.link + brings v f.address.command f.control + (v + 4))) → Fell v 1 0 n m n1 m1
+              which (inl (r, less)) =
+                  goes_on v n m n1 m1 y.contents refl 1 0 r
+                  (stays (load v x.link) (load v n.link) (load_way v n.way) (load v m.link) (load_way v m.way) (load_way v (drop 1 m.way)) (brings v f.address.command f.control) ((v + 4) * 0) behind less)
+              which (inr (r, less)) =
+                  delivers v n m n1 m1 y.contents refl r few
+                  (counts (load v x.link) (load v n.link) (load_way v n.way) (load v m.link) (load_way v m.way) (load_way v (drop 1 m.way)) (brings v f.address.command f.control) behind less)
+
+          by : HasError x.notes ⊎ (TakesWell v n.link x.link f × x.link.r ≤ length m.link.contents) → Leads takes
+          by (inl error) =
+              inr (subst (λ ways. Erred (with_first_of ways w.near)) (sym way) (now-erred w.near s' x (taken-told service tei p past_n c w.near n near d face f from) error))
+          by (inr y) = inl (record {
+            n' = n1;
+            m' = m1;
+            near' = subst (λ ways. Stands c service tei p (with_first_of ways w.near) n1) (sym way) (taken-stands service tei p past_n c w.near n near d face f from);
+            far' = lost;
+            fell = subst (λ ways. Fell v (cond {A = ℕ} (is_any ways) 1 0) 0 n m n1 m1) (sym way) (fell y.0 y.1);
+          })
+
+      go : (way : List Parts) → m.way ≡ way → Leads takes
+      go [] e = none (far.stands.way ∙ ap (map (spelling d.side)) e) e
+      go (f ∷ fs) e = let y = first-way service tei d q past_m w.far m f fs e far in hears f fs e y.0 y.1
+
+  pub then-acts : (act : Act) → IsRoughTalkOf service tei act
+      → ((f : Parts) (fs : List Parts) → m.way ≡ f ∷ fs
+      → HasError (course n.terms (link.received (link.frame f)) n.link).notes
+      ⊎ (TakesWell v n.link (after n.terms (link.received (link.frame f)) n.link) f × (after n.terms (link.received (link.frame f)) n.link).r ≤ length m.link.contents))
+      → Leads act
+  then-acts (requests r) is well = for-data service tei (λ r. Leads (requests r)) then-asks r is
+  then-acts (times_out timer) is well = for-timer service tei (λ timer. Leads (times_out timer)) then-expires timer is
+  then-acts gives is well = then-gives
+  then-acts takes is well = then-takes well
+  then-acts loses is well = then-loses

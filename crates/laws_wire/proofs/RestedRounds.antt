@@ -1,0 +1,221 @@
+-- Rounds in which no error is told lead to where no turn is left.
+use Rattle.std.proofs.Common.{◌≡◌, ℕ, zero, suc, ◌+◌, ◌*◌, ◌<◌, ◌≤◌, Bool, true, false, cond, List, [], ◌∷◌, ◌++◌, length, Option, None, Some, option_map, refl, sym, ap, subst, ◌∙◌, append-nil, arith}
+use Rattle.std.specs.Prelude.{All}
+use Rattle.std.proofs.lemmas.List.Elements.{All-nil, All-cons, All-append}
+use Rattle.lapd_frame.specs.declared.services.Service.{Service}
+use Rattle.model_line.specs.Event as line_event
+use Rattle.model_card.specs.Card.{line_at}
+use Rattle.model_card.specs.Happening.{comes, goes}
+use Rattle.model_card.specs.Said.{Said, says, gives, Next, next_of, said}
+use Rattle.model_line.specs.Pull.{taken}
+use Rattle.laws_wire.specs.Wire as wire
+use Rattle.laws_wire.specs.Wire.{Station, Wire, happens, with_first_of, with_first_lost, frames_by, unless_refused, contents_in, is_any, Doing, at_near, at_far, acting, turned, doing, doing_all, IsStill}
+use Rattle.laws_wire.specs.Call.{calling}
+use Rattle.laws_wire.specs.Facing.{granted_of}
+use Rattle.laws_wire.specs.Losing.{IsRoughTalk}
+use Rattle.laws_wire.specs.Recovering.{round, rounds, HasNoErrors}
+use Rattle.laws_wire.specs.Resting.{is_move, moves, expiries, most_frames, RoundsComeToRest}
+use Rattle.laws_wire.proofs.RestedRun.{moves-come-to-an-end}
+
+-- ---- one thing done after another
+
+pub doing-append : (ds es : List Doing) (w : Wire) → doing_all (ds ++ es) w ≡ doing_all es (doing_all ds w)
+unfolding doing_all
+doing-append [] es w = refl
+doing-append (d ∷ ds) es w = doing-append ds es (doing d w)
+
+moves-append : (ds es : List Doing) (w : Wire) → moves (ds ++ es) w ≡ moves ds w + moves es (doing_all ds w)
+unfolding doing_all moves
+moves-append [] es w = omega arith
+moves-append (d ∷ ds) es w =
+    let rest : moves (ds ++ es) (doing d w) ≡ moves ds (doing d w) + moves es (doing_all ds (doing d w)) = moves-append ds es (doing d w) in
+    omega (arith, rest)
+
+expiries-append : (ds es : List Doing) → expiries (ds ++ es) ≡ expiries ds + expiries es
+unfolding expiries
+expiries-append [] es = omega arith
+expiries-append (d ∷ ds) es = let rest : expiries (ds ++ es) ≡ expiries ds + expiries es = expiries-append ds es in omega (arith, rest)
+
+-- ---- rounds, as a list
+
+unfoldable pub many : ℕ → List Doing
+many zero = []
+many (suc n) = at_near wire.gives ∷ at_far wire.takes ∷ at_far wire.gives ∷ at_near wire.takes ∷ many n
+
+pub many-rounds : (n : ℕ) (w : Wire) → doing_all (many n) w ≡ rounds n w
+unfolding many doing_all rounds
+many-rounds zero w = refl
+many-rounds (suc n) w = many-rounds n (doing_all round w)
+
+none-expires : (n : ℕ) → expiries (many n) ≡ 0
+unfolding many expiries
+none-expires zero = refl
+none-expires (suc n) = let rest : expiries (many n) ≡ 0 = none-expires n in omega (arith, rest)
+
+pub all-rough : (service : Service) (tei n : ℕ) → All (IsRoughTalk service tei) (many n)
+unfolding many
+all-rough service tei zero = All-nil (IsRoughTalk service tei)
+all-rough service tei (suc n) =
+    All-cons (IsRoughTalk service tei) (at_near wire.gives) (at_far wire.takes ∷ at_far wire.gives ∷ at_near wire.takes ∷ many n) tt
+    (All-cons (IsRoughTalk service tei) (at_far wire.takes) (at_far wire.gives ∷ at_near wire.takes ∷ many n) tt
+    (All-cons (IsRoughTalk service tei) (at_far wire.gives) (at_near wire.takes ∷ many n) tt
+    (All-cons (IsRoughTalk service tei) (at_near wire.takes) (many n) tt (all-rough service tei n))))
+
+-- ---- nothing is granted in a round
+
+none-granted : (a : Said) → unless_refused a [] ≡ []
+none-granted (says (line_event.told t)) = refl
+none-granted (says (line_event.refused why)) = refl
+none-granted (says (line_event.pulled octet begun orders)) = refl
+none-granted (gives next) = refl
+
+gives-grants : (s : Station) → (happens (goes s.line) s).granted ≡ s.granted
+gives-grants s = ap (λ xs. s.granted ++ xs) (none-granted (said s.card (goes s.line))) ∙ append-nil s.granted
+
+takes-grants : (way : List (List ℕ)) (s : Station) → (with_first_of way s).granted ≡ s.granted
+takes-grants [] s = refl
+takes-grants (octets ∷ way) s = ap (λ xs. s.granted ++ xs) (none-granted (said s.card (comes s.line octets))) ∙ append-nil s.granted
+
+near-gives : (w : Wire) → granted_of (acting wire.gives w) ≡ granted_of w
+near-gives w = ap (λ (xs : List (List ℕ)). length xs + length w.far.granted) (gives-grants w.near)
+
+near-takes : (w : Wire) → granted_of (acting wire.takes w) ≡ granted_of w
+near-takes w = ap (λ (xs : List (List ℕ)). length xs + length w.far.granted) (takes-grants w.far.way w.near)
+
+far-gives : (w : Wire) → granted_of (turned (acting wire.gives (turned w))) ≡ granted_of w
+far-gives w = ap (λ (xs : List (List ℕ)). length w.near.granted + length xs) (gives-grants w.far)
+
+far-takes : (w : Wire) → granted_of (turned (acting wire.takes (turned w))) ≡ granted_of w
+far-takes w = ap (λ (xs : List (List ℕ)). length w.near.granted + length xs) (takes-grants w.near.way w.far)
+
+abbrev w1 : Wire → Wire
+w1 w = acting wire.gives w
+
+abbrev w2 : Wire → Wire
+w2 w = turned (acting wire.takes (turned (w1 w)))
+
+abbrev w3 : Wire → Wire
+w3 w = turned (acting wire.gives (turned (w2 w)))
+
+abbrev w4 : Wire → Wire
+w4 w = acting wire.takes (w3 w)
+
+none-more : (n : ℕ) (w : Wire) → granted_of (doing_all (many n) w) ≡ granted_of w
+unfolding many doing_all
+none-more zero w = refl
+none-more (suc n) w = none-more n (w4 w) ∙ near-takes (w3 w) ∙ far-gives (w2 w) ∙ far-takes (w1 w) ∙ near-gives w
+
+-- ---- a round without a move finds no turn left
+
+no-bit : (b : Bool) → cond {A = ℕ} b 1 0 ≡ 0 → b ≡ false
+no-bit false e = refl
+no-bit true e = absurd (omega (arith, e))
+
+no-way : (way : List (List ℕ)) → is_any way ≡ false → way ≡ []
+no-way [] e = refl
+no-way (x ∷ xs) e = absurd (cc)
+
+no-front : (xs ys : List (List ℕ)) → xs ++ ys ≡ [] → xs ≡ []
+no-front [] ys e = refl
+no-front (x ∷ xs) ys e = absurd (cc)
+
+none-said : (s : Station) → is_any (frames_by (said s.card (goes s.line))) ≡ false → said s.card (goes s.line) ≡ gives None
+none-said s e = go (option_map next_of (taken s.card.config (line_at s.line s.card))) e
+  where
+    go : (o : Option Next) → is_any (frames_by (gives o)) ≡ false → gives o ≡ gives None
+    go None e = refl
+    go (Some next) e = absurd (cc)
+
+first-zero : (a b c d : ℕ) → a + (b + (c + (d + 0))) ≡ 0 → (a ≡ 0) × (b ≡ 0) × (c ≡ 0) × (d ≡ 0)
+first-zero a b c d e = (omega (arith, e), omega (arith, e), omega (arith, e), omega (arith, e))
+
+still-if : (w : Wire) → moves round w ≡ 0 → IsStill w
+unfolding moves
+still-if w e = record { near = none-said w.near near-none; far = none-said w.far far-none; near_way = near-empty; far_way = no-front w.far.way (frames_by (said w.far.card (goes w.far.line))) far-empty }
+  where
+    parts : (cond {A = ℕ} (is_move (at_near wire.gives) w) 1 0 ≡ 0) × (cond {A = ℕ} (is_move (at_far wire.takes) (w1 w)) 1 0 ≡ 0) × (cond {A = ℕ} (is_move (at_far wire.gives) (w2 w)) 1 0 ≡ 0)
+        × (cond {A = ℕ} (is_move (at_near wire.takes) (w3 w)) 1 0 ≡ 0)
+    parts =
+        first-zero (cond {A = ℕ} (is_move (at_near wire.gives) w) 1 0) (cond {A = ℕ} (is_move (at_far wire.takes) (w1 w)) 1 0) (cond {A = ℕ} (is_move (at_far wire.gives) (w2 w)) 1 0)
+        (cond {A = ℕ} (is_move (at_near wire.takes) (w3 w)) 1 0) e
+
+    near-none : is_any (frames_by (said w.near.card (goes w.near.line))) ≡ false
+    near-none = no-bit (is_any (frames_by (said w.near.card (goes w.near.line)))) parts.0
+
+    given-way : (w1 w).near.way ≡ []
+    given-way = no-way (w1 w).near.way (no-bit (is_any (w1 w).near.way) parts.1)
+
+    near-empty : w.near.way ≡ []
+    near-empty = no-front w.near.way (frames_by (said w.near.card (goes w.near.line))) given-way
+
+    far-same : (w2 w).far ≡ w.far
+    far-same = ap (λ way. with_first_of way w.far) given-way
+
+    far-none : is_any (frames_by (said w.far.card (goes w.far.line))) ≡ false
+    far-none =
+        subst (λ (s : Station). is_any (frames_by (said s.card (goes s.line))) ≡ false) far-same
+        (no-bit (is_any (frames_by (said (w2 w).far.card (goes (w2 w).far.line)))) parts.2)
+
+    far-empty : w.far.way ++ frames_by (said w.far.card (goes w.far.line)) ≡ []
+    far-empty =
+        subst (λ (s : Station). s.way ++ frames_by (said s.card (goes s.line)) ≡ []) far-same
+        (no-way (w3 w).far.way (no-bit (is_any (w3 w).far.way) parts.3))
+
+-- So among more rounds than there are moves one finds no turn left.
+pub record Rests (n : ℕ) (w : Wire) : Type 0 where
+  pub after : ℕ
+  pub before : after < n
+  pub still : IsStill (rounds after w)
+
+finds : (n : ℕ) (w : Wire) → moves (many n) w < n → Rests n w
+unfolding many moves doing_all rounds
+finds zero w few = absurd (omega (arith, few))
+finds (suc n) w few = go (λ less. finds n (w4 w) less) (moves round w) refl
+  where
+    both : moves (many (suc n)) w ≡ moves round w + moves (many n) (w4 w)
+    both = moves-append round (many n) w
+
+    fewer : (all first rest : ℕ) → all ≡ (suc first) + rest → all < suc n → rest < n
+    fewer all first rest e less = omega (arith, e, less)
+
+    later : Rests n (w4 w) → Rests (suc n) w
+    later x = record { after = suc x.after; before = let less = x.before in omega (arith, less); still = x.still }
+
+    go : (moves (many n) (w4 w) < n → Rests n (w4 w)) → (k : ℕ) → moves round w ≡ k → Rests (suc n) w
+    go others zero e = record { after = 0; before = omega arith; still = still-if w e }
+    go others (suc k) e = later (others (fewer (moves (many (suc n)) w) k (moves (many n) (w4 w)) (both ∙ ap (λ x. x + moves (many n) (w4 w)) e) few))
+
+pub rounds-come-to-rest : RoundsComeToRest
+rounds-come-to-rest service c d line other tei k ds can talk wide-near wide-far = λ fair. go fair
+  where
+    begun : Wire
+    begun = calling service tei c line d other
+
+    w : Wire
+    w = doing_all ds begun
+
+    most : ℕ
+    most = 2 * most_frames k (expiries ds) (granted_of w)
+
+    es : List Doing
+    es = many (most + 1)
+
+    led : doing_all (ds ++ es) begun ≡ rounds (most + 1) w
+    led = doing-append ds es begun ∙ many-rounds (most + 1) w
+
+    expired : expiries (ds ++ es) ≡ expiries ds
+    expired = expiries-append ds es ∙ (let none : expiries es ≡ 0 = none-expires (most + 1) in omega (arith, none))
+
+    granted : granted_of (doing_all (ds ++ es) begun) ≡ granted_of w
+    granted = ap granted_of (doing-append ds es begun) ∙ none-more (most + 1) w
+
+    few : (all first rest most' most : ℕ) → all ≡ first + rest → all ≤ most' → most' ≡ most → rest < most + 1
+    few all first rest most' most e less same = omega (arith, e, less, same)
+
+    go : HasNoErrors (rounds (most + 1) w) → (n : ℕ) × (n ≤ most) × IsStill (rounds n w)
+    go fair =
+        let fair' : HasNoErrors (doing_all (ds ++ es) begun) = subst HasNoErrors (sym led) fair in
+        let total = moves-come-to-an-end service c d line other tei k (ds ++ es) can (All-append (IsRoughTalk service tei) ds es talk (all-rough service tei (most + 1))) wide-near wide-far fair'.0 fair'.1 in
+        let x = finds (most + 1) w (few (moves (ds ++ es) begun) (moves ds begun) (moves es w) (2 * most_frames k (expiries (ds ++ es)) (granted_of (doing_all (ds ++ es) begun))) most
+        (moves-append ds es begun) total (λ i. 2 * most_frames k (expired i) (granted i))) in
+        (x.after, (let less = x.before in omega (arith, less)), x.still)

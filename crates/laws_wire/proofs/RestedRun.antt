@@ -1,0 +1,366 @@
+-- A whole call in which frames are lost and timers expire: its moves are at most what there was to do, and what was asked for since.
+use Rattle.std.proofs.Common.{◌≡◌, ℕ, ◌+◌, ◌*◌, ◌≤◌, true, cond, List, [], ◌∷◌, ◌++◌, length, refl, sym, ap, subst, ◌∙◌, ◌⊎◌, inl, inr, arith}
+use Rattle.std.specs.Prelude.{All}
+use Rattle.std.proofs.lemmas.List.Elements.{All-nil, All-cons, All-head, All-tail}
+use Rattle.lapd_frame.specs.declared.services.Service.{Service}
+use Rattle.lapd_frame.specs.Grammar.{Parts, other_side}
+use Rattle.model_link.specs.declared.frames.ControlFrame.{ControlFrame}
+use Rattle.model_link.specs.declared.terms.Terms.{Terms}
+use Rattle.model_link.specs.Events as link
+use Rattle.model_link.specs.Link.{Link, fresh}
+use Rattle.model_link.specs.Machine.{course, after}
+use Rattle.model_link.specs.Sound.{IsInRange}
+use Rattle.model_link.specs.TwoEnds.{End}
+use Rattle.model_link.proofs.Direction.{frames_of}
+use Rattle.model_line.specs.declared.config.Config.{Config}
+use Rattle.model_line.specs.Event.{LineTold}
+use Rattle.model_line.specs.Line.{terms}
+use Rattle.model_line.proofs.Ranges.{terms_in_range}
+use Rattle.laws_wire.specs.Wire.{Station, Wire, Doing, at_near, at_far, acting, turned, doing, doing_all}
+use Rattle.laws_wire.specs.Call.{calling, confirmed, indicated}
+use Rattle.laws_wire.specs.Facing.{granted_of}
+use Rattle.laws_wire.specs.Losing.{HasNoError, IsRoughTalk}
+use Rattle.laws_wire.specs.Resting.{is_move, moves, expiries_in, expiries, most_frames, MovesComeToAnEnd}
+use Rattle.laws_wire.proofs.Acting.{First, Before, which, UpAt, ranges, sound}
+use Rattle.laws_wire.proofs.Beginning.{calls, answers}
+use Rattle.laws_wire.proofs.Calling.{asked, sabme, ua, end, caller, takes-sabme}
+use Rattle.laws_wire.proofs.Fair.{HasError, Fine, frame-fair, sabme-error}
+use Rattle.laws_wire.proofs.Held.{Held, Erred, not-erred}
+use Rattle.laws_wire.proofs.Joint.{Joint, turned-joint, IsMeant, first-means, hears-on}
+use Rattle.laws_wire.proofs.LoadsHeard.{frame-hears}
+use Rattle.laws_wire.proofs.LossyPhases.{IsRinging, IsHalf, UaOrNone, Goes, HasErred, Went}
+use Rattle.laws_wire.proofs.LossyRun.{goes, errs, from-nothing}
+use Rattle.laws_wire.proofs.Rested.{TakesWell, Then, then-acts}
+use Rattle.laws_wire.proofs.Ringing.{ringing, IsSabme, AreSabmes, ignores}
+use Rattle.laws_wire.proofs.Spelled.{twice-other}
+use Rattle.laws_wire.proofs.Standing.{Stands}
+use Rattle.laws_wire.proofs.Talking.{Face}
+use Rattle.laws_wire.proofs.Weighing.{same-link, same-way, weigh_of, weigh, Fell, fell-turned}
+
+times-sum : (d x y : ℕ) → d * (x + y) ≡ d * x + d * y
+times-sum d x y = omega arith
+
+module _ (service : Service) (tei v : ℕ) where
+  -- what the link of an end makes of a frame: it tells an error, or has less to send
+  abbrev pub Well : End → End → Parts → Type 0
+  Well n m f =
+      HasError (course n.terms (link.received (link.frame f)) n.link).notes
+      ⊎ (TakesWell v n.link (after n.terms (link.received (link.frame f)) n.link) f × (after n.terms (link.received (link.frame f)) n.link).r ≤ length m.link.contents)
+
+  -- a link that is up
+  well-up : (k : Config) (place : ℕ) (past : List LineTold) (s : Station) (n m : End) (f : Parts) (first near far : List Parts) → UpAt service tei place past k s n m first near (f ∷ far)
+      → IsInRange m.terms → 2 * (terms k service tei).k ≤ v → Well n m f
+  well-up k place past s n m f first near far h far-ranges wide = go (frame-fair n.terms n.link h.up f meant.number meant.means).fair
+    where
+      meant : IsMeant f
+      meant = first-means n m f near far h.joint
+
+      wide-here : 2 * n.terms.k ≤ v
+      wide-here = subst (λ t. 2 * t.k ≤ v) (sym h.held.stands.terms) wide
+
+      go : HasError (course n.terms (link.received (link.frame f)) n.link).notes
+          ⊎ Fine n.terms (course n.terms (link.received (link.frame f)) n.link).link.state (course n.terms (link.received (link.frame f)) n.link).notes
+          (course n.terms (link.received (link.frame f)) n.link).delivered (course n.terms (link.received (link.frame f)) n.link).unit
+          → Well n m f
+      go (inl error) = inl error
+      go (inr fine) =
+          let its-sound = sound service tei place past k s n h.held in
+          let y = hears-on n m f near far (ranges service tei place past k s n h.held) far-ranges its-sound h.up fine.up h.joint in
+          let x = (frame-hears v n.terms n.link its-sound wide-here h.up f meant.number meant.means).hears fine.up in
+          inr (record { contents = x.0; falls = x.1 }, y.joint.back.accepted)
+
+module _ (service : Service) (tei : ℕ) (c d : Config) (p q : ℕ) (face : Face c d) (back : Face d c) (rt : IsInRange (terms c service tei)) (ru : IsInRange (terms d service tei)) (v : ℕ)
+    (wide_c : 2 * (terms c service tei).k ≤ v) (wide_d : 2 * (terms d service tei).k ≤ v) where
+  abbrev t : Terms
+  t = terms c service tei
+
+  abbrev u : Terms
+  u = terms d service tei
+
+  abbrev first_near : List LineTold
+  first_near = confirmed service tei ∷ []
+
+  abbrev first_far : List LineTold
+  first_far = indicated service tei ∷ []
+
+  -- the two ends of a call, whatever its phase
+  record Seen (w : Wire) : Type 0 where
+    n : End
+    m : End
+    past_n : List LineTold
+    past_m : List LineTold
+    near : Held c service tei p past_n w.near n
+    far : Held d service tei q past_m w.far m
+    there : m.link.r ≤ length n.link.contents
+    here : n.link.r ≤ length m.link.contents
+
+  seen : (w : Wire) → Goes service tei c d p q w → Seen w
+  seen w (inl h) =
+      record { n = end t (ringing h.repeats h.waiting) h.way; m = end u fresh []; past_n = []; past_m = []; near = h.near; far = h.far; there = omega arith; here = omega arith }
+  seen w (inr (inl h)) =
+      record {
+        n = end t (ringing h.repeats h.waiting) h.way;
+        m = h.m;
+        past_n = [];
+        past_m = first_far;
+        near = h.near;
+        far = h.far.held;
+        there = h.far.joint.back.accepted;
+        here = omega arith;
+      }
+  seen w (inr (inr h)) =
+      record {
+        n = h.n;
+        m = h.m;
+        past_n = first_near;
+        past_m = first_far;
+        near = h.near.held;
+        far = h.far.held;
+        there = h.near.joint.there.accepted;
+        here = h.near.joint.back.accepted;
+      }
+
+  -- ---- what the near end takes
+
+  half-well : (w : Wire) (h : IsHalf service tei c d p q w) (f : Parts) (fs : List Parts) → h.m.way ≡ f ∷ fs → Well service tei v (end t (ringing h.repeats h.waiting) h.way) h.m f
+  half-well w h f fs e = go (which f rest h.first h.line (sym (ap (λ way. way ++ frames_of h.m.terms h.m.link.waiting) e) ∙ h.far.line))
+    where
+      rest : List Parts
+      rest = fs ++ frames_of h.m.terms h.m.link.waiting
+
+      n : End
+      n = end t (ringing h.repeats h.waiting) h.way
+
+      by-ua : (g : Parts) → g ≡ ua u → Well service tei v n h.m g
+      by-ua g is = subst (Well service tei v n h.m) (sym is) (inr (record { contents = refl; falls = inl (refl, omega arith) }, omega arith))
+
+      only : UaOrNone service tei c d p q h.first → (others : List Parts) → h.first ≡ f ∷ others → Well service tei v n h.m f
+      only (inl none) others is = let wrong : [] ≡ f ∷ others = sym none ∙ is in absurd (cc)
+      only (inr one) others is = let same : f ∷ others ≡ ua u ∷ [] = sym is ∙ one in let head : f ≡ ua u = cc in by-ua f head
+
+      go : First f rest h.first h.line ⊎ Before f rest h.first h.line → Well service tei v n h.m f
+      go (inl x) =
+          let meant = first-means (end t caller []) h.m f [] rest (turned-joint h.m (end t caller []) (f ∷ rest) [] (subst (λ xs. Joint h.m (end t caller []) xs []) x.is h.far.joint)) in
+          let i = ignores t h.repeats h.waiting f meant.number meant.means in
+          inr (subst (λ l. TakesWell v n.link l f × l.r ≤ length h.m.link.contents) (sym i.stays) (record { contents = refl; falls = inl (refl, omega arith) }, omega arith))
+      go (inr x) = only h.is_ua x.others x.is
+
+  near-well : (w : Wire) (h : Goes service tei c d p q w) (f : Parts) (fs : List Parts) → (seen w h).m.way ≡ f ∷ fs → Well service tei v (seen w h).n (seen w h).m f
+  unfolding seen
+  near-well w (inl h) f fs e = let wrong : [] ≡ f ∷ fs = e in absurd (cc)
+  near-well w (inr (inl h)) f fs e = half-well w h f fs e
+  near-well w (inr (inr h)) f fs e =
+      let rest = fs ++ frames_of h.m.terms h.m.link.waiting in
+      let is : h.here ≡ f ∷ rest = sym h.far.line ∙ ap (λ way. way ++ frames_of h.m.terms h.m.link.waiting) e in
+      well-up service tei v c p first_near w.near h.n h.m f h.first h.there rest
+      (subst (λ xs. UpAt service tei p first_near c w.near h.n h.m h.first h.there xs) is h.near)
+      (ranges service tei q first_far d w.far h.m h.far.held) wide_c
+
+  -- ---- what the far end takes
+
+  sabme-first : (way : List Parts) (waiting : List ControlFrame) (f : Parts) (fs : List Parts) → way ≡ f ∷ fs → AreSabmes t way waiting → f ≡ sabme t
+  sabme-first way waiting f fs e are = All-head (IsSabme t) f (fs ++ frames_of t waiting) (subst (λ way. AreSabmes t way waiting) e are)
+
+  called : (n : End) (f : Parts) → f ≡ sabme t → Well service tei v (end u fresh []) n f
+  called n f is =
+      subst (Well service tei v (end u fresh []) n) (sym is)
+      (inr (subst (λ l. TakesWell v fresh l (sabme t) × l.r ≤ length n.link.contents) (sym (takes-sabme u ru t)) (record { contents = refl; falls = inl (refl, omega arith) }, omega arith)))
+
+  far-well : (w : Wire) (h : Goes service tei c d p q w) (f : Parts) (fs : List Parts) → (seen w h).n.way ≡ f ∷ fs → Well service tei v (seen w h).m (seen w h).n f
+  unfolding seen
+  far-well w (inl h) f fs e = called (end t (ringing h.repeats h.waiting) h.way) f (sabme-first h.way h.waiting f fs e h.sabmes)
+  far-well w (inr (inl h)) f fs e =
+      inl (sabme-error h.m.terms h.m.link h.far.up f true (ap (λ y. y.control) (sabme-first h.way h.waiting f fs e h.sabmes)))
+  far-well w (inr (inr h)) f fs e = go (which f rest h.first h.there (sym (ap (λ way. way ++ frames_of h.n.terms h.n.link.waiting) e) ∙ h.near.line))
+    where
+      rest : List Parts
+      rest = fs ++ frames_of h.n.terms h.n.link.waiting
+
+      go : First f rest h.first h.there ⊎ Before f rest h.first h.there → Well service tei v h.m h.n f
+      go (inl x) =
+          well-up service tei v d q first_far w.far h.m h.n f [] h.here rest (subst (λ xs. UpAt service tei q first_far d w.far h.m h.n [] h.here xs) x.is h.far)
+          (ranges service tei p first_near c w.near h.n h.near.held) wide_d
+      go (inr x) =
+          let is : f ≡ sabme t = All-head (IsSabme t) f x.others (subst (All (IsSabme t)) x.is h.sabmes) in
+          inl (sabme-error h.m.terms h.m.link h.far.up f true (ap (λ y. y.control) is))
+
+  -- ---- one step
+
+  record Next (w' : Wire) (moved expired : ℕ) (n m : End) : Type 0 where
+    n' : End
+    m' : End
+    near : Stands c service tei p w'.near n'
+    far : Stands d service tei q w'.far m'
+    fell : Fell v moved expired n m n' m'
+
+  abbrev Errs : Wire → Type 0
+  Errs w = HasErred service tei c d p q w
+
+  step : (k : Doing) → IsRoughTalk service tei k → (w : Wire) (h : Goes service tei c d p q w)
+      → Next (doing k w) (cond {A = ℕ} (is_move k w) 1 0) (expiries_in k) (seen w h).n (seen w h).m ⊎ Errs (doing k w)
+  step (at_near act) is w h = go (then-acts service tei c d p q x.past_n x.past_m face v w x.n x.m x.near x.far x.there act is (near-well w h))
+    where
+      x : Seen w
+      x = seen w h
+
+      go : Then service tei c d p q x.past_n x.past_m face v w x.n x.m x.near x.far x.there (acting act w) (cond {A = ℕ} (is_move (at_near act) w) 1 0) (expiries_in (at_near act))
+          ⊎ Erred (acting act w).near
+          → Next (acting act w) (cond {A = ℕ} (is_move (at_near act) w) 1 0) (expiries_in (at_near act)) x.n x.m ⊎ Errs (acting act w)
+      go (inl y) = inl (record { n' = y.n'; m' = y.m'; near = y.near'; far = y.far'; fell = y.fell })
+      go (inr e) = inr (inl e)
+  step (at_far act) is w h = go (then-acts service tei d c q p x.past_m x.past_n back v (turned w) x.m x.n x.far x.near x.here act is (far-well w h))
+    where
+      x : Seen w
+      x = seen w h
+
+      go : Then service tei d c q p x.past_m x.past_n back v (turned w) x.m x.n x.far x.near x.here (acting act (turned w)) (cond {A = ℕ} (is_move (at_far act) w) 1 0) (expiries_in (at_far act))
+          ⊎ Erred (acting act (turned w)).near
+          → Next (turned (acting act (turned w))) (cond {A = ℕ} (is_move (at_far act) w) 1 0) (expiries_in (at_far act)) x.n x.m ⊎ Errs (turned (acting act (turned w)))
+      go (inl y) =
+          inl (record {
+            n' = y.m';
+            m' = y.n';
+            near = y.far';
+            far = y.near';
+            fell = fell-turned v (cond {A = ℕ} (is_move (at_far act) w) 1 0) (expiries_in (at_far act)) x.m x.n y.n' y.m' y.fell;
+          })
+      go (inr e) = inr (inr e)
+
+  -- ---- all of them
+
+  errs-all : (ds : List Doing) (w : Wire) → Errs w → Errs (doing_all ds w)
+  unfolding doing_all
+  errs-all [] w h = h
+  errs-all (k ∷ ds) w h = errs-all ds (doing k w) (errs service tei c d p q face back rt ru k w h)
+
+  record Total (moved expired : ℕ) (n m : End) (last : Wire) : Type 0 where
+    more : ℕ
+    granted : granted_of last ≡ length n.link.contents + length m.link.contents + more
+    falls : moved ≤ weigh v n m + (v + 4) * expired + (v + 6) * more
+
+  -- the same ends
+  weighs-same : (w : Wire) (x : Seen w) (n' m' : End) → Stands c service tei p w.near n' → Stands d service tei q w.far m' → (n'.link ≡ x.n.link) × (m'.link ≡ x.m.link) × (weigh v n' m' ≡ weigh v x.n x.m)
+  weighs-same w x n' m' near far =
+      let near-link = same-link service tei c p w.near n' x.n near x.near.stands in
+      let near-way = same-way service tei c p w.near n' x.n near x.near.stands in
+      let far-link = same-link service tei d q w.far m' x.m far x.far.stands in
+      let far-way = same-way service tei d q w.far m' x.m far x.far.stands in
+      (near-link, far-link, λ i. weigh_of v (near-link i) (near-way i) (far-link i) (far-way i))
+
+  sum : (moved rest weight weight' weight'' a b a' b' z z' : ℕ) → weight' ≡ weight'' → z ≡ a + a' → z' ≡ b + b' → moved + weight' ≤ weight + a + b → rest ≤ weight'' + a' + b' → moved + rest ≤ weight + z + z'
+  sum moved rest weight weight' weight'' a b a' b' z z' e f g first then = omega (arith, e, f, g, first, then)
+
+  more-granted : (all n m n' m' one two : ℕ) → n' + m' ≡ n + m + one → all ≡ n' + m' + two → all ≡ n + m + (one + two)
+  more-granted all n m n' m' one two e f = omega (arith, e, f)
+
+  joins : (moved rest expired others : ℕ) (w' last : Wire) (n m : End) (y : Next w' moved expired n m) (x : Seen w') → Total rest others x.n x.m last → Total (moved + rest) (expired + others) n m last
+  joins moved rest expired others w' last n m y x z =
+      let same = weighs-same w' x y.n' y.m' y.near y.far in
+      record {
+        more = y.fell.more + z.more;
+        granted =
+            more-granted (granted_of last) (length n.link.contents) (length m.link.contents) (length x.n.link.contents) (length x.m.link.contents) y.fell.more z.more
+            (subst (λ (l : Link). length l.contents + length x.m.link.contents ≡ length n.link.contents + length m.link.contents + y.fell.more) same.0
+            (subst (λ (l : Link). length y.n'.link.contents + length l.contents ≡ length n.link.contents + length m.link.contents + y.fell.more) same.1 y.fell.grown))
+            z.granted;
+        falls =
+            sum moved rest (weigh v n m) (weigh v y.n' y.m') (weigh v x.n x.m) ((v + 4) * expired) ((v + 6) * y.fell.more) ((v + 4) * others) ((v + 6) * z.more)
+            ((v + 4) * (expired + others)) ((v + 6) * (y.fell.more + z.more)) same.2 (times-sum (v + 4) expired others) (times-sum (v + 6) y.fell.more z.more) y.fell.falls z.falls;
+      }
+
+  runs : (ds : List Doing) → All (IsRoughTalk service tei) ds → (w : Wire) (h : Goes service tei c d p q w)
+      → Total (moves ds w) (expiries ds) (seen w h).n (seen w h).m (doing_all ds w) ⊎ Errs (doing_all ds w)
+  unfolding doing_all moves expiries
+  runs [] all w h =
+      let x = seen w h in
+      inl (record {
+        more = 0;
+        granted = none (length w.near.granted) (length w.far.granted) (length x.n.link.contents) (length x.m.link.contents) (ap length x.near.granted) (ap length x.far.granted);
+        falls = omega arith;
+      })
+    where
+      none : (a b a' b' : ℕ) → a ≡ a' → b ≡ b' → a + b ≡ a' + b' + 0
+      none a b a' b' e f = omega (arith, e, f)
+  runs (k ∷ ds) all w h =
+      by (step k its w h) (goes service tei c d p q face back rt ru k its w h) (λ h'. runs ds (All-tail (IsRoughTalk service tei) k ds all) (doing k w) h')
+    where
+      its : IsRoughTalk service tei k
+      its = All-head (IsRoughTalk service tei) k ds all
+
+      w' : Wire
+      w' = doing k w
+
+      moved : ℕ
+      moved = cond {A = ℕ} (is_move k w) 1 0
+
+      rest : (h' : Goes service tei c d p q w') → Next w' moved (expiries_in k) (seen w h).n (seen w h).m
+          → Total (moves ds w') (expiries ds) (seen w' h').n (seen w' h').m (doing_all ds w') ⊎ Errs (doing_all ds w')
+          → Total (moved + moves ds w') (expiries_in k + expiries ds) (seen w h).n (seen w h).m (doing_all ds w') ⊎ Errs (doing_all ds w')
+      rest h' y (inl z) = inl (joins moved (moves ds w') (expiries_in k) (expiries ds) w' (doing_all ds w') (seen w h).n (seen w h).m y (seen w' h') z)
+      rest h' y (inr e) = inr e
+
+      by : Next w' moved (expiries_in k) (seen w h).n (seen w h).m ⊎ Errs w' → Went service tei c d p q w' → ((h' : Goes service tei c d p q w') → Total (moves ds w') (expiries ds) (seen w' h').n (seen w' h').m (doing_all ds w') ⊎ Errs (doing_all ds w'))
+          → Total (moved + moves ds w') (expiries_in k + expiries ds) (seen w h).n (seen w h).m (doing_all ds w') ⊎ Errs (doing_all ds w')
+      by (inr e) went others = inr (errs-all ds w' e)
+      by (inl y) (inr e) others = inr (errs-all ds w' e)
+      by (inl y) (inl h') others = rest h' y (others h')
+
+  -- ---- from the beginning
+
+  from-ringing : (ds : List Doing) → All (IsRoughTalk service tei) ds → (w : Wire) (h : IsRinging service tei c d p q w) → h.waiting ≡ asked.waiting → h.way ≡ []
+      → HasNoError (doing_all ds w).near → HasNoError (doing_all ds w).far → moves ds w ≤ (2 * v + 8) + (v + 4) * expiries ds + (v + 6) * granted_of (doing_all ds w)
+  unfolding seen
+  from-ringing ds all w h one none fair-near fair-far = go (runs ds all w (inl h))
+    where
+      weight : weigh v (end t (ringing h.repeats h.waiting) h.way) (end u fresh []) ≡ 2 * v + 8
+      weight = (λ i. weigh v (end t (ringing h.repeats (one i)) (none i)) (end u fresh [])) ∙ omega arith
+
+      total : (moved x y a b g more : ℕ) → x ≡ a → g ≡ more → moved ≤ x + y + (v + 6) * more → moved ≤ a + y + (v + 6) * g
+      total moved x y a b g more e f less = subst (λ g. moved ≤ a + y + (v + 6) * g) (sym f) (subst (λ x. moved ≤ x + y + (v + 6) * more) e less)
+
+      nothing-before : (g more : ℕ) → g ≡ 0 + 0 + more → g ≡ more
+      nothing-before g more e = omega (arith, e)
+
+      go : Total (moves ds w) (expiries ds) (end t (ringing h.repeats h.waiting) h.way) (end u fresh []) (doing_all ds w) ⊎ Errs (doing_all ds w)
+          → moves ds w ≤ (2 * v + 8) + (v + 4) * expiries ds + (v + 6) * granted_of (doing_all ds w)
+      go (inl z) =
+          total (moves ds w) (weigh v (end t (ringing h.repeats h.waiting) h.way) (end u fresh [])) ((v + 4) * expiries ds) (2 * v + 8) 0 (granted_of (doing_all ds w)) z.more weight
+          (nothing-before (granted_of (doing_all ds w)) z.more z.granted) z.falls
+      go (inr (inl e)) = absurd (not-erred (doing_all ds w).near fair-near e)
+      go (inr (inr e)) = absurd (not-erred (doing_all ds w).far fair-far e)
+
+in-frames : (moved k x g : ℕ) → moved ≤ (2 * (2 * k) + 8) + (2 * k + 4) * x + (2 * k + 6) * g → moved ≤ 2 * most_frames k x g
+in-frames moved k x g less = omega (arith, less)
+
+pub moves-come-to-an-end : MovesComeToAnEnd
+moves-come-to-an-end service c d line other tei k ds can talk wide-near wide-far = λ fair-near fair-far.
+    in-frames (moves ds w) k (expiries ds) (granted_of (doing_all ds w))
+    (from-ringing service tei c d 0 0 face back rt ru (2 * k) (twice (terms c service tei).k wide-near) (twice (terms d service tei).k wide-far) ds talk w begun refl refl fair-near fair-far)
+  where
+    twice : (x : ℕ) → x ≤ k → 2 * x ≤ 2 * k
+    twice x le = omega (arith, le)
+
+    face : Face c d
+    face = record { side = sym can.sides; n201 = can.n201 }
+
+    back : Face d c
+    back = record { side = ap other_side can.sides ∙ twice-other c.side; n201 = sym can.n201 }
+
+    rt : IsInRange (terms c service tei)
+    rt = terms_in_range c can.near service tei can.terminal
+
+    ru : IsInRange (terms d service tei)
+    ru = terms_in_range d can.far service tei can.terminal
+
+    w : Wire
+    w = calling service tei c line d other
+
+    begun : IsRinging service tei c d 0 0 w
+    begun = record {
+      repeats = 0;
+      waiting = asked.waiting;
+      way = [];
+      near = from-nothing c service tei 0 w.near (end (terms c service tei) asked []) (calls service tei c can.near can.terminal line can.near_line) refl;
+      far = from-nothing d service tei 0 w.far (end (terms d service tei) fresh []) (answers service tei d can.far can.terminal other can.far_line) refl;
+      sabmes = All-cons (IsSabme (terms c service tei)) (sabme (terms c service tei)) [] refl (All-nil (IsSabme (terms c service tei)));
+    }

@@ -1,0 +1,128 @@
+-- What two ends still have to do, where v turns go again at most: what their links have to send, what is on their ways, and for
+-- each contents that are not delivered yet a REJ, v turns, and an acknowledgement.
+use Rattle.std.proofs.Common.{◌≡◌, ℕ, ◌+◌, ◌-◌, ◌*◌, ◌≤◌, List, [], ◌∷◌, length, map, refl, sym, ap, subst, ◌∙◌, arith}
+use Rattle.std.specs.Prelude.{All}
+use Rattle.std.proofs.lemmas.List.Elements.{All-head, All-tail}
+use Rattle.lapd_frame.specs.declared.services.Service.{Service}
+use Rattle.lapd_frame.specs.Grammar.{Parts, spelling}
+use Rattle.lapd_frame.specs.Reading.{reading}
+use Rattle.model_link.specs.Link.{Link}
+use Rattle.model_link.specs.TwoEnds.{End}
+use Rattle.model_line.specs.declared.config.Config.{Config}
+use Rattle.laws_wire.specs.Wire.{Station}
+use Rattle.laws_wire.proofs.Loads.{load, load_way}
+use Rattle.laws_wire.proofs.Standing.{IsCarried, Stands}
+
+-- ---- a station stands for one end alone
+
+module _ (service : Service) (tei : ℕ) (c : Config) where
+  spelled-same : (xs ys : List Parts) → All (IsCarried c service tei) xs → All (IsCarried c service tei) ys → map (spelling c.side) xs ≡ map (spelling c.side) ys → xs ≡ ys
+  spelled-same [] [] h g e = refl
+  spelled-same [] (y ∷ ys) h g e = absurd (cc)
+  spelled-same (x ∷ xs) [] h g e = absurd (cc)
+  spelled-same (x ∷ xs) (y ∷ ys) h g e =
+      let first : spelling c.side x ≡ spelling c.side y = cc in
+      let rest : map (spelling c.side) xs ≡ map (spelling c.side) ys = cc in
+      let here = All-head (IsCarried c service tei) x xs h in
+      let there = All-head (IsCarried c service tei) y ys g in
+      let read = sym here.carried.read ∙ ap (reading c.side) first ∙ there.carried.read in
+      let same : x ≡ y = cc in
+      let others = spelled-same xs ys (All-tail (IsCarried c service tei) x xs h) (All-tail (IsCarried c service tei) y ys g) rest in
+      λ i. same i ∷ others i
+
+  module _ (place : ℕ) (s : Station) (n n' : End) (h : Stands c service tei place s n) (g : Stands c service tei place s n') where
+    pub same-link : n.link ≡ n'.link
+    same-link = sym h.speaks.link ∙ g.speaks.link
+
+    pub same-way : n.way ≡ n'.way
+    same-way = spelled-same n.way n'.way h.carried g.carried (sym h.way ∙ g.way)
+
+-- ---- the weight of two ends
+
+abbrev pub undelivered : Link → Link → ℕ
+undelivered l m = length l.contents - m.r
+
+abbrev pub weigh_of : ℕ → Link → List Parts → Link → List Parts → ℕ
+weigh_of v l way m back = (load v l + load_way v way) + (load v m + load_way v back) + ((v + 4) * undelivered l m + (v + 4) * undelivered m l)
+
+abbrev pub weigh : ℕ → End → End → ℕ
+weigh v n m = weigh_of v n.link n.way m.link m.way
+
+-- So many turns or losses are made, and so many timers expire, while more contents are accepted.
+pub record Fell (v moved expired : ℕ) (n m n' m' : End) : Type 0 where
+  pub more : ℕ
+  pub grown : length n'.link.contents + length m'.link.contents ≡ length n.link.contents + length m.link.contents + more
+  pub falls : moved + weigh v n' m' ≤ weigh v n m + (v + 4) * expired + (v + 6) * more
+
+swapped : (moved a b p q a' b' p' q' x y : ℕ) → moved + ((a + b) + (p + q)) ≤ ((a' + b') + (p' + q')) + x + y → moved + ((b + a) + (q + p)) ≤ ((b' + a') + (q' + p')) + x + y
+swapped moved a b p q a' b' p' q' x y h = omega (arith, h)
+
+pub fell-turned : (v moved expired : ℕ) (n m n' m' : End) → Fell v moved expired n m n' m' → Fell v moved expired m n m' n'
+fell-turned v moved expired n m n' m' h = record {
+  more = h.more;
+  grown = let e = h.grown in omega (arith, e);
+  falls =
+      swapped moved (load v n'.link + load_way v n'.way) (load v m'.link + load_way v m'.way) ((v + 4) * undelivered n'.link m'.link) ((v + 4) * undelivered m'.link n'.link)
+      (load v n.link + load_way v n.way) (load v m.link + load_way v m.way) ((v + 4) * undelivered n.link m.link) ((v + 4) * undelivered m.link n.link)
+      ((v + 4) * expired) ((v + 6) * h.more) h.falls;
+}
+
+-- ---- what becomes of the weight of one end, while the other stays
+
+-- a product grows with what is accepted, and falls with what is delivered
+times-suc : (d x : ℕ) → d * (x + 1) ≡ d * x + d
+times-suc d x = omega arith
+
+pub accepts-more : (d len r : ℕ) → r ≤ len → d * (len + 1 - r) ≡ d * (len - r) + d
+accepts-more d len r low = let e : len + 1 - r ≡ (len - r) + 1 = omega (arith, low) in ap (λ x. d * x) e ∙ times-suc d (len - r)
+
+pub delivers-one : (d len r : ℕ) → r + 1 ≤ len → d * (len - (r + 1)) + d ≡ d * (len - r)
+delivers-one d len r low = let e : len - r ≡ (len - (r + 1)) + 1 = omega (arith, low) in sym (ap (λ x. d * x) e ∙ times-suc d (len - (r + 1)))
+
+module _ (v : ℕ) (n m n' m' : End) (same : n'.link.contents ≡ n.link.contents) (kept : m'.link ≡ m.link) where
+  -- nothing is accepted or delivered
+  abbrev its : End → ℕ
+  its x = load v x.link + load_way v x.way
+
+  there : n'.link.r ≡ n.link.r → (v + 4) * undelivered n'.link m'.link + (v + 4) * undelivered m'.link n'.link ≡ (v + 4) * undelivered n.link m.link + (v + 4) * undelivered m.link n.link
+  there e =
+      (λ i. (v + 4) * (length (same i) - (kept i).r) + (v + 4) * (length (kept i).contents - e i))
+
+  pub goes : (moved expired : ℕ) → n'.link.r ≡ n.link.r → moved + its n' + its m' ≤ its n + its m + (v + 4) * expired → Fell v moved expired n m n' m'
+  goes moved expired e less = record {
+    more = 0;
+    grown = sum (length n'.link.contents) (length m'.link.contents) (length n.link.contents) (length m.link.contents) (ap length same) (ap (λ (l : Link). length l.contents) kept);
+    falls =
+        lighter moved (its n') (its m') ((v + 4) * undelivered n'.link m'.link + (v + 4) * undelivered m'.link n'.link) (its n) (its m)
+        ((v + 4) * undelivered n.link m.link + (v + 4) * undelivered m.link n.link) ((v + 4) * expired) ((v + 6) * 0) (there e) less;
+  }
+    where
+      sum : (a b c d : ℕ) → a ≡ c → b ≡ d → a + b ≡ c + d + 0
+      sum a b c d e f = omega (arith, e, f)
+
+      lighter : (moved x y z x' y' z' a b : ℕ) → z ≡ z' → moved + x + y ≤ x' + y' + a → moved + ((x + y) + z) ≤ ((x' + y') + z') + a + b
+      lighter moved x y z x' y' z' a b e less = omega (arith, e, less)
+
+  -- one contents are delivered
+  pub delivers : n'.link.r ≡ n.link.r + 1 → n'.link.r ≤ length m.link.contents → 1 + its n' + its m' ≤ its n + its m + (v + 4) → Fell v 1 0 n m n' m'
+  delivers e low less = record {
+    more = 0;
+    grown = sum (length n'.link.contents) (length m'.link.contents) (length n.link.contents) (length m.link.contents) (ap length same) (ap (λ (l : Link). length l.contents) kept);
+    falls =
+        lighter (its n') (its m') ((v + 4) * undelivered n'.link m'.link) ((v + 4) * undelivered m'.link n'.link) (its n) (its m) ((v + 4) * undelivered n.link m.link)
+        ((v + 4) * undelivered m.link n.link) v ((v + 4) * 0) ((v + 6) * 0) one-way other-way less;
+  }
+    where
+      sum : (a b c d : ℕ) → a ≡ c → b ≡ d → a + b ≡ c + d + 0
+      sum a b c d e f = omega (arith, e, f)
+
+      one-way : (v + 4) * undelivered n'.link m'.link ≡ (v + 4) * undelivered n.link m.link
+      one-way = λ i. (v + 4) * (length (same i) - (kept i).r)
+
+      other-way : (v + 4) * undelivered m'.link n'.link + (v + 4) ≡ (v + 4) * undelivered m.link n.link
+      other-way =
+          (λ i. (v + 4) * (length (kept i).contents - e i) + (v + 4))
+          ∙ delivers-one (v + 4) (length m.link.contents) n.link.r (subst (λ r. r ≤ length m.link.contents) e low)
+
+      lighter : (x y z u x' y' z' u' v a b : ℕ) → z ≡ z' → u + (v + 4) ≡ u' → 1 + x + y ≤ x' + y' + (v + 4) → 1 + ((x + y) + (z + u)) ≤ ((x' + y') + (z' + u')) + a + b
+      lighter x y z u x' y' z' u' v a b e f less = omega (arith, e, f, less)

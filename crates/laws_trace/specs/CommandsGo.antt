@@ -19,11 +19,11 @@ use Rattle.laws_trace.specs.LinksMove.{expired_of, one_more}
 use Rattle.laws_trace.specs.TimersAreTimely.{is_state, state_before, state_after, differ}
 use Rattle.laws_trace.specs.Trace.{Seen, begun, trace}
 
--- The commands among the frames of a link that begin: an enquiry is a supervisory command with P=1 (Q.921 clauses 5.5.1, 5.5.3 and
--- 5.6.7).
+-- The commands among the frames of a link that begin, each with P=1: an enquiry is a supervisory one (Q.921 clauses 5.5.1.1,
+-- 5.5.3.2 and 5.6.7).
 abbrev pub command_in : Bool → Control → List Kind
-command_in command (Sabme p) = sabme ∷ []
-command_in command (Disc p) = disc ∷ []
+command_in command (Sabme p) = if p then sabme ∷ [] else []
+command_in command (Disc p) = if p then disc ∷ [] else []
 command_in command (ReceiveReady nr p) = if command && p then enquiry ∷ [] else []
 command_in command (ReceiveNotReady nr p) = if command && p then enquiry ∷ [] else []
 command_in command (Reject nr p) = if command && p then enquiry ∷ [] else []

@@ -15,7 +15,7 @@ use Rattle.laws_card.specs.Worked.{usual, on_0, up}
 use Rattle.laws_trace.specs.AnswersAreAsked.{IsPart, none, left_out, taken}
 use Rattle.laws_trace.specs.CommandsGo.{due_in, commands_at}
 use Rattle.laws_trace.specs.CommandsHaveCauses.{Kind, sabme, disc, enquiry}
-use Rattle.laws_trace.specs.Trace.{trace_of}
+use Rattle.laws_trace.specs.Trace.{begun, trace_of}
 use Rattle.laws_trace.specs.WorkedUnits.{pulls}
 
 -- SABME is due as layer 3 asks for it, and again as T200 expires; both go.
@@ -49,3 +49,8 @@ is_no_part xs ys (taken x some all h) e f = cc f
 
 kept_back : IsPart (sabme ∷ []) [] → ⊥
 kept_back part = is_no_part (sabme ∷ []) [] part refl refl
+
+-- So it is where SABME or DISC with P=0 goes in place of one that is due.
+without_p : flat_map (commands_at usual Call 64) (begun (0x02 ∷ 0x81 ∷ 0x6F ∷ []) ∷ begun (0x02 ∷ 0x81 ∷ 0x43 ∷ []) ∷ []) ≡ []
+unfolding reading header_of control_of unnumbered_of
+without_p = refl

@@ -3,7 +3,7 @@
 ghost use Rattle.laws_trace.specs.Trace.{Always};
 ghost use Rattle.laws_trace.specs.AllAreAcknowledged.{AllAreAcknowledged};
 ghost use Rattle.laws_trace.specs.AllAreAnswered.{AllAreAnswered};
-ghost use Rattle.laws_trace.specs.AllGoesAgain.{AllGoesAgain};
+ghost use Rattle.laws_trace.specs.AllGoesAgain.{AllGoesAgain, NextGoes};
 ghost use Rattle.laws_trace.specs.AnswersAreAsked.{AnswersAreAsked};
 ghost use Rattle.laws_trace.specs.CommandsGo.{CommandsGo};
 ghost use Rattle.laws_trace.specs.CommandsHaveCauses.{CommandsHaveCauses};
@@ -127,10 +127,12 @@ pub fn what_is_told_was_heard()
 /// whether those that had gone stay is not said (`front`). And all of it has gone, once the line was only pulled, as often as the configuration says, on a link in state 7
 /// whose terminal is not busy, with fewer than k I-frames outstanding, by what was heard and what began; and the number that goes
 /// next is then behind all of it, though REJ and the end of a recovery set it back to their N(R); each I-frame that begins sets
-/// it behind its own (`again`; Q.921 clauses 3.5.2.1 to 3.5.2.6, 5.5.1.2, 5.6.1, 5.6.4, 5.6.5, 5.6.7 and 5.7).
+/// it behind its own (`again`). And each has that number, so that they go again in order, from there on, and none is passed over
+/// (`next`; Q.921 clauses 3.5.2.1 to 3.5.2.6, 5.5.1.2, 5.6.1, 5.6.4, 5.6.5, 5.6.7 and 5.7).
 pub fn data_goes_out()
     ensures front { Always DataGoesOut }
     ensures again { Always AllGoesAgain }
+    ensures next { Always NextGoes }
 {}
 
 /// All that is asked is answered. Whatever happened before: of a link whose TEI stays on the line, each SABME and each DISC

@@ -77,6 +77,7 @@ pub mod MovesOfLink
 pub mod LinkLed
 pub mod LinksMove
 pub mod CommandsOfLink
+pub mod CommandsAreDue
 pub mod CommandsDue
 pub mod CommandsGo
 pub mod NewsRows

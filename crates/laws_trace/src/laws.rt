@@ -5,7 +5,7 @@ ghost use Rattle.laws_trace.specs.AllAreAcknowledged.{AllAreAcknowledged};
 ghost use Rattle.laws_trace.specs.AllAreAnswered.{AllAreAnswered};
 ghost use Rattle.laws_trace.specs.AllGoesAgain.{AllGoesAgain, NextGoes};
 ghost use Rattle.laws_trace.specs.AnswersAreAsked.{AnswersAreAsked};
-ghost use Rattle.laws_trace.specs.CommandsGo.{CommandsGo};
+ghost use Rattle.laws_trace.specs.CommandsGo.{CommandsAreDue, CommandsGo};
 ghost use Rattle.laws_trace.specs.CommandsHaveCauses.{CommandsHaveCauses};
 ghost use Rattle.laws_trace.specs.Configurations.{RangesAreServed};
 ghost use Rattle.laws_trace.specs.OtherSide.{TheOtherSideIsHeard};
@@ -222,11 +222,17 @@ pub fn links_move()
     ensures { Always LinksMove }
 {}
 
-/// Commands that are due go. Whatever happened before: of a link whose TEI stays on the line, SABME is due where it comes to
-/// state 5, DISC where it comes to state 6, and an enquiry, which is a supervisory command with P=1, where it comes to state 8; and
-/// again where its T200 expires and leaves it there; except where the answer counts a frame as lost. Once the line was only pulled,
-/// as often as the configuration says, a command has begun for each, in their order (Q.921 clauses 5.5.1, 5.5.3, 5.6.7, 5.7.2 and
-/// 5.10.3).
+/// Commands are due. The SABME, the DISC, and the supervisory commands, which are enquiries, of a link that begin are among those
+/// that are due, in their order, and none twice: SABME where the link comes to state 5, DISC where it comes to state 6, and an
+/// enquiry where it comes to state 8, and again where its T200 expires and leaves it there; each with P=1. So no command goes where
+/// T200 ends a state, and none with P=0 (Q.921 clauses 5.5.1, 5.5.3, 5.6.7, 5.7.2 and 5.10.3).
+pub fn commands_are_due()
+    ensures { Always CommandsAreDue }
+{}
+
+/// Commands that are due go. Whatever happened before: of a link whose TEI stays on the line, each command that is due, except
+/// where the answer counts a frame as lost, has begun, with P=1, once the line was only pulled, as often as the configuration says,
+/// in their order (Q.921 clauses 5.5.1, 5.5.3, 5.6.7, 5.7.2 and 5.10.3).
 pub fn commands_go()
     ensures { Always CommandsGo }
 {}

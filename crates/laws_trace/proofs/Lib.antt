@@ -33,6 +33,8 @@ pub mod Parts
 pub mod ReadAgain
 pub mod AskedOfLink
 pub mod AnswersAreAsked
+pub mod AnswersDueOfLink
+pub mod AnswersAreDue
 pub mod Deliveries
 pub mod DeliveriesRun
 pub mod AllAreTold

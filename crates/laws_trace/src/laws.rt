@@ -2,7 +2,7 @@
 
 ghost use Rattle.laws_trace.specs.Trace.{Always};
 ghost use Rattle.laws_trace.specs.AllAreAcknowledged.{AllAreAcknowledged};
-ghost use Rattle.laws_trace.specs.AllAreAnswered.{AllAreAnswered};
+ghost use Rattle.laws_trace.specs.AllAreAnswered.{AllAreAnswered, AnswersAreDue};
 ghost use Rattle.laws_trace.specs.AllGoesAgain.{AllGoesAgain, NextGoes};
 ghost use Rattle.laws_trace.specs.AnswersAreAsked.{AnswersAreAsked};
 ghost use Rattle.laws_trace.specs.CommandsGo.{CommandsAreDue, CommandsGo};
@@ -133,6 +133,14 @@ pub fn data_goes_out()
     ensures front { Always DataGoesOut }
     ensures again { Always AllGoesAgain }
     ensures next { Always NextGoes }
+{}
+
+/// Answers are due. The UA, the DM, and the responses RR, RNR and REJ with F=1 of a link that begin are among those that are due,
+/// in their order, and none twice: one for each SABME and each DISC that is heard of it while its TEI is on the line, and one for
+/// each other command with P=1 that is heard while it is in state 7 or 8. So no poll is answered in states 4 to 6, and nothing that
+/// was heard of a TEI that was not on the line (Q.921 clauses 3.5.1, 5.5 and 5.6).
+pub fn answers_are_due()
+    ensures { Always AnswersAreDue }
 {}
 
 /// All that is asked is answered. Whatever happened before: of a link whose TEI stays on the line, each SABME and each DISC

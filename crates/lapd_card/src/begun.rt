@@ -5,8 +5,8 @@ ghost use Rattle.model_card.specs.Begun.{head_begun_at};
 ghost use Rattle.model_card.specs.Card as machine;
 
 use crate::card::Card;
-use lapd_bits::Head;
 use lapd_store::Shelf;
+use model_bits::Head;
 
 impl<S: Shelf> Card<S> {
     ghost use Rattle.lapd_card.specs.Card.{line_count};

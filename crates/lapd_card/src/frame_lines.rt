@@ -1,7 +1,7 @@
 //! The lines of a card for frames, over its shelf.
 
 ghost use Rattle.std.specs.Prelude.{◌≡◌, ◌+◌, ◌-◌, ◌≤◌, ◌<◌, List, [], ◌∷◌, get_or, length, drop, map, nat_le, sum_by, Some, None, IfOk, IfErr, OnErr};
-ghost use Rattle.lapd_bits.specs.Stream.{dropped};
+ghost use Rattle.model_bits.specs.Stream.{dropped};
 ghost use Rattle.lapd_line.specs.FrameStands.{IsNext, written};
 ghost use Rattle.lapd_line.specs.Reports.{report_told};
 ghost use Rattle.model_line.specs.Event as line_event;

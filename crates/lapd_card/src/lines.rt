@@ -16,11 +16,11 @@ ghost use Rattle.lapd_count.specs.Counters.{none_counted};
 ghost use Rattle.lapd_card.specs.Counted.{counters_in};
 ghost use Rattle.lapd_card.specs.Lines.{Stand, Serve, Lead, AreFresh, line_in, told_at, told_if_at};
 
-use lapd_bits::Head;
 use lapd_count::Counters;
 use lapd_frame::{Refusal, Service, Timer};
 use lapd_line::{BareReport, Config, Line, Pulled, Report, Request, Room, StartFault};
 use lapd_store::Shelf;
+use model_bits::Head;
 use std::alloc::Global;
 use std::marker::Model;
 

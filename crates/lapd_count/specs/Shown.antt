@@ -1,8 +1,8 @@
 -- What is counted of a frame, of what is heard, and of what is told.
 use Rattle.std.specs.Prelude.{ℕ, ◌%◌, ◌/◌, ◌==◌, ◌&&◌, Bool, true, List, [], ◌∷◌, ◌++◌, length, get_or, map, Option, Some, None, if◌then◌else◌}
-use Rattle.lapd_bits.specs.declared.heard.Cause.{Cause}
-use Rattle.lapd_bits.specs.declared.heads.Head.{Head}
-use Rattle.lapd_bits.specs.Stream.{Event, frame, overlong, dropped}
+use Rattle.model_bits.specs.declared.heard.Cause.{Cause}
+use Rattle.model_bits.specs.declared.heads.Head.{Head}
+use Rattle.model_bits.specs.Stream.{Event, frame, overlong, dropped}
 use Rattle.lapd_frame.specs.declared.addresses.Side.{Side}
 use Rattle.lapd_frame.specs.declared.notes.Note.{Note}
 use Rattle.lapd_frame.specs.declared.notes.Note.TheVariants as note

@@ -1,7 +1,7 @@
 -- Worked values: what frames are counted as, and what counters are after them.
 use Rattle.std.specs.Prelude.{◌≡◌, ◌-◌, [], ◌∷◌, Some, None, refl}
-use Rattle.lapd_bits.specs.declared.heard.Cause.TheVariants.{Fcs}
-use Rattle.lapd_bits.specs.Stream.{frame}
+use Rattle.model_bits.specs.declared.heard.Cause.TheVariants.{Fcs}
+use Rattle.model_bits.specs.Stream.{frame}
 use Rattle.lapd_frame.specs.declared.addresses.Side.TheVariants.{User, Network}
 use Rattle.lapd_frame.specs.declared.notes.ErrorCode.TheVariants.{F}
 use Rattle.lapd_frame.specs.declared.notes.Note.TheVariants.{Error}

@@ -4,8 +4,8 @@ ghost use Rattle.std.specs.Prelude.{◌≡◌, ◌<◌};
 ghost use Rattle.lapd_count.specs.Counters.{place, cause_place, error_place};
 
 use crate::kinds::Kind;
-use lapd_bits::Cause;
 use lapd_frame::ErrorCode;
+use model_bits::Cause;
 
 /// From where a frame comes, and where it goes.
 #[derive(Clone, Copy, PartialEq, Eq, Debug)]

@@ -2,15 +2,15 @@
 
 ghost use Rattle.std.specs.Option.{option_map_or};
 ghost use Rattle.std.specs.Prelude.{◌≡◌, [], get_or, map};
-ghost use Rattle.lapd_bits.specs.Heads.{head_of};
-ghost use Rattle.lapd_bits.specs.Heard.{heard_of};
+ghost use Rattle.model_bits.specs.Heads.{head_of};
+ghost use Rattle.model_bits.specs.Heard.{heard_of};
 ghost use Rattle.lapd_count.specs.Counters.{value_in, with_more, with_all, none_counted};
 ghost use Rattle.lapd_count.specs.Shown.{frame_shown, is_poll, head_shown, heard_shown, counter_of, note_shown, told_shown, drop_shown, lost_shown};
 
 use crate::counter::{Counter, Way};
 use crate::kinds::Kind;
-use lapd_bits::{Cause, Head, Heard};
 use lapd_frame::{Note, Side};
+use model_bits::{Cause, Head, Heard};
 
 /// How many counters there are.
 const COUNT: usize = 62;

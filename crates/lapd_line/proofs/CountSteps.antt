@@ -1,7 +1,7 @@
 -- What a line counts of an event.
 use Rattle.lapd_line.proofs.Vocabulary.{◌≡◌, ℕ, Bool, true, false, List, [], ◌++◌, Option, Some, None, is_some, refl, sym, ap, subst, ◌∙◌, false≢true, fold-append, option_map_or, head_of, Head, Counters, More, with_more, with_all, head_shown, heard_shown, Owned, Store, frame_taken, Config, Event, octet, pull, LineTold, told, pulled, after, answer, gained, Taken, begun, latest_is_begun, Order, told_in_report, told_in_answer, taken_shown, shown, with_counted, Moves, config_of}
-use Rattle.lapd_bits.specs.Heads.{latest_frame}
-use Rattle.lapd_bits.specs.Stream as stream
+use Rattle.model_bits.specs.Heads.{latest_frame}
+use Rattle.model_bits.specs.Stream as stream
 use Rattle.model_line.specs.Event.{Answer}
 use Rattle.model_line.specs.Line as machine
 use Rattle.lapd_line.specs.declared.line.Line.{Line}

@@ -1,9 +1,9 @@
 -- What a call on the parts of a line does to the line.
 use Rattle.lapd_line.proofs.Vocabulary.{◌≡◌, ℕ, true, false, List, [], ◌∷◌, ◌++◌, length, slice_get, Option, Some, None, refl, sym, ap, ◌∙◌, subst, option_to_list, false≢true, without_octets, Cause, heard_in, Timer, Owned, Store, Change, Gained, Left, Config, LineTold, told, nothing, dropped, aim_of_expiry, after, answer, gained, aim_of_octet, with_received, Aim, at_none, at_link, at_management, at_units, of_aim, of_change, taken, IsSound, LinkLayer, BareReport, Report, Serves, aim_of_event, report_told, told_in, Moves, config_of, latest_frame}
 use Rattle.lapd_bits.specs.Deframer as deframer
-use Rattle.lapd_bits.specs.declared.heard.Ended.TheVariants as ended
-use Rattle.lapd_bits.specs.Framer as framer
-use Rattle.lapd_bits.specs.Stream as stream
+use Rattle.lapd_bits.specs.declared.ended.Ended.TheVariants as ended
+use Rattle.model_bits.specs.Framer as framer
+use Rattle.model_bits.specs.Stream as stream
 use Rattle.lapd_frame.specs.declared.short_lists.ShortList.TheVariants as short
 use Rattle.model_line.specs.Event as line_event
 use Rattle.model_line.specs.Line as machine

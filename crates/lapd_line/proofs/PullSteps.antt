@@ -1,6 +1,6 @@
 -- What a pull does to a line: a frame that is due is begun, and the next octet is given.
 use Rattle.lapd_line.proofs.Vocabulary.{◌≡◌, ℕ, ◌≤◌, ◌<◌, Bool, true, false, cond, List, [], ◌∷◌, ◌++◌, length, take, Option, Some, None, IfSome, is_some, option_map, refl, ap, sym, ◌∙◌, subst, append_assoc, lt-ltb, le-ltb, same_Some, option_map_or, unwrap_or, bits, low_bits, number_of, Framing, runs_low, refilled, with_idle, Item, idle, frame, line_text, bits-push, listed, ShortList, Order, Owned, Store, Config, pulled, after, answer, Taken, taken, begun, is_due, next_octet, with_item, with_due, with_octet, orders_of, IsSound, IsTextOf, after_sound, with_due_given, TakesSoundly, taken_sound, left_is, one_item, LinkLayer, Begins, with_frame, Loading, in_bits, in_octets, Moves, config_of, Took, Takes, orders_taken}
-use Rattle.lapd_bits.specs.Framer as framer
+use Rattle.model_bits.specs.Framer as framer
 use Rattle.lapd_bits.specs.Deframer as deframer
 use Rattle.model_line.specs.Event as line_event
 use Rattle.model_line.specs.Line as machine

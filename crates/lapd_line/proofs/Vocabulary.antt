@@ -16,19 +16,21 @@ pub use Rattle.std.specs.List.{All, list_any, prefix_len, range_with_len, sum_by
 pub use Rattle.std.specs.Option.{ok_or, option_map_or, option_or, unwrap_or}
 pub use Rattle.std.specs.Prelude.{vec_capacity}
 pub use Rattle.circular_buffer.proofs.Places.{slice_get-set_other, slice_get-set_same}
-pub use Rattle.lapd_bits.proofs.BitLemmas.{bits-push}
-pub use Rattle.lapd_bits.specs.Bits.{bits, low_bits, number_of}
-pub use Rattle.lapd_bits.specs.Deframer.{kept_count, latest_of, octets_held, open_gap}
-pub use Rattle.lapd_bits.specs.Framer.{Framing, last_octets, refilled, runs_low, still_held, with_idle}
-pub use Rattle.lapd_bits.specs.Heads.{head_of}
-pub use Rattle.lapd_bits.specs.Heard.{heard_of, without_octets}
-pub use Rattle.lapd_bits.specs.Sent.{Item, frame, idle, line_text}
-pub use Rattle.lapd_bits.specs.Stream.{heard_in, room_for}
-pub use Rattle.lapd_bits.specs.Stuffing.{unstuffed}
-pub use Rattle.lapd_bits.specs.StuffingLaws.{AreOctets}
-pub use Rattle.lapd_bits.specs.declared.heads.Head.{Head}
-pub use Rattle.lapd_bits.specs.declared.heard.Cause.{Cause}
-pub use Rattle.lapd_bits.specs.declared.heard.Cause.TheVariants.{Tei, Unserved}
+pub use Rattle.model_bits.proofs.BitLemmas.{bits-push}
+pub use Rattle.model_bits.specs.Bits.{bits, low_bits, number_of}
+pub use Rattle.model_bits.specs.OpenGap.{kept_count, octets_held, open_gap}
+pub use Rattle.lapd_bits.specs.Deframer.{latest_of}
+pub use Rattle.model_bits.specs.Framer.{Framing, last_octets, refilled, runs_low, still_held, with_idle}
+pub use Rattle.model_bits.specs.Heads.{head_of}
+pub use Rattle.model_bits.specs.Heard.{heard_of}
+pub use Rattle.lapd_bits.specs.Ended.{without_octets}
+pub use Rattle.model_bits.specs.Sent.{Item, frame, idle, line_text}
+pub use Rattle.model_bits.specs.Stream.{heard_in, room_for}
+pub use Rattle.model_bits.specs.Stuffing.{unstuffed}
+pub use Rattle.model_bits.specs.StuffingLaws.{AreOctets}
+pub use Rattle.model_bits.specs.declared.heads.Head.{Head}
+pub use Rattle.model_bits.specs.declared.heard.Cause.{Cause}
+pub use Rattle.model_bits.specs.declared.heard.Cause.TheVariants.{Tei, Unserved}
 pub use Rattle.lapd_count.specs.Counters.{More, with_all, with_more}
 pub use Rattle.lapd_count.specs.Shown.{head_shown, heard_shown}
 pub use Rattle.lapd_count.specs.declared.counters.Counters.{Counters}

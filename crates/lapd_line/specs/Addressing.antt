@@ -1,6 +1,6 @@
 -- For whom a frame is, by its address.
 use Rattle.std.specs.Prelude.{ℕ, ◌==◌, Bool, true, false, not, ◌&&◌, nat_le, List, length, Option, Some, None, if◌then◌else◌}
-use Rattle.lapd_bits.specs.declared.heard.Cause.TheVariants.{Sapi, Tei, Unserved}
+use Rattle.model_bits.specs.declared.heard.Cause.TheVariants.{Sapi, Tei, Unserved}
 use Rattle.lapd_frame.specs.declared.addresses.Address.{Address}
 use Rattle.lapd_frame.specs.declared.addresses.Side.{Side}
 use Rattle.lapd_frame.specs.declared.controls.Control.{Control}

@@ -1,6 +1,6 @@
 -- What a pull begins with: a frame is taken and loaded where one is due and waits.
 use Rattle.std.specs.Prelude.{◌≡◌, List, ◌∷◌, ◌++◌, [], Option, Some, None, option_map}
-use Rattle.lapd_bits.specs.Sent.{frame}
+use Rattle.model_bits.specs.Sent.{frame}
 use Rattle.lapd_frame.specs.declared.timers.Order.{Order}
 use Rattle.lapd_store.specs.Ownership.{Owned}
 use Rattle.lapd_store.specs.Store.{Store, SameLimits}

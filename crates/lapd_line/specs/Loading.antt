@@ -1,8 +1,8 @@
 -- What a frame that is taken is loaded into, and that it was.
 use Rattle.std.specs.Prelude.{◌≡◌, ℕ, ◌-◌, ◌<◌, ◌≤◌, List, ◌∷◌, ◌++◌, [], length, take}
-use Rattle.lapd_bits.specs.Framer as framer
-use Rattle.lapd_bits.specs.Framer.{Framing}
-use Rattle.lapd_bits.specs.Sent.{Item, frame}
+use Rattle.model_bits.specs.Framer as framer
+use Rattle.model_bits.specs.Framer.{Framing}
+use Rattle.model_bits.specs.Sent.{Item, frame}
 
 -- A framer, or octets, of which so many in front are a frame.
 pub data Loading : Type 0 where

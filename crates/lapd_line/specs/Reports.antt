@@ -5,7 +5,7 @@
 -- `answers_are_short` of `model_line`.
 use Rattle.std.specs.Prelude.{ℕ, List, [], drop, Option, Some, None, option_map}
 use Rattle.std.specs.Option.{option_copied}
-use Rattle.lapd_bits.specs.Stream as stream
+use Rattle.model_bits.specs.Stream as stream
 use Rattle.lapd_frame.specs.ShortLists.{listed}
 use Rattle.model_line.specs.Event.{LineTold, Answer, pulled, nothing}
 use Rattle.lapd_line.specs.declared.reports.BareReport.{BareReport}

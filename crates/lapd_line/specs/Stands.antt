@@ -9,7 +9,7 @@
 -- into the framer before its slot can be freed, so no later acknowledgement changes a frame that is on its way.
 use Rattle.std.specs.Prelude.{◌≡◌, List, ℕ, ◌++◌, true, false, None}
 use Rattle.lapd_bits.specs.Deframer as deframer
-use Rattle.lapd_bits.specs.Framer as framer
+use Rattle.model_bits.specs.Framer as framer
 use Rattle.lapd_store.specs.Ownership.{Owned}
 use Rattle.lapd_store.specs.Store.{Store, SameLimits}
 use Rattle.model_line.specs.declared.config.Config.{Config}

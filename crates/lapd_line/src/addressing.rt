@@ -1,10 +1,10 @@
 //! What is heard in a line's octets, and which of its entities it is for.
 
 ghost use Rattle.std.specs.Prelude.{◌≡◌, ℕ, ◌≤◌, List, [], drop, length, Ok, Err};
-ghost use Rattle.lapd_bits.specs.Heard.{heard_of};
+ghost use Rattle.model_bits.specs.Heard.{heard_of};
 ghost use Rattle.lapd_frame.specs.Grammar.{parts_of};
 ghost use Rattle.lapd_frame.specs.Reading.{reading, long_reading, start_of};
-ghost use Rattle.lapd_bits.specs.declared.heard.Cause.TheVariants.{Unserved};
+ghost use Rattle.model_bits.specs.declared.heard.Cause.TheVariants.{Unserved};
 ghost use Rattle.model_link.specs.Events as link;
 ghost use Rattle.model_line.specs.Event.{dropped};
 ghost use Rattle.model_line.specs.Octet.{addressed, aim_of_long, aim_of_reading, drop_for, heard_side, unless_at_link};
@@ -13,12 +13,12 @@ ghost use Rattle.lapd_line.specs.Addressing.{is_ui};
 
 use crate::link_layer::LinkLayer;
 use crate::reports::BareReport;
-use lapd_bits::{Cause, Heard};
 use lapd_frame::{
     Address, Control, Frame, Long, Note, ReadFault, Service, ShortList, Side, read, read_long,
 };
 use lapd_link::Received;
 use lapd_store::Shelf;
+use model_bits::{Cause, Heard};
 
 /// The SAPI of layer 2 management (Q.921 clause 3.3.3).
 const MANAGEMENT: u8 = 63;

@@ -5,9 +5,9 @@ ghost use Rattle.lapd_count.specs.Counters.{with_all};
 ghost use Rattle.lapd_count.specs.Shown.{told_shown};
 ghost use Rattle.lapd_frame.specs.ShortLists.{listed};
 
-use lapd_bits::Cause;
 use lapd_count::Counters;
 use lapd_frame::{Note, ShortList};
+use model_bits::Cause;
 
 /// Counts what was told. Mostly there are no notes, and then nothing is done with the list.
 #[inline(always)]

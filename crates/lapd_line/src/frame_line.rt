@@ -1,8 +1,8 @@
 //! The line of a controller that gives and takes whole frames: one call a frame.
 
 ghost use Rattle.std.specs.Prelude.{◌≡◌, ◌+◌, ◌-◌, ◌<◌, ◌≤◌, ℕ, List, [], ◌∷◌, ◌++◌, length, map, take, drop, All, Some, None, IfOk, IfErr, OnErr, nat_le};
-ghost use Rattle.lapd_bits.specs.Heard.{heard_of};
-ghost use Rattle.lapd_bits.specs.Stream.{dropped};
+ghost use Rattle.model_bits.specs.Heard.{heard_of};
+ghost use Rattle.model_bits.specs.Stream.{dropped};
 ghost use Rattle.lapd_count.specs.Counters.{none_counted};
 ghost use Rattle.lapd_count.specs.Shown.{heard_shown};
 ghost use Rattle.lapd_line.specs.Counted.{bare_shown};
@@ -28,11 +28,11 @@ use crate::fault::StartFault;
 use crate::link_layer::LinkLayer;
 use crate::outlet::Outlet;
 use crate::reports::{BareReport, Report};
-use lapd_bits::{Cause, Heard};
 use lapd_count::Counters;
 use lapd_frame::{Order, Refusal, Service, ShortList, Side, Timer};
 use lapd_link::Room;
 use lapd_store::Shelf;
+use model_bits::{Cause, Heard};
 use model_line::{Config, Fault, Request};
 use std::alloc::Global;
 

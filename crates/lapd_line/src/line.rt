@@ -3,7 +3,7 @@
 ghost use Rattle.std.specs.Option.{option_map_or};
 ghost use Rattle.std.specs.Prelude.{◌≡◌, ℕ, ◌<◌, ◌≤◌, ◌++◌, List, [], length, IsTrue, IsFalse, Some, None, IsSome, IfOk, IfErr, OnErr, nat_le};
 ghost use Rattle.lapd_bits.specs.Deframer.{latest_of};
-ghost use Rattle.lapd_bits.specs.Stream as stream;
+ghost use Rattle.model_bits.specs.Stream as stream;
 ghost use Rattle.lapd_count.specs.Counters.{none_counted};
 ghost use Rattle.lapd_count.specs.Shown.{head_shown, heard_shown};
 ghost use Rattle.lapd_store.specs.Ownership.{Owned, Holds};
@@ -23,10 +23,11 @@ use crate::fault::StartFault;
 use crate::link_layer::LinkLayer;
 use crate::pulled::Pulled;
 use crate::reports::{BareReport, Report};
-use lapd_bits::{Cause, Deframer, Ended, Framer, Heard};
+use lapd_bits::{Deframer, Ended, Framer};
 use lapd_count::Counters;
 use lapd_frame::{Order, Refusal, ShortList, Side, Timer};
 use lapd_store::Shelf;
+use model_bits::{Cause, Heard};
 use model_line::{Config, Request};
 use std::alloc::Global;
 

@@ -12,11 +12,11 @@ use crate::awake::Awake;
 use crate::links::Links;
 use crate::reports::BareReport;
 use crate::units::Units;
-use lapd_bits::Cause;
 use lapd_frame::Service;
 use lapd_link::{Answer, LinkTimer, Received};
 use lapd_store::Shelf;
 use lapd_tei::Teis;
+use model_bits::Cause;
 use model_line::Config;
 
 /// What a line has beside its bits.

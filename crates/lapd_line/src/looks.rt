@@ -9,11 +9,11 @@ ghost use Rattle.model_line.specs.Room.{room_in};
 ghost use Rattle.model_line.specs.Stored.{held_in};
 
 use crate::line::Line;
-use lapd_bits::Head;
 use lapd_count::Counters;
 use lapd_frame::{Refusal, Service};
 use lapd_link::Room;
 use lapd_store::Shelf;
+use model_bits::Head;
 
 impl Line {
     ghost use Rattle.lapd_line.specs.Stands.{Stands, config_of};

@@ -3,8 +3,8 @@
 ghost use Rattle.std.specs.Prelude.{◌≡◌};
 ghost use Rattle.std.specs.Option.{option_copied};
 
-use lapd_bits::Cause;
 use lapd_frame::{Note, Order, ShortList};
+use model_bits::Cause;
 
 /// What an octet, an expiry or an accepted request led to.
 #[derive(Clone, Copy, PartialEq, Eq, Debug)]

@@ -12,11 +12,11 @@ ghost use Rattle.lapd_line.specs.TeiChanges.{IsAnswerTo, Changing, with_manageme
 
 use crate::link_layer::{LinkLayer, link_number};
 use crate::reports::BareReport;
-use lapd_bits::Cause;
 use lapd_frame::{Service, ShortList};
 use lapd_link::Answer;
 use lapd_store::Shelf;
 use lapd_tei::{Change, TeiOutcome};
+use model_bits::Cause;
 
 impl BareReport {
     ghost use Rattle.lapd_line.specs.Reports.{told_in};

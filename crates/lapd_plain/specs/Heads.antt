@@ -1,6 +1,6 @@
 -- How a frame begins, as numbers.
 use Rattle.std.specs.Prelude.{[], ◌∷◌, Option, Some, None}
-use Rattle.lapd_bits.specs.declared.heads.Head.{Head}
+use Rattle.model_bits.specs.declared.heads.Head.{Head}
 use Rattle.lapd_plain.specs.declared.heads.PlainHead.{PlainHead}
 
 abbrev pub plain_head : Option Head → PlainHead

@@ -1,7 +1,7 @@
 -- Notes and causes as numbers.
 use Rattle.std.specs.Prelude.{ℕ, Option, Some, None}
-use Rattle.lapd_bits.specs.declared.heard.Cause.{Cause}
-use Rattle.lapd_bits.specs.declared.heard.Cause.TheVariants.{Abort, Ragged, Short, Fcs, Extension, Sapi, Tei, Unserved}
+use Rattle.model_bits.specs.declared.heard.Cause.{Cause}
+use Rattle.model_bits.specs.declared.heard.Cause.TheVariants.{Abort, Ragged, Short, Fcs, Extension, Sapi, Tei, Unserved}
 use Rattle.lapd_frame.specs.declared.notes.Note.{Note}
 use Rattle.lapd_frame.specs.declared.notes.Note.TheVariants as note
 use Rattle.lapd_frame.specs.declared.services.Service.{Service}

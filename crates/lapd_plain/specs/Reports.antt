@@ -1,6 +1,6 @@
 -- What a report shows.
 use Rattle.std.specs.Prelude.{◌≡◌, ℕ, ◌==◌, Bool, List, [], length, take, map, Option, Some, None, if◌then◌else◌}
-use Rattle.lapd_bits.specs.declared.heard.Cause.{Cause}
+use Rattle.model_bits.specs.declared.heard.Cause.{Cause}
 use Rattle.lapd_frame.specs.declared.notes.Note.{Note}
 use Rattle.lapd_frame.specs.declared.timers.Order.{Order}
 use Rattle.model_line.specs.Event.{LineTold}

@@ -3,7 +3,7 @@
 ghost use Rattle.std.specs.Prelude.{◌≡◌};
 ghost use Rattle.lapd_plain.specs.Heads.{plain_head};
 
-use lapd_bits::Head;
+use model_bits::Head;
 
 /// How a frame begins, and how long it is: [`Head`] in C.
 #[repr(C)]

@@ -3,8 +3,8 @@
 ghost use Rattle.std.specs.Prelude.{◌≡◌};
 ghost use Rattle.lapd_plain.specs.Notes.{plain_note, cause_number, of_link};
 
-use lapd_bits::Cause;
 use lapd_frame::{Note, Service};
+use model_bits::Cause;
 
 /// A note, by its number. That of a link names its service by its SAPI, and its TEI; that of an error has its letter.
 #[repr(C)]

@@ -9,8 +9,8 @@ ghost use Rattle.lapd_plain.specs.Reports.{Shows, ShowsPull, SameButContents, co
 
 use crate::notes::{PlainNote, cause_number};
 use crate::timers::PlainOrder;
-use lapd_bits::Cause;
 use lapd_frame::{Note, Order};
+use model_bits::Cause;
 
 /// The most octets of contents that a configuration allows.
 const MOST_OCTETS: usize = 260;

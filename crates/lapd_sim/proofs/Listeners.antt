@@ -1,7 +1,7 @@
 -- What a listener has heard, and what has been written of it, while it is told octet by octet.
 use Rattle.lapd_sim.proofs.Vocabulary.{◌≡◌, ℕ, List, [], ◌∷◌, ◌++◌, length, drop, filter_map, Ok, Err, Bor, Option, option_to_list, refl, sym, ap, ◌∙◌, subst, append_assoc, drop-append_seam, filter_map-append, flat_map-append, one_event_an_octet, heard_of, heard_in, Heard, Nothing, Dropped, Frame, Overlong, Deframer, puts_nothing, puts_then, stuck_more, Output, IsPut, IsStuck, frame_text, WriteFailed, Hears, frame_in, found}
 use Rattle.std.proofs.Common.{flat_map, append-nil}
-use Rattle.lapd_bits.specs.Stream.{Event}
+use Rattle.model_bits.specs.Stream.{Event}
 
 -- what is told of events
 abbrev pub events_text : ℕ → List Event → List ℕ

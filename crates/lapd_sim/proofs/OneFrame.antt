@@ -1,6 +1,6 @@
 -- What one frame is on the line of a terminal that has sent nothing.
 use Rattle.lapd_sim.proofs.Vocabulary.{◌≡◌, ℕ, zero, suc, ◌+◌, ◌*◌, ◌<◌, ◌≤◌, Bool, true, if◌then◌else◌, List, [], ◌∷◌, ◌++◌, length, refl, ap, sym, ◌∙◌, subst, arith, length-append, le-ltb, append-nil, All-append, bits, flag, octets_of, check, Framing, with_idle, Item, idle, frame, line_text, stuffed, AreOctets, length-bits, length-check, line_text-push, Terminal, HasPut, on_line, Sends}
-use Rattle.lapd_bits.specs.Framer as framing
+use Rattle.model_bits.specs.Framer as framing
 use Rattle.model_sim.specs.Setup as machine
 use Rattle.lapd_sim.proofs.Terminals.{octets_of-few, octets_since, length-text, whole_where, rest_where, rest_stays}
 

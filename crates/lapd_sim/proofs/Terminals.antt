@@ -1,6 +1,6 @@
 -- What a terminal gives, octet by octet, up to the octets of a frame that it sends.
 use Rattle.lapd_sim.proofs.Vocabulary.{◌≡◌, ℕ, zero, suc, ◌+◌, ◌*◌, ◌%◌, ◌==◌, ◌<◌, ◌≤◌, Bool, true, false, if◌then◌else◌, List, [], ◌∷◌, ◌++◌, length, drop, Result, Ok, Err, OnOk, refl, ap, sym, ◌∙◌, subst, arith, append_assoc, length-append, le-ltb, lt-ltb, ne_eqb, false≢true, append-nil, drop_at, All-append, All-head, All-tail, bits, flag, low_bits, octets_of, Framing, with_idle, Item, idle, frame, item_text, line_text, AreOctets, bits-append, length-bits, number_of-low_bits, line_text-push, at, WriteFailed, Output, IsStuck, Setup, with_frame, sending, octets_sent, after_sending, with_event, after_rx, Gives, scene, Tells, Sends}
-use Rattle.lapd_bits.specs.Framer as framing
+use Rattle.model_bits.specs.Framer as framing
 use Rattle.model_line.specs.Event as line_event
 use Rattle.model_sim.specs.Setup.{Terminal}
 use Rattle.lapd_sim.specs.declared.terminal.Terminal as rust

@@ -1,8 +1,8 @@
 -- What a terminal gave: octets of the items that it has put on its line, which came from the line one by one.
 use Rattle.std.specs.Prelude.{ℕ, List, ◌++◌, Result}
-use Rattle.lapd_bits.specs.Framer as framing
-use Rattle.lapd_bits.specs.Sent.{Item}
-use Rattle.lapd_bits.specs.StuffingLaws.{AreOctets}
+use Rattle.model_bits.specs.Framer as framing
+use Rattle.model_bits.specs.Sent.{Item}
+use Rattle.model_bits.specs.StuffingLaws.{AreOctets}
 use Rattle.lapd_transcript.specs.declared.streams.WriteFailed.{WriteFailed}
 use Rattle.lapd_transcript.specs.Streams.{Output}
 use Rattle.model_sim.specs.Setup.{Setup}

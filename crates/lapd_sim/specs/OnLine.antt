@@ -1,8 +1,8 @@
 -- What a terminal has put on its line since it began.
 use Rattle.std.specs.Prelude.{ℕ, List}
-use Rattle.lapd_bits.specs.Framer as framing
-use Rattle.lapd_bits.specs.Sent.{Item}
-use Rattle.lapd_bits.specs.StuffingLaws.{AreOctets}
+use Rattle.model_bits.specs.Framer as framing
+use Rattle.model_bits.specs.Sent.{Item}
+use Rattle.model_bits.specs.StuffingLaws.{AreOctets}
 use Rattle.lapd_sim.specs.declared.terminal.Terminal.{Terminal}
 
 -- These octets, which are the beginning of these items.

@@ -3,7 +3,7 @@
 -- Each part of the simulator stands for a part of the setup: `Holds` is the card with clock and moment, `Sends` a
 -- terminal, `Hears` a listener.
 use Rattle.std.specs.Prelude.{◌≡◌, ℕ, List, [], ◌∷◌, length, Option, None, Some}
-use Rattle.lapd_bits.specs.Framer as framing
+use Rattle.model_bits.specs.Framer as framing
 use Rattle.lapd_bits.specs.Deframer as deframing
 use Rattle.lapd_bits.specs.declared.deframer.Deframer.{Deframer}
 use Rattle.model_sim.specs.Setup as machine

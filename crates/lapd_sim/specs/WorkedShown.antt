@@ -2,7 +2,7 @@
 use Rattle.std.specs.Prelude.{◌≡◌, true, [], ◌∷◌, ◌++◌, codes, refl}
 use Rattle.std.specs.Fmt.{digits}
 use Rattle.hex.specs.Hex.{encode_with}
-use Rattle.lapd_bits.specs.Bits.{low_bits}
+use Rattle.model_bits.specs.Bits.{low_bits}
 use Rattle.lapd_frame.specs.declared.controls.Control.TheVariants.{Sabme}
 use Rattle.lapd_frame.specs.declared.faults.ReadFault.TheVariants.{Short}
 use Rattle.lapd_script.specs.declared.kind.FaultKind.TheVariants.{BadNumber}

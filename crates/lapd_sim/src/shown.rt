@@ -3,7 +3,7 @@
 ghost use Rattle.std.specs.Prelude.{◌≡◌, ◌*◌, ◌<◌, ◌≤◌, List, length, take, Ok, IfOk, IfErr};
 ghost use Rattle.std.specs.List.{list_all};
 ghost use Rattle.std.specs.Char.{is_ascii_hexdigit};
-ghost use Rattle.lapd_bits.specs.Sent.{Item, line_text};
+ghost use Rattle.model_bits.specs.Sent.{Item, line_text};
 ghost use Rattle.lapd_frame.specs.declared.addresses.Side.{Side};
 ghost use Rattle.lapd_script.specs.Octets.{octets};
 ghost use Rattle.lapd_sim.specs.FaultLines.{frame_line};

@@ -1,10 +1,10 @@
 //! The sender of a terminal, which is put on a line octet by octet.
 
 ghost use Rattle.std.specs.Prelude.{◌≡◌, ℕ, ◌+◌, ◌<◌, ◌≤◌, ◌↔◌, List, [], ◌∷◌, ◌++◌, length, IsTrue, IfOk};
-ghost use Rattle.lapd_bits.specs.Framer as framing;
-ghost use Rattle.lapd_bits.specs.Framer.{with_idle};
-ghost use Rattle.lapd_bits.specs.Sent as sent;
-ghost use Rattle.lapd_bits.specs.Sent.{Item};
+ghost use Rattle.model_bits.specs.Framer as framing;
+ghost use Rattle.model_bits.specs.Framer.{with_idle};
+ghost use Rattle.model_bits.specs.Sent as sent;
+ghost use Rattle.model_bits.specs.Sent.{Item};
 
 use lapd_bits::Framer;
 use std::alloc::{AllocError, Global};

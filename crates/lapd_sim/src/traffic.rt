@@ -1,8 +1,8 @@
 //! What comes from a line, and what a line takes.
 
 ghost use Rattle.std.specs.Prelude.{◌≡◌, ◌<◌, ◌≤◌, ℕ, List, [], ◌++◌, length, flat_map, Option, IfSome, OnOk};
-ghost use Rattle.lapd_bits.specs.Framer as framing;
-ghost use Rattle.lapd_bits.specs.Sent.{Item};
+ghost use Rattle.model_bits.specs.Framer as framing;
+ghost use Rattle.model_bits.specs.Sent.{Item};
 ghost use Rattle.lapd_transcript.specs.Streams.{Puts, output};
 ghost use Rattle.lapd_transcript.specs.Text.{frame_text};
 ghost use Rattle.lapd_script.specs.declared.command.CardKind.TheVariants.{Octets};
@@ -16,8 +16,9 @@ ghost use Rattle.lapd_sim.specs.Stands.{Hears, Holds, Sends};
 
 use crate::exchange::Exchange;
 use crate::terminal::Terminal;
-use lapd_bits::{Deframer, Heard};
+use lapd_bits::Deframer;
 use lapd_transcript::{Page, Target, WriteFailed, put_frame, put_nothing, put_sent};
+use model_bits::Heard;
 
 /// Octets come from a line.
 pub(crate) fn receive<T: Target>(

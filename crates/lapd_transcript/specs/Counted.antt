@@ -1,7 +1,7 @@
 -- What was counted of a line, in a transcript (profile).
 use Rattle.std.specs.Prelude.{ℕ, ◌+◌, ◌==◌, Bool, if◌then◌else◌, List, [], ◌∷◌, ◌++◌, flat_map, codes, decimal}
 use Rattle.std.specs.List.{list_all}
-use Rattle.lapd_bits.specs.declared.heard.Cause.TheVariants as cause
+use Rattle.model_bits.specs.declared.heard.Cause.TheVariants as cause
 use Rattle.lapd_frame.specs.declared.notes.ErrorCode.TheVariants as code
 use Rattle.lapd_frame.specs.Services.{letter_of}
 use Rattle.lapd_count.specs.declared.counter.Counter.{Counter}

@@ -1,8 +1,8 @@
 -- The lines of a transcript (profile): each begins with the number of the card's line that it is about.
 use Rattle.std.specs.Prelude.{ℕ, ◌==◌, if◌then◌else◌, List, [], ◌∷◌, ◌++◌, flat_map, codes, decimal, Option, Some, None, unwrap_or}
 use Rattle.hex.specs.Hex.{encode_upper}
-use Rattle.lapd_bits.specs.declared.heard.Cause.{Cause}
-use Rattle.lapd_bits.specs.declared.heard.Cause.TheVariants.{Abort, Ragged, Short, Fcs, Extension, Sapi, Tei, Unserved}
+use Rattle.model_bits.specs.declared.heard.Cause.{Cause}
+use Rattle.model_bits.specs.declared.heard.Cause.TheVariants.{Abort, Ragged, Short, Fcs, Extension, Sapi, Tei, Unserved}
 use Rattle.lapd_frame.specs.declared.notes.Note.{Note}
 use Rattle.lapd_frame.specs.declared.notes.Note.TheVariants.{EstablishIndication, EstablishConfirm, ReleaseIndication, ReleaseConfirm, Data, Unit, Error, Assigned, Removed, Doubled, Xid}
 use Rattle.lapd_frame.specs.Services.{letter_of}

@@ -2,7 +2,7 @@
 use Rattle.std.specs.Prelude.{◌≡◌, [], ◌∷◌, ◌++◌, map, codes, refl}
 use Rattle.std.specs.Fmt.{digits}
 use Rattle.std.specs.List.{range_with_len}
-use Rattle.lapd_bits.specs.declared.heard.Cause.TheVariants.{Fcs}
+use Rattle.model_bits.specs.declared.heard.Cause.TheVariants.{Fcs}
 use Rattle.lapd_frame.specs.declared.notes.ErrorCode.TheVariants.{F}
 use Rattle.lapd_count.specs.declared.counter.Counter.TheVariants.{Frames, Octets, Dropped, Errors, Data, Lost}
 use Rattle.lapd_count.specs.declared.counter.Way.TheVariants.{Heard, Begun}

@@ -10,9 +10,9 @@ use crate::lines::put_nothing;
 use crate::names::cause_name;
 use crate::output::{Page, decimal, put_all};
 use crate::streams::{Target, WriteFailed};
-use lapd_bits::Cause;
 use lapd_count::{Counter, Counters, Kind, Way};
 use lapd_frame::ErrorCode;
+use model_bits::Cause;
 
 /// The counters, in the order of their places.
 static COUNTERS: [Counter; 62] = [

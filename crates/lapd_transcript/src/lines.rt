@@ -8,8 +8,8 @@ use crate::names::refusal_name;
 use crate::notes::put_brought;
 use crate::output::{Page, decimal, finish, put_all, put_octets_line};
 use crate::streams::{Target, WriteFailed};
-use lapd_bits::Cause;
 use lapd_frame::{Note, Refusal};
+use model_bits::Cause;
 
 /// What an event on a line brought: its notes, then why it dropped a frame, then how many frames it lost. `contents`
 /// are those that were delivered, which a note of data tells.

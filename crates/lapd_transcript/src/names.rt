@@ -3,8 +3,8 @@
 ghost use Rattle.std.specs.Prelude.{◌≡◌};
 ghost use Rattle.lapd_transcript.specs.Text.{cause_name, refusal_name, suffix};
 
-use lapd_bits::Cause;
 use lapd_frame::{Refusal, Service};
+use model_bits::Cause;
 
 pub(crate) fn cause_name(cause: Cause) -> &'static [u8]
     ensures { result.now ≡ cause_name cause }

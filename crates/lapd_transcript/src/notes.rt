@@ -8,8 +8,8 @@ ghost use Rattle.lapd_transcript.specs.Text.{octets_text, line_text, link_words,
 use crate::names::{cause_name, suffix};
 use crate::output::{Page, decimal, put_all, put_octets_line};
 use crate::streams::{Target, WriteFailed};
-use lapd_bits::Cause;
 use lapd_frame::{ErrorCode, Note, Service};
+use model_bits::Cause;
 
 /// The notes of an event, then why it dropped a frame, then how many frames it lost.
 pub(crate) fn put_brought<T: Target>(

@@ -1,7 +1,7 @@
 -- By how much each event lets rise what may be sent.
 use Rattle.model_card.proofs.Vocabulary.{◌≡◌, ℕ, ◌+◌, ◌*◌, ◌≤◌, ◌<◌, Bool, true, false, length, nat_le, Option, Some, None, ap, sym, ◌∙◌, cond, arith, sum_by, count_by, option_map_or, false≢true, Timer, octet, expiry, request, pull, Config, Line, refusal, Request, counted_one, falls_by_pull, expiry_none, request_none, brings, octet_rejects, RisesByOctet, RisesByExpiry, RisesByRequest, FallsByPull, RisesBy, IsPriced, Card, line_at, window, at, FramesByEvent, IsSound}
 use Rattle.std.proofs.Common.{option_to_list}
-use Rattle.lapd_bits.specs.Stream as stream
+use Rattle.model_bits.specs.Stream as stream
 use Rattle.model_line.specs.Event as line_event
 use Rattle.model_line.specs.Counts as line
 use Rattle.model_line.specs.Machine as lines

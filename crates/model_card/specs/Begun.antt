@@ -1,6 +1,6 @@
 -- The frame that a pull of a line of a card began last.
 use Rattle.std.specs.Prelude.{ℕ, Option}
-use Rattle.lapd_bits.specs.declared.heads.Head.{Head}
+use Rattle.model_bits.specs.declared.heads.Head.{Head}
 use Rattle.model_line.specs.Begun.{head_begun}
 use Rattle.model_card.specs.Card.{Card, line_at}
 

@@ -1,6 +1,6 @@
 -- What is dropped costs nothing, and changes nothing.
 use Rattle.std.specs.Prelude.{◌≡◌, ℕ, List, Some, IsSome, All}
-use Rattle.lapd_bits.specs.declared.heard.Cause.{Cause}
+use Rattle.model_bits.specs.declared.heard.Cause.{Cause}
 use Rattle.model_line.specs.Event.{octet, told, dropped}
 use Rattle.model_line.specs.Laws.{cause_in}
 use Rattle.model_line.specs.Octet.{with_received}

@@ -1,6 +1,6 @@
 -- What happens at a card whose lines have their HDLC done by a controller, and what it means: a list of events.
 use Rattle.std.specs.Prelude.{◌≡◌, ℕ, ◌<◌, List, [], ◌∷◌, ◌++◌, length, map, set, All}
-use Rattle.lapd_bits.specs.StuffingLaws.{AreOctets}
+use Rattle.model_bits.specs.StuffingLaws.{AreOctets}
 use Rattle.lapd_frame.specs.declared.timers.Timer.{Timer}
 use Rattle.model_line.specs.Event as line_event
 use Rattle.model_line.specs.Event.{Answer}

@@ -1,7 +1,7 @@
 -- What is counted on a card for frames: of each line, what happens at it shows.
 use Rattle.std.specs.Prelude.{◌≡◌, ℕ, ◌+◌, ◌==◌, ◌<◌, List, [], ◌∷◌, ◌++◌, get_or, length, min, set, if◌then◌else◌}
 use Rattle.std.specs.Option.{option_map_or}
-use Rattle.lapd_bits.specs.Stream.{dropped}
+use Rattle.model_bits.specs.Stream.{dropped}
 use Rattle.lapd_count.specs.declared.counter.Counter.{Counter}
 use Rattle.lapd_count.specs.declared.counters.Counters.{Counters}
 use Rattle.lapd_count.specs.Counters.{More, most, none_counted, value_in, with_all, amount_in}

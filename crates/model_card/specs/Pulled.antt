@@ -1,6 +1,6 @@
 -- The octets that pulls of a line give.
 use Rattle.std.specs.Prelude.{◌≡◌, ℕ, ◌==◌, List, [], ◌∷◌, ◌++◌, flat_map, option_map, option_to_list, if◌then◌else◌}
-use Rattle.lapd_bits.specs.Sent.{Item, idle, frame}
+use Rattle.model_bits.specs.Sent.{Item, idle, frame}
 use Rattle.model_line.specs.declared.config.Config.{Config}
 use Rattle.model_line.specs.Event.{Event, octet, expiry, request, pull, Answer, told, refused, pulled}
 use Rattle.model_line.specs.Line.{Line}

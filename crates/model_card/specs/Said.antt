@@ -1,6 +1,6 @@
 -- What happenings at a card are answered with: each with one answer.
 use Rattle.std.specs.Prelude.{◌≡◌, ℕ, List, [], ◌∷◌, ◌++◌, true, replicate, map, Option, Some, None, option_map}
-use Rattle.lapd_bits.specs.Stream.{dropped}
+use Rattle.model_bits.specs.Stream.{dropped}
 use Rattle.lapd_frame.specs.declared.timers.Order.{Order}
 use Rattle.model_line.specs.Event as line_event
 use Rattle.model_line.specs.Event.{Answer, told, pulled, nothing}

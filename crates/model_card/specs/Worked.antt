@@ -1,6 +1,6 @@
 -- Worked values of a card: each computes.
 use Rattle.std.specs.Prelude.{◌≡◌, ℕ, true, false, List, [], ◌∷◌, ◌++◌, map, Some, refl}
-use Rattle.lapd_bits.specs.Bits.{low_bits}
+use Rattle.model_bits.specs.Bits.{low_bits}
 use Rattle.lapd_frame.specs.declared.addresses.Side.TheVariants.{Network}
 use Rattle.lapd_frame.specs.declared.refusals.Refusal.TheVariants.{QueueFull, PoolFull}
 use Rattle.lapd_frame.specs.declared.services.Service.TheVariants.{Call}

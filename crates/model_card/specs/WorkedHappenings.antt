@@ -1,7 +1,7 @@
 -- Worked values of happenings at a card for whole frames: each computes.
 use Rattle.std.specs.Prelude.{◌≡◌, ◌+◌, List, [], ◌∷◌, ◌++◌, length, Some, refl}
-use Rattle.lapd_bits.specs.Bits.{low_bits}
-use Rattle.lapd_bits.specs.Stream.{frame}
+use Rattle.model_bits.specs.Bits.{low_bits}
+use Rattle.model_bits.specs.Stream.{frame}
 use Rattle.lapd_frame.specs.declared.addresses.Side.TheVariants.{Network}
 use Rattle.lapd_frame.specs.declared.services.Service.TheVariants.{Call}
 use Rattle.lapd_frame.specs.Reading.{reading, header_of, control_of, unnumbered_of}

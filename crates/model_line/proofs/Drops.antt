@@ -1,6 +1,6 @@
 -- What an octet brings that is dropped changes nothing, and costs nothing.
 use Rattle.model_line.proofs.Vocabulary.{◌≡◌, ℕ, Bool, true, false, [], Option, Some, None, IsSome, refl, ap, sym, ◌∙◌, option_map_or, unwrap_or, false≢true, set-get_or, none-some, Cause, Unserved, Service, Terms, LinkTimer, fresh, orders_for, Change, Gained, Left, Config, LineTold, octet, told, nothing, may_send, cause_in, DropsChangeNothing, Line, link_number, link_in, with_link, terms, gained, aim_of_heard, with_received, Effect, at_none, unserved_cause, told_of_link, told_of_management, of_link, of_change, of_management, of_aim, unserved_leaves}
-use Rattle.lapd_bits.specs.Stream as stream
+use Rattle.model_bits.specs.Stream as stream
 use Rattle.model_link.specs.declared.timers.LinkTimer.TheVariants.{T200, T203}
 use Rattle.model_link.specs.Events as link
 use Rattle.model_link.specs.Machine as links

@@ -1,6 +1,6 @@
 -- Each event that brings an REJ with a valid N(R) is heard as a frame of four octets.
 use Rattle.model_line.proofs.Vocabulary.{◌≡◌, ℕ, Bool, true, false, Option, Some, None, IfSome, refl, ap, cond, arith, count_by, false≢true, Refusal, Service, Timer, T200, T203, T201, LinkTimer, Config, Event, octet, expiry, request, pull, one, is_long_frame, long_frames_heard, rejects, rejects_aimed, at_timer, aim_of_expiry, IsRejectHeard, Line, place_in, after, takes_slot, unless_refused, aim_of_octet, with_received, Aim, of_aim, Taken, taken, is_due, with_item, refusal, Request, Establish, Release, Data, Unit, Assign, Remove, Check, SetBusy, ClearBusy, at_requested, aim_of_request, IsInRange, IsSound}
-use Rattle.lapd_bits.specs.Stream as stream
+use Rattle.model_bits.specs.Stream as stream
 use Rattle.model_link.specs.Events as link
 use Rattle.model_link.specs.declared.timers.LinkTimer.TheVariants as link_timer
 use Rattle.model_line.proofs.LineRises.{aim_received}

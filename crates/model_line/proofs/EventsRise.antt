@@ -1,6 +1,6 @@
 -- By how much an event lets rise what a line sends and may still send.
 use Rattle.model_line.proofs.Vocabulary.{◌≡◌, ℕ, ◌+◌, ◌*◌, ◌≤◌, Bool, true, false, max, Option, Some, None, is_some, IfSome, refl, ap, sym, subst, cond, arith, count_by, Service, Refusal, Timer, T200, T203, T201, LinkTimer, Management, expire_check, Course, Config, Event, octet, expiry, request, pull, one, may_send, frames_heard, is_frame, is_running_expiry, rejects, is_accepted, is_begun, rejects_aimed, at_timer, aim_of_expiry, runs_at, Line, window, place_in, link_in, terms, after, answer, unless_refused, unless_refused_told, aim_of_octet, with_received, Aim, at_none, at_link, at_management, at_units, told_of_management, of_change, of_management, of_aim, Taken, taken, with_item, with_due, is_due, refusal, Request, Establish, Release, Data, Unit, Assign, Remove, Check, SetBusy, ClearBusy, at_requested, aim_of_request, IsInRange, IsSound}
-use Rattle.lapd_bits.specs.Stream as stream
+use Rattle.model_bits.specs.Stream as stream
 use Rattle.model_link.specs.Events as link
 use Rattle.model_link.specs.Machine as links
 use Rattle.model_link.specs.Requests as requests

@@ -1,7 +1,7 @@
 -- What is heard in the octets that a frame or a fault means.
 use Rattle.model_line.proofs.Vocabulary.{◌≡◌, ℕ, zero, suc, ◌+◌, ◌-◌, ◌*◌, ◌%◌, ◌/◌, ◌<◌, ◌≤◌, Bool, true, false, List, [], ◌∷◌, ◌++◌, length, replicate, reverse, None, refl, ap, sym, ◌∙◌, subst, arith, append_assoc, append-nil, length-append, length-replicate, bits, flag, low_bits, octets_of, number_of, check, frame_text, dropped, heard_until, heard_in, room_for, gap_event, AreOctets, run_of, open_gap, bits-append, low_bits-number_of_n, length-check, stuffed_after-at_least, stuffed-counted, NoSix-stuffed, hears, after_flag, heard_until-onto, hears-append, hears_text, after_text, reverse_aux-append, Fault, Fcs, Abort, Ragged, IsIdle, framed, filling, filled, line_octets, came, fault_octets, cause_of, AreHeardAs, FramesAreHeard}
 use mathlib.Core.List.{reverse_aux}
-use Rattle.lapd_bits.specs.Stream.{Event}
+use Rattle.model_bits.specs.Stream.{Event}
 use Rattle.model_line.specs.declared.faults.Fault.TheVariants.{Short}
 use Rattle.model_line.proofs.FramesIdle.{IdleAt, hears_first_flag, idle_again}
 use Rattle.model_line.proofs.FramesJudged.{gap_event_came}

@@ -1,7 +1,7 @@
 -- What is heard is the same to a line whatever it has received, and leaves what it has received.
 use Rattle.model_line.proofs.Vocabulary.{◌≡◌, ℕ, List, Option, Some, None, Result, Ok, Err, refl, ap, ◌∙◌, if◌then◌else◌, Tei, Address, ReadFault, BadExtension, Undefined, WrongSize, Short, Long, Service, Parts, reading, long_reading, service_of, Change, Gained, Left, Config, LineTold, Line, Effect, Aim, at_none, at_link, at_management, at_units, told_of_management, of_change, of_management, of_aim, aim_of_expiry, drop_for, group_tei, management_sapi, at_place, to_service, addressed, message_of, aim_of_reading, unless_at_link, aim_of_long, heard_side, aim_of_heard, at_side, Taken, taken, is_due, with_item, with_due, refusal, aim_of_request, receiving, NothingElseIsReceived}
 use Rattle.std.specs.Prelude.{◌==◌, Bool, true, false}
-use Rattle.lapd_bits.specs.Stream as stream
+use Rattle.model_bits.specs.Stream as stream
 use Rattle.lapd_frame.specs.declared.overlong.Long.TheVariants as long
 use Rattle.model_link.specs.Events as link
 use Rattle.lapd_tei.specs.Events as teis

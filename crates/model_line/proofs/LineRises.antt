@@ -1,6 +1,6 @@
 -- By how much an event lets rise what a line sends and may still send.
 use Rattle.model_line.proofs.Vocabulary.{◌≡◌, ℕ, ◌+◌, ◌*◌, ◌≤◌, Bool, true, false, List, [], ◌∷◌, ◌++◌, length, slice_get, max, Option, Some, None, option_to_list, refl, ap, sym, ◌∙◌, subst, cond, arith, count_by, option_map_or, sum_by-append, one_event_an_octet, Service, Call, Packet, Config, one, is_frame, frames_heard, is_long_frame, long_frames_heard, rejects_aimed, Line, window, link_in, gained, aim_of_heard, aim_of_octet, with_received, Aim, at_none, at_link, at_management, at_units, told_of_management, of_change, of_aim, LineTold, nothing, Change, Gained, Left}
-use Rattle.lapd_bits.specs.Stream as stream
+use Rattle.model_bits.specs.Stream as stream
 use Rattle.model_link.specs.Events as link
 use Rattle.model_link.specs.Rises as rises
 use Rattle.lapd_tei.specs.Events as teis

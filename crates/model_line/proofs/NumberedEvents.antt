@@ -1,6 +1,6 @@
 -- Each event of a line is what a link's numbers say of it.
 use Rattle.model_line.proofs.Vocabulary.{◌≡◌, ℕ, zero, suc, ◌<◌, Bool, true, false, cond, ◌&&◌, not, List, [], ◌∷◌, ◌++◌, get_or, set, ◌==◌, Option, Some, None, is_some, option_map, IfSome, refl, sym, true≢false, option_or, option_map_or, Refusal, Service, Timer, T200, T203, T201, LinkTimer, Link, fresh, offer-keeps-r, transfer-goes-on, Config, Event, octet, expiry, request, pull, refused, nothing, arrived_aimed, arrived, restarts_aimed, restarts, delivered, Line, link_number, link_at, link_in, terms, terms_at, link_count, place_in, after, answer, takes_slot, unless_refused, unless_refused_told, gained, aim_of_octet, aim_of_heard, at_timer, aim_of_expiry, Aim, at_none, of_aim, Taken, with_message, message_taken, with_unit, unit_taken, with_given_frame, link_taken, first_taken, round, taken, is_due, with_item, after_pull, answer_to_pull, refusal, Request, Establish, Release, Data, Unit, Assign, Remove, Check, SetBusy, ClearBusy, aim_of_request, at_requested, carries_contents, IsSound}
-use Rattle.lapd_bits.specs.Stream as stream
+use Rattle.model_bits.specs.Stream as stream
 use Rattle.model_link.specs.declared.timers.LinkTimer.TheVariants as link_timer
 use Rattle.model_link.specs.Events as link
 use Rattle.model_link.specs.Machine as links

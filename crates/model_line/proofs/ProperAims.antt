@@ -1,6 +1,6 @@
 -- Each event is something that a line can have.
 use Rattle.model_line.proofs.Vocabulary.{◌≡◌, ℕ, ◌≤◌, Bool, true, false, ◌==◌, List, length, nat_lt, Option, Some, None, Result, Ok, Err, refl, cond, option_map_or, ltb-false, leb-false, Cause, Tei, Unserved, Address, Control, ReadFault, BadExtension, Undefined, WrongSize, Short, Long, Refusal, Service, Timer, T200, T203, T201, Parts, reading, long_reading, service_of, LinkTimer, place_of-is, Config, nothing, Line, place_in, Request, Establish, Release, Data, Unit, Assign, Remove, Check, SetBusy, ClearBusy, Aim, at_none, at_link, at_management, at_units, gained, management_sapi, group_tei, drop_for, at_place, to_service, addressed, message_of, aim_of_reading, unless_at_link, aim_of_long, heard_side, aim_of_heard, aim_of_octet, group_told, IsToGroup, at_timer, aim_of_expiry, at_requested, aim_of_request, refusal, unless_refused}
-use Rattle.lapd_bits.specs.Stream as stream
+use Rattle.model_bits.specs.Stream as stream
 use Rattle.lapd_frame.specs.declared.controls.Control.TheVariants as control
 use Rattle.lapd_frame.specs.declared.overlong.Long.TheVariants as long
 use Rattle.model_link.specs.Events as link

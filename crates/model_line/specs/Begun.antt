@@ -1,8 +1,8 @@
 -- The frame that a pull began last.
 use Rattle.std.specs.Prelude.{◌≡◌, ℕ, List, Option}
 use Rattle.std.specs.Option.{option_map_or}
-use Rattle.lapd_bits.specs.Heads.{latest_frame, head_of}
-use Rattle.lapd_bits.specs.declared.heads.Head.{Head}
+use Rattle.model_bits.specs.Heads.{latest_frame, head_of}
+use Rattle.model_bits.specs.declared.heads.Head.{Head}
 use Rattle.model_line.specs.declared.config.Config.{Config}
 use Rattle.model_line.specs.Event.{Event, octet, expiry, request, pull}
 use Rattle.model_line.specs.Line.{Line}

@@ -1,8 +1,8 @@
 -- What is counted of a line: what its events and their answers show.
 use Rattle.std.specs.Prelude.{List, [], ◌++◌, Some}
 use Rattle.std.specs.Option.{option_map_or}
-use Rattle.lapd_bits.specs.Heads.{head_of}
-use Rattle.lapd_bits.specs.Stream as stream
+use Rattle.model_bits.specs.Heads.{head_of}
+use Rattle.model_bits.specs.Stream as stream
 use Rattle.lapd_count.specs.declared.counters.Counters.{Counters}
 use Rattle.lapd_count.specs.Counters.{More, with_all}
 use Rattle.lapd_count.specs.Shown.{head_shown, heard_shown, told_shown}

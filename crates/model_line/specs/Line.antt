@@ -1,7 +1,7 @@
 -- A line: its whole past, and what it holds.
 use Rattle.std.specs.Prelude.{ℕ, ◌+◌, ◌*◌, ◌/◌, ◌%◌, ◌==◌, Bool, List, [], replicate, get_or, set, Option, None, option_map, if◌then◌else◌}
 use Rattle.std.specs.Option.{option_map_or, unwrap_or}
-use Rattle.lapd_bits.specs.Sent.{Item}
+use Rattle.model_bits.specs.Sent.{Item}
 use Rattle.lapd_frame.specs.declared.services.Service.{Service}
 use Rattle.lapd_frame.specs.declared.services.Service.TheVariants.{Call, Packet}
 use Rattle.model_link.specs.declared.terms.Terms.{Terms}

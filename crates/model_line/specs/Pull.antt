@@ -2,9 +2,9 @@
 use Rattle.std.specs.Prelude.{ℕ, ◌+◌, length, Bool, true, false, List, [], ◌∷◌, ◌++◌, take, drop, slice_get, Option, Some, None, is_some, option_map, if◌then◌else◌}
 use Rattle.std.specs.List.{range_with_len}
 use Rattle.std.specs.Option.{option_or, option_map_or, unwrap_or}
-use Rattle.lapd_bits.specs.Bits.{bits, number_of}
-use Rattle.lapd_bits.specs.Framer.{runs_low}
-use Rattle.lapd_bits.specs.Sent.{idle, frame, line_text}
+use Rattle.model_bits.specs.Bits.{bits, number_of}
+use Rattle.model_bits.specs.Framer.{runs_low}
+use Rattle.model_bits.specs.Sent.{idle, frame, line_text}
 use Rattle.lapd_frame.specs.declared.controls.Control.TheVariants.{Ui}
 use Rattle.lapd_frame.specs.declared.timers.Order.{Order}
 use Rattle.lapd_frame.specs.Grammar.{spelling}

@@ -1,8 +1,8 @@
 -- What holds of every line between two events.
 use Rattle.std.specs.Prelude.{◌≡◌, ℕ, ◌+◌, ◌≤◌, ◌<◌, ◌++◌, Bool, List, length, All, Option, Some, None}
-use Rattle.lapd_bits.specs.Bits.{bits}
-use Rattle.lapd_bits.specs.Framer.{item_octets}
-use Rattle.lapd_bits.specs.Sent.{Item, line_text}
+use Rattle.model_bits.specs.Bits.{bits}
+use Rattle.model_bits.specs.Framer.{item_octets}
+use Rattle.model_bits.specs.Sent.{Item, line_text}
 use Rattle.model_link.specs.Link.{Link, fresh}
 use Rattle.model_link.specs.Sound as links
 use Rattle.lapd_tei.specs.Sound as tei

@@ -3,8 +3,8 @@
 -- card.
 use Rattle.std.specs.Prelude.{ℕ, ◌+◌, length, sum_by, List}
 use Rattle.std.specs.List.{range_with_len}
-use Rattle.lapd_bits.specs.Deframer.{octets_held}
-use Rattle.lapd_bits.specs.Framer.{still_held, last_octets}
+use Rattle.model_bits.specs.OpenGap.{octets_held}
+use Rattle.model_bits.specs.Framer.{still_held, last_octets}
 use Rattle.model_link.specs.Link.{queue_of}
 use Rattle.model_link.specs.Rises as links
 use Rattle.lapd_tei.specs.Machine.{held}

@@ -1,12 +1,12 @@
 -- The octets that a whole frame means on an idle line, and those that a fault means that a controller tells
 -- (Q.921 clauses 2.2, 2.6, 2.7, 2.9 and 2.10).
 use Rattle.std.specs.Prelude.{◌≡◌, ℕ, ◌+◌, ◌-◌, ◌%◌, Bool, true, not, ◌&&◌, ◌||◌, nat_eq, nat_lt, List, [], ◌∷◌, ◌++◌, length, replicate, take, reverse, slice_index, None, if◌then◌else◌}
-use Rattle.lapd_bits.specs.Bits.{bits, flag, octets_of}
-use Rattle.lapd_bits.specs.Sent.{frame_text}
-use Rattle.lapd_bits.specs.Stream.{Event, frame, overlong, dropped}
-use Rattle.lapd_bits.specs.Deframer.{run_of, open_gap}
-use Rattle.lapd_bits.specs.declared.heard.Cause.{Cause}
-use Rattle.lapd_bits.specs.declared.heard.Cause.TheVariants as cause
+use Rattle.model_bits.specs.Bits.{bits, flag, octets_of}
+use Rattle.model_bits.specs.Sent.{frame_text}
+use Rattle.model_bits.specs.Stream.{Event, frame, overlong, dropped}
+use Rattle.model_bits.specs.OpenGap.{run_of, open_gap}
+use Rattle.model_bits.specs.declared.heard.Cause.{Cause}
+use Rattle.model_bits.specs.declared.heard.Cause.TheVariants as cause
 use Rattle.model_line.specs.declared.faults.Fault.{Fault}
 use Rattle.model_line.specs.declared.faults.Fault.TheVariants.{Fcs, Abort, Ragged, Short}
 

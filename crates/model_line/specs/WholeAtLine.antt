@@ -1,7 +1,7 @@
 -- What frames that come and go mean at a line.
 use Rattle.std.specs.Prelude.{◌≡◌, ℕ, zero, suc, ◌+◌, ◌/◌, Bool, true, false, List, [], ◌∷◌, ◌++◌, length, map, replicate, is_some, if◌then◌else◌}
-use Rattle.lapd_bits.specs.Sent.{frame}
-use Rattle.lapd_bits.specs.Stream as stream
+use Rattle.model_bits.specs.Sent.{frame}
+use Rattle.model_bits.specs.Stream as stream
 use Rattle.model_line.specs.declared.config.Config.{Config}
 use Rattle.model_line.specs.Event.{Event, octet, pull, Answer, told, pulled, nothing}
 use Rattle.model_line.specs.Effect.{Effect, of_aim}

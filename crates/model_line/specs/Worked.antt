@@ -1,7 +1,7 @@
 -- Worked values of a line: each computes.
 use Rattle.std.specs.Prelude.{◌≡◌, ℕ, zero, suc, false, List, [], ◌∷◌, replicate, Some, None, refl}
-use Rattle.lapd_bits.specs.Stream as stream
-use Rattle.lapd_bits.specs.declared.heard.Cause.TheVariants.{Sapi, Tei}
+use Rattle.model_bits.specs.Stream as stream
+use Rattle.model_bits.specs.declared.heard.Cause.TheVariants.{Sapi, Tei}
 use Rattle.lapd_frame.specs.declared.addresses.Side.TheVariants.{Network}
 use Rattle.lapd_frame.specs.declared.notes.Note.TheVariants as notes
 use Rattle.lapd_frame.specs.declared.notes.ErrorCode.TheVariants as code

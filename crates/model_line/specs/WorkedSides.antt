@@ -1,7 +1,7 @@
 -- Worked values of the user's side of a line: each computes.
 use Rattle.std.specs.Prelude.{◌≡◌, ℕ, false, List, [], ◌∷◌, replicate, Option, Some, None, refl}
-use Rattle.lapd_bits.specs.Stream as stream
-use Rattle.lapd_bits.specs.declared.heard.Cause.TheVariants.{Tei, Unserved}
+use Rattle.model_bits.specs.Stream as stream
+use Rattle.model_bits.specs.declared.heard.Cause.TheVariants.{Tei, Unserved}
 use Rattle.lapd_frame.specs.declared.addresses.Side.TheVariants.{User}
 use Rattle.lapd_frame.specs.declared.notes.Note.TheVariants as notes
 use Rattle.lapd_frame.specs.declared.refusals.Refusal.TheVariants.{BadTei, WrongSide}

@@ -1,8 +1,8 @@
 -- Worked values of whole frames: each computes.
 use Rattle.std.specs.Prelude.{◌≡◌, ◌+◌, [], ◌∷◌, ◌++◌, refl}
-use Rattle.lapd_bits.specs.Bits.{low_bits}
-use Rattle.lapd_bits.specs.Stream.{frame, overlong, dropped, heard_in}
-use Rattle.lapd_bits.specs.declared.heard.Cause.TheVariants as cause
+use Rattle.model_bits.specs.Bits.{low_bits}
+use Rattle.model_bits.specs.Stream.{frame, overlong, dropped, heard_in}
+use Rattle.model_bits.specs.declared.heard.Cause.TheVariants as cause
 use Rattle.model_line.specs.declared.faults.Fault.TheVariants.{Fcs, Abort, Ragged, Short}
 use Rattle.model_line.specs.Whole.{line_octets, came, fault_octets}
 

@@ -1,7 +1,7 @@
 -- What terminals send and what lines take, as a receiver of the line's octets hears it.
 use Rattle.std.specs.Prelude.{◌≡◌, ℕ, List, [], ◌∷◌, ◌++◌, All, map, filter_map}
-use Rattle.lapd_bits.specs.RoundTrip.{IsHeardWhole}
-use Rattle.lapd_bits.specs.Stream as stream
+use Rattle.model_bits.specs.RoundTrip.{IsHeardWhole}
+use Rattle.model_bits.specs.Stream as stream
 use Rattle.model_sim.specs.Setup.{Terminal, octets_sent, after_sending, frame_in, found}
 
 -- All the octets that a terminal puts on its line for frames, one after the other.

@@ -1,9 +1,9 @@
 -- What a script is played on: a card for octets or for frames, its counters, the clock of its timers, and for octets, at
 -- each line, a terminal and a listener.
 use Rattle.std.specs.Prelude.{ℕ, ◌+◌, ◌*◌, ◌%◌, ◌==◌, if◌then◌else◌, List, [], ◌∷◌, ◌++◌, length, drop, set, get_or, replicate, fold, filter_map, Option, None, Some}
-use Rattle.lapd_bits.specs.Bits.{octets_of}
-use Rattle.lapd_bits.specs.Stream as stream
-use Rattle.lapd_bits.specs.Sent.{Item, idle, frame, line_text}
+use Rattle.model_bits.specs.Bits.{octets_of}
+use Rattle.model_bits.specs.Stream as stream
+use Rattle.model_bits.specs.Sent.{Item, idle, frame, line_text}
 use Rattle.lapd_frame.specs.declared.timers.Order.{Order}
 use Rattle.lapd_clock.specs.Timers as clocks
 use Rattle.lapd_count.specs.declared.counters.Counters.{Counters}

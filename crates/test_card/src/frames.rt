@@ -4,13 +4,13 @@ ghost use Rattle.std.specs.Prelude.{◌≡◌, ⊤, IfOk};
 ghost use Rattle.lapd_card.specs.FrameCard.{line_count};
 
 use crate::starts::USUAL;
-use lapd_bits::Cause;
 use lapd_card::{
     Fault, FrameCard, FrameReply, FrameSink, Happening, Request, RoomTooSmall, SinkFailed,
     SinkFault,
 };
 use lapd_frame::{Note, Refusal, Service, Timer};
 use lapd_store::SlabShelf;
+use model_bits::Cause;
 use std::alloc::Global;
 use std::test::Fail;
 

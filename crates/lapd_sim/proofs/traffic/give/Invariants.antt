@@ -1,6 +1,6 @@
 -- The invariants of the loops of `give`.
 use Rattle.lapd_sim.proofs.Vocabulary.{◌≡◌, ℕ, List, Ok, length, Item, Gives, Holds, output}
-use Rattle.lapd_bits.specs.Framer as framing
+use Rattle.model_bits.specs.Framer as framing
 use Rattle.lapd_sim.proofs.traffic.give.Given as goal
 
 -- the lines are the same, and the octets so far have come

@@ -1,6 +1,6 @@
 -- Hand-written answers for `FrameLine::failed`.
 use Rattle.lapd_line.proofs.Vocabulary.{refl, sym, ap, cause_of, heard_counted, told_in_report, report_told}
-use Rattle.lapd_bits.specs.Stream.{dropped}
+use Rattle.model_bits.specs.Stream.{dropped}
 use Rattle.lapd_line.proofs.FrameCounting.{leads_on, counts_on}
 use Rattle.lapd_line.proofs.frame_line.FrameLine.failed.Goals as goal
 

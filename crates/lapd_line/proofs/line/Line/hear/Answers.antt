@@ -1,6 +1,6 @@
 -- Hand-written answers for `Line::hear`.
 use Rattle.lapd_line.proofs.Vocabulary.{◌≡◌, ◌++◌, Some, None, false, refl, sym, subst, ◌∙◌, false≢true, latest_of, heard_shown, told, nothing, answer, bare_shown, told_in, config_of, latest_frame}
-use Rattle.lapd_bits.specs.Stream as stream
+use Rattle.model_bits.specs.Stream as stream
 use Rattle.model_line.specs.Event as line_event
 use Rattle.lapd_line.specs.declared.line.Line.{Line}
 use Rattle.lapd_line.proofs.CountSteps.{counted_on, none_counted, octet_shown}

@@ -1,7 +1,7 @@
 -- Hand-written answers for `Terminal::load`.
 use Rattle.lapd_sim.proofs.Vocabulary.{◌≡◌, ◌∷◌, [], ◌++◌, take, ap, ◌∙◌, subst, take-append-drop}
-use Rattle.lapd_bits.specs.Framer as framing
-use Rattle.lapd_bits.specs.Sent as sent
+use Rattle.model_bits.specs.Framer as framing
+use Rattle.model_bits.specs.Sent as sent
 use Rattle.lapd_sim.proofs.terminal.Terminal.load.Goals as goal
 
 pub returns : goal.returns

@@ -1,6 +1,7 @@
 -- Worked values: states, answers and runs that would break the promises, which no card comes to.
-use Rattle.std.specs.Prelude.{◌≡◌, true, false, List, [], ◌∷◌, ◌++◌}
-use Rattle.std.proofs.Common.{ap}
+use Rattle.std.specs.Prelude.{◌≡◌, true, false, List, [], ◌∷◌, ◌++◌, ◌≤◌, replicate, Some, refl}
+use Rattle.std.proofs.Common.{ap, arith}
+use Rattle.model_bits.specs.Sent.{idle}
 use Rattle.model_bits.specs.declared.heard.Cause.TheVariants.{Fcs}
 use Rattle.lapd_frame.specs.declared.services.Service.TheVariants.{Call}
 use Rattle.lapd_frame.specs.declared.timers.Timer.TheVariants.{T200}
@@ -13,11 +14,13 @@ use Rattle.laws_line.specs.Begun.{BeginsAs}
 use Rattle.laws_line.specs.Heard.{OnlyTells}
 use Rattle.laws_line.specs.Pulls.{HasNothing}
 use Rattle.laws_line.specs.Share.{no_share}
-use Rattle.model_card.specs.Card.{fresh, line_at}
+use Rattle.model_card.specs.Card.{Card, fresh, line_at}
 use Rattle.model_card.specs.Event.{Event, at}
-use Rattle.laws_card.specs.Among.{IsBegunAmong}
+use Rattle.model_card.specs.Run.{after_all}
+use Rattle.laws_card.specs.Among.{IsBegunAmong, IsIdleAmong}
 use Rattle.laws_card.specs.Knowledge.{up_by_notes, on_by_notes}
-use Rattle.laws_card.specs.Promises.{IsNew}
+use Rattle.laws_card.specs.Promises.{IsNew, TeisHaveOnePlace}
+use Rattle.laws_card.specs.PromisesOfPulls.{FewAreToGo}
 use Rattle.laws_card.specs.Received.{octets_at}
 use Rattle.laws_card.specs.Timers.{runs_at_callers}
 use Rattle.laws_card.specs.Worked.{usual}
@@ -73,3 +76,27 @@ no_pull (x ∷ front) back e = cc e
 
 never_begun : IsBegunAmong (fresh usual) 0 [] (0x00 ∷ 0x81 ∷ 0x73 ∷ []) → ⊥
 never_begun x = no_pull x.front x.back x.split
+
+-- `one_place`: a TEI that has two places of a line.
+abbrev with_line : Line → Card
+with_line l = record (fresh usual) { lines = l ∷ [] }
+
+abbrev two_places : Line
+two_places = record (fresh_line usual) { management = record (fresh_line usual).management { places = Some 64 ∷ Some 64 ∷ [] } }
+
+has_two : TeisHaveOnePlace (with_line two_places) [] → ⊥
+unfolding after_all
+has_two once = cc (once 0 0 1 64 (omega arith) refl refl)
+
+-- `pulls_come_to_an_end`: a line on which unit data waits still, after as many pulls as are enough.
+waits_still : IsIdleAmong (with_line with_unit) 0 [] → ⊥
+unfolding after_all
+waits_still x = cc x.nothing.units
+
+-- `few_to_go`: a line of which its first flag and 320 more are left, 2,568 bits; a frame has at most 2,561.
+abbrev with_flags : Line
+with_flags = record (fresh_line usual) { items = replicate 320 idle }
+
+much_left : FewAreToGo (with_line with_flags) [] → ⊥
+unfolding after_all
+much_left few = let left : 2568 ≤ 2561 = (few 0 (omega arith)).left in omega (arith, left)

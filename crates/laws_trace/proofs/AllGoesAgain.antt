@@ -1,6 +1,6 @@
 -- What is to go again goes again, where a line is only pulled, as often as the configuration says: the law.
-use Rattle.std.proofs.Common.{◌≡◌, ℕ, ◌+◌, ◌-◌, ◌%◌, ◌≤◌, ◌<◌, List, Option, Some, None, refl, sym, ap, ◌∙◌, subst, arith}
-use Rattle.std.specs.Prelude.{fold}
+use Rattle.std.proofs.Common.{◌≡◌, ℕ, ◌+◌, ◌-◌, ◌%◌, ◌≤◌, ◌<◌, List, [], ◌∷◌, ◌++◌, Option, Some, None, refl, sym, ap, ◌∙◌, subst, arith}
+use Rattle.std.specs.Prelude.{All, IfSome, fold}
 use Rattle.std.proofs.lemmas.Option.{none-some}
 use Rattle.lapd_frame.specs.declared.services.Service.{Service}
 use Rattle.lapd_tei.proofs.Tables.{place_of-is}
@@ -8,21 +8,24 @@ use Rattle.model_link.specs.declared.states.State.{State}
 use Rattle.model_link.specs.declared.states.State.TheVariants.{TeiAssigned, AwaitingEstablishment, AwaitingRelease, Established, TimerRecovery}
 use Rattle.model_line.specs.Line.{Line, link_of, place_in, state_of, terms, window}
 use Rattle.model_line.specs.declared.config.Config.{Config}
+use Rattle.model_line.specs.Event.{pull}
 use Rattle.model_line.specs.Sound.{IsInRange}
 use Rattle.model_line.proofs.Ranges.{terms_in_range}
+use Rattle.model_card.proofs.Steps.{has_lines, line_sound}
 use Rattle.model_card.specs.Card.{fresh, line_at}
-use Rattle.model_card.specs.Event.{Event}
+use Rattle.model_card.specs.Event.{Event, at}
+use Rattle.model_card.specs.Pulled.{frame_in}
 use Rattle.model_card.specs.Run.{moments, after_all, AreAtLines}
-use Rattle.laws_trace.specs.AllGoesAgain.{MayGo, AllGoesAgain}
+use Rattle.laws_trace.specs.AllGoesAgain.{is_next, MayGo, AllGoesAgain, NextGoes}
 use Rattle.laws_trace.specs.TimersAreTimely.{nothing_yet, watch}
 use Rattle.laws_trace.specs.Trace.{Always}
 use Rattle.laws_trace.proofs.AllDataGoesOut.{on-line, line-at-end, link-at-end, all-gone}
-use Rattle.laws_trace.proofs.DataGoesOut.{quiet}
+use Rattle.laws_trace.proofs.DataGoesOut.{quiet, sent_of}
 use Rattle.laws_trace.proofs.DataKnown.{IsOpen}
 use Rattle.laws_trace.proofs.DataRun.{at-end}
 use Rattle.laws_trace.proofs.TimerClaims.{Agrees, IsKnown, told_state}
-use Rattle.laws_trace.proofs.TimersAreTimely.{true-now}
-use Rattle.laws_trace.proofs.TimersOfEvent.{state-on, off-state}
+use Rattle.laws_trace.proofs.TimersAreTimely.{front-at, config-now, sound-now, timely-now, true-now}
+use Rattle.laws_trace.proofs.TimersOfEvent.{state-on, off-state, pull-next}
 
 -- A link of which state 7 is told is in state 7, and its TEI is on the line.
 up-in : (state : State) → told_state state ≡ Some 7 → state ≡ Established
@@ -88,3 +91,18 @@ all-goes-again c events number ranged all within service tei before pulls split 
       window = few-outstanding own.a own.s (window c service) k.next k.acknowledged ordered (omega (arith, bound, small)) known.next known.acknowledged may.few;
     }) in
     (quiet x.told_count x.contents x.gone, x.reaches, gone.0, known.next ∙ ap (λ n. n % 128) gone.1)
+
+-- Each I-frame that begins is the one that goes next: the law.
+pub next-goes : Always NextGoes
+next-goes c events number ranged all within service tei before behind is =
+    let whole = subst (AreAtLines (fresh c)) is all in
+    let front = front-at (fresh c) before (at number pull) behind whole in
+    let card = after_all (fresh c) before in
+    let l = line_at number card in
+    let k = fold (watch c service tei number) nothing_yet (moments (fresh c) before) in
+    let same = config-now c before number ranged front within service tei in
+    let s = sound-now c before number ranged front within service tei in
+    let here : number < card.config.lines = subst (λ (c : Config). number < c.lines) (sym same) within in
+    subst (λ (d : Config). All (λ octets. IfSome (sent_of d service tei octets) (is_next k)) (frame_in d pull l)) same
+    (pull-next card.config s.config l (line_sound card number (has_lines card s) here) ((timely-now c before number ranged front within service tei).lines number here) service tei k
+    (true-now c before number ranged front within service tei))

@@ -58,13 +58,13 @@ either-part true xs = of-itself xs
 either-part false xs = of-nothing xs
 
 module _ (service : Service) (tei : ℕ) where
-  abbrev answered_in : Config → List ℕ → List Exchange
+  abbrev pub answered_in : Config → List ℕ → List Exchange
   answered_in c octets = exchanges.of_link service tei answered_by (reading c.side octets)
 
-  abbrev asked : Config → List Seen → List Exchange
+  abbrev pub asked : Config → List Seen → List Exchange
   asked c t = flat_map (asked_at c service tei) t
 
-  abbrev answered : Config → List Seen → List Exchange
+  abbrev pub answered : Config → List Seen → List Exchange
   answered c t = flat_map (answered_at c service tei) t
 
   -- What is seen to be answered are the frames that begin.
@@ -121,7 +121,7 @@ module _ (service : Service) (tei : ℕ) where
       ∙ all-foreign c frames (All-tail (IsForeign c service tei) f frames h)
 
   -- What a link gives answers what the control frame does.
-  given-answers : (c : Config) (t : Terms) (g : Given) → IsPart (answered_in c (frame_of c t g)) (answer_in g.frame)
+  pub given-answers : (c : Config) (t : Terms) (g : Given) → IsPart (answered_in c (frame_of c t g)) (answer_in g.frame)
   given-answers c t g =
       read-again c.side (λ r. IsPart (exchanges.of_link service tei answered_by r) (answer_in g.frame)) (address_at t g.frame.command) g.frame.control
       (λ info. either-part (sapi_of t.service == sapi_of service && t.tei == tei) (answer_in g.frame)) (λ fault. of-nothing (answer_in g.frame)) (unwrap_or g.contents [])
@@ -131,7 +131,7 @@ module _ (service : Service) (tei : ℕ) where
       subst (λ ws. IsPart (answer_in f ++ answers_in ws) xs) (sym rest)
       (subst (λ ys. IsPart (ys ++ []) xs) (sym (ap answer_in is ∙ none)) (of-nothing xs))
 
-  in-order : (t : Terms) (before after : Link) (f : ControlFrame) → IsInOrder t before after f → IsPart (answer_in f ++ answers_in after.waiting) (answers_in before.waiting)
+  pub in-order : (t : Terms) (before after : Link) (f : ControlFrame) → IsInOrder t before after f → IsPart (answer_in f ++ answers_in after.waiting) (answers_in before.waiting)
   in-order t before after f (inl oldest) =
       subst (IsPart (answers_in (f ∷ after.waiting))) (ap answers_in (sym oldest.waited)) (of-itself (answers_in (f ∷ after.waiting)))
   in-order t before after f (inr (inl information)) = nothing-answered after f _ (answers_in before.waiting) information.rest information.is refl
@@ -173,7 +173,7 @@ module _ (service : Service) (tei : ℕ) where
           ap (λ b. b && parts.address.tei == tei) (eq-eqb parts.address.sapi (sapi_of service) (sapi-is parts.address.sapi service x.sapi))
           ∙ eq-eqb parts.address.tei tei x.tei_is
 
-  event-asks : (c : Config) (l : Line) (e : Event) (a : Answer) (event : link.Event) → IsBy c l e a service tei event → IsPart (asked_of event) (asked c (seen c e l a))
+  pub event-asks : (c : Config) (l : Line) (e : Event) (a : Answer) (event : link.Event) → IsBy c l e a service tei event → IsPart (asked_of event) (asked c (seen c e l a))
   event-asks c l e a (link.received (link.frame parts)) x = frame-asks c l e a parts x
   event-asks c l e a (link.received link.undefined) x = of-nothing (asked c (seen c e l a))
   event-asks c l e a (link.received link.wrong_size) x = of-nothing (asked c (seen c e l a))
@@ -184,7 +184,7 @@ module _ (service : Service) (tei : ℕ) where
   event-asks c l e a link.cleared x = of-nothing (asked c (seen c e l a))
 
   -- What a trace is to the answers that wait before it and after it.
-  abbrev waits : Line → List Exchange
+  abbrev pub waits : Line → List Exchange
   waits l = answers_in (link_of service tei l).waiting
 
   abbrev Answers : Config → Line → List Seen → Line → Type 0
@@ -247,7 +247,7 @@ module _ (service : Service) (tei : ℕ) where
   steps : (c : Config) → IsInRange c → (e : Event) (l : Line) → IsSound c l → Anything c l → Answers c l (seen c e l (answer c e l)) (after c e l) × Anything c (after c e l)
   steps c ranged e l s h = (event-answers c ranged e l s, tt)
 
-  fresh-waits : (c : Config) (o : Option ℕ) → place_in (fresh_line c) tei ≡ o → waits (fresh_line c) ≡ []
+  pub fresh-waits : (c : Config) (o : Option ℕ) → place_in (fresh_line c) tei ≡ o → waits (fresh_line c) ≡ []
   fresh-waits c None is = ap (λ o. answers_in (option_map_or (link_in (fresh_line c) service) o fresh).waiting) is
   fresh-waits c (Some place) is =
       ap (λ o. answers_in (option_map_or (link_in (fresh_line c) service) o fresh).waiting) is ∙ ap (λ (x : Link). answers_in x.waiting) (all-fresh (link_count c) (link_number place service))

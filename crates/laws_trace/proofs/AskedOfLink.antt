@@ -89,7 +89,7 @@ answers-asked command (Dm p) l = while-up l.state [] [] (of-itself [])
 answers-asked command (Frmr p) l = while-up l.state [] [] (of-itself [])
 answers-asked command (Xid p) l = while-up l.state [] [] (of-itself [])
 
-event-asked : (e : Event) (l : Link) → IsPart (answers_in (answers e l)) (asked_of e)
+pub event-asked : (e : Event) (l : Link) → IsPart (answers_in (answers e l)) (asked_of e)
 event-asked (received (frame f)) l = answers-asked f.address.command f.control l
 event-asked (received undefined) l = of-itself []
 event-asked (received wrong_size) l = of-itself []
@@ -117,7 +117,7 @@ command-answers AwaitingRelease l = refl
 command-answers Established l = refl
 command-answers TimerRecovery l = no-answer l.own_busy l.r
 
-commands-answer : (e : Event) (l : Link) (to : State) (b : Bool) → answers_in (cond b (command_in to l) []) ≡ []
+pub commands-answer : (e : Event) (l : Link) (to : State) (b : Bool) → answers_in (cond b (command_in to l) []) ≡ []
 commands-answer e l to true = command-answers to l
 commands-answer e l to false = refl
 
@@ -127,7 +127,7 @@ put-asked e l to =
     (sym (flat_map-append answer_in (answers e l) (commands e l to) ∙ ap (λ xs. answers_in (answers e l) ++ xs) (commands-answer e l to (moves l.state to || is_time e l)) ∙ append-nil (answers_in (answers e l))))
     (event-asked e l)
 
-taken-part : (n : ℕ) (frames : List ControlFrame) → IsPart (answers_in (take n frames)) (answers_in frames)
+pub taken-part : (n : ℕ) (frames : List ControlFrame) → IsPart (answers_in (take n frames)) (answers_in frames)
 taken-part n frames =
     subst (IsPart (answers_in (take n frames))) (sym (flat_map-append answer_in (take n frames) (drop n frames)) ∙ ap answers_in (take-append-drop n frames))
     (more (answers_in (take n frames)) (answers_in (drop n frames)))
@@ -139,7 +139,7 @@ behind-asked t e l to =
     (both (answers_in l.waiting) (answers_in l.waiting) (answers_in (take (room t l) (put e l to))) (asked_of e) (of-itself (answers_in l.waiting))
     (through (answers_in (take (room t l) (put e l to))) (answers_in (put e l to)) (asked_of e) (taken-part (room t l) (put e l to)) (put-asked e l to)))
 
-rest-part : (frames : List ControlFrame) → IsPart (answers_in (drop 1 frames)) (answers_in frames)
+pub rest-part : (frames : List ControlFrame) → IsPart (answers_in (drop 1 frames)) (answers_in frames)
 rest-part [] = of-itself []
 rest-part (f ∷ frames) = both [] (answer_in f) (answers_in frames) (answers_in frames) (of-nothing (answer_in f)) (of-itself (answers_in frames))
 
@@ -151,7 +151,7 @@ left-asked t offer l to = subst (IsPart (answers_in (drop 1 l.waiting))) (sym (a
 left-asked t cleared l to = of-nothing (answers_in l.waiting ++ [])
 
 -- what is heard of a frame with too much information
-heard-asked : (t : Terms) (e : Event) → IsPart (asked_of (as_heard t e)) (asked_of e)
+pub heard-asked : (t : Terms) (e : Event) → IsPart (asked_of (as_heard t e)) (asked_of e)
 heard-asked t (received (frame f)) = go (is_overlong t f.control f.info)
   where
     go : (b : Bool) → IsPart (asked_of (received (cond b overlong (frame f)))) (asked_of (received (frame f)))

@@ -65,16 +65,16 @@ use Rattle.laws_trace.proofs.TimersOfEvent.{state-on}
 use Rattle.laws_trace.proofs.CommandsOfLink.{kinds_of, kinds, due_by, others-stay, event-due}
 
 module _ (service : Service) (tei : ℕ) where
-  abbrev begun_in : Config → List ℕ → List Kind
+  abbrev pub begun_in : Config → List ℕ → List (Kind × Bool)
   begun_in c octets = exchanges.of_link service tei command_in (reading c.side octets)
 
-  abbrev pub gone : Config → List Seen → List Kind
+  abbrev pub gone : Config → List Seen → List (Kind × Bool)
   gone c t = flat_map (commands_at c service tei) t
 
-  abbrev pub waits : Line → List Kind
+  abbrev pub waits : Line → List (Kind × Bool)
   waits l = kinds (link_of service tei l).waiting
 
-  either-none : (b : Bool) → cond {A = List Kind} b [] [] ≡ []
+  either-none : (b : Bool) → cond {A = List (Kind × Bool)} b [] [] ≡ []
   either-none true = refl
   either-none false = refl
 
@@ -125,7 +125,7 @@ module _ (service : Service) (tei : ℕ) where
       ∙ read-again c.side (λ r. exchanges.of_link service tei command_in r ≡ []) (address_at t g.frame.command) g.frame.control
       (λ info. ap (λ b. cond b (command_in g.frame.command g.frame.control) []) away) (λ fault. refl) (unwrap_or g.contents [])
 
-  all-foreign : (c : Config) (frames : List (List ℕ)) → All (IsForeign c service tei) frames → flat_map (begun_in c) frames ≡ []
+  pub all-foreign : (c : Config) (frames : List (List ℕ)) → All (IsForeign c service tei) frames → flat_map (begun_in c) frames ≡ []
   all-foreign c [] h = refl
   all-foreign c (f ∷ frames) h =
       ap (λ xs. xs ++ flat_map (begun_in c) frames) (foreign c f (All-head (IsForeign c service tei) f frames h))
@@ -150,7 +150,7 @@ module _ (service : Service) (tei : ℕ) where
     offered (f ∷ fs) h =
         let under = Offers.offer_among t (f ∷ fs) (course_begun l) in
         let g : Given = record { frame = f; contents = None; orders = orders_for t l.running under.started under.link.running } in
-        let own : List Kind = begun_in c (frame_of c t g) in
+        let own : List (Kind × Bool) = begun_in c (frame_of c t g) in
         both (kinds_of f) (own ++ []) (kinds fs) (kinds fs)
         (subst (IsPart (kinds_of f)) (sym (append-nil own ∙ given-read c g h)) (of-itself (kinds_of f))) (of-itself (kinds fs))
 
@@ -162,13 +162,13 @@ module _ (service : Service) (tei : ℕ) where
   abbrev pub time_at : Line → Event → Line → Bool
   time_at l e next = differ (state_of service tei l) (state_of service tei next) || option_map_or one_more (expired_of service tei e) 0 == 1
 
-  abbrev pub due_at : Line → Event → Answer → Line → List Kind
-  due_at l e a next = cond (lost_in a == 0 && time_at l e next) (command_of (state_of service tei next)) []
+  abbrev pub due_at : Line → Event → Answer → Line → List (Kind × Bool)
+  due_at l e a next = cond (lost_in a == 0) (cond (time_at l e next) (command_of (state_of service tei next)) []) []
 
   pub none-due : (l : Line) (e : Event) (a : Answer) (next : Line) → time_at l e next ≡ false → due_at l e a next ≡ []
-  none-due l e a next none = ap (λ b. cond (lost_in a == 0 && b) (command_of (state_of service tei next)) []) none ∙ go (lost_in a == 0)
+  none-due l e a next none = ap (λ b. cond (lost_in a == 0) (cond b (command_of (state_of service tei next)) []) []) none ∙ go (lost_in a == 0)
     where
-      go : (b : Bool) → cond (b && false) (command_of (state_of service tei next)) [] ≡ []
+      go : (b : Bool) → cond b (cond {A = List (Kind × Bool)} false (command_of (state_of service tei next)) []) [] ≡ []
       go true = refl
       go false = refl
 
@@ -215,7 +215,7 @@ module _ (service : Service) (tei : ℕ) where
     later-is : state_of service tei next ≡ Some (state_number later.state)
     later-is = state-on service tei next there.0 there.1
 
-    abbrev Serves : List Kind → Type 0
+    abbrev Serves : List (Kind × Bool) → Type 0
     Serves due = IsPart (waits l ++ due) (gone c shown ++ waits next)
 
     kept : IsPart (waits l) (gone c shown ++ waits next) → due_at l e a next ≡ [] → Serves (due_at l e a next)
@@ -251,12 +251,12 @@ module _ (service : Service) (tei : ℕ) where
       gone-are : gone c shown ≡ flat_map (begun_in c) (frames_given c its x.event own)
       gone-are = gone-is c e l a ∙ ap (flat_map (begun_in c)) x.begins
 
-      after-is : (xs : List Kind) → IsPart xs (flat_map (begun_in c) (frames_given c its x.event own) ++ kinds (links.after its x.event own).waiting) → IsPart xs (gone c shown ++ waits next)
+      after-is : (xs : List (Kind × Bool)) → IsPart xs (flat_map (begun_in c) (frames_given c its x.event own) ++ kinds (links.after its x.event own).waiting) → IsPart xs (gone c shown ++ waits next)
       after-is xs h =
           subst (λ ys. IsPart xs (ys ++ waits next)) (sym gone-are)
           (subst (λ (y : Link). IsPart xs (flat_map (begun_in c) (frames_given c its x.event own) ++ kinds y.waiting)) (sym x.is) h)
 
-      quiet : (event : link.Event) → x.event ≡ event → frames_given c its event own ≡ [] → (xs : List Kind) → IsPart xs (kinds (links.after its event own).waiting) → IsPart xs (gone c shown ++ waits next)
+      quiet : (event : link.Event) → x.event ≡ event → frames_given c its event own ≡ [] → (xs : List (Kind × Bool)) → IsPart xs (kinds (links.after its event own).waiting) → IsPart xs (gone c shown ++ waits next)
       quiet event same silent xs h =
           after-is xs
           (subst (λ event. IsPart xs (flat_map (begun_in c) (frames_given c its event own) ++ kinds (links.after its event own).waiting)) (sym same)
@@ -277,7 +277,7 @@ module _ (service : Service) (tei : ℕ) where
               ap (λ b. cond b (command_of (state_of service tei next)) []) time
               ∙ ap (λ o. cond (moves own.state (links.after its event own).state || ticks event == 1) (command_of o) []) (later-is ∙ ap (λ s. Some (state_number s)) (sym to))
 
-          go : (b : Bool) → (lost_in a == 0) ≡ b → Serves (cond (b && time_at l e next) (command_of (state_of service tei next)) [])
+          go : (b : Bool) → (lost_in a == 0) ≡ b → Serves (cond b (cond (time_at l e next) (command_of (state_of service tei next)) []) [])
           go false some =
               subst (λ xs. IsPart xs (gone c shown ++ waits next)) (sym (append-nil (waits l)))
               (quiet event same silent (waits l) (others-stay its event own own-timed no-offer not-cleared))
@@ -308,10 +308,10 @@ module _ (service : Service) (tei : ℕ) where
         go (inr x) = one-of-it x x.event refl x.by
 
   -- Of a trace.
-  abbrev pub served-by : Config → Line → List Kind → List Seen → Line → Type 0
+  abbrev pub served-by : Config → Line → List (Kind × Bool) → List Seen → Line → Type 0
   served-by c before d t after = IsPart (waits before ++ d) (gone c t ++ waits after)
 
-  pub joins : (c : Config) (k l m : Line) (d f : List Kind) (t u : List Seen) → served-by c k d t l → served-by c l f u m → served-by c k (d ++ f) (t ++ u) m
+  pub joins : (c : Config) (k l m : Line) (d f : List (Kind × Bool)) (t u : List Seen) → served-by c k d t l → served-by c l f u m → served-by c k (d ++ f) (t ++ u) m
   joins c k l m d f t u h i =
       subst (λ xs. IsPart (waits k ++ (d ++ f)) (xs ++ waits m)) (sym (flat_map-append (commands_at c service tei) t u))
       (subst (IsPart (waits k ++ (d ++ f))) (sym (append_assoc (gone c t) (gone c u) (waits m)))

@@ -32,7 +32,7 @@ use Rattle.laws_card.proofs.TimersRun.{timely-all, timely-after, begins-timely-c
 use Rattle.laws_card.proofs.Wherever.{all-left, all-right, config-stays, begins-with-few}
 use Rattle.laws_trace.specs.AllAreAnswered.{StaysOn}
 use Rattle.laws_trace.specs.AnswersAreAsked.{IsPart}
-use Rattle.laws_trace.specs.CommandsGo.{commands_at, command_of, due_in, CommandsGo}
+use Rattle.laws_trace.specs.CommandsGo.{commands_at, command_of, owed_in, CommandsGo}
 use Rattle.laws_trace.specs.CommandsHaveCauses.{Kind}
 use Rattle.laws_trace.specs.LinksMove.{expired_of, one_more}
 use Rattle.laws_trace.specs.TimersAreTimely.{differ}
@@ -51,11 +51,11 @@ module _ (service : Service) (tei : ℕ) where
   abbrev moment-of : Card → card.Event → Moment
   moment-of m e = record { card = m; event = e; answer = cards.answer e m }
 
-  abbrev due : ℕ → List Moment → List Kind
-  due number ms = flat_map (due_in service tei number) ms
+  abbrev due : ℕ → List Moment → List (Kind × Bool)
+  due number ms = flat_map (owed_in service tei number) ms
 
   -- Nothing is due, and nothing is seen.
-  idle : (c : Config) (l : Line) (d : List Kind) → d ≡ [] → served-by service tei c l d [] l
+  idle : (c : Config) (l : Line) (d : List (Kind × Bool)) → d ≡ [] → served-by service tei c l d [] l
   idle c l d none =
       subst (λ d. IsPart (waits service tei l ++ d) (waits service tei l)) (sym none)
       (subst (λ xs. IsPart xs (waits service tei l)) (sym (append-nil (waits service tei l))) (of-itself (waits service tei l)))
@@ -82,14 +82,14 @@ module _ (service : Service) (tei : ℕ) where
       (event-serves service tei c s.config e.what l (line_sound m e.line (has_lines m s) here) (timely.lines e.line here) was (subst (λ (x : Line). has_tei tei x ≡ true) after-is still)))
       is
 
-  abbrev due_then : Card → card.Event → ℕ → Bool → List Kind
+  abbrev due_then : Card → card.Event → ℕ → Bool → List (Kind × Bool)
   due_then m e number b =
       let l = line_at number m in
       let x = line_at number (cards.after e m) in
-      cond (lost_in (cards.answer e m) == 0 && (differ (state_of service tei l) (state_of service tei x) || (b && option_map_or one_more (expired_of service tei e.what) 0 == 1))) (command_of (state_of service tei x)) []
+      cond (lost_in (cards.answer e m) == 0) (cond (differ (state_of service tei l) (state_of service tei x) || (b && option_map_or one_more (expired_of service tei e.what) 0 == 1)) (command_of (state_of service tei x)) []) []
 
   moment : (m : Card) (e : card.Event) (number : ℕ) → card_sound.IsSound m → AllHaveTheirTimers m → IsAtLine m e → has_tei tei (line_at number m) ≡ true → has_tei tei (line_at number (cards.after e m)) ≡ true
-      → served-by service tei m.config (line_at number m) (due_in service tei number (moment-of m e)) (traces.seen_in number (moment-of m e)) (line_at number (cards.after e m))
+      → served-by service tei m.config (line_at number m) (owed_in service tei number (moment-of m e)) (traces.seen_in number (moment-of m e)) (line_at number (cards.after e m))
   moment m e number s timely at-line was is = go (e.line == number) refl
     where
       go : (b : Bool) → (e.line == number) ≡ b
@@ -97,13 +97,13 @@ module _ (service : Service) (tei : ℕ) where
       go false other =
           let same = apart m e number (λ same. true≢false (sym (eq-eqb e.line number (sym same)) ∙ other)) in
           subst (λ (x : Line). served-by service tei m.config (line_at number m)
-          (cond (lost_in (cards.answer e m) == 0 && (differ (state_of service tei (line_at number m)) (state_of service tei x) || false)) (command_of (state_of service tei x)) []) [] x) (sym same)
+          (cond (lost_in (cards.answer e m) == 0) (cond (differ (state_of service tei (line_at number m)) (state_of service tei x) || false) (command_of (state_of service tei x)) []) []) [] x) (sym same)
           (idle m.config (line_at number m) _ (never (line_at number m) (lost_in (cards.answer e m) == 0)))
         where
-          never : (l : Line) (b : Bool) → cond (b && (differ (state_of service tei l) (state_of service tei l) || false)) (command_of (state_of service tei l)) [] ≡ []
-          never l b = ap (λ d. cond (b && d) (command_of (state_of service tei l)) []) (no-time l 0 refl) ∙ by-bit b
+          never : (l : Line) (b : Bool) → cond b (cond (differ (state_of service tei l) (state_of service tei l) || false) (command_of (state_of service tei l)) []) [] ≡ []
+          never l b = ap (λ d. cond b (cond d (command_of (state_of service tei l)) []) []) (no-time l 0 refl) ∙ by-bit b
             where
-              by-bit : (b : Bool) → cond (b && false) (command_of (state_of service tei l)) [] ≡ []
+              by-bit : (b : Bool) → cond b (cond {A = List (Kind × Bool)} false (command_of (state_of service tei l)) []) [] ≡ []
               by-bit true = refl
               by-bit false = refl
       go true same =
@@ -118,7 +118,7 @@ module _ (service : Service) (tei : ℕ) where
   run-serves m (e ∷ events) number s timely all on =
       let here = All-head (IsAtLine m) e events all in
       let later = cards.after e m in
-      joins service tei m.config (line_at number m) (line_at number later) (line_at number (after_all later events)) (due_in service tei number (moment-of m e)) (due number (moments later events))
+      joins service tei m.config (line_at number m) (line_at number later) (line_at number (after_all later events)) (owed_in service tei number (moment-of m e)) (due number (moments later events))
       (traces.seen_in number (moment-of m e)) (trace number (moments later events))
       (moment m e number s timely here on.0 (first-on service tei number later events on.1))
       (run-serves later events number (after_is_sound m e s here) (timely-after m e s timely here) (All-tail (IsAtLine m) e events all) on.1)
@@ -128,7 +128,7 @@ module _ (service : Service) (tei : ℕ) where
   unfolding moments
   due-front m [] behind number = of-nothing (due number (moments m behind))
   due-front m (e ∷ front) behind number =
-      let first = due_in service tei number (moment-of m e) in
+      let first = owed_in service tei number (moment-of m e) in
       both first first (due number (moments (cards.after e m) front)) (due number (moments (cards.after e m) (front ++ behind))) (of-itself first)
       (due-front (cards.after e m) front behind number)
 

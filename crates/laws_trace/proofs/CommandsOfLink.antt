@@ -1,7 +1,10 @@
 -- The command that is due waits: one event of a link.
 use Rattle.std.proofs.Common.{◌≡◌, ℕ, ◌+◌, ◌-◌, ◌==◌, ◌||◌, Bool, true, false, cond, List, [], ◌∷◌, ◌++◌, length, take, drop, Some, refl, sym, ap, ◌∙◌, subst}
-use Rattle.std.specs.Prelude.{flat_map}
+use Rattle.std.specs.Prelude.{not, ◌&&◌, flat_map}
+use Rattle.lapd_frame.specs.declared.controls.Control.{Control}
+use Rattle.lapd_frame.specs.declared.controls.Control.TheVariants.{Information, ReceiveReady, ReceiveNotReady, Reject, Sabme, Disc, Ui, Ua, Dm, Frmr, Xid}
 use Rattle.std.proofs.lemmas.Grind.{flat_map-append}
+use Rattle.std.proofs.lemmas.List.{take-append-drop}
 use Rattle.laws_two_links.specs.Needed.{HasItsTimer, needed_in}
 use Rattle.model_link.specs.declared.states.State.{State}
 use Rattle.model_link.specs.declared.states.State.TheVariants.{TeiAssigned, AwaitingEstablishment, AwaitingRelease, Established, TimerRecovery}
@@ -9,7 +12,7 @@ use Rattle.model_link.specs.declared.frames.ControlFrame.{ControlFrame}
 use Rattle.model_link.specs.declared.terms.Terms.{Terms}
 use Rattle.model_link.specs.declared.timers.LinkTimer.TheVariants.{T200, T203}
 use Rattle.model_link.specs.Events as link
-use Rattle.model_link.specs.Link.{Link, state_number}
+use Rattle.model_link.specs.Link.{Link, state_number, is_multiple_frame}
 use Rattle.model_link.specs.Machine as links
 use Rattle.model_link.specs.Told.{runs}
 use Rattle.model_line.specs.Event.{Event, told}
@@ -26,10 +29,10 @@ use Rattle.laws_trace.proofs.Answering.{none-dropped}
 use Rattle.laws_trace.proofs.MovesOfLink.{ticks}
 use Rattle.laws_trace.proofs.Parts.{of-itself, of-nothing, both, more, behind, through}
 
-abbrev pub kinds_of : ControlFrame → List Kind
+abbrev pub kinds_of : ControlFrame → List (Kind × Bool)
 kinds_of f = command_in f.command f.control
 
-abbrev pub kinds : List ControlFrame → List Kind
+abbrev pub kinds : List ControlFrame → List (Kind × Bool)
 kinds frames = flat_map kinds_of frames
 
 -- The command that a state puts.
@@ -44,7 +47,7 @@ put-kinds AwaitingRelease l = refl
 put-kinds Established l = refl
 put-kinds TimerRecovery l = enquires l.own_busy l.r
 
-abbrev pub due_by : Bool → State → List Kind
+abbrev pub due_by : Bool → State → List (Kind × Bool)
 due_by time to = cond time (command_of (Some (state_number to))) []
 
 none-of : (time : Bool) (to : State) → command_of (Some (state_number to)) ≡ [] → due_by time to ≡ []
@@ -127,3 +130,125 @@ module _ (t : Terms) (e : link.Event) (l : Link) (timed : HasItsTimer l) where
         (both (kinds l.waiting) (kinds l.waiting) (due_by (moves l.state moved.state || ticks e == 1) moved.state) (kinds (answers heard l) ++ its-command) (of-itself (kinds l.waiting))
         (through (due_by (moves l.state moved.state || ticks e == 1) moved.state) its-command (kinds (answers heard l) ++ its-command) (whenever l.state moved.state timed.running)
         (behind (kinds (answers heard l)) its-command)))
+
+-- And what goes is due. An answer is no command.
+none-either : (b : Bool) (xs ys : List ControlFrame) → kinds xs ≡ [] → kinds ys ≡ [] → kinds (cond b xs ys) ≡ []
+none-either true xs ys h i = h
+none-either false xs ys h i = i
+
+a-receipt : (own_busy : Bool) (r : ℕ) (f : Bool) → kinds (waiting.as_response (receipt_as own_busy r f)) ≡ []
+a-receipt true r f = refl
+a-receipt false r f = refl
+
+by-sabme : (s : State) (p : Bool) → kinds (waiting.as_response (waiting.to_sabme s p)) ≡ []
+by-sabme TeiAssigned p = refl
+by-sabme AwaitingEstablishment p = refl
+by-sabme AwaitingRelease p = refl
+by-sabme Established p = refl
+by-sabme TimerRecovery p = refl
+
+by-disc : (s : State) (p : Bool) → kinds (waiting.as_response (waiting.to_disc s p)) ≡ []
+by-disc TeiAssigned p = refl
+by-disc AwaitingEstablishment p = refl
+by-disc AwaitingRelease p = refl
+by-disc Established p = refl
+by-disc TimerRecovery p = refl
+
+by-information : (next p : Bool) (l : Link) → kinds (waiting.to_information next p l) ≡ []
+by-information next p l =
+    none-either (not l.own_busy && (not next && not l.rejecting)) _ _ refl
+    (none-either p _ [] (a-receipt l.own_busy (cond (waiting.is_taken next l) (l.r + 1) l.r) true) refl)
+
+by-supervisory : (command p : Bool) (l : Link) → kinds (waiting.to_supervisory command p l) ≡ []
+by-supervisory command p l = none-either (command && p) _ [] (a-receipt l.own_busy l.r true) refl
+
+by-frame : (command : Bool) (c : Control) (l : Link) → kinds (waiting.answers_to command c l) ≡ []
+by-frame command (Sabme p) l = by-sabme l.state p
+by-frame command (Disc p) l = by-disc l.state p
+by-frame command (Information ns nr p) l = none-either (is_multiple_frame l.state) _ [] (by-information (waiting.is_next ns l) p l) refl
+by-frame command (ReceiveReady nr p) l = none-either (is_multiple_frame l.state) _ [] (by-supervisory command p l) refl
+by-frame command (ReceiveNotReady nr p) l = none-either (is_multiple_frame l.state) _ [] (by-supervisory command p l) refl
+by-frame command (Reject nr p) l = none-either (is_multiple_frame l.state) _ [] (by-supervisory command p l) refl
+by-frame command (Ui p) l = none-either (is_multiple_frame l.state) [] [] refl refl
+by-frame command (Ua f) l = none-either (is_multiple_frame l.state) [] [] refl refl
+by-frame command (Dm f) l = none-either (is_multiple_frame l.state) [] [] refl refl
+by-frame command (Frmr f) l = none-either (is_multiple_frame l.state) [] [] refl refl
+by-frame command (Xid f) l = none-either (is_multiple_frame l.state) [] [] refl refl
+
+no-answer : (e : link.Event) (l : Link) → kinds (answers e l) ≡ []
+no-answer (link.received (link.frame f)) l = by-frame f.address.command f.control l
+no-answer (link.received link.undefined) l = refl
+no-answer (link.received link.wrong_size) l = refl
+no-answer (link.received link.overlong) l = refl
+no-answer (link.expired timer) l = refl
+no-answer (link.requested link.Establish full) l = refl
+no-answer (link.requested link.Release full) l = refl
+no-answer (link.requested (link.Data contents) full) l = refl
+no-answer (link.requested link.SetBusy full) l = none-either (is_multiple_frame l.state && not l.own_busy) _ [] (a-receipt true l.r false) refl
+no-answer (link.requested link.ClearBusy full) l = none-either (is_multiple_frame l.state && l.own_busy) _ [] (a-receipt false l.r false) refl
+no-answer link.offer l = refl
+no-answer link.cleared l = refl
+
+-- What an event puts is due by it.
+in-time : (t : Terms) (e : link.Event) (l : Link) (moved : Bool) (to : State) → IsPart (due_by (moved || waiting.is_time (as_heard t e) l) to) (due_by (moved || ticks e == 1) to)
+in-time t (link.expired T200) l true to = of-itself (command_of (Some (state_number to)))
+in-time t (link.expired T200) l false to = go (runs T200 l.running)
+  where
+    go : (b : Bool) → IsPart (due_by b to) (due_by true to)
+    go true = of-itself (command_of (Some (state_number to)))
+    go false = of-nothing (command_of (Some (state_number to)))
+in-time t (link.expired T203) l moved to = of-itself (due_by (moved || false) to)
+in-time t (link.received (link.frame f)) l moved to = of-itself (due_by (moved || false) to)
+in-time t (link.received link.undefined) l moved to = of-itself (due_by (moved || false) to)
+in-time t (link.received link.wrong_size) l moved to = of-itself (due_by (moved || false) to)
+in-time t (link.received link.overlong) l moved to = of-itself (due_by (moved || false) to)
+in-time t (link.requested asked full) l moved to = of-itself (due_by (moved || false) to)
+in-time t link.offer l moved to = of-itself (due_by (moved || false) to)
+in-time t link.cleared l moved to = of-itself (due_by (moved || false) to)
+
+commands-put : (l : Link) (time : Bool) (to : State) → kinds (cond time (waiting.command_in to l) []) ≡ due_by time to
+commands-put l true to = put-kinds to l
+commands-put l false to = refl
+
+put-due : (t : Terms) (e : link.Event) (l : Link) (to : State) → IsPart (kinds (put (as_heard t e) l to)) (due_by (moves l.state to || ticks e == 1) to)
+put-due t e l to =
+    let heard = as_heard t e in
+    subst (λ ks. IsPart ks (due_by (moves l.state to || ticks e == 1) to))
+    (sym (flat_map-append kinds_of (answers heard l) (commands heard l to) ∙ ap (λ ks. ks ++ kinds (commands heard l to)) (no-answer heard l)
+    ∙ commands-put l (moves l.state to || waiting.is_time heard l) to))
+    (in-time t e l (moves l.state to) to)
+
+some-taken : (n : ℕ) (frames : List ControlFrame) → IsPart (kinds (take n frames)) (kinds frames)
+some-taken n frames =
+    subst (IsPart (kinds (take n frames))) (sym (flat_map-append kinds_of (take n frames) (drop n frames)) ∙ ap kinds (take-append-drop n frames))
+    (more (kinds (take n frames)) (kinds (drop n frames)))
+
+rest-part : (frames : List ControlFrame) → IsPart (kinds (drop 1 frames)) (kinds frames)
+rest-part [] = of-itself []
+rest-part (f ∷ frames) = both [] (kinds_of f) (kinds frames) (kinds frames) (of-nothing (kinds_of f)) (of-itself (kinds frames))
+
+behind-due : (t : Terms) (e : link.Event) (l : Link) (to : State)
+    → IsPart (kinds (waiting.behind t l (put (as_heard t e) l to))) (kinds l.waiting ++ due_by (moves l.state to || ticks e == 1) to)
+behind-due t e l to =
+    let frames = put (as_heard t e) l to in
+    let due = due_by (moves l.state to || ticks e == 1) to in
+    subst (λ ks. IsPart ks (kinds l.waiting ++ due)) (sym (flat_map-append kinds_of l.waiting (take (room t l) frames)))
+    (both (kinds l.waiting) (kinds l.waiting) (kinds (take (room t l) frames)) due (of-itself (kinds l.waiting))
+    (through (kinds (take (room t l) frames)) (kinds frames) due (some-taken (room t l) frames) (put-due t e l to)))
+
+left-due : (t : Terms) (e : link.Event) (l : Link) (to : State) → IsPart (kinds (waiting_left t (as_heard t e) l to)) (kinds l.waiting ++ due_by (moves l.state to || ticks e == 1) to)
+left-due t (link.received (link.frame f)) l to = behind-due t (link.received (link.frame f)) l to
+left-due t (link.received link.undefined) l to = behind-due t (link.received link.undefined) l to
+left-due t (link.received link.wrong_size) l to = behind-due t (link.received link.wrong_size) l to
+left-due t (link.received link.overlong) l to = behind-due t (link.received link.overlong) l to
+left-due t (link.expired timer) l to = behind-due t (link.expired timer) l to
+left-due t (link.requested asked full) l to = behind-due t (link.requested asked full) l to
+left-due t link.offer l to =
+    let due = due_by (moves l.state to || false) to in
+    through (kinds (drop 1 l.waiting)) (kinds l.waiting) (kinds l.waiting ++ due) (rest-part l.waiting) (more (kinds l.waiting) due)
+left-due t link.cleared l to = of-nothing (kinds l.waiting ++ due_by (moves l.state to || false) to)
+
+pub link-due : (t : Terms) (e : link.Event) (l : Link) → let y = links.after t e l in IsPart (kinds y.waiting) (kinds l.waiting ++ due_by (moves l.state y.state || ticks e == 1) y.state)
+link-due t e l =
+    let y = links.after t e l in
+    subst (λ ws. IsPart (kinds ws) (kinds l.waiting ++ due_by (moves l.state y.state || ticks e == 1) y.state)) (sym (event-follows t e l).leaves.waiting) (left-due t e l y.state)

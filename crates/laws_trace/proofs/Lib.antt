@@ -33,6 +33,8 @@ pub mod Parts
 pub mod ReadAgain
 pub mod AskedOfLink
 pub mod AnswersAreAsked
+pub mod AnswersDueOfLink
+pub mod AnswersAreDue
 pub mod Deliveries
 pub mod DeliveriesRun
 pub mod AllAreTold
@@ -77,6 +79,7 @@ pub mod MovesOfLink
 pub mod LinkLed
 pub mod LinksMove
 pub mod CommandsOfLink
+pub mod CommandsAreDue
 pub mod CommandsDue
 pub mod CommandsGo
 pub mod NewsRows

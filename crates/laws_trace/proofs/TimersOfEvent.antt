@@ -1,8 +1,8 @@
 -- What is known of a link stays true: each event of a line.
 use Rattle.std.proofs.Common.{◌≡◌, ℕ, ◌==◌, ◌&&◌, ◌||◌, Bool, true, false, cond, List, [], ◌∷◌, map, Option, Some, None, option_map, refl, sym, ap, ◌∙◌, subst, eq-eqb, true≢false, ◌⊎◌, inl, inr}
-use Rattle.std.specs.Prelude.{All, option_to_list}
+use Rattle.std.specs.Prelude.{All, IfSome, option_to_list}
 use Rattle.std.specs.Option.{option_map_or}
-use Rattle.std.proofs.lemmas.List.Elements.{All-head}
+use Rattle.std.proofs.lemmas.List.Elements.{All-head, All-nil, All-cons}
 use Rattle.lapd_frame.specs.declared.services.Service.{Service}
 use Rattle.lapd_frame.specs.declared.services.Service.TheVariants.{Call, Packet}
 use Rattle.lapd_frame.specs.Services.{same_service}
@@ -32,6 +32,8 @@ use Rattle.model_card.specs.Pulled.{frame_taken, frame_in}
 use Rattle.laws_line.specs.Steady.{IsBy, timer_of}
 use Rattle.laws_line.specs.Timers.{is_needed, left_by, HaveTheirTimers}
 use Rattle.laws_line.proofs.TimersFollow.{timely-line}
+use Rattle.laws_trace.specs.AllGoesAgain.{is_next}
+use Rattle.laws_trace.specs.DataGoesOut.{Sent}
 use Rattle.laws_trace.specs.Deliveries.{is_for}
 use Rattle.laws_trace.specs.TimersAreTimely.{Known, nothing_yet, hears, sends, control_in, is_state, learned}
 use Rattle.laws_trace.specs.Trace.{seen}
@@ -346,3 +348,25 @@ module _ (c : Config) (ranged : IsInRange c) (l : Line) (s : IsSound c l) (timed
       go : Goes c service tei e l (after c e l) a → IsTrueOf service tei now_known (after c e l)
       go (inl x) = none-known x
       go (inr x) = one-known x
+
+  -- What goes is what goes next.
+  pub next-goes : IfSome (sent_at c service tei k e l) (is_next k)
+  next-goes = go (event-goes c e l service tei s)
+    where
+      nothing : (o : Option Sent) → o ≡ None → IfSome o (is_next k)
+      nothing o is = subst (λ o. IfSome o (is_next k)) (sym is) tt
+
+      go : Goes c service tei e l (after c e l) a → IfSome (sent_at c service tei k e l) (is_next k)
+      go (inl x) = nothing (sent_at c service tei k e l) (none-goes x e x.begins)
+      go (inr x) =
+          either x (λ o. nothing (sent_at c service tei k e l) o.sent)
+          (λ is offered. subst (λ o. IfSome o (is_next k)) (sym (sent-is x is offered)) (offers x).next)
+
+-- So of the frame that a pull begins.
+pub pull-next : (c : Config) (ranged : IsInRange c) (l : Line) (s : IsSound c l) (timed : HaveTheirTimers l) (service : Service) (tei : ℕ) (k : Known) (agrees : IsTrueOf service tei k l)
+    → All (λ octets. IfSome (sent_of c service tei octets) (is_next k)) (frame_in c pull l)
+pull-next c ranged l s timed service tei k agrees = go (begun c l) (next-goes c ranged l s timed service tei k agrees pull)
+  where
+    go : (o : Option Taken) → IfSome (sent_with c service tei o) (is_next k) → All (λ octets. IfSome (sent_of c service tei octets) (is_next k)) (option_to_list (option_map frame_taken o))
+    go None h = All-nil (λ octets. IfSome (sent_of c service tei octets) (is_next k))
+    go (Some t) h = All-cons (λ octets. IfSome (sent_of c service tei octets) (is_next k)) (frame_taken t) [] h (All-nil (λ octets. IfSome (sent_of c service tei octets) (is_next k)))

@@ -1,4 +1,4 @@
--- All that is asked is answered.
+-- What is answered, and that all that is asked is.
 use Rattle.std.specs.Prelude.{◌≡◌, ◌≤◌, ℕ, nat_le, ◌==◌, Bool, true, false, List, [], ◌∷◌, ◌++◌, filter, flat_map, Option, None, Some, if◌then◌else◌}
 use Rattle.lapd_frame.specs.declared.services.Service.{Service}
 use Rattle.model_line.specs.declared.config.Config.{Config}
@@ -11,7 +11,7 @@ use Rattle.model_card.specs.Machine.{after}
 use Rattle.model_card.specs.Run.{Moment, moments, after_all}
 use Rattle.laws_card.specs.Among.{ArePullsAt, pulls_at}
 use Rattle.laws_trace.specs.AnswersAreAsked.{Exchange, mode, poll, asked_at, answered_at, IsPart}
-use Rattle.laws_trace.specs.Trace.{seen_in, trace}
+use Rattle.laws_trace.specs.Trace.{seen_in, trace, trace_of}
 
 -- A link whose TEI is on the line answers each SABME and each DISC, and in states 7 and 8 each poll; the number of its state
 -- is what `Card::state` tells (Q.921 clauses 3.5.1, 5.5 and 5.6).
@@ -20,10 +20,19 @@ is_answered None x = false
 is_answered (Some state) (mode p) = true
 is_answered (Some state) poll = nat_le 7 state
 
--- What is heard for it in a moment, and is to be answered; not where the answer to the octet counts a frame as lost.
+-- What is heard for it in a moment, and is to be answered.
+abbrev pub asked_in : Service → ℕ → ℕ → Moment → List Exchange
+asked_in service tei number m = filter (is_answered (state_of service tei (line_at number m.card))) (flat_map (asked_at m.card.config service tei) (seen_in number m))
+
+-- The answers that begin are among these, in their order: so no poll is answered in states 4 to 6.
+abbrev pub AnswersAreDue : Config → List Event → ℕ → Type 0
+AnswersAreDue c events number =
+    (service : Service) (tei : ℕ) →
+    IsPart (flat_map (answered_at c service tei) (trace_of c events number)) (flat_map (asked_in service tei number) (moments (fresh c) events))
+
+-- One has to begin, except where the answer to the octet counts a frame as lost.
 abbrev pub due_in : Service → ℕ → ℕ → Moment → List Exchange
-due_in service tei number m =
-    if lost_in m.answer == 0 then filter (is_answered (state_of service tei (line_at number m.card))) (flat_map (asked_at m.card.config service tei) (seen_in number m)) else []
+due_in service tei number m = if lost_in m.answer == 0 then asked_in service tei number m else []
 
 abbrev pub due : Service → ℕ → ℕ → List Moment → List Exchange
 due service tei number ms = flat_map (due_in service tei number) ms

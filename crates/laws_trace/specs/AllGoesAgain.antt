@@ -1,14 +1,17 @@
 -- What is to go again goes again.
-use Rattle.std.specs.Prelude.{◌≡◌, ◌≤◌, ◌<◌, ℕ, ◌+◌, ◌-◌, ◌%◌, false, List, ◌++◌, length, fold, Option, Some}
+use Rattle.std.specs.Prelude.{◌≡◌, ◌≤◌, ◌<◌, ℕ, ◌+◌, ◌-◌, ◌%◌, false, List, ◌∷◌, ◌++◌, length, fold, All, Option, Some, IfSome}
 use Rattle.lapd_frame.specs.declared.services.Service.{Service}
+use Rattle.lapd_frame.specs.Reading.{reading}
 use Rattle.model_line.specs.declared.config.Config.{Config}
+use Rattle.model_line.specs.Event.{pull}
 use Rattle.model_line.specs.Line.{state_of, window}
 use Rattle.laws_line.specs.Drains.{most_pulls}
 use Rattle.model_card.specs.Card.{fresh, line_at}
-use Rattle.model_card.specs.Event.{Event}
+use Rattle.model_card.specs.Event.{Event, at}
+use Rattle.model_card.specs.Pulled.{frame_in}
 use Rattle.model_card.specs.Run.{moments, after_all}
 use Rattle.laws_card.specs.Among.{ArePullsAt, pulls_at}
-use Rattle.laws_trace.specs.DataGoesOut.{Going, none_yet, Reaches}
+use Rattle.laws_trace.specs.DataGoesOut.{Going, Sent, sent_in, none_yet, Reaches}
 use Rattle.laws_trace.specs.TimersAreTimely.{Known, nothing_yet, watch}
 use Rattle.laws_trace.specs.Trace.{trace_of}
 
@@ -28,3 +31,13 @@ AllGoesAgain c events number =
     let k = fold (watch c service tei number) nothing_yet (moments (fresh c) events) in
     MayGo c service k (state_of service tei (line_at number (after_all (fresh c) events))) →
     (end : Going) × Reaches c service tei none_yet (trace_of c events number) end × (end.gone ≡ length end.contents) × (k.next ≡ end.gone % 128)
+
+-- And each I-frame that begins is the one that goes next: so they go again in order, and none is passed over.
+abbrev pub is_next : Known → Sent → Type 0
+is_next k sent = sent.ns ≡ k.next
+
+abbrev pub NextGoes : Config → List Event → ℕ → Type 0
+NextGoes c events number =
+    (service : Service) (tei : ℕ) (before behind : List Event) → events ≡ before ++ at number pull ∷ behind →
+    let k = fold (watch c service tei number) nothing_yet (moments (fresh c) before) in
+    All (λ octets. IfSome (sent_in service tei (reading c.side octets)) (is_next k)) (frame_in c pull (line_at number (after_all (fresh c) before)))

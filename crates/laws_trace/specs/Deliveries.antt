@@ -41,8 +41,7 @@ parts_of (Err fault) = None
 
 abbrev pub frame_of : Config → stream.Event → Option Parts
 frame_of c (stream.frame octets) = parts_of (reading (heard_side c) octets)
-frame_of c (stream.overlong head) = None
-frame_of c (stream.dropped cause) = None
+frame_of c other = None
 
 abbrev pub is_for : Service → ℕ → Address → Bool
 is_for service tei address = address.sapi == sapi_of service && address.tei == tei

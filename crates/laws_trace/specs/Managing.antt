@@ -86,13 +86,8 @@ check_without tei None = None
 check_without tei (Some check) = if check.tei == tei then None else Some check
 
 abbrev pub without : ℕ → Managed → Managed
-without tei w = record {
-  said = w.said;
-  on = filter (λ on. not (on == tei)) w.on;
-  held = filter (λ (r : Remembered). not (r.tei == tei)) w.held;
-  check = check_without tei w.check;
-  ended = w.ended;
-}
+without tei w =
+    record w { on = filter (λ on. not (on == tei)) w.on; held = filter (λ (r : Remembered). not (r.tei == tei)) w.held; check = check_without tei w.check }
 
 abbrev pub may_check : ℕ → Managed → Bool
 may_check tei w = is_on tei w && not (is_some w.check)

@@ -77,7 +77,8 @@ abbrev pub TeisAgree : Config → List Event → ℕ → Type 0
 TeisAgree c events number = AreAgreed c number none_on (moments (fresh c) events)
 
 -- So no TEI is held for two Ri at a time, no Ri has two, and each that is held is on the line (clause 5.3.2).
+abbrev pub AreForOne : Managed → Type 0
+AreForOne w = IsDistinct same_tei w.held × IsDistinct same_ri w.held × All (λ r. is_on r.tei w ≡ true) w.held
+
 abbrev pub HeldForOne : Config → List Event → ℕ → Type 0
-HeldForOne c events number =
-    let w = fold (led c number) none_on (moments (fresh c) events) in
-    IsDistinct same_tei w.held × IsDistinct same_ri w.held × All (λ r. is_on r.tei w ≡ true) w.held
+HeldForOne c events number = AreForOne (fold (led c number) none_on (moments (fresh c) events))

@@ -13,7 +13,7 @@ use Rattle.model_card.specs.Card.{fresh}
 use Rattle.model_card.specs.Event.{Event}
 use Rattle.model_card.specs.Run.{moments}
 use Rattle.laws_card.specs.Worked.{usual, on_0, hears}
-use Rattle.laws_trace.specs.AllGoesAgain.{MayGo}
+use Rattle.laws_trace.specs.AllGoesAgain.{is_next, MayGo}
 use Rattle.laws_trace.specs.TimersAreTimely.{Known, nothing_yet, watch}
 use Rattle.laws_trace.specs.WorkedUnits.{pulls}
 
@@ -45,3 +45,7 @@ may_go = record { up = refl; free = refl; few = omega arith }
 
 let_be : to_go.next ≡ 1 % 128 → ⊥
 let_be e = cc e
+
+-- So it is where the second of two goes, though REJ set back to the first.
+passed_over : is_next to_go (record { ns = 1; nr = 0; contents = 8 ∷ [] }) → ⊥
+passed_over e = cc e

@@ -35,10 +35,10 @@ is_answered : flat_map (answered_at usual Call 64) unasked ≡ mode true ∷ []
 unfolding reading header_of control_of unnumbered_of
 is_answered = refl
 
-is_no_part : (some all : List Exchange) → IsPart some all → some ≡ mode true ∷ [] → all ≡ [] → ⊥
-is_no_part xs ys none e f = cc e
-is_no_part xs ys (left_out x some all h) e f = cc f
-is_no_part xs ys (taken x some all h) e f = cc f
+is_no_part : (first : Exchange) (some all : List Exchange) → IsPart some all → some ≡ first ∷ [] → all ≡ [] → ⊥
+is_no_part first xs ys none e f = cc e
+is_no_part first xs ys (left_out x some all h) e f = cc f
+is_no_part first xs ys (taken x some all h) e f = cc f
 
 -- SABME is heard where TEI 64 is on the line, and its answer is due; a poll in state 4 has none.
 sabme_due : due Call 64 0 (moments (fresh usual) up) ≡ mode true ∷ []
@@ -50,4 +50,8 @@ none_due = refl
 
 -- Where it is due, and never begins, that all is answered is broken.
 unanswered : IsPart (mode true ∷ []) [] → ⊥
-unanswered part = is_no_part (mode true ∷ []) [] part refl refl
+unanswered part = is_no_part (mode true) (mode true ∷ []) [] part refl refl
+
+-- So where a poll is answered in state 4, that answers are due is broken.
+answered_in_4 : IsPart (poll ∷ []) (filter (has_answer (Some 4)) (poll ∷ [])) → ⊥
+answered_in_4 part = is_no_part poll (poll ∷ []) [] part refl refl

@@ -1,5 +1,6 @@
 -- Worked values: messages of TEI management that are owed and that begin, and ones that break the laws.
-use Rattle.std.specs.Prelude.{◌≡◌, List, [], ◌∷◌, ◌++◌, map, None, refl}
+use Rattle.std.specs.List.{IsDistinct, AllByRecursion}
+use Rattle.std.specs.Prelude.{◌≡◌, List, [], ◌∷◌, ◌++◌, map, None, ℕ, true, refl}
 use Rattle.std.proofs.lemmas.List.Elements.{All-head}
 use Rattle.model_bits.specs.Bits.{low_bits}
 use Rattle.lapd_frame.specs.declared.addresses.Side.TheVariants.{Network}
@@ -8,6 +9,7 @@ use Rattle.lapd_frame.specs.declared.timers.Timer.TheVariants.{T201}
 use Rattle.lapd_frame.specs.Reading.{reading, header_of, control_of, unnumbered_of}
 use Rattle.lapd_tei.specs.declared.messages.Message.TheVariants.{IdentityAssigned, IdentityCheckRequest}
 use Rattle.lapd_tei.specs.Events as teis
+use Rattle.lapd_tei.specs.declared.remembered.Remembered.{Remembered}
 use Rattle.lapd_tei.specs.Messages.{frame_of}
 use Rattle.model_line.specs.Event.{expiry}
 use Rattle.model_line.specs.Machine as lines
@@ -16,9 +18,9 @@ use Rattle.model_card.specs.Card.{fresh}
 use Rattle.model_card.specs.Event.{Event, at}
 use Rattle.model_card.specs.Run.{moments}
 use Rattle.laws_card.specs.Worked.{usual, on_0, hears}
-use Rattle.laws_trace.specs.Managing.{none_on, owed_through}
+use Rattle.laws_trace.specs.Managing.{Managed, none_on, is_on, owed_through}
 use Rattle.laws_trace.specs.MessagesAreOwed.{messages_begun, owed}
-use Rattle.laws_trace.specs.TeisAgree.{IsTrue, AgreeThrough}
+use Rattle.laws_trace.specs.TeisAgree.{IsTrue, AgreeThrough, AreForOne}
 use Rattle.laws_trace.specs.Trace.{noted, trace_of, IsFront}
 use Rattle.laws_trace.specs.WorkedUnits.{pulls}
 
@@ -52,3 +54,21 @@ passed_over front = cc front.whole_is
 -- Where it is noted that a TEI was assigned, and no terminal asked, the law is broken.
 unasked : AgreeThrough usual none_on (noted (Assigned 64 ∷ []) None ∷ []) → ⊥
 unasked h = cc (All-head (IsTrue none_on) (Assigned 64) [] h.0.are).asked
+
+-- So it is where a TEI is held for two Ri, where an Ri has two, and where one is held that is not on the line.
+abbrev given : ℕ → ℕ → Remembered
+given ri tei = record { ri = ri; tei = tei }
+
+abbrev holds : List Remembered → Managed
+holds held = record none_on { on = 64 ∷ 65 ∷ []; held = held }
+
+two_for_one : AreForOne (holds (given 1 64 ∷ given 2 64 ∷ [])) → ⊥
+unfolding IsDistinct
+two_for_one h = cc h.0.0.0
+
+one_has_two : AreForOne (holds (given 1 64 ∷ given 1 65 ∷ [])) → ⊥
+unfolding IsDistinct
+one_has_two h = cc h.1.0.0
+
+held_off_line : AreForOne (holds (given 1 66 ∷ [])) → ⊥
+held_off_line h = cc (All-head (λ (r : Remembered). is_on r.tei (holds (given 1 66 ∷ [])) ≡ true) (given 1 66) [] h.2)

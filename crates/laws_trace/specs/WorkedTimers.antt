@@ -19,7 +19,7 @@ use Rattle.model_card.specs.Machine.{answer}
 use Rattle.model_card.specs.Run.{moments, after_all}
 use Rattle.laws_card.specs.Timers.{runs_at_callers}
 use Rattle.laws_card.specs.Worked.{usual, on_0, hears}
-use Rattle.laws_trace.specs.TimersAreTimely.{Known, nothing_yet, is_anew, watch}
+use Rattle.laws_trace.specs.TimersAreTimely.{Known, nothing_yet, awaits, is_state, is_anew, watch}
 use Rattle.laws_trace.specs.Trace.{Seen, heard}
 use Rattle.laws_trace.specs.WorkedUnits.{pulls}
 
@@ -79,3 +79,10 @@ by_unit_data e = cc e
 by_nothing_new : true ≡ (true && (not true || is_anew usual Call 64 T200 two_out (Some 7) (Some 7) (rr 0))) → ⊥
 unfolding seq reading header_of control_of unnumbered_of supervisory_of
 by_nothing_new e = cc e
+
+-- Where no answer ordered T200, though two I-frames are not acknowledged, or T203 runs beside it, that the timers run is broken.
+never_started : runs_at_callers 0 (timers.T200 Call 64) false [] ≡ awaits two_out (Some 7) → ⊥
+never_started e = cc e
+
+beside_it : true ≡ (is_state 7 (Some 7) && not (awaits two_out (Some 7))) → ⊥
+beside_it e = cc e

@@ -2,10 +2,10 @@
 
 ghost use Rattle.laws_trace.specs.Trace.{Always};
 ghost use Rattle.laws_trace.specs.AllAreAcknowledged.{AllAreAcknowledged};
-ghost use Rattle.laws_trace.specs.AllAreAnswered.{AllAreAnswered};
-ghost use Rattle.laws_trace.specs.AllGoesAgain.{AllGoesAgain};
+ghost use Rattle.laws_trace.specs.AllAreAnswered.{AllAreAnswered, AnswersAreDue};
+ghost use Rattle.laws_trace.specs.AllGoesAgain.{AllGoesAgain, NextGoes};
 ghost use Rattle.laws_trace.specs.AnswersAreAsked.{AnswersAreAsked};
-ghost use Rattle.laws_trace.specs.CommandsGo.{CommandsGo};
+ghost use Rattle.laws_trace.specs.CommandsGo.{CommandsAreDue, CommandsGo};
 ghost use Rattle.laws_trace.specs.CommandsHaveCauses.{CommandsHaveCauses};
 ghost use Rattle.laws_trace.specs.Configurations.{RangesAreServed};
 ghost use Rattle.laws_trace.specs.OtherSide.{TheOtherSideIsHeard};
@@ -127,10 +127,20 @@ pub fn what_is_told_was_heard()
 /// whether those that had gone stay is not said (`front`). And all of it has gone, once the line was only pulled, as often as the configuration says, on a link in state 7
 /// whose terminal is not busy, with fewer than k I-frames outstanding, by what was heard and what began; and the number that goes
 /// next is then behind all of it, though REJ and the end of a recovery set it back to their N(R); each I-frame that begins sets
-/// it behind its own (`again`; Q.921 clauses 3.5.2.1 to 3.5.2.6, 5.5.1.2, 5.6.1, 5.6.4, 5.6.5, 5.6.7 and 5.7).
+/// it behind its own (`again`). And each has that number, so that they go again in order, from there on, and none is passed over
+/// (`next`; Q.921 clauses 3.5.2.1 to 3.5.2.6, 5.5.1.2, 5.6.1, 5.6.4, 5.6.5, 5.6.7 and 5.7).
 pub fn data_goes_out()
     ensures front { Always DataGoesOut }
     ensures again { Always AllGoesAgain }
+    ensures next { Always NextGoes }
+{}
+
+/// Answers are due. The UA, the DM, and the responses RR, RNR and REJ with F=1 of a link that begin are among those that are due,
+/// in their order, and none twice: one for each SABME and each DISC that is heard of it while its TEI is on the line, and one for
+/// each other command with P=1 that is heard while it is in state 7 or 8. So no poll is answered in states 4 to 6, and nothing that
+/// was heard of a TEI that was not on the line (Q.921 clauses 3.5.1, 5.5 and 5.6).
+pub fn answers_are_due()
+    ensures { Always AnswersAreDue }
 {}
 
 /// All that is asked is answered. Whatever happened before: of a link whose TEI stays on the line, each SABME and each DISC
@@ -220,11 +230,17 @@ pub fn links_move()
     ensures { Always LinksMove }
 {}
 
-/// Commands that are due go. Whatever happened before: of a link whose TEI stays on the line, SABME is due where it comes to
-/// state 5, DISC where it comes to state 6, and an enquiry, which is a supervisory command with P=1, where it comes to state 8; and
-/// again where its T200 expires and leaves it there; except where the answer counts a frame as lost. Once the line was only pulled,
-/// as often as the configuration says, a command has begun for each, in their order (Q.921 clauses 5.5.1, 5.5.3, 5.6.7, 5.7.2 and
-/// 5.10.3).
+/// Commands are due. The SABME, the DISC, and the supervisory commands, which are enquiries, of a link that begin are among those
+/// that are due, in their order, and none twice: SABME where the link comes to state 5, DISC where it comes to state 6, and an
+/// enquiry where it comes to state 8, and again where its T200 expires and leaves it there; each with P=1. So no command goes where
+/// T200 ends a state, and none with P=0 (Q.921 clauses 5.5.1, 5.5.3, 5.6.7, 5.7.2 and 5.10.3).
+pub fn commands_are_due()
+    ensures { Always CommandsAreDue }
+{}
+
+/// Commands that are due go. Whatever happened before: of a link whose TEI stays on the line, each command that is due, except
+/// where the answer counts a frame as lost, has begun, with P=1, once the line was only pulled, as often as the configuration says,
+/// in their order (Q.921 clauses 5.5.1, 5.5.3, 5.6.7, 5.7.2 and 5.10.3).
 pub fn commands_go()
     ensures { Always CommandsGo }
 {}

@@ -17,7 +17,6 @@ pub use Rattle.core.proofs.alloc.Shapes.{after}
 pub use Rattle.core.proofs.atomic.Steps.{fm}
 pub use Rattle.core.proofs.cell.Inside.{Good, one}
 pub use Rattle.core.specs.declared.alloc.Allocator.{Ghosts}
-pub use Rattle.model_bits.specs.Stream.{dropped}
 pub use Rattle.lapd_c.specs.CardSlots.{HeldCard, card_owns, card_row}
 pub use Rattle.lapd_c.specs.Cards.{ShowsAnswer}
 pub use Rattle.lapd_c.specs.ClockSlots.{HeldClock, clock_owns, heap}

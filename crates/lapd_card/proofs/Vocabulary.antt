@@ -11,9 +11,6 @@ pub use Rattle.std.proofs.lemmas.Result.{IfErr-weaker, IfOk-weaker}
 pub use Rattle.std.specs.List.{All, AllByRecursion, flat_map, sum_by, zip}
 pub use Rattle.std.specs.Option.{option_map_or}
 pub use Rattle.std.specs.Prelude.{OnOk, is_err}
-pub use Rattle.model_bits.specs.OpenGap.{kept_count}
-pub use Rattle.model_bits.specs.Stream.{dropped, room_for}
-pub use Rattle.model_bits.specs.Stuffing.{unstuffed}
 pub use Rattle.lapd_card.specs.Card.{Held, line_count}
 pub use Rattle.lapd_card.specs.Counted.{counters_in, counters_of, frame_counters_in, frame_counters_of}
 pub use Rattle.lapd_card.specs.FrameCard.{frame_limit, frame_limit_in, room_for_frames}

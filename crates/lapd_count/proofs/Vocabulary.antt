@@ -5,8 +5,6 @@ pub use Rattle.std.proofs.lemmas.List.{get_or-set_other, get_or-set_same}
 pub use Rattle.std.proofs.lemmas.List.FromFn.{get_or-map-range_with_len}
 pub use Rattle.std.proofs.lemmas.List.Sums.{sum_by-cons}
 pub use Rattle.std.specs.List.{range_with_len}
-pub use Rattle.model_bits.specs.declared.heard.Cause.{Cause}
-pub use Rattle.model_bits.specs.declared.heard.Cause.TheVariants.{Abort, Extension, Fcs, Ragged, Sapi, Short, Tei, Unserved}
 pub use Rattle.lapd_count.specs.Counters.{amount_in, amount_of, cause_place, count, error_place, most, place, value_in, with_all, with_more}
 pub use Rattle.lapd_count.specs.Kinds.{kind_of, kind_place}
 pub use Rattle.lapd_count.specs.Laws.{CountersAreNumbers, PlacesAreNames}

@@ -27,21 +27,6 @@ pub use Rattle.hex.specs.declared.error.FromHexError.{FromHexError}
 pub use Rattle.lapd_bits.specs.Deframer.{latest_of}
 pub use Rattle.lapd_bits.specs.declared.deframer.Deframer.{Deframer}
 pub use Rattle.lapd_clock.specs.Timer.{AreInRange, Lengths, Timer, first_out_of_range}
-pub use Rattle.model_bits.proofs.BitLemmas.{bits-append, length-bits, length-low_bits, number_of-low_bits}
-pub use Rattle.model_bits.proofs.Division.Unique.{length-check}
-pub use Rattle.model_bits.proofs.Items.{line_text-push}
-pub use Rattle.model_bits.proofs.OneEvent.{one_event_an_octet}
-pub use Rattle.model_bits.specs.Bits.{bits, flag, octets_of}
-unfoldable pub use Rattle.model_bits.specs.Bits.{low_bits}
-pub use Rattle.model_bits.specs.Check.{check}
-pub use Rattle.model_bits.specs.Framer.{Framing, refilled, with_idle}
-pub use Rattle.model_bits.specs.Heard.{heard_of}
-pub use Rattle.model_bits.specs.Sent.{Item, frame, idle, item_text, line_text}
-pub use Rattle.model_bits.specs.Stream.{heard_in}
-pub use Rattle.model_bits.specs.Stuffing.{stuffed}
-pub use Rattle.model_bits.specs.StuffingLaws.{AreOctets}
-pub use Rattle.model_bits.specs.declared.heard.Heard.{Heard}
-pub use Rattle.model_bits.specs.declared.heard.Heard.TheVariants.{Dropped, Frame, Nothing, Overlong}
 pub use Rattle.lapd_clock.specs.Timers.{Timers, due_at, time_until}
 pub use Rattle.lapd_clock.specs.declared.fault.LengthFault.{LengthFault}
 pub use Rattle.lapd_count.specs.Counters.{none_counted}

@@ -10,9 +10,6 @@ pub use Rattle.std.proofs.lemmas.List.Sums.{get_or-le-sum_by, sum_by-cons, sum_b
 pub use Rattle.std.proofs.lemmas.Option.{none-some}
 pub use Rattle.std.specs.Option.{option_map_or}
 pub use Rattle.std.specs.Prelude.{All, count_by, filter, fold, map, option_to_list, sum_by}
-pub use Rattle.model_bits.specs.Sent.{Item, frame, idle}
-pub use Rattle.model_bits.specs.StuffingLaws.{AreOctets}
-pub use Rattle.model_bits.specs.declared.heard.Cause.{Cause}
 pub use Rattle.lapd_frame.specs.declared.refusals.Refusal.{Refusal}
 pub use Rattle.lapd_frame.specs.declared.refusals.Refusal.TheVariants.{BadTei, NoLink, PoolFull, QueueFull, TooLong, WrongState}
 pub use Rattle.lapd_frame.specs.declared.services.Service.{Service}

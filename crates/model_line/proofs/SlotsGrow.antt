@@ -1,6 +1,5 @@
 -- By how many slots a line's contents grow.
 use Rattle.model_line.proofs.Vocabulary.{◌≡◌, ℕ, zero, suc, ⊎_elim, replicate, ◌+◌, ◌≤◌, ◌<◌, Bool, true, false, not, ◌&&◌, List, [], ◌∷◌, length, drop, slice_get, get_or, set, Option, Some, None, is_some, option_map, IfSome, refl, ap, sym, ◌∙◌, subst, cond, arith, length-append, length-set, length-drop, sum_by, All, range_with_len, option_or, option_map_or, unwrap_or, cases_lt, get_or-set_same, get_or-set_other, get_or-replicate, get_or_past, length-replicate, sum_by-cons, All-head, All-tail, Service, Call, Packet, Refusal, Timer, T200, T203, T201, Link, fresh, queue_of, LinkTimer, queue-after, Moves, Management, IsAt, Places, Change, Gained, Left, at-within, Config, LineTold, nothing, Event, octet, expiry, request, pull, one, at_timer, aim_of_expiry, Line, fresh_line, link_number, link_count, service_at, place_at, place_in, tei_at, link_at, link_in, terms, after, takes_slot, unless_refused, gained, aim_of_heard, aim_of_octet, with_received, Aim, at_none, at_link, at_management, at_units, told_of_management, of_link, of_change, of_aim, Taken, with_message, message_taken, unit_frame, unit_taken, with_given_frame, link_taken, first_taken, round, taken, is_due, with_item, with_due, refusal, Request, Establish, Release, Data, Unit, Assign, Remove, Check, SetBusy, ClearBusy, at_requested, aim_of_request, carries_contents, IsInRange, IsSoundAt, IsSound, sum_of_links, slots_by_link, slots_of}
-use Rattle.std.proofs.Common.{length-drop}
 use Rattle.model_bits.specs.Stream as stream
 use Rattle.model_link.specs.Events as link
 use Rattle.model_link.specs.Machine as links

@@ -9,31 +9,6 @@ pub use Rattle.std.proofs.lemmas.Option.{none-some, slice_get_cases}
 pub use Rattle.std.specs.List.{list_any, range_with_len}
 pub use Rattle.std.specs.Option.{option_map_or, option_or, unwrap_or}
 pub use Rattle.std.specs.Prelude.{All, count_by, sum_by}
-pub use Rattle.model_bits.proofs.BitLemmas.{bits-append, bits-push, bits-two_octets, length-bits, low_bits-number_of_n, number_of-lt}
-pub use Rattle.model_bits.proofs.Division.Unique.{is_good-check, length-check}
-pub use Rattle.model_bits.proofs.Items.{latest-push, line_text-push}
-pub use Rattle.model_bits.proofs.Hearing.{heard_at-abort, heard_at-flag, heard_at-one, heard_at-zero, open_gap-abort, open_gap-one, open_gap-zero}
-pub use Rattle.model_bits.proofs.OneEvent.{one_event_an_octet}
-pub use Rattle.model_bits.proofs.RoundTripFrame.{check_octets, checked}
-pub use Rattle.model_bits.proofs.RoundTripPlaces.{after_flag, after_text, heard_until-onto, hears, hears-append, hears_text, reverse_aux-append}
-pub use Rattle.model_bits.proofs.StreamLengths.{IsWeight, heard_within_stream, judged_as, weight_of_heard}
-pub use Rattle.model_bits.proofs.StuffingLengths.{stuffed_after-at_least, stuffed_after-pays}
-pub use Rattle.model_bits.proofs.StuffingCounted.{stuffed-counted}
-pub use Rattle.model_bits.proofs.StuffingOctets.{octets_sent-stuffed}
-pub use Rattle.model_bits.proofs.StuffingShape.{NoSix-stuffed}
-pub use Rattle.model_bits.specs.Bits.{bits, flag, number_of, octets_of}
-unfoldable pub use Rattle.model_bits.specs.Bits.{low_bits}
-pub use Rattle.model_bits.specs.Check.{check, is_good}
-pub use Rattle.model_bits.specs.OpenGap.{kept_count, open_gap, run_of, closed_event, given_up_event, one_more}
-pub use Rattle.model_bits.specs.Framer.{item_octets, last_octets, runs_low}
-pub use Rattle.model_bits.specs.Heads.{latest_frame}
-pub use Rattle.model_bits.specs.Sent.{Item, frame, frame_text, idle, item_text, line_text}
-pub use Rattle.model_bits.specs.Stream.{dropped, gap_event, heard_at, heard_in, heard_until, is_short, judged, overlong, room_for}
-pub use Rattle.model_bits.specs.StreamLaws.{IsWhole}
-pub use Rattle.model_bits.specs.Stuffing.{octets_sent, stuffed, unstuffed}
-pub use Rattle.model_bits.specs.StuffingLaws.{AreOctets}
-pub use Rattle.model_bits.specs.declared.heard.Cause.{Cause}
-pub use Rattle.model_bits.specs.declared.heard.Cause.TheVariants.{Tei, Unserved}
 pub use Rattle.lapd_frame.specs.Faults.{has_bad_extension}
 pub use Rattle.lapd_frame.specs.Grammar.{Parts, allows, row, spelling, takes}
 pub use Rattle.lapd_frame.specs.Reading.{address_of, checked, completed, long_reading, sized, start_of, supervisory_of}

@@ -13,15 +13,6 @@ pub use Rattle.std.specs.List.{AllByRecursion, list_all}
 pub use Rattle.std.specs.Prelude.{All, bytes_eq, codes, decimal, flat_map, fold}
 pub use Rattle.std.specs.Str.{all_ascii_digits}
 pub use Rattle.std.specs.Str.Parse.{digits_value}
-pub use Rattle.model_bits.proofs.BitLemmas.{bits-append, length-bits, low_bits-number_of_n}
-pub use Rattle.model_bits.proofs.Items.{line_text-push}
-pub use Rattle.model_bits.proofs.OneEvent.{one_event_an_octet}
-pub use Rattle.model_bits.proofs.RoundTripFrame.{frames_round_trip_lem}
-pub use Rattle.model_bits.specs.Bits.{bits, flag, octets_of}
-pub use Rattle.model_bits.specs.RoundTrip.{AreHeardWhole, IsHeardWhole, frames_of}
-pub use Rattle.model_bits.specs.Sent.{Item, idle, item_text, line_text}
-pub use Rattle.model_bits.specs.Stream.{heard_in}
-pub use Rattle.model_bits.specs.StuffingLaws.{AreOctets}
 pub use Rattle.lapd_clock.proofs.Calls.{all_later}
 pub use Rattle.lapd_clock.proofs.Ordered.{All-filter, All-put_in_order, IsInOrder-filter, IsInOrder-put_in_order}
 pub use Rattle.lapd_clock.proofs.TimeUntil.{time_until-due, time_until-start, time_until-stop}

@@ -1,5 +1,4 @@
 -- An answer has at most four notes and four orders.
-use Rattle.model_line.proofs.Vocabulary.{ℕ, ◌≤◌, Bool, true, false, cond, List, [], ◌∷◌, ◌++◌, length, Option, Some, None, option_map, IfSome, arith, length-append, option_or, option_map_or, Refusal, Service, Call, Packet, Timer, T200, T203, T201, Terms, LinkTimer, Link, Sent, event-tells, cleared-tells, two-orders, cleared-orders, Change, Gained, Left, Config, Event, octet, expiry, request, pull, LineTold, nothing, at_timer, aim_of_expiry, notes_in, orders_in, AnswersAreShort, Line, link_in, link_at, terms, terms_at, place_in, answer, unless_refused, unless_refused_told, gained, aim_of_heard, with_received, at_none, told_of_management, of_link, of_change, of_management, of_aim, Taken, with_message, message_taken, with_unit, unit_taken, with_given_frame, link_taken, first_taken, round, taken, is_due, orders_of, begun, refusal, Request, Establish, Release, Data, Unit, Assign, Remove, Check, SetBusy, ClearBusy, at_requested, aim_of_request, IsBrief, told_brief}
 use Rattle.std.proofs.Common.{ℕ, ◌≤◌, Bool, true, false, cond, List, [], ◌∷◌, ◌++◌, length, Option, Some, None, option_map, IfSome, arith, length-append}
 use Rattle.std.specs.Option.{option_or, option_map_or}
 use Rattle.lapd_frame.specs.declared.refusals.Refusal.{Refusal}
@@ -17,7 +16,8 @@ use Rattle.lapd_tei.specs.declared.outcome.Change.TheVariants.{Gained, Left}
 use Rattle.model_line.specs.declared.config.Config.{Config}
 use Rattle.model_line.specs.Event.{Event, octet, expiry, request, pull, LineTold, nothing}
 use Rattle.model_line.specs.Expiry.{at_timer, aim_of_expiry}
-use Rattle.model_line.specs.Laws.{notes_in, orders_in, AnswersAreShort}
+use Rattle.model_line.specs.Laws.{notes_in, orders_in}
+use Rattle.laws_line.specs.Short.{AnswersAreShort}
 use Rattle.model_line.specs.Line.{Line, link_in, link_at, terms, terms_at, place_in}
 use Rattle.model_line.specs.Machine.{answer, unless_refused, unless_refused_told}
 use Rattle.model_line.specs.Octet.{gained, aim_of_heard, with_received}

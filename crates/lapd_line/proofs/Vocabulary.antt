@@ -16,7 +16,6 @@ pub use Rattle.std.specs.List.{All, list_any, prefix_len, range_with_len, sum_by
 pub use Rattle.std.specs.Option.{ok_or, option_map_or, option_or, unwrap_or}
 pub use Rattle.std.specs.Prelude.{vec_capacity}
 pub use Rattle.circular_buffer.proofs.Places.{slice_get-set_other, slice_get-set_same}
-pub use Rattle.lapd_bits.specs.Deframer.{latest_of}
 pub use Rattle.lapd_bits.specs.Ended.{without_octets}
 pub use Rattle.lapd_bits.specs.declared.deframer.Deframer.{Deframer}
 pub use Rattle.lapd_count.specs.Counters.{More, with_all, with_more}
@@ -135,7 +134,7 @@ pub use Rattle.model_line.specs.Sides.{at_side, group_told, has_management, last
 pub use Rattle.model_line.specs.Sound.{IsInRange, IsSound, IsSoundAt, IsTextOf, IsUnitData}
 pub use Rattle.model_line.specs.Stored.{contents_of, held_by_link, held_received, held_sent, octets_by_link, octets_of, slots_by_link, slots_of, sum_of_links, total_length, unit_length}
 pub use Rattle.model_line.specs.Whole.{IsIdle, came, cause_of, fault_octets, line_octets}
-pub use Rattle.model_line.specs.WholeAtLine.{AreOneEvent, after_events, of_heard, pulls_for, pulls_to_begin, receiving}
+pub use Rattle.model_line.specs.WholeAtLine.{after_events, of_heard, pulls_for, pulls_to_begin}
 pub use Rattle.model_line.specs.declared.config.Config.{Config}
 pub use Rattle.model_line.specs.declared.faults.Fault.{Fault}
 pub use Rattle.model_link.proofs.TellRows.{cleared-orders, cleared-tells}

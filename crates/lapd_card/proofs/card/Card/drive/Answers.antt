@@ -1,5 +1,5 @@
 -- Hand-written answers for `Card::drive`.
-use Rattle.lapd_card.proofs.Vocabulary.{rules, refl, sym, ap, subst, arith, ◌∙◌, take_all, length-map, event_of, run, moments, all_counted, Stands, slice_get-get_or, Octet, ArePriced, AreDropsWithoutCost, AreDropsWithoutEffect, frames_amortised, run_is_moments, lines_isolated, frames_linear, pool_never_full, deliveries_numbered, stored_within_limit, text_goes_on, refused_by_the_table, frames_by_event, drops_cost_nothing, drops_change_nothing, IsWithinLimit, IsAmortised, IsAmortisedFromZero, HasSixOctetsAFrame, HasSevenOctetsAReject, IsLinear, IsIsolated, IsNeverFull, IsNumbered, IsNumberedFromZero, IsTextual, counters_in}
+use Rattle.lapd_card.proofs.Vocabulary.{rules, refl, sym, ap, subst, arith, ◌∙◌, take_all, event_of, run, moments, all_counted, Stands, slice_get-get_or, Octet, ArePriced, AreDropsWithoutCost, AreDropsWithoutEffect, frames_amortised, run_is_moments, lines_isolated, frames_linear, pool_never_full, deliveries_numbered, stored_within_limit, text_goes_on, refused_by_the_table, frames_by_event, drops_cost_nothing, drops_change_nothing, IsWithinLimit, IsAmortised, IsAmortisedFromZero, HasSixOctetsAFrame, HasSevenOctetsAReject, IsLinear, IsIsolated, IsNeverFull, IsNumbered, IsNumberedFromZero, IsTextual, counters_in, length-map}
 use Rattle.lapd_card.specs.Drive.{events_of, Taken}
 use Rattle.lapd_card.proofs.Taken.{ran-more, taken-more, missed-at, at_ok, at_err}
 use Rattle.lapd_card.proofs.Counting.{none-counted, counted-more, numbers_in_runs}

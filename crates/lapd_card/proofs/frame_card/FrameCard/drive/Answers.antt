@@ -1,5 +1,5 @@
 -- Hand-written answers for `FrameCard::drive`.
-use Rattle.lapd_card.proofs.Vocabulary.{rules, [], refl, sym, ap, subst, arith, ◌∙◌, take_all, length-map, happening_of, all_of, Taken, after_happenings, replies, happenings_counted, frame_counters_in, slice_get-get_or, Comes, answers_say_it, ArePriced, AreDropsWithoutCost, AreDropsWithoutEffect, frames_amortised, run_is_moments, lines_isolated, frames_linear, pool_never_full, deliveries_numbered, stored_within_limit, text_goes_on, refused_by_the_table, frames_by_event, drops_cost_nothing, drops_change_nothing, IsWithinLimit, IsAmortised, IsAmortisedFromZero, HasSixOctetsAFrame, HasSevenOctetsAReject, IsLinear, IsIsolated, IsNeverFull, IsNumbered, IsNumberedFromZero, IsTextual, after_all}
+use Rattle.lapd_card.proofs.Vocabulary.{rules, [], refl, sym, ap, subst, arith, ◌∙◌, take_all, happening_of, all_of, Taken, after_happenings, replies, happenings_counted, frame_counters_in, slice_get-get_or, Comes, answers_say_it, ArePriced, AreDropsWithoutCost, AreDropsWithoutEffect, frames_amortised, run_is_moments, lines_isolated, frames_linear, pool_never_full, deliveries_numbered, stored_within_limit, text_goes_on, refused_by_the_table, frames_by_event, drops_cost_nothing, drops_change_nothing, IsWithinLimit, IsAmortised, IsAmortisedFromZero, HasSixOctetsAFrame, HasSevenOctetsAReject, IsLinear, IsIsolated, IsNeverFull, IsNumbered, IsNumberedFromZero, IsTextual, after_all, length-map}
 use Rattle.lapd_card.specs.FrameStands.{Stands}
 use Rattle.lapd_card.proofs.FrameTaken.{ran-more, counted-more, taken-more, missed-at}
 use Rattle.lapd_card.proofs.Taken.{at_ok, at_err}

@@ -1,7 +1,5 @@
 -- Hand-written answers for `Line::hear`.
-use Rattle.lapd_line.proofs.Vocabulary.{◌++◌, false, refl, ap, ◌≡◌, Some, None, sym, subst, ◌∙◌, false≢true, heard_shown, bare_shown, config_of, latest_frame, latest_of, told, nothing, answer, told_in}
-use Rattle.model_bits.specs.Stream as stream
-use Rattle.model_line.specs.Event as line_event
+use Rattle.lapd_line.proofs.Vocabulary.{◌++◌, false, refl, ap, false≢true, heard_shown, bare_shown, config_of, latest_frame}
 use Rattle.lapd_line.specs.declared.line.Line.{Line}
 use Rattle.lapd_line.proofs.LineSteps.{octet_leads, nothing_leads, is_dropped, dropped_served}
 use Rattle.lapd_line.proofs.line.Line.hear.Goals as goal

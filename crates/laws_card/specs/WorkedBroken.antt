@@ -1,7 +1,7 @@
 -- Worked values: states, answers and runs that would break the promises, which no card comes to.
 use Rattle.std.specs.Prelude.{◌≡◌, true, false, List, [], ◌∷◌, ◌++◌}
 use Rattle.std.proofs.Common.{ap}
-use Rattle.lapd_bits.specs.declared.heard.Cause.TheVariants.{Fcs}
+use Rattle.model_bits.specs.declared.heard.Cause.TheVariants.{Fcs}
 use Rattle.lapd_frame.specs.declared.services.Service.TheVariants.{Call}
 use Rattle.lapd_frame.specs.declared.timers.Timer.TheVariants.{T200}
 use Rattle.model_link.specs.Link.{Link, fresh as fresh_link}

@@ -1,7 +1,7 @@
 -- Worked values: messages of TEI management that are owed and that begin, and ones that break the laws.
 use Rattle.std.specs.Prelude.{◌≡◌, List, [], ◌∷◌, ◌++◌, map, None, refl}
 use Rattle.std.proofs.lemmas.List.Elements.{All-head}
-use Rattle.lapd_bits.specs.Bits.{low_bits}
+use Rattle.model_bits.specs.Bits.{low_bits}
 use Rattle.lapd_frame.specs.declared.addresses.Side.TheVariants.{Network}
 use Rattle.lapd_frame.specs.declared.notes.Note.TheVariants.{Assigned}
 use Rattle.lapd_frame.specs.declared.timers.Timer.TheVariants.{T201}

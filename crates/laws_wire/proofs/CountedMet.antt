@@ -1,6 +1,6 @@
 -- The premises of the law on counted expiries are met, by the worked call that recovers from its losses.
 use Rattle.std.proofs.Common.{◌≡◌, refl, arith}
-use Rattle.lapd_bits.specs.Bits.{low_bits}
+use Rattle.model_bits.specs.Bits.{low_bits}
 use Rattle.lapd_frame.specs.declared.services.Service.TheVariants.{Call}
 use Rattle.lapd_frame.specs.Reading.{reading, header_of, control_of, unnumbered_of, supervisory_of}
 use Rattle.lapd_seq.specs.Circle.{distance_of, named}

@@ -1,5 +1,5 @@
 -- All that is told of a link is acknowledged, where a line is only pulled, as often as the configuration says: the law.
-use Rattle.std.proofs.Common.{◌≡◌, ℕ, ◌%◌, Bool, true, false, cond, List, [], ◌++◌, Option, Some, None, refl, sym, ap, ◌∙◌, subst, true≢false, inl, inr, append-nil, append_assoc}
+use Rattle.std.proofs.Common.{◌≡◌, ℕ, ◌%◌, Bool, true, false, List, [], ◌++◌, Option, Some, None, refl, sym, ap, ◌∙◌, subst, true≢false, inl, inr, append-nil, append_assoc}
 use Rattle.std.specs.Prelude.{fold}
 use Rattle.std.specs.Option.{option_map_or}
 use Rattle.std.proofs.lemmas.Grind.{flat_map-append}
@@ -8,7 +8,7 @@ use Rattle.std.proofs.lemmas.List.Sums.{fold-append}
 use Rattle.lapd_frame.specs.declared.services.Service.{Service}
 use Rattle.model_link.specs.Link.{Link, fresh, is_multiple_frame}
 use Rattle.model_line.specs.declared.config.Config.{Config}
-use Rattle.model_line.specs.Event.{Event, told}
+use Rattle.model_line.specs.Event.{Event}
 use Rattle.model_line.specs.Line.{Line, place_in, link_in, link_of, terms, fresh_line}
 use Rattle.model_line.specs.Machine.{after, answer}
 use Rattle.model_line.specs.Pull.{begun}

@@ -10,12 +10,11 @@ use Rattle.lapd_frame.specs.declared.services.Service.{Service}
 use Rattle.lapd_tei.proofs.Tables.{place_of-is, at-within}
 use Rattle.model_link.specs.Link.{fresh as fresh_link}
 use Rattle.model_line.specs.declared.config.Config.{Config}
-use Rattle.model_line.specs.Event.{pull, refused, nothing}
+use Rattle.model_line.specs.Event.{pull, refused}
 use Rattle.model_line.specs.Line.{Line, fresh_line, link_count, link_number, link_in, place_in, tei_at, has_tei}
 use Rattle.model_line.specs.Machine as lines
 use Rattle.model_line.specs.Machine.{after, answer}
 use Rattle.model_line.specs.Pull.{Taken, taken, is_due, with_item}
-use Rattle.model_line.specs.Sound as line
 use Rattle.model_line.specs.Sound.{IsSound}
 use Rattle.model_line.proofs.Numbers.{place_at-number, number_within}
 use Rattle.laws_line.specs.Drains.{most_pulls}

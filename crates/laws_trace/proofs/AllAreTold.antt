@@ -1,5 +1,5 @@
 -- Contents that may be told are told.
-use Rattle.std.proofs.Common.{◌≡◌, ℕ, ◌+◌, ◌%◌, ◌≤◌, ◌<◌, ◌==◌, ◌&&◌, Bool, true, false, cond, List, [], ◌∷◌, ◌++◌, length, map, Option, Some, None, refl, sym, ap, ◌∙◌, subst, eqb-true, eq-eqb, true≢false, inl, inr, append-nil}
+use Rattle.std.proofs.Common.{◌≡◌, ℕ, ◌%◌, ◌≤◌, ◌<◌, ◌==◌, ◌&&◌, Bool, true, false, cond, List, [], ◌∷◌, ◌++◌, length, map, Option, Some, None, refl, sym, ap, ◌∙◌, subst, eqb-true, eq-eqb, true≢false, inl, inr, append-nil}
 use Rattle.std.specs.Prelude.{fold, Ok, option_map, flat_map, not, option_to_list, is_some}
 use Rattle.std.specs.List.{list_any}
 use Rattle.std.specs.Option.{option_or, option_map_or}
@@ -33,7 +33,7 @@ use Rattle.laws_line.specs.Steady.{IsBy}
 use Rattle.model_card.specs.Card as cards
 use Rattle.model_card.specs.Card.{Card, line_at, is_full}
 use Rattle.model_card.specs.Event as card
-use Rattle.model_card.specs.Machine.{after, answer}
+use Rattle.model_card.specs.Machine.{answer}
 use Rattle.model_card.specs.Pulled.{frame_taken, octet_in}
 use Rattle.model_card.specs.Run.{moments, after_all, IsAtLine, AreAtLines}
 use Rattle.model_card.specs.Sound as card_sound

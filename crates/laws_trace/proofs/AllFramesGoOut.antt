@@ -1,15 +1,14 @@
 -- All frames go out, where a line is only pulled, as often as the configuration says: the laws.
-use Rattle.std.proofs.Common.{◌≡◌, ℕ, ◌+◌, ◌*◌, ◌/◌, ◌<◌, ◌≤◌, ◌==◌, Bool, true, cond, List, [], ◌∷◌, ◌++◌, length, map, Option, Some, option_map, refl, sym, ap, ◌∙◌, subst, inl, arith, append_assoc, eq-eqb}
-use Rattle.std.specs.Prelude.{All, flat_map, option_to_list}
+use Rattle.std.proofs.Common.{◌≡◌, ℕ, ◌+◌, ◌*◌, ◌/◌, ◌<◌, ◌≤◌, cond, List, [], ◌∷◌, ◌++◌, map, Some, option_map, refl, sym, ap, ◌∙◌, subst, inl, arith, eq-eqb}
+use Rattle.std.specs.Prelude.{All, option_to_list}
 use Rattle.std.proofs.lemmas.Grind.{flat_map-append}
 use Rattle.model_bits.specs.Stream as stream
 use Rattle.model_link.specs.declared.frames.ControlFrame.{ControlFrame}
 use Rattle.model_line.specs.declared.config.Config.{Config}
 use Rattle.model_line.specs.Event.{pull}
-use Rattle.model_line.specs.Line.{Line}
 use Rattle.model_line.specs.Pull.{begun}
 use Rattle.model_line.specs.Sound as line
-use Rattle.laws_line.specs.Drains.{after_pulls, bits_to_go, most_bits, most_pulls, control_text}
+use Rattle.laws_line.specs.Drains.{bits_to_go, most_bits, most_pulls, control_text}
 use Rattle.model_card.specs.Card.{Card, fresh, line_at}
 use Rattle.model_card.specs.Event.{Event, at}
 use Rattle.model_card.specs.Machine.{after, answer}

@@ -1,23 +1,22 @@
 -- What a link is asked for waits as an answer: one event of a link.
-use Rattle.std.proofs.Common.{◌≡◌, ℕ, ◌+◌, ◌-◌, ◌≤◌, ◌==◌, ◌&&◌, ◌||◌, Bool, true, false, cond, List, [], ◌∷◌, ◌++◌, length, take, drop, nat_lt, nat_le, Option, Some, None, refl, sym, ap, ◌∙◌, subst, arith, append-nil}
-use Rattle.std.specs.Prelude.{not, filter, flat_map}
+use Rattle.std.proofs.Common.{◌≡◌, ℕ, ◌+◌, ◌≤◌, ◌&&◌, Bool, true, false, cond, List, [], ◌∷◌, ◌++◌, length, take, drop, nat_lt, Some, refl, sym, ap, ◌∙◌, subst, arith, append-nil}
+use Rattle.std.specs.Prelude.{not, filter}
 use Rattle.std.proofs.lemmas.Bool.{ltb-true}
 use Rattle.std.proofs.lemmas.Grind.{flat_map-append}
 use Rattle.std.proofs.lemmas.List.{take-append-drop}
 use Rattle.lapd_frame.specs.declared.controls.Control.{Control}
 use Rattle.lapd_frame.specs.declared.controls.Control.TheVariants.{Information, ReceiveReady, ReceiveNotReady, Reject, Sabme, Disc, Ui, Ua, Dm, Frmr, Xid}
 use Rattle.lapd_frame.specs.Grammar.{Parts}
-use Rattle.lapd_seq.specs.Numbers.{seq}
 use Rattle.model_link.specs.declared.states.State.{State}
 use Rattle.model_link.specs.declared.states.State.TheVariants.{TeiAssigned, AwaitingEstablishment, AwaitingRelease, Established, TimerRecovery}
 use Rattle.model_link.specs.declared.frames.ControlFrame.{ControlFrame}
 use Rattle.model_link.specs.declared.terms.Terms.{Terms}
 use Rattle.model_link.specs.Link.{Link, is_multiple_frame, state_number}
-use Rattle.model_link.specs.Events.{Event, frame, undefined, wrong_size, overlong, Establish, Release, Data, SetBusy, ClearBusy, received, expired, requested, offer, cleared}
+use Rattle.model_link.specs.Events.{Event, frame, undefined, wrong_size, overlong, received, expired, requested, offer, cleared}
 use Rattle.model_link.specs.Machine as links
 use Rattle.model_link.specs.Sound.{is_information}
 use Rattle.laws_link.specs.States.{as_heard, is_overlong}
-use Rattle.laws_link.specs.Waiting.{receipt_as, as_response, is_next, is_taken, to_information, to_supervisory, to_sabme, to_disc, answers_up, answers_to, answers, commands, put, room, behind, waiting_left, lost_by}
+use Rattle.laws_link.specs.Waiting.{receipt_as, as_response, is_next, is_taken, to_information, to_supervisory, to_sabme, to_disc, answers_to, answers, commands, put, room, waiting_left, lost_by}
 use Rattle.laws_link.proofs.Follows.{event-follows}
 use Rattle.laws_trace.specs.AnswersAreAsked.{Exchange, mode, poll, asked_by, IsPart}
 use Rattle.laws_trace.specs.AllAreAnswered.{is_answered}

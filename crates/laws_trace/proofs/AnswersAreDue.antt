@@ -1,29 +1,26 @@
 -- The answers that begin are among those that are due: the law.
-use Rattle.std.proofs.Common.{◌≡◌, ℕ, ◌+◌, ◌<◌, ◌==◌, ◌&&◌, ◌||◌, Bool, true, false, cond, List, [], ◌∷◌, ◌++◌, map, get_or, replicate, zero, suc, Option, Some, None, IfSome, refl, sym, ap, ◌∙◌, subst, arith, eqb-true, eq-eqb, true≢false, ◌⊎◌, inl, inr, append_assoc, append-nil}
-use Rattle.std.specs.Prelude.{All, filter, flat_map, option_to_list}
-use Rattle.std.specs.Option.{option_map_or, unwrap_or}
+use Rattle.std.proofs.Common.{◌≡◌, ℕ, ◌==◌, Bool, true, false, cond, List, [], ◌∷◌, ◌++◌, map, get_or, Option, Some, None, IfSome, refl, sym, ap, ◌∙◌, subst, arith, eqb-true, eq-eqb, true≢false, ◌⊎◌, inl, inr, append_assoc, append-nil}
+use Rattle.std.specs.Prelude.{filter, flat_map, option_to_list}
+use Rattle.std.specs.Option.{option_map_or}
 use Rattle.std.proofs.lemmas.Bool.{and_parts}
 use Rattle.std.proofs.lemmas.Grind.{flat_map-append}
 use Rattle.std.proofs.lemmas.List.{get_or-set_same, get_or-replicate}
 use Rattle.std.proofs.lemmas.List.Elements.{All-head, All-tail}
-use Rattle.lapd_frame.specs.declared.refusals.Refusal.TheVariants.{PoolFull}
 use Rattle.lapd_frame.specs.declared.services.Service.{Service}
 use Rattle.lapd_tei.proofs.Tables.{place_of-is}
 use Rattle.laws_link.specs.InOrder.{IsInOrder}
 use Rattle.laws_link.proofs.InOrder.{given-in-order}
-use Rattle.model_link.specs.declared.frames.ControlFrame.{ControlFrame}
 use Rattle.model_link.specs.declared.terms.Terms.{Terms}
 use Rattle.model_link.specs.Events as link
-use Rattle.model_link.specs.Link.{Link, fresh as fresh_link, state_number, address_at}
+use Rattle.model_link.specs.Link.{Link, fresh as fresh_link, state_number}
 use Rattle.model_link.specs.Machine as links
 use Rattle.model_link.specs.Sound as link_sound
 use Rattle.model_line.specs.declared.config.Config.{Config}
-use Rattle.model_line.specs.Event.{Event, Answer, refused}
-use Rattle.model_line.specs.Line.{Line, fresh_line, link_count, link_number, link_in, link_of, place_in, state_of, terms}
+use Rattle.model_line.specs.Event.{Event, Answer}
+use Rattle.model_line.specs.Line.{Line, fresh_line, link_in, link_of, place_in, state_of, terms}
 use Rattle.model_line.specs.Machine as lines
 use Rattle.model_line.specs.Sound.{IsInRange, IsSound}
 use Rattle.model_line.proofs.LinksSound.{sound_in}
-use Rattle.laws_line.specs.Steady.{IsBy}
 use Rattle.model_card.specs.Card.{Card, fresh, line_at, is_full}
 use Rattle.model_card.specs.Event as card
 use Rattle.model_card.specs.Machine as cards
@@ -41,7 +38,7 @@ use Rattle.laws_trace.proofs.Runs.{nothing-seen}
 use Rattle.model_link.specs.Told.{Given}
 use Rattle.model_line.specs.Pull.{frame_of}
 use Rattle.laws_trace.specs.AllAreAnswered.{is_answered, asked_in, AnswersAreDue}
-use Rattle.laws_trace.specs.AnswersAreAsked.{Exchange, answered_at, asked_at, IsPart}
+use Rattle.laws_trace.specs.AnswersAreAsked.{Exchange, answered_at, IsPart}
 use Rattle.laws_trace.proofs.AnswersAreAsked.{answered_in, answered, asked, waits, answered-is, all-foreign, given-answers, in-order, event-asks, fresh-waits}
 use Rattle.laws_trace.proofs.AskedOfLink.{answer_in, answers_in, asked_of}
 use Rattle.laws_trace.proofs.AnswersDueOfLink.{filtered, link-answers}

@@ -1,6 +1,6 @@
 -- The answers that wait on a link are among what it is to answer in its state: one event of a link.
-use Rattle.std.proofs.Common.{◌≡◌, ℕ, ◌+◌, ◌&&◌, ◌||◌, Bool, true, false, cond, List, [], ◌∷◌, ◌++◌, take, drop, Some, refl, sym, ap, ◌∙◌, subst, append-nil}
-use Rattle.std.specs.Prelude.{not, filter, flat_map}
+use Rattle.std.proofs.Common.{◌≡◌, ◌&&◌, ◌||◌, Bool, true, false, cond, List, [], ◌∷◌, ◌++◌, take, drop, Some, refl, sym, ap, ◌∙◌, subst, append-nil}
+use Rattle.std.specs.Prelude.{not, filter}
 use Rattle.std.proofs.lemmas.Grind.{flat_map-append}
 use Rattle.lapd_frame.specs.declared.controls.Control.{Control}
 use Rattle.lapd_frame.specs.declared.controls.Control.TheVariants.{Information, ReceiveReady, ReceiveNotReady, Reject, Sabme, Disc, Ui, Ua, Dm, Frmr, Xid}
@@ -17,7 +17,7 @@ use Rattle.laws_link.proofs.Follows.{event-follows}
 use Rattle.laws_trace.specs.AllAreAnswered.{is_answered}
 use Rattle.laws_trace.specs.AnswersAreAsked.{Exchange, mode, poll, IsPart, none, left_out, taken}
 use Rattle.laws_trace.proofs.AskedOfLink.{answer_in, answers_in, asked_of, event-asked, commands-answer, taken-part, rest-part, heard-asked}
-use Rattle.laws_trace.proofs.Parts.{of-itself, of-nothing, both, more, through}
+use Rattle.laws_trace.proofs.Parts.{of-itself, of-nothing, both, through}
 
 -- Of a part those that pass are a part of those that pass.
 pub filtered : {X : Type 0} → (p : X → Bool) (xs ys : List X) → IsPart xs ys → IsPart (filter p xs) (filter p ys)

@@ -1,11 +1,10 @@
 -- The answers that wait on a link are among what is asked of it: one event of a link.
-use Rattle.std.proofs.Common.{◌≡◌, ℕ, ◌+◌, ◌-◌, ◌&&◌, ◌||◌, Bool, true, false, cond, List, [], ◌∷◌, ◌++◌, length, take, drop, refl, sym, ap, ◌∙◌, subst, append-nil}
+use Rattle.std.proofs.Common.{◌≡◌, ℕ, ◌+◌, ◌&&◌, ◌||◌, Bool, true, false, cond, List, [], ◌∷◌, ◌++◌, take, drop, refl, sym, ap, ◌∙◌, subst, append-nil}
 use Rattle.std.specs.Prelude.{not, flat_map}
 use Rattle.std.proofs.lemmas.Grind.{flat_map-append}
 use Rattle.std.proofs.lemmas.List.{take-append-drop}
 use Rattle.lapd_frame.specs.declared.controls.Control.{Control}
 use Rattle.lapd_frame.specs.declared.controls.Control.TheVariants.{Information, ReceiveReady, ReceiveNotReady, Reject, Sabme, Disc, Ui, Ua, Dm, Frmr, Xid}
-use Rattle.lapd_frame.specs.Grammar.{Parts}
 use Rattle.lapd_seq.specs.Numbers.{seq}
 use Rattle.model_link.specs.declared.states.State.{State}
 use Rattle.model_link.specs.declared.states.State.TheVariants.{TeiAssigned, AwaitingEstablishment, AwaitingRelease, Established, TimerRecovery}
@@ -15,7 +14,7 @@ use Rattle.model_link.specs.Link.{Link, is_multiple_frame}
 use Rattle.model_link.specs.Events.{Event, frame, undefined, wrong_size, overlong, Establish, Release, Data, SetBusy, ClearBusy, received, expired, requested, offer, cleared}
 use Rattle.model_link.specs.Machine as links
 use Rattle.laws_link.specs.States.{as_heard, is_overlong, moves}
-use Rattle.laws_link.specs.Waiting.{receipt_as, as_response, is_next, is_taken, to_information, to_supervisory, to_sabme, to_disc, answers_up, answers_to, answers, command_in, is_time, commands, put, room, behind, waiting_left}
+use Rattle.laws_link.specs.Waiting.{receipt_as, as_response, is_next, is_taken, to_information, to_supervisory, to_sabme, to_disc, answers_to, answers, command_in, is_time, commands, put, room, behind, waiting_left}
 use Rattle.laws_link.proofs.Follows.{event-follows}
 use Rattle.laws_trace.specs.AnswersAreAsked.{Exchange, mode, poll, asked_by, answered_by, IsPart}
 use Rattle.laws_trace.proofs.Parts.{of-itself, of-nothing, both, more, through}

@@ -1,5 +1,5 @@
 -- The command that is due waits, or goes: one event of a line, while the TEI stays on it.
-use Rattle.std.proofs.Common.{◌≡◌, ℕ, ◌+◌, ◌-◌, ◌==◌, ◌&&◌, ◌||◌, Bool, true, false, cond, List, [], ◌∷◌, ◌++◌, map, Option, Some, None, IfSome, option_map, refl, sym, ap, ◌∙◌, subst, eqb-true, eq-eqb, inl, inr, append_assoc, append-nil}
+use Rattle.std.proofs.Common.{◌≡◌, ℕ, ◌==◌, ◌&&◌, ◌||◌, Bool, true, false, cond, List, [], ◌∷◌, ◌++◌, map, Option, Some, None, IfSome, option_map, refl, sym, ap, ◌∙◌, subst, eqb-true, eq-eqb, inl, inr, append_assoc, append-nil}
 use Rattle.std.specs.Prelude.{All, flat_map, option_to_list}
 use Rattle.std.specs.Option.{option_map_or, unwrap_or}
 use Rattle.std.proofs.lemmas.Grind.{flat_map-append}
@@ -40,8 +40,6 @@ use Rattle.laws_line.specs.Frames.{lost_in}
 use Rattle.laws_line.specs.Steady.{IsBy}
 use Rattle.laws_line.specs.Timers.{HaveTheirTimers}
 use Rattle.laws_link.specs.States.{moves}
-use Rattle.laws_link.specs.Waiting as waiting
-use Rattle.laws_link.specs.Waiting.{put}
 use Rattle.laws_link.proofs.Follows.{event-follows}
 use Rattle.model_card.specs.Pulled.{frame_taken, frame_in, octet_in}
 use Rattle.laws_trace.specs.AnswersAreAsked as exchanges

@@ -1,5 +1,5 @@
 -- The command that is due waits: one event of a link.
-use Rattle.std.proofs.Common.{◌≡◌, ℕ, ◌+◌, ◌-◌, ◌==◌, ◌||◌, Bool, true, false, cond, List, [], ◌∷◌, ◌++◌, length, take, drop, Some, refl, sym, ap, ◌∙◌, subst}
+use Rattle.std.proofs.Common.{◌≡◌, ℕ, ◌+◌, ◌==◌, ◌||◌, Bool, true, false, cond, List, [], ◌∷◌, ◌++◌, length, take, drop, Some, refl, sym, ap, ◌∙◌, subst}
 use Rattle.std.specs.Prelude.{not, ◌&&◌, flat_map}
 use Rattle.lapd_frame.specs.declared.controls.Control.{Control}
 use Rattle.lapd_frame.specs.declared.controls.Control.TheVariants.{Information, ReceiveReady, ReceiveNotReady, Reject, Sabme, Disc, Ui, Ua, Dm, Frmr, Xid}
@@ -15,8 +15,6 @@ use Rattle.model_link.specs.Events as link
 use Rattle.model_link.specs.Link.{Link, state_number, is_multiple_frame}
 use Rattle.model_link.specs.Machine as links
 use Rattle.model_link.specs.Told.{runs}
-use Rattle.model_line.specs.Event.{Event, told}
-use Rattle.model_line.specs.Machine.{after}
 use Rattle.laws_link.specs.States.{as_heard, moves}
 use Rattle.laws_link.specs.Waiting as waiting
 use Rattle.laws_link.specs.Waiting.{receipt_as, answers, commands, put, room, waiting_left}
@@ -24,7 +22,6 @@ use Rattle.laws_link.proofs.Follows.{event-follows}
 use Rattle.laws_trace.specs.AnswersAreAsked.{IsPart}
 use Rattle.laws_trace.specs.CommandsGo.{command_in, command_of}
 use Rattle.laws_trace.specs.CommandsHaveCauses.{Kind}
-use Rattle.laws_trace.specs.Trace.{heard}
 use Rattle.laws_trace.proofs.Answering.{none-dropped}
 use Rattle.laws_trace.proofs.MovesOfLink.{ticks}
 use Rattle.laws_trace.proofs.Parts.{of-itself, of-nothing, both, more, behind, through}

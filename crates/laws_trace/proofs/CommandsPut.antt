@@ -1,36 +1,17 @@
 -- Which commands wait on a link, and which state puts which.
-use Rattle.std.proofs.Common.{◌≡◌, ℕ, ◌+◌, ◌-◌, ◌≤◌, ◌==◌, ◌&&◌, ◌||◌, Bool, true, false, cond, List, [], ◌∷◌, ◌++◌, length, take, drop, Option, Some, None, refl, sym, ap, ◌∙◌, subst, arith, eq-eqb, true≢false, length-append}
+use Rattle.std.proofs.Common.{◌≡◌, ℕ, ◌+◌, ◌≤◌, ◌&&◌, Bool, true, false, cond, List, [], ◌∷◌, ◌++◌, length, refl, ap, ◌∙◌, arith, length-append}
 use Rattle.std.specs.Prelude.{not, filter}
-use Rattle.std.specs.List.{list_any}
-use Rattle.std.proofs.lemmas.List.{take-append-drop}
 use Rattle.std.proofs.lemmas.List.Elements.{filter-append}
-use Rattle.std.proofs.lemmas.List.Folds.{list_any-append}
 use Rattle.lapd_frame.specs.declared.controls.Control.{Control}
 use Rattle.lapd_frame.specs.declared.controls.Control.TheVariants.{Information, ReceiveReady, ReceiveNotReady, Reject, Sabme, Disc, Ui, Ua, Dm, Frmr, Xid}
-use Rattle.lapd_frame.specs.declared.notes.ErrorCode.{ErrorCode}
-use Rattle.lapd_frame.specs.declared.notes.ErrorCode.TheVariants as code
-use Rattle.lapd_frame.specs.declared.notes.Note.{Note}
-use Rattle.lapd_frame.specs.declared.notes.Note.TheVariants as notes
-use Rattle.lapd_frame.specs.declared.services.Service.{Service}
-use Rattle.lapd_frame.specs.declared.services.Service.TheVariants.{Call, Packet}
-use Rattle.lapd_frame.specs.Services.{same_service}
 use Rattle.lapd_seq.specs.Numbers.{seq}
 use Rattle.model_link.specs.declared.states.State.{State}
 use Rattle.model_link.specs.declared.states.State.TheVariants.{TeiAssigned, AwaitingEstablishment, AwaitingRelease, Established, TimerRecovery}
 use Rattle.model_link.specs.declared.frames.ControlFrame.{ControlFrame}
-use Rattle.model_link.specs.declared.terms.Terms.{Terms}
-use Rattle.model_link.specs.declared.timers.LinkTimer.{LinkTimer}
-use Rattle.model_link.specs.declared.timers.LinkTimer.TheVariants.{T200, T203}
-use Rattle.model_link.specs.Link.{Link, is_multiple_frame, may_repeat}
-use Rattle.model_link.specs.Events.{Event, Received, Request, frame, undefined, wrong_size, overlong, Establish, Release, Data, SetBusy, ClearBusy, received, expired, requested, offer, cleared}
-use Rattle.model_link.specs.Machine as links
-use Rattle.model_link.specs.Told.{runs}
-use Rattle.laws_link.specs.Flags.{takes_contents}
-use Rattle.laws_link.specs.States.{as_heard, moves, by_frame, by_expiry, by_request, by_received, is_faulty, is_invalid, receipt_of, state_after}
-use Rattle.laws_link.specs.Telling.{error, told_by, told_by_frame, told_up, told_malformed, final_as}
-use Rattle.laws_link.specs.Waiting.{receipt_as, as_response, is_next, is_taken, to_information, to_supervisory, to_sabme, to_disc, answers_up, answers_to, answers, command_in, is_time, commands, put, room, behind, waiting_left}
-use Rattle.laws_link.proofs.Follows.{event-follows}
-use Rattle.laws_trace.specs.CommandsHaveCauses.{Kind, sabme, disc, enquiry, is_command, is_error}
+use Rattle.model_link.specs.Link.{Link, is_multiple_frame}
+use Rattle.model_link.specs.Events.{Event, frame, undefined, wrong_size, overlong, Establish, Release, Data, SetBusy, ClearBusy, received, expired, requested, offer, cleared}
+use Rattle.laws_link.specs.Waiting.{receipt_as, as_response, is_next, is_taken, to_information, to_supervisory, to_sabme, to_disc, answers_to, answers, command_in}
+use Rattle.laws_trace.specs.CommandsHaveCauses.{Kind, sabme, disc, enquiry, is_command}
 
 abbrev pub command_of : Kind → ControlFrame → Bool
 command_of k f = is_command k f.command f.control

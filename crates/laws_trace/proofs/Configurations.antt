@@ -1,5 +1,5 @@
 -- Which configurations are in range: the law.
-use Rattle.std.proofs.Common.{◌≡◌, ℕ, ◌≤◌, ◌↔◌, Bool, true, false, not, cond, ◌&&◌, Option, Some, None, max, nat_le, refl, ap, ◌∙◌, arith}
+use Rattle.std.proofs.Common.{◌≡◌, ℕ, ◌≤◌, Bool, true, false, not, cond, ◌&&◌, Option, Some, None, max, nat_le, refl, ap, ◌∙◌, arith}
 use Rattle.std.proofs.lemmas.Bool.{le-leb}
 use Rattle.model_line.specs.declared.config.Config.{Config}
 use Rattle.model_line.specs.declared.config.Field.{Field}

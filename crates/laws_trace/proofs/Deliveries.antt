@@ -1,8 +1,8 @@
 -- What is told is what was heard.
-use Rattle.std.proofs.Common.{◌≡◌, ℕ, ◌+◌, ◌%◌, ◌≤◌, ◌<◌, ◌==◌, ◌&&◌, Bool, true, false, cond, List, [], ◌∷◌, ◌++◌, length, map, Option, Some, None, option_map, Result, Ok, Err, refl, sym, ap, ◌∙◌, subst, arith, eqb-true, eq-eqb, true≢false, ◌⊎◌, inl, inr}
+use Rattle.std.proofs.Common.{◌≡◌, ℕ, ◌%◌, ◌≤◌, ◌==◌, ◌&&◌, Bool, true, false, cond, List, [], ◌∷◌, length, Option, Some, None, refl, sym, ap, ◌∙◌, arith, eq-eqb, true≢false, ◌⊎◌, inl, inr}
 use Rattle.std.specs.Prelude.{All, ◌||◌, not, nat_le, count_by, option_to_list}
 use Rattle.std.specs.List.{list_any}
-use Rattle.std.specs.Option.{option_or, option_map_or}
+use Rattle.std.specs.Option.{option_map_or}
 use Rattle.std.proofs.lemmas.Bool.{and_parts}
 use Rattle.std.proofs.lemmas.List.Elements.{All-head, All-tail}
 use Rattle.std.proofs.lemmas.List.Sums.{sum_by-cons}
@@ -12,14 +12,12 @@ use Rattle.lapd_seq.specs.declared.numbers.Seq.{Seq}
 use Rattle.lapd_frame.specs.declared.addresses.Address.{Address}
 use Rattle.lapd_frame.specs.declared.controls.Control.{Control}
 use Rattle.lapd_frame.specs.declared.controls.Control.TheVariants as control
-use Rattle.lapd_frame.specs.declared.faults.ReadFault.TheVariants.{Undefined, WrongSize}
 use Rattle.lapd_frame.specs.declared.notes.Note.{Note}
 use Rattle.lapd_frame.specs.declared.notes.Note.TheVariants as notes
 use Rattle.lapd_frame.specs.declared.services.Service.{Service}
-use Rattle.lapd_frame.specs.Grammar.{Parts, AreOctets}
+use Rattle.lapd_frame.specs.Grammar.{Parts}
 use Rattle.lapd_frame.specs.Reading.{reading}
 use Rattle.lapd_frame.specs.Services.{sapi_of, service_of, same_service}
-use Rattle.lapd_frame.proofs.Spelling.{fault-again}
 use Rattle.model_link.specs.declared.terms.Terms.{Terms}
 use Rattle.model_link.specs.Deliveries.{Arrived, restarts, eligible, eligible_of, is_eligible, information_of}
 use Rattle.model_link.specs.Events as link
@@ -38,10 +36,9 @@ use Rattle.model_line.specs.Sound.{IsInRange, IsSound}
 use Rattle.laws_line.specs.Heard.{Ends, Adds, IsMalformed, IsTooLong, notes_of, contents_in, is_data_of, is_unit_of, tells_contents}
 use Rattle.laws_line.specs.Heard as line_heard
 use Rattle.laws_line.specs.Steady.{IsBy, Brings, BringsMalformed}
-use Rattle.laws_line.proofs.Ending.{ended-octets, gained-is}
+use Rattle.laws_line.proofs.Ending.{gained-is}
 use Rattle.laws_line.proofs.HandedOn.{contents-heard}
 use Rattle.laws_line.proofs.Hearing.{sapi-is, frame-aim, one-event}
-use Rattle.laws_line.proofs.Obeyed.{services-equal, service-same, both-true}
 use Rattle.laws_line.proofs.ToldOnce.{told-once}
 use Rattle.laws_line.proofs.Grouping.{group-unit}
 use Rattle.laws_trace.specs.Deliveries.{parts_of, frame_of, is_for, begins_by, begins, number_in, IsOfFrame}

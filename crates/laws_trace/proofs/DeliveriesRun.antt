@@ -1,5 +1,5 @@
 -- What is told is what was heard: over runs.
-use Rattle.std.proofs.Common.{◌≡◌, ℕ, ◌+◌, ◌%◌, ◌<◌, ◌&&◌, ◌||◌, Bool, true, false, cond, List, [], ◌∷◌, ◌++◌, map, Option, Some, None, option_map, refl, sym, ap, ◌∙◌, subst, arith, eqb-true, eq-eqb, ◌==◌, Result, Ok, Err, true≢false, ◌⊎◌, inl, inr}
+use Rattle.std.proofs.Common.{◌≡◌, ℕ, ◌+◌, ◌%◌, ◌<◌, ◌&&◌, ◌||◌, Bool, true, false, cond, List, [], ◌∷◌, ◌++◌, map, Option, Some, None, option_map, refl, sym, ap, ◌∙◌, subst, eqb-true, eq-eqb, ◌==◌, Result, Ok, Err, true≢false, ◌⊎◌, inl, inr}
 use Rattle.std.specs.Prelude.{fold, option_to_list, is_some}
 use Rattle.lapd_frame.specs.declared.notes.Note.{Note}
 use Rattle.std.specs.List.{list_any}
@@ -8,7 +8,6 @@ use Rattle.std.proofs.lemmas.List.{get_or-replicate}
 use Rattle.std.proofs.lemmas.List.Sums.{fold-append}
 use Rattle.std.proofs.lemmas.Option.{none-some}
 use Rattle.model_bits.specs.Stream as stream
-use Rattle.lapd_frame.specs.declared.addresses.Address.{Address}
 use Rattle.lapd_frame.specs.declared.faults.ReadFault.{ReadFault}
 use Rattle.lapd_frame.specs.Reading.{reading}
 use Rattle.lapd_frame.specs.Services.{sapi_of, same_service}
@@ -16,11 +15,10 @@ use Rattle.lapd_frame.specs.declared.services.Service.{Service}
 use Rattle.lapd_frame.specs.Grammar.{Parts}
 use Rattle.lapd_frame.proofs.Spelling.{reading-again}
 use Rattle.model_link.specs.declared.terms.Terms.{Terms}
-use Rattle.model_link.specs.Deliveries.{Arrived, restarts, eligible}
+use Rattle.model_link.specs.Deliveries.{restarts}
 use Rattle.model_link.specs.Events as link
 use Rattle.model_link.specs.Link.{Link, fresh, is_multiple_frame}
 use Rattle.model_link.specs.Machine as links
-use Rattle.model_link.specs.Notes.{is_data, is_unit}
 use Rattle.model_link.specs.Sound as link_sound
 use Rattle.model_link.proofs.Delivering.{event-delivers}
 use Rattle.model_link.proofs.Numbering.{delivered-at_once}
@@ -31,7 +29,7 @@ use Rattle.laws_link.proofs.Keeping.{event-unit}
 use Rattle.laws_link.proofs.Once.{within-is}
 use Rattle.lapd_tei.proofs.Tables.{place_of-is}
 use Rattle.model_line.specs.declared.config.Config.{Config}
-use Rattle.model_line.specs.Effect.{at_none, at_link}
+use Rattle.model_line.specs.Effect.{at_none}
 use Rattle.model_line.specs.Event.{Event, octet, expiry, request, pull, Answer, LineTold, told, refused, pulled, nothing}
 use Rattle.model_line.specs.Line.{Line, place_in, link_in, link_of, terms, fresh_line}
 use Rattle.model_line.specs.Machine.{aim_of, of_octet, after, answer}
@@ -39,7 +37,6 @@ use Rattle.model_line.specs.Octet.{gained, aim_of_heard, aim_of_reading, message
 use Rattle.model_line.specs.Pull.{Taken, begun}
 use Rattle.model_line.specs.Request.{Request}
 use Rattle.model_line.specs.Sound.{IsInRange, IsSound}
-use Rattle.model_line.specs.Sound as line
 use Rattle.model_line.proofs.LinksSound.{sound_in}
 use Rattle.model_line.specs.Sides.{at_side}
 use Rattle.laws_line.specs.Heard.{notes_of, contents_in, is_data_of, is_unit_of}

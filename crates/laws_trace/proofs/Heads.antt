@@ -30,7 +30,6 @@ use Rattle.laws_card.proofs.Spelling.{head}
 use Rattle.laws_trace.specs.FramesGoOut.{as_octets}
 use Rattle.laws_trace.specs.Trace as traces
 use Rattle.laws_trace.specs.Trace.{Seen, seen, frames_begun}
-use Rattle.laws_trace.specs.Units as units
 use Rattle.laws_trace.specs.Units.{is_ui, is_unit}
 use Rattle.laws_trace.proofs.Octets.{no-frame, no-frame-asked}
 use Rattle.laws_trace.proofs.Reading.{other-frame, unit-is}

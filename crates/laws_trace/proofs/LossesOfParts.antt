@@ -26,7 +26,6 @@ use Rattle.model_link.specs.Events as link
 use Rattle.model_link.specs.Link.{Link}
 use Rattle.model_link.specs.Machine as links
 use Rattle.model_link.specs.Sound as link_sound
-use Rattle.laws_trace.specs.Trace.{lost}
 use Rattle.laws_trace.proofs.CommandsCaused.{IsNoOther}
 
 -- TEI management: what is lost found four messages, which wait still.

@@ -1,8 +1,8 @@
 -- Messages of TEI management come first, then unit data, then frames of links: in pulls alone.
-use Rattle.std.proofs.Common.{◌≡◌, ℕ, ◌≤◌, ◌<◌, Bool, true, false, cond, List, [], ◌∷◌, ◌++◌, drop, slice_get, Option, Some, None, option_map, refl, sym, ap, ◌∙◌, subst, inl, inr, arith}
+use Rattle.std.proofs.Common.{◌≡◌, ℕ, ◌≤◌, ◌<◌, true, false, cond, List, [], ◌∷◌, ◌++◌, slice_get, Option, Some, None, option_map, refl, sym, ap, ◌∙◌, subst, inl, inr, arith}
 use Rattle.std.specs.Prelude.{All, option_to_list}
 use Rattle.std.specs.Option.{unwrap_or}
-use Rattle.std.proofs.lemmas.List.Elements.{All-nil, All-cons, All-head, All-tail}
+use Rattle.std.proofs.lemmas.List.Elements.{All-nil, All-cons, All-head}
 use Rattle.lapd_frame.specs.declared.addresses.Side.{Side}
 use Rattle.lapd_frame.specs.declared.addresses.Address.{Address}
 use Rattle.lapd_frame.specs.declared.controls.Control.TheVariants.{Ui}
@@ -15,7 +15,7 @@ use Rattle.model_line.specs.Event.{pull}
 use Rattle.model_line.specs.Line.{Line, service_at}
 use Rattle.model_line.specs.Machine.{after, answer}
 use Rattle.model_line.specs.Pull.{Taken, begun}
-use Rattle.model_line.specs.Sound.{IsInRange, IsSound}
+use Rattle.model_line.specs.Sound.{IsSound}
 use Rattle.model_card.specs.Pulled.{frame_taken}
 use Rattle.model_card.specs.Card.{fresh}
 use Rattle.model_card.specs.Run.{moments, after_all}

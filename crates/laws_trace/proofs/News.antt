@@ -15,7 +15,6 @@ use Rattle.model_line.specs.Event.{octet, expiry, request, pull, Answer, refused
 use Rattle.model_line.specs.Line.{Line, fresh_line, link_of, link_in, state_of}
 use Rattle.model_line.specs.Machine as lines
 use Rattle.model_line.specs.Request.{Request, Establish, Release, Data, Assign, Remove, Check, SetBusy, ClearBusy}
-use Rattle.model_line.specs.Sound.{IsSound}
 use Rattle.model_card.specs.Card.{Card, fresh, line_at, is_full}
 use Rattle.model_card.specs.Event.{Event, at}
 use Rattle.model_card.specs.Machine.{after, answer}

@@ -16,11 +16,9 @@ use Rattle.model_line.specs.Event.{Answer, told}
 use Rattle.model_line.specs.Line.{Line, link_of, place_in, state_of, terms}
 use Rattle.model_line.specs.Machine as lines
 use Rattle.model_line.specs.Sound.{IsSound}
-use Rattle.model_card.specs.Event.{Event}
-use Rattle.model_card.specs.Machine.{after, answer}
 use Rattle.laws_line.specs.Heard.{notes_of}
 use Rattle.laws_link.specs.States.{moves}
-use Rattle.laws_trace.specs.News.{is_news, is_indicated, establishes, releases, begins, asked, due}
+use Rattle.laws_trace.specs.News.{is_news, is_indicated, establishes, releases, begins, due}
 use Rattle.laws_trace.specs.TimersAreTimely.{is_state, differ}
 use Rattle.laws_trace.specs.Trace.{seen}
 use Rattle.laws_trace.proofs.LinkLed.{on-line}

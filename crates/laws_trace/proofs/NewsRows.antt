@@ -1,5 +1,5 @@
 -- What a link tells of establishments and releases, by each frame that it hears.
-use Rattle.std.proofs.Common.{◌≡◌, ℕ, ◌+◌, ◌==◌, ◌&&◌, ◌||◌, not, Bool, true, false, cond, List, [], ◌∷◌, ◌++◌, length, refl, sym, ap, ◌∙◌}
+use Rattle.std.proofs.Common.{◌≡◌, ℕ, ◌==◌, ◌&&◌, ◌||◌, not, Bool, true, false, cond, List, [], ◌∷◌, ◌++◌, length, refl, sym, ap, ◌∙◌}
 use Rattle.std.specs.Prelude.{All, filter, nat_lt, is_some}
 use Rattle.std.specs.List.{list_any}
 use Rattle.std.proofs.lemmas.List.Elements.{All-head, All-tail}
@@ -15,7 +15,7 @@ use Rattle.lapd_seq.specs.Circle.{named}
 use Rattle.model_link.specs.declared.states.State.{State}
 use Rattle.model_link.specs.declared.states.State.TheVariants.{TeiAssigned, AwaitingEstablishment, AwaitingRelease, Established, TimerRecovery}
 use Rattle.model_link.specs.declared.terms.Terms.{Terms}
-use Rattle.model_link.specs.Events.{Event, frame, overlong, Release, Data, received, requested}
+use Rattle.model_link.specs.Events.{Event, frame, overlong, Release, received, requested}
 use Rattle.model_link.specs.Notes.{IsOwn}
 use Rattle.model_link.specs.Link.{Link, state_number}
 use Rattle.laws_link.specs.Flags.{takes_contents}

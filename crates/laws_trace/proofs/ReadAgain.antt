@@ -1,6 +1,6 @@
 -- What holds of a frame with an address and a control field, and of every fault, holds of what is read of its spelling, whether
 -- the grammar has it or not.
-use Rattle.std.proofs.Common.{◌≡◌, ℕ, ◌+◌, ◌*◌, ◌++◌, Bool, true, false, cond, List, length, drop, slice_index, sym, subst, Result, Ok, Err, Some}
+use Rattle.std.proofs.Common.{ℕ, ◌+◌, ◌*◌, ◌++◌, Bool, true, false, cond, List, length, drop, slice_index, sym, subst, Result, Ok, Err, Some}
 use Rattle.lapd_frame.specs.declared.addresses.Address.{Address}
 use Rattle.lapd_frame.specs.declared.addresses.Side.{Side}
 use Rattle.lapd_frame.specs.declared.controls.Control.{Control}

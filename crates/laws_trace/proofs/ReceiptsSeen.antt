@@ -1,7 +1,7 @@
 -- Receipts count what was told: what is seen of the receipts of a link, and which are due by it.
 use Rattle.std.proofs.Common.{◌≡◌, ℕ, ◌==◌, ◌&&◌, ◌||◌, Bool, true, false, cond, List, [], ◌∷◌, ◌++◌, map, drop, Option, Some, None, option_map, refl, sym, ap, ◌∙◌, subst, inl, inr, eq-eqb, append-nil, true≢false}
-use Rattle.std.specs.Prelude.{All, IfSome, flat_map, fold, option_to_list}
-use Rattle.std.specs.Option.{option_map_or, unwrap_or}
+use Rattle.std.specs.Prelude.{All, IfSome, flat_map, option_to_list}
+use Rattle.std.specs.Option.{unwrap_or}
 use Rattle.std.proofs.lemmas.List.Elements.{All-head, All-tail}
 use Rattle.model_bits.specs.Stream as stream
 use Rattle.lapd_frame.specs.declared.controls.Control.TheVariants.{Ui}
@@ -21,13 +21,11 @@ use Rattle.model_link.specs.Link.{Link, address_at}
 use Rattle.model_link.specs.Machine as links
 use Rattle.model_link.specs.Told.{Given}
 use Rattle.model_line.specs.declared.config.Config.{Config}
-use Rattle.model_line.specs.Event.{Event, octet, expiry, request, pull, Answer, LineTold, told, refused, pulled}
+use Rattle.model_line.specs.Event.{Event, octet, expiry, request, pull, Answer, told, refused, pulled}
 use Rattle.model_line.specs.Line.{Line}
-use Rattle.model_line.specs.Machine.{answer, of_octet}
 use Rattle.model_line.specs.Octet.{gained}
 use Rattle.model_line.specs.Pull.{Taken, begun, frame_of}
 use Rattle.model_line.specs.Request.{Request}
-use Rattle.laws_line.specs.Heard.{notes_of}
 use Rattle.laws_line.specs.Requests as requests
 use Rattle.laws_line.specs.Share.{is_granted}
 use Rattle.laws_line.specs.Steady.{IsBy, Brings, timer_of}

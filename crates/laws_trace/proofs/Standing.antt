@@ -1,14 +1,10 @@
 -- How a link stands, to whoever watches it: over runs.
-use Rattle.std.proofs.Common.{◌≡◌, ℕ, ◌<◌, ◌==◌, ◌&&◌, ◌||◌, Bool, true, false, cond, List, [], ◌∷◌, ◌++◌, map, Option, Some, None, option_map, refl, sym, ap, ◌∙◌, subst, eqb-true, eq-eqb, true≢false, ◌⊎◌, inl, inr}
+use Rattle.std.proofs.Common.{◌≡◌, ℕ, ◌==◌, ◌&&◌, ◌||◌, Bool, true, false, cond, List, [], ◌∷◌, ◌++◌, map, Option, Some, None, option_map, refl, sym, ap, ◌∙◌, subst, eqb-true, eq-eqb, true≢false, ◌⊎◌, inl, inr}
 use Rattle.std.specs.Prelude.{fold, not, option_to_list, is_some}
 use Rattle.std.specs.List.{list_any}
 use Rattle.std.specs.Option.{option_map_or}
 use Rattle.std.proofs.lemmas.Bool.{and_parts}
-use Rattle.std.proofs.lemmas.List.{get_or-replicate}
-use Rattle.std.proofs.lemmas.List.Sums.{fold-append}
-use Rattle.std.proofs.lemmas.Option.{none-some}
 use Rattle.model_bits.specs.Stream as stream
-use Rattle.lapd_frame.specs.declared.notes.Note.{Note}
 use Rattle.lapd_frame.specs.declared.services.Service.{Service}
 use Rattle.lapd_frame.specs.Grammar.{Parts}
 use Rattle.lapd_frame.specs.Services.{same_service}
@@ -20,7 +16,7 @@ use Rattle.model_link.specs.Link.{Link, fresh, is_multiple_frame}
 use Rattle.model_link.specs.Machine as links
 use Rattle.model_line.specs.declared.config.Config.{Config}
 use Rattle.model_line.specs.Event.{Event, octet, expiry, request, pull, Answer, LineTold, told, refused, pulled}
-use Rattle.model_line.specs.Line.{Line, place_in, link_in, link_of, terms, fresh_line}
+use Rattle.model_line.specs.Line.{Line, place_in, link_in, link_of, terms}
 use Rattle.model_line.specs.Machine.{aim_of, after, answer, of_octet, unless_refused}
 use Rattle.model_line.specs.Octet.{gained}
 use Rattle.model_line.specs.Pull.{Taken, begun}
@@ -32,23 +28,16 @@ use Rattle.laws_line.specs.Requests.{of_link}
 use Rattle.laws_line.specs.Share.{is_granted}
 use Rattle.laws_line.specs.Steady.{IsBy}
 use Rattle.laws_line.proofs.Granting.{not-refused}
-use Rattle.laws_line.proofs.TimersFollow.{nowhere}
-use Rattle.model_card.specs.Card as cards
-use Rattle.model_card.specs.Card.{line_at}
-use Rattle.model_card.specs.Event as card
 use Rattle.model_card.specs.Pulled.{frame_taken, octet_in}
-use Rattle.model_card.specs.Run.{after_all, AreAtLines}
-use Rattle.model_card.proofs.CardSound.{fresh_is_sound}
 use Rattle.laws_trace.specs.CommandsHaveCauses.{is_own}
 use Rattle.laws_trace.specs.Trace as traces
 use Rattle.laws_trace.specs.Trace.{Seen, heard, noted, lost, put, seen, seen_told, seen_granted, trace_of}
-use Rattle.laws_trace.specs.Deliveries.{Watched, Standing, at_first, nothing_yet, frame_of, is_for, begins_by, begins, counted, busy_asked, is_information, brings_information, watch, stand}
+use Rattle.laws_trace.specs.Deliveries.{Standing, frame_of, is_for, begins_by, begins, counted, busy_asked, is_information, brings_information, stand}
 use Rattle.laws_trace.proofs.CommandsCaused.{same-itself}
 use Rattle.laws_trace.proofs.Deliveries.{frame_by, brings-frame, brings-none, one-begins}
 use Rattle.laws_trace.proofs.DeliveriesRun.{IsCount, event-aims, data-noted, event-told, no-data}
 use Rattle.laws_trace.proofs.OneLink.{HasOne, HasNone, Goes, is_at_link, event-goes}
-use Rattle.laws_trace.proofs.Runs.{run-shows}
-use Rattle.laws_trace.proofs.StandingOfLink.{quiet, calm, IsStanding, is_awaiting, brings, busy_behind, rejected_behind, link-stands, delivers-free}
+use Rattle.laws_trace.proofs.StandingOfLink.{quiet, calm, IsStanding, brings, busy_behind, rejected_behind, link-stands, delivers-free}
 
 no : {A : Type 0} → false ≡ true → A
 no e = absurd (true≢false (sym e))

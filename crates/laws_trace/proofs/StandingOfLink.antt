@@ -1,5 +1,5 @@
 -- How a link stands behind an event: own busy, and whether REJ stands.
-use Rattle.std.proofs.Common.{◌≡◌, ℕ, ◌==◌, ◌&&◌, ◌||◌, Bool, true, false, cond, List, [], ◌∷◌, ◌++◌, length, Option, Some, None, refl, sym, ap, ◌∙◌, subst, true≢false, inl, inr}
+use Rattle.std.proofs.Common.{◌≡◌, ℕ, ◌&&◌, ◌||◌, Bool, true, false, cond, List, [], ◌∷◌, ◌++◌, length, Option, Some, None, refl, sym, ap, ◌∙◌, true≢false, inl, inr}
 use Rattle.std.specs.Prelude.{not, is_some, nat_lt, nat_le}
 use Rattle.std.proofs.lemmas.Bool.{and_parts, and_right, or_parts, or_from, or_right}
 use Rattle.std.proofs.lemmas.Option.{none-some}
@@ -12,14 +12,14 @@ use Rattle.model_link.specs.declared.states.State.TheVariants.{TeiAssigned, Awai
 use Rattle.model_link.specs.declared.frames.ControlFrame.{ControlFrame}
 use Rattle.model_link.specs.declared.terms.Terms.{Terms}
 use Rattle.model_link.specs.Deliveries.{Arrived, information_in, is_eligible, eligible_of, restarts, eligible}
-use Rattle.model_link.specs.Events.{Event, Received, frame, undefined, wrong_size, overlong, Request, Establish, Release, Data, SetBusy, ClearBusy, received, expired, requested, offer, cleared}
+use Rattle.model_link.specs.Events.{Event, Received, frame, undefined, wrong_size, overlong, Establish, Release, Data, SetBusy, ClearBusy, received, expired, requested, offer, cleared}
 use Rattle.model_link.specs.Link.{Link, is_multiple_frame}
 use Rattle.model_link.specs.Machine as links
 use Rattle.model_link.proofs.Delivering.{delivery, event-delivers}
 use Rattle.model_link.proofs.Numbering.{delivered-at_once}
 use Rattle.laws_link.specs.Flags.{flag_left, busy_asked, own_busy_left, rejecting_heard, takes_contents, unless_put, owed_in, owed_behind, pending_left}
-use Rattle.laws_link.specs.States.{as_heard, is_overlong, is_anew, is_clearing, leads_by_sabme, leads_by_agreement, comes_to, moves, numbers_begin, state_after}
-use Rattle.laws_link.specs.Waiting.{is_next, is_taken, as_response, receipt_as, commands, put}
+use Rattle.laws_link.specs.States.{as_heard, is_anew, is_clearing, leads_by_sabme, leads_by_agreement, comes_to, moves, numbers_begin, state_after}
+use Rattle.laws_link.specs.Waiting.{is_next, as_response, receipt_as, commands, put}
 use Rattle.laws_link.proofs.Follows.{event-follows}
 use Rattle.laws_trace.specs.Deliveries.{Watched, Standing, is_information}
 use Rattle.laws_trace.proofs.Begins.{in-state, up-before}

@@ -1,5 +1,5 @@
 -- A terminal that asks for a TEI is assigned one, where the line may have one more: the law.
-use Rattle.std.proofs.Common.{◌≡◌, ℕ, zero, suc, ◌+◌, ◌*◌, ◌/◌, ◌%◌, ◌<◌, ◌≤◌, ◌==◌, ◌&&◌, ◌||◌, Bool, true, false, cond, List, [], ◌∷◌, ◌++◌, length, map, get_or, Option, Some, None, refl, sym, ap, ◌∙◌, subst, arith, eqb-true, eq-eqb, true≢false, inl, inr, append-nil}
+use Rattle.std.proofs.Common.{◌≡◌, ℕ, suc, ◌+◌, ◌*◌, ◌/◌, ◌%◌, ◌<◌, ◌≤◌, ◌==◌, ◌&&◌, ◌||◌, Bool, true, false, cond, List, [], ◌∷◌, ◌++◌, length, map, Option, Some, None, refl, sym, ap, ◌∙◌, subst, arith, eqb-true, eq-eqb, true≢false, inl, inr, append-nil}
 use Rattle.std.specs.Prelude.{fold, flat_map, option_map, option_to_list, IsSome, not, nat_lt}
 use Rattle.std.specs.List.{list_any, find, prefix_len}
 use Rattle.std.specs.Option.{option_map_or}
@@ -9,20 +9,19 @@ use Rattle.std.proofs.lemmas.List.Elements.{All-head}
 use Rattle.std.proofs.lemmas.List.Folds.{list_any-append}
 use Rattle.std.proofs.lemmas.Option.{none-some}
 use Rattle.model_bits.specs.Stream as stream
-use Rattle.lapd_frame.specs.declared.notes.Note.{Note}
 use Rattle.lapd_tei.specs.Events as teis
 use Rattle.lapd_tei.specs.Machine.{Management}
 use Rattle.lapd_tei.specs.Messages.{heard_of_type, heard_in}
 use Rattle.lapd_tei.specs.Rows as rows
 use Rattle.lapd_tei.specs.Sound.{IsAt, IsSound as IsSoundManagement}
-use Rattle.lapd_tei.specs.Table.{Places, has, is_on, is_free, free_place, free_tei}
+use Rattle.lapd_tei.specs.Table.{Places, is_on, is_free, free_place, free_tei}
 use Rattle.lapd_tei.specs.Words as words
 use Rattle.lapd_tei.specs.Words.{Course, begun, no_room}
 use Rattle.lapd_tei.proofs.Pigeonholes.{one_is_free}
 use Rattle.model_line.specs.declared.config.Config.{Config}
 use Rattle.model_line.specs.Effect.{Aim, at_none, at_management, of_aim}
-use Rattle.model_line.specs.Event.{Event, octet, expiry, request, pull, Answer, LineTold, told, refused, pulled, nothing}
-use Rattle.model_line.specs.Line.{Line, fresh_line}
+use Rattle.model_line.specs.Event.{Event, octet, expiry, request, pull, LineTold, told, nothing}
+use Rattle.model_line.specs.Line.{Line}
 use Rattle.model_line.specs.Machine as lines
 use Rattle.model_line.specs.Octet.{gained, aim_of_heard, with_received}
 use Rattle.model_line.specs.Sound.{IsSound}
@@ -30,14 +29,13 @@ use Rattle.model_line.proofs.Ranges.{ranges_of}
 use Rattle.model_card.specs.Card as cards
 use Rattle.model_card.specs.Card.{Card, line_at, is_full}
 use Rattle.model_card.specs.Event as card
-use Rattle.model_card.specs.Machine.{after, answer}
+use Rattle.model_card.specs.Machine.{answer}
 use Rattle.model_card.specs.Run.{moments, after_all, IsAtLine, AreAtLines}
 use Rattle.model_card.specs.Sound as card_sound
 use Rattle.model_card.proofs.CardSound.{fresh_is_sound, always_sound}
 use Rattle.model_card.proofs.Steps.{has_lines, by_room, line_sound}
 use Rattle.laws_card.proofs.Wherever.{all-left, all-right, config-stays}
-use Rattle.laws_trace.specs.Managing as managing
-use Rattle.laws_trace.specs.Managing.{Said, asks, responds, verifies, said_of_type, said_of, said_in, is_for, none_on, Managed}
+use Rattle.laws_trace.specs.Managing.{Said, asks, said_of_type, said_of, said_in, is_for, none_on, Managed}
 use Rattle.laws_trace.specs.MessagesAreOwed.{led}
 use Rattle.laws_trace.specs.TeisAreGiven.{is_assigned, IsGiven, TeisAreGiven}
 use Rattle.laws_trace.specs.Trace as traces

@@ -7,7 +7,7 @@ use Rattle.model_card.specs.Card.{fresh, line_at}
 use Rattle.model_card.specs.Event.{Event}
 use Rattle.model_card.specs.Machine.{after}
 use Rattle.model_card.specs.Run.{moments, after_all}
-use Rattle.laws_trace.specs.Trace.{Seen, lost, trace, IsAmong}
+use Rattle.laws_trace.specs.Trace.{lost, trace, IsAmong}
 
 -- On a line there is no room for a message of TEI management, of which four may wait, or for a control frame of one link, of which
 -- as many may wait as the configuration says (profile).

@@ -1,5 +1,5 @@
 -- Worked values: the numbers of frames that begin, and ones that break the law.
-use Rattle.std.specs.Prelude.{◌≡◌, ℕ, List, [], ◌∷◌, ◌++◌, true, false, fold, flat_map, None, refl}
+use Rattle.std.specs.Prelude.{◌≡◌, ℕ, List, [], ◌∷◌, ◌++◌, true, false, fold, flat_map, refl}
 use Rattle.model_bits.specs.Bits.{low_bits}
 use Rattle.lapd_frame.specs.declared.services.Service.TheVariants.{Call, Packet}
 use Rattle.lapd_frame.specs.Reading.{reading, header_of, control_of, unnumbered_of, supervisory_of}
@@ -11,7 +11,7 @@ use Rattle.model_card.specs.Event.{Event}
 use Rattle.model_card.specs.Run.{moments}
 use Rattle.laws_card.specs.Worked.{usual, up, hears}
 use Rattle.laws_trace.specs.AllAreAcknowledged.{numbers_at, lost_since, IsLast}
-use Rattle.laws_trace.specs.Trace.{Seen, begun, lost, trace_of}
+use Rattle.laws_trace.specs.Trace.{begun, lost, trace_of}
 use Rattle.laws_trace.specs.WorkedDeliveries.{i_frame, information}
 use Rattle.laws_trace.specs.WorkedUnits.{pulls}
 

@@ -1,5 +1,5 @@
 -- Worked values: an I-frame goes again; and a link that lets it be, which breaks the law.
-use Rattle.std.specs.Prelude.{◌≡◌, ◌%◌, ℕ, false, List, [], ◌∷◌, ◌++◌, fold, Some, refl}
+use Rattle.std.specs.Prelude.{◌≡◌, ◌%◌, false, List, [], ◌∷◌, ◌++◌, fold, Some, refl}
 use Rattle.std.proofs.Common.{arith}
 use Rattle.model_bits.specs.Bits.{low_bits}
 use Rattle.lapd_frame.specs.declared.services.Service.TheVariants.{Call}

@@ -1,9 +1,8 @@
 -- Worked values: layer 3 is busy, and is so no more; which receipts are due, what is told, and traces that break the laws.
-use Rattle.std.specs.Prelude.{◌≡◌, ℕ, List, [], ◌∷◌, ◌++◌, Bool, true, false, fold, flat_map, None, Some, refl}
-use Rattle.std.proofs.Common.{ap}
+use Rattle.std.specs.Prelude.{◌≡◌, List, [], ◌∷◌, ◌++◌, true, false, fold, flat_map, None, refl}
 use Rattle.model_bits.specs.Bits.{low_bits}
 use Rattle.model_bits.specs.Stream as stream
-use Rattle.lapd_frame.specs.declared.notes.Note.TheVariants.{EstablishIndication, Data}
+use Rattle.lapd_frame.specs.declared.notes.Note.TheVariants.{EstablishIndication}
 use Rattle.lapd_frame.specs.declared.services.Service.TheVariants.{Call, Packet}
 use Rattle.lapd_frame.specs.Reading.{reading, header_of, control_of, unnumbered_of, supervisory_of}
 use Rattle.lapd_seq.specs.Circle.{named, distance_of}
@@ -19,7 +18,7 @@ use Rattle.laws_card.specs.Worked.{usual, on_0, hears}
 use Rattle.laws_trace.specs.Deliveries.{Standing, at_first, stand}
 use Rattle.laws_trace.specs.ReceiptsCount.{receipts_at, rr, rnr, due_by, due}
 use Rattle.laws_trace.specs.Trace.{Seen, heard, noted, granted, lost, trace_of}
-use Rattle.laws_trace.specs.WorkedDeliveries.{sabme, information, i_frame}
+use Rattle.laws_trace.specs.WorkedDeliveries.{sabme, i_frame}
 use Rattle.laws_trace.specs.WorkedUnits.{pulls}
 
 -- Layer 3 becomes busy on a link that is up: behind the UA RNR begins, and RR once it is busy no more; both are due.

@@ -10,7 +10,6 @@ use Rattle.lapd_frame.specs.Reading.{reading, header_of, control_of, unnumbered_
 use Rattle.lapd_tei.specs.Events as teis
 use Rattle.model_line.specs.Machine as lines
 use Rattle.model_line.specs.Request.{Data}
-use Rattle.model_card.specs.Event.{Event}
 use Rattle.model_card.specs.Run.{moments}
 use Rattle.laws_card.specs.Worked.{usual, on_0, up}
 use Rattle.laws_trace.specs.DataGoesOut.{Going, Sent, sent_in, none_yet, Reaches}

@@ -1,6 +1,6 @@
 -- Worked values: a TEI that is given, a line that is full, and a moment that breaks the law.
-use Rattle.std.specs.Prelude.{◌≡◌, ℕ, true, List, [], ◌∷◌, ◌++◌, length, take, drop, fold, None, Some, refl}
-use Rattle.std.specs.List.{list_any, find}
+use Rattle.std.specs.Prelude.{◌≡◌, true, List, [], ◌∷◌, ◌++◌, length, take, drop, fold, None, refl}
+use Rattle.std.specs.List.{list_any}
 use Rattle.model_bits.specs.Bits.{low_bits}
 use Rattle.model_bits.specs.Stream as stream
 use Rattle.lapd_frame.specs.declared.notes.Note.{Note}
@@ -10,10 +10,9 @@ use Rattle.lapd_tei.specs.Events as teis
 use Rattle.model_line.specs.Machine as lines
 use Rattle.model_line.specs.Request.{Assign}
 use Rattle.model_card.specs.Card.{fresh}
-use Rattle.model_card.specs.Event.{Event}
 use Rattle.model_card.specs.Run.{moments, after_all}
-use Rattle.laws_card.specs.Worked.{usual, on_0, hears}
-use Rattle.laws_trace.specs.Managing.{asks, none_on, said_in, is_for}
+use Rattle.laws_card.specs.Worked.{usual, on_0}
+use Rattle.laws_trace.specs.Managing.{asks, none_on, said_in}
 use Rattle.laws_trace.specs.MessagesAreOwed.{led}
 use Rattle.laws_trace.specs.TeisAreGiven.{is_assigned, IsGiven}
 use Rattle.laws_trace.specs.Trace.{Seen, heard, noted, lost, trace}

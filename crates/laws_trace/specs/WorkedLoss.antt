@@ -1,5 +1,5 @@
 -- Worked values: a message that finds no room, and a line that breaks the law.
-use Rattle.std.specs.Prelude.{◌≡◌, ℕ, List, [], ◌∷◌, ◌++◌, length, None, refl}
+use Rattle.std.specs.Prelude.{◌≡◌, List, [], ◌∷◌, length, None, refl}
 use Rattle.std.proofs.Common.{inl, inr}
 use Rattle.model_bits.specs.Bits.{low_bits}
 use Rattle.model_bits.specs.Stream as stream
@@ -13,8 +13,8 @@ use Rattle.model_card.specs.Event.{Event}
 use Rattle.model_card.specs.Machine.{after}
 use Rattle.model_card.specs.Run.{moments, after_all}
 use Rattle.laws_card.specs.Worked.{usual, on_0, hears}
-use Rattle.laws_trace.specs.NoLossInVain.{IsCrowded, IsFull}
-use Rattle.laws_trace.specs.Trace.{Seen, heard, noted, lost, trace}
+use Rattle.laws_trace.specs.NoLossInVain.{IsFull}
+use Rattle.laws_trace.specs.Trace.{heard, noted, lost, trace}
 
 -- Four removals wait; the answer to a terminal that asks for a TEI is told as lost, and four messages wait behind it.
 abbrev four : List Event

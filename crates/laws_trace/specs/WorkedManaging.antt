@@ -1,5 +1,5 @@
 -- Worked values: messages of TEI management that are owed and that begin, and ones that break the laws.
-use Rattle.std.specs.List.{IsDistinct, AllByRecursion}
+use Rattle.std.specs.List.{IsDistinct}
 use Rattle.std.specs.Prelude.{◌≡◌, List, [], ◌∷◌, ◌++◌, map, None, ℕ, true, refl}
 use Rattle.std.proofs.lemmas.List.Elements.{All-head}
 use Rattle.model_bits.specs.Bits.{low_bits}

@@ -16,7 +16,7 @@ use Rattle.model_line.specs.Request.{Assign, Establish}
 use Rattle.model_card.specs.Card.{fresh, line_at}
 use Rattle.model_card.specs.Event as card
 use Rattle.model_card.specs.Event.{at}
-use Rattle.model_card.specs.Machine.{after, answer}
+use Rattle.model_card.specs.Machine.{answer}
 use Rattle.model_card.specs.Run.{Moment, moments, after_all}
 use Rattle.laws_card.specs.Worked.{usual, on_0, hears}
 use Rattle.laws_trace.specs.LinksMove.{led, repeated}

@@ -1,5 +1,5 @@
 -- The premises of the law on counted expiries are met, by the worked call that recovers from its losses.
-use Rattle.std.proofs.Common.{◌≡◌, refl, arith, List, [], ◌∷◌}
+use Rattle.std.proofs.Common.{◌≡◌, refl, arith}
 use Rattle.model_bits.specs.Bits.{low_bits}
 use Rattle.lapd_frame.specs.declared.services.Service.TheVariants.{Call}
 use Rattle.lapd_frame.specs.Reading.{reading, header_of, control_of, unnumbered_of, supervisory_of}

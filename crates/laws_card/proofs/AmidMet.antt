@@ -1,6 +1,5 @@
 -- A card that meets what the promise of pulls among other events of a line asks, and what that gives.
-use Rattle.std.proofs.Common.{◌≡◌, ℕ, zero, suc, ◌+◌, ◌*◌, ◌<◌, true, List, [], ◌∷◌, ◌++◌, length, replicate, Some, refl, sym, subst, ◌∙◌, ap, arith}
-use Rattle.std.specs.Prelude.{All}
+use Rattle.std.proofs.Common.{◌≡◌, ℕ, zero, suc, ◌+◌, ◌*◌, ◌<◌, true, List, [], ◌∷◌, replicate, Some, refl, sym, subst, ◌∙◌, ap, arith}
 use Rattle.std.proofs.lemmas.List.Elements.{All-nil, All-cons}
 use Rattle.model_bits.specs.Bits.{low_bits}
 use Rattle.lapd_frame.specs.declared.controls.Control.TheVariants.{ReceiveReady, Ua}
@@ -10,7 +9,6 @@ use Rattle.lapd_seq.specs.Numbers.{seq}
 use Rattle.lapd_seq.specs.Circle.{distance_of, named}
 use Rattle.lapd_tei.specs.Events as teis
 use Rattle.model_link.specs.Words.{response}
-use Rattle.model_line.specs.declared.config.Config.{Config}
 use Rattle.model_line.specs.Event.{octet, request, pull}
 use Rattle.model_line.specs.Line.{Line, link_count, place_at, tei_at, link_at}
 use Rattle.model_line.specs.Machine as lines

@@ -1,5 +1,5 @@
 -- What frames that come count, and what is counted of the events that they mean.
-use Rattle.std.proofs.Common.{◌≡◌, ℕ, ◌+◌, ◌*◌, ◌≤◌, ◌<◌, Bool, true, false, ◌&&◌, ◌||◌, not, List, [], ◌∷◌, ◌++◌, length, map, set, get_or, refl, ap, sym, subst, ◌∙◌, cond, arith, append-nil, length-append, nat_lt, nat_le, nat_eq, Option, Some, None, take}
+use Rattle.std.proofs.Common.{◌≡◌, ℕ, ◌+◌, ◌*◌, ◌≤◌, ◌<◌, Bool, true, false, ◌&&◌, ◌||◌, not, List, [], ◌∷◌, ◌++◌, length, map, set, refl, ap, sym, subst, ◌∙◌, cond, arith, append-nil, length-append, nat_lt, nat_le, nat_eq, Option, Some, None, take}
 use Rattle.std.specs.Prelude.{sum_by, count_by, All, slice_index, ◌%◌}
 use Rattle.std.proofs.lemmas.Bool.{ltb-false, ltb-true, leb-true, le-leb}
 use Rattle.std.proofs.lemmas.List.{set-get_or}
@@ -9,7 +9,6 @@ use Rattle.std.proofs.Math.Nat.{mul-le-mul_left}
 use Rattle.model_bits.specs.Stream as stream
 use Rattle.model_bits.specs.Stream.{heard_in, dropped}
 use Rattle.model_line.specs.declared.config.Config.{Config}
-use Rattle.model_line.specs.declared.faults.Fault.{Fault}
 use Rattle.model_line.specs.declared.faults.Fault.TheVariants.{Short}
 use Rattle.model_line.specs.Counts as line
 use Rattle.model_line.specs.Event as line_event
@@ -26,17 +25,17 @@ use Rattle.model_line.proofs.FramesHeard.{frames_are_heard}
 use Rattle.model_line.proofs.FramesReceived.{nothing_else_is_received}
 use Rattle.model_line.proofs.FramesTaken.{taken_keeps}
 use Rattle.model_card.specs.Card.{Card, line_at}
-use Rattle.model_card.specs.Counts.{octets_of_line, octets_received, may_send, frames_heard, long_frames_heard, window, sent, heard, accepted, expired, rejected}
-use Rattle.model_card.specs.Event.{Event, at}
+use Rattle.model_card.specs.Counts.{octets_received, may_send, frames_heard, long_frames_heard, window, sent, accepted, expired, rejected}
+use Rattle.model_card.specs.Event.{at}
 use Rattle.model_card.specs.Happening.{Happening, comes, failed, goes, expires, asks, line_of, events_of, spelled, IsWhole, HappensAt, HappenAt, AreIdle}
-use Rattle.model_card.specs.Machine.{after, wants_room}
+use Rattle.model_card.specs.Machine.{wants_room}
 use Rattle.model_card.specs.Run.{moments, after_all, AreAtLines}
 use Rattle.model_card.specs.Sound.{IsSound}
 use Rattle.model_card.proofs.Amortised.{amortised}
 use Rattle.model_card.proofs.Happening.{config_stays, frames_are_of_lines, happenings_are_events, lines_stay_idle, after_all-append}
 use Rattle.model_card.proofs.Heard.{run_heard}
 use Rattle.model_card.proofs.Linear.{run_long}
-use Rattle.model_card.proofs.Steps.{HasLines, has_lines}
+use Rattle.model_card.proofs.Steps.{has_lines}
 use Rattle.laws_card.specs.Frames.{frame_in, frames_in, is_heard, octets_taken, AreCounted, AreAmortised, AreLinear}
 
 -- ---- what a happening adds to the octets received

@@ -1,8 +1,7 @@
 -- Worked values: which timers a caller runs that obeys the orders.
-use Rattle.std.specs.Prelude.{◌≡◌, ℕ, Bool, true, false, List, [], ◌∷◌, ◌++◌, refl}
+use Rattle.std.specs.Prelude.{◌≡◌, Bool, true, false, List, [], ◌∷◌, ◌++◌, refl}
 use Rattle.model_bits.specs.Bits.{low_bits}
 use Rattle.lapd_frame.specs.declared.services.Service.TheVariants.{Call}
-use Rattle.lapd_frame.specs.declared.timers.Timer.{Timer}
 use Rattle.lapd_frame.specs.declared.timers.Timer.TheVariants.{T200, T203, T201}
 use Rattle.lapd_frame.specs.Reading.{reading, header_of, control_of, unnumbered_of}
 use Rattle.lapd_tei.specs.Events as teis

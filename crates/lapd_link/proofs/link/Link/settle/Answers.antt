@@ -1,5 +1,5 @@
 -- Hand-written answers for `Link::settle`.
-use Rattle.lapd_link.proofs.Vocabulary.{ℕ, ◌≤◌, List, sym, subst, Order, starts, one-start}
+use Rattle.lapd_link.proofs.Vocabulary.{◌≤◌, List, sym, subst, Order, starts, one-start}
 use Rattle.lapd_link.proofs.link.Link.settle.Goals as goal
 
 pub returns-clause-starts : goal.returns-clause-starts

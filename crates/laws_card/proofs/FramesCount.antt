@@ -6,8 +6,8 @@ use Rattle.std.proofs.lemmas.List.{set-get_or}
 use Rattle.std.proofs.lemmas.List.Elements.{All-head, All-tail, All-nil, All-cons}
 use Rattle.std.proofs.lemmas.List.Sums.{sum_by-cons, sum_by-append, sum_by-set}
 use Rattle.std.proofs.Math.Nat.{mul-le-mul_left}
-use Rattle.lapd_bits.specs.Stream as stream
-use Rattle.lapd_bits.specs.Stream.{heard_in, dropped}
+use Rattle.model_bits.specs.Stream as stream
+use Rattle.model_bits.specs.Stream.{heard_in, dropped}
 use Rattle.model_line.specs.declared.config.Config.{Config}
 use Rattle.model_line.specs.declared.faults.Fault.{Fault}
 use Rattle.model_line.specs.declared.faults.Fault.TheVariants.{Short}

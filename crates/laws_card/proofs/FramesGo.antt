@@ -1,7 +1,7 @@
 -- What a call for the next frame gives is what goes.
 use Rattle.std.proofs.Common.{◌≡◌, ℕ, ◌<◌, List, [], ◌∷◌, ◌++◌, map, Option, Some, None, option_map, refl, sym, ap, subst, ◌∙◌}
 use Rattle.std.proofs.lemmas.List.{get_or-set_same}
-use Rattle.lapd_bits.specs.Sent.{frame}
+use Rattle.model_bits.specs.Sent.{frame}
 use Rattle.model_line.specs.Line.{Line, fresh_line}
 use Rattle.model_line.specs.Pull.{Taken, taken}
 use Rattle.model_line.specs.WholeAtLine.{after_events, pulls_for}

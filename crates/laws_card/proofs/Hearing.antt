@@ -2,9 +2,9 @@
 use Rattle.std.proofs.Common.{◌≡◌, ℕ, true, false, List, [], ◌∷◌, Ok, get_or, refl, sym, ap, ◌∙◌, subst, arith, true≢false}
 use Rattle.std.proofs.lemmas.Bool.{and_parts}
 use Rattle.std.proofs.lemmas.List.{get_or-set_same}
-use Rattle.lapd_bits.specs.Stream as stream
-use Rattle.lapd_bits.specs.declared.heard.Cause.{Cause}
-use Rattle.lapd_bits.specs.declared.heard.Cause.TheVariants.{Unserved}
+use Rattle.model_bits.specs.Stream as stream
+use Rattle.model_bits.specs.declared.heard.Cause.{Cause}
+use Rattle.model_bits.specs.declared.heard.Cause.TheVariants.{Unserved}
 use Rattle.lapd_frame.specs.declared.services.Service.{Service}
 use Rattle.lapd_frame.specs.Grammar.{Parts, Spells}
 use Rattle.lapd_frame.specs.Reading.{reading}

@@ -1,6 +1,6 @@
 -- Pulls of one line among the events of a card.
 use Rattle.std.specs.Prelude.{◌≡◌, ℕ, ◌==◌, false, List, ◌∷◌, ◌++◌, All, Some, None, [], ◌+◌, replicate, if◌then◌else◌}
-use Rattle.lapd_bits.specs.Sent.{idle}
+use Rattle.model_bits.specs.Sent.{idle}
 use Rattle.lapd_frame.specs.declared.services.Service.{Service}
 use Rattle.model_link.specs.declared.frames.ControlFrame.{ControlFrame}
 use Rattle.laws_two_links.specs.Polls.{SaysReceived}

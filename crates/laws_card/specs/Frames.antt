@@ -3,8 +3,8 @@ use Rattle.std.specs.Prelude.{◌≡◌, ℕ, ◌+◌, ◌*◌, ◌<◌, ◌≤�
 use Rattle.lapd_frame.specs.declared.controls.Control.{Control}
 use Rattle.lapd_frame.specs.declared.services.Service.{Service}
 use Rattle.lapd_frame.specs.Grammar.{Parts}
-use Rattle.lapd_bits.specs.Sent as line_text
-use Rattle.lapd_bits.specs.Stream.{frame}
+use Rattle.model_bits.specs.Sent as line_text
+use Rattle.model_bits.specs.Stream.{frame}
 use Rattle.model_link.specs.declared.frames.ControlFrame.{ControlFrame}
 use Rattle.laws_two_links.specs.Polls.{IsPollWhileUp, SaysReceived, asked_of}
 use Rattle.model_line.specs.Counts as line

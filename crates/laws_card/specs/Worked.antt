@@ -1,6 +1,6 @@
 -- Worked values: what was accepted over a run, and what waits to be sent.
 use Rattle.std.specs.Prelude.{◌≡◌, ℕ, List, [], ◌∷◌, ◌++◌, refl}
-use Rattle.lapd_bits.specs.Bits.{low_bits}
+use Rattle.model_bits.specs.Bits.{low_bits}
 use Rattle.lapd_frame.specs.declared.addresses.Side.TheVariants.{Network}
 use Rattle.lapd_frame.specs.declared.services.Service.TheVariants.{Call}
 use Rattle.lapd_frame.specs.Reading.{reading, header_of, control_of, unnumbered_of}

@@ -1,7 +1,7 @@
 -- Worked values: which pulls begin a frame, by the answers and by the text of the line.
 use Rattle.std.specs.Prelude.{◌≡◌, Bool, true, false, List, [], ◌∷◌, ◌++◌, drop, map, replicate, refl}
-use Rattle.lapd_bits.specs.Bits.{low_bits}
-use Rattle.lapd_bits.specs.Sent.{Item, idle, frame}
+use Rattle.model_bits.specs.Bits.{low_bits}
+use Rattle.model_bits.specs.Sent.{Item, idle, frame}
 use Rattle.lapd_frame.specs.Reading.{reading, header_of, control_of, unnumbered_of}
 use Rattle.lapd_tei.specs.Events as teis
 use Rattle.model_line.specs.Counts.{is_begun}

@@ -1,8 +1,8 @@
 -- Worked values: states, answers and runs that would break the promises, which no card comes to.
 use Rattle.std.specs.Prelude.{◌≡◌, ◌≤◌, true, false, List, [], ◌∷◌, ◌++◌, replicate, Some, refl}
 use Rattle.std.proofs.Common.{ap, arith}
-use Rattle.lapd_bits.specs.Sent.{idle}
-use Rattle.lapd_bits.specs.declared.heard.Cause.TheVariants.{Fcs}
+use Rattle.model_bits.specs.Sent.{idle}
+use Rattle.model_bits.specs.declared.heard.Cause.TheVariants.{Fcs}
 use Rattle.lapd_frame.specs.declared.services.Service.TheVariants.{Call}
 use Rattle.lapd_frame.specs.declared.timers.Timer.TheVariants.{T200}
 use Rattle.model_link.specs.Link.{Link, fresh as fresh_link}

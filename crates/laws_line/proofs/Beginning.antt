@@ -1,9 +1,9 @@
 -- An answer says that a frame was begun exactly where one was: each event.
 use Rattle.std.proofs.Common.{◌≡◌, ℕ, ◌+◌, ◌<◌, Bool, true, false, cond, is_some, nat_lt, List, [], ◌∷◌, ◌++◌, length, length-append, Option, Some, None, IfSome, refl, ap, sym, ◌∙◌, arith, inl, inr}
 use Rattle.std.proofs.lemmas.Bool.{ltb-true}
-use Rattle.lapd_bits.specs.Bits.{bits}
-use Rattle.lapd_bits.specs.Sent.{line_text}
-use Rattle.lapd_bits.proofs.BitLemmas.{length-bits}
+use Rattle.model_bits.specs.Bits.{bits}
+use Rattle.model_bits.specs.Sent.{line_text}
+use Rattle.model_bits.proofs.BitLemmas.{length-bits}
 use Rattle.lapd_frame.specs.declared.refusals.Refusal.{Refusal}
 use Rattle.lapd_tei.specs.Events as teis
 use Rattle.lapd_tei.specs.declared.outcome.Change.{Change}

@@ -5,7 +5,7 @@ use Rattle.std.specs.Option.{option_or, unwrap_or}
 use Rattle.std.proofs.Math.Nat.{mul-le-mul_right}
 use Rattle.std.proofs.lemmas.Bool.{ltb-true, ltb-false}
 use Rattle.std.proofs.lemmas.List.Elements.{All-head, All-tail}
-use Rattle.lapd_bits.specs.Sent.{Item, idle, frame, item_text}
+use Rattle.model_bits.specs.Sent.{Item, idle, frame, item_text}
 use Rattle.model_link.specs.Link.{Link}
 use Rattle.model_link.specs.Machine as links
 use Rattle.laws_two_links.proofs.Waiting.{nothing-to_send}

@@ -2,13 +2,13 @@
 use Rattle.std.proofs.Common.{◌≡◌, ℕ, ◌<◌, Bool, true, false, cond, not, ◌||◌, ◌&&◌, ◌-◌, nat_lt, List, [], ◌∷◌, ◌++◌, length, drop, reverse, slice_get, Option, Some, None, option_and_then, option_to_list, refl, sym, ap, ◌∙◌, subst}
 use Rattle.std.specs.Prelude.{All, IfSome}
 use Rattle.std.proofs.lemmas.List.Elements.{All-nil, All-cons, All-head, All-tail, All-append, All-take}
-use Rattle.lapd_bits.specs.Bits.{bits}
-use Rattle.lapd_bits.specs.Stuffing.{octets_sent}
-use Rattle.lapd_bits.specs.Stream as stream
-use Rattle.lapd_bits.specs.Stream.{ends_flag, ends_abort, has_abort, since_flag, judged, text_event, gap_event, closed_by_flag, given_up, heard_at, heard_until, heard_in, room_for}
-use Rattle.lapd_bits.specs.declared.heard.Cause.TheVariants.{Abort}
-use Rattle.lapd_bits.proofs.StreamLengths.{judged_as}
-use Rattle.lapd_bits.proofs.StuffingOctets.{octets_are_those_sent}
+use Rattle.model_bits.specs.Bits.{bits}
+use Rattle.model_bits.specs.Stuffing.{octets_sent}
+use Rattle.model_bits.specs.Stream as stream
+use Rattle.model_bits.specs.Stream.{ends_flag, ends_abort, has_abort, since_flag, judged, text_event, gap_event, closed_by_flag, given_up, heard_at, heard_until, heard_in, room_for}
+use Rattle.model_bits.specs.declared.heard.Cause.TheVariants.{Abort}
+use Rattle.model_bits.proofs.StreamLengths.{judged_as}
+use Rattle.model_bits.proofs.StuffingOctets.{octets_are_those_sent}
 use Rattle.lapd_frame.specs.Grammar.{AreOctets}
 use Rattle.model_line.specs.declared.config.Config.{Config}
 use Rattle.model_line.specs.Line.{Line}

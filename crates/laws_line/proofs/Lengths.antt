@@ -1,13 +1,13 @@
 -- How long what goes on a line is, and how a pull shortens it.
 use Rattle.std.proofs.Common.{◌≡◌, ℕ, ◌+◌, ◌-◌, ◌*◌, ◌≤◌, Bool, true, List, [], ◌∷◌, ◌++◌, length, ap, ◌∙◌, arith, length-append}
 use Rattle.std.proofs.lemmas.List.{length-drop}
-use Rattle.lapd_bits.specs.Bits.{bits, flag}
-use Rattle.lapd_bits.specs.Check.{check}
-use Rattle.lapd_bits.specs.Sent.{Item, idle, frame, frame_text, item_text, line_text}
-use Rattle.lapd_bits.specs.Stuffing.{stuffed}
-use Rattle.lapd_bits.proofs.BitLemmas.{length-bits}
-use Rattle.lapd_bits.proofs.Division.Unique.{length-check}
-use Rattle.lapd_bits.proofs.FramerStands.{line_text-push}
+use Rattle.model_bits.specs.Bits.{bits, flag}
+use Rattle.model_bits.specs.Check.{check}
+use Rattle.model_bits.specs.Sent.{Item, idle, frame, frame_text, item_text, line_text}
+use Rattle.model_bits.specs.Stuffing.{stuffed}
+use Rattle.model_bits.proofs.BitLemmas.{length-bits}
+use Rattle.model_bits.proofs.Division.Unique.{length-check}
+use Rattle.model_bits.proofs.Items.{line_text-push}
 use Rattle.model_line.specs.declared.config.Config.{Config}
 use Rattle.model_line.specs.Line.{Line}
 use Rattle.model_line.specs.Pull.{left_of, next_octet, with_octet}

@@ -2,7 +2,7 @@
 use Rattle.std.proofs.Common.{◌≡◌, ◌≢◌, ℕ, zero, suc, ◌/◌, ◌%◌, ◌==◌, Bool, true, false, cond, arith, eqb-true, eq-eqb, true≢false, is_some, List, [], ◌∷◌, ◌++◌, get_or, replicate, Option, Some, None, refl, ap, sym, ◌∙◌, subst, inl, inr, IfSome}
 use Rattle.std.specs.Option.{option_map_or}
 use Rattle.std.proofs.lemmas.Option.{none-some}
-use Rattle.lapd_bits.specs.Stream as stream
+use Rattle.model_bits.specs.Stream as stream
 use Rattle.lapd_frame.specs.declared.refusals.Refusal.{Refusal}
 use Rattle.lapd_frame.specs.declared.services.Service.{Service}
 use Rattle.lapd_frame.specs.declared.services.Service.TheVariants.{Call, Packet}

@@ -1,7 +1,7 @@
 -- Which frames pulls begin, in the text of a line.
 use Rattle.std.specs.Prelude.{◌≡◌, ◌⊎◌, ℕ, ◌≤◌, ◌<◌, ◌++◌, Bool, true, false, List, [], ◌∷◌, length}
-use Rattle.lapd_bits.specs.Bits.{bits}
-use Rattle.lapd_bits.specs.Sent.{idle, frame, line_text}
+use Rattle.model_bits.specs.Bits.{bits}
+use Rattle.model_bits.specs.Sent.{idle, frame, line_text}
 use Rattle.model_line.specs.Event.{Event, pull}
 use Rattle.model_line.specs.Line.{Line}
 use Rattle.laws_line.specs.Pulls.{bits_left}

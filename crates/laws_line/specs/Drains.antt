@@ -1,6 +1,6 @@
 -- What pulls alone come to.
 use Rattle.std.specs.Prelude.{◌≡◌, ◌⊎◌, ℕ, zero, suc, ◌+◌, ◌-◌, ◌*◌, ◌/◌, ◌<◌, ◌≤◌, ◌&&◌, not, max, min, false, List, ◌++◌, length, replicate, Some, None, nat_le, if◌then◌else◌}
-use Rattle.lapd_bits.specs.Sent.{idle}
+use Rattle.model_bits.specs.Sent.{idle}
 use Rattle.lapd_frame.specs.declared.services.Service.{Service}
 use Rattle.lapd_frame.specs.Grammar.{spelling}
 use Rattle.model_link.specs.declared.frames.ControlFrame.{ControlFrame}

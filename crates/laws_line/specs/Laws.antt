@@ -1,8 +1,8 @@
 -- Laws of a line: what it does with what it is given, and with what it hears.
 use Rattle.std.specs.Prelude.{◌≡◌, ℕ, ◌<◌, true, false, List, [], ◌∷◌, Some}
-use Rattle.lapd_bits.specs.Stream as stream
-use Rattle.lapd_bits.specs.declared.heard.Cause.{Cause}
-use Rattle.lapd_bits.specs.declared.heard.Cause.TheVariants.{Unserved}
+use Rattle.model_bits.specs.Stream as stream
+use Rattle.model_bits.specs.declared.heard.Cause.{Cause}
+use Rattle.model_bits.specs.declared.heard.Cause.TheVariants.{Unserved}
 use Rattle.lapd_frame.specs.declared.addresses.Address.{Address}
 use Rattle.lapd_frame.specs.declared.services.Service.{Service}
 use Rattle.lapd_frame.specs.declared.timers.Timer.{Timer}

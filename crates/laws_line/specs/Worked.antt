@@ -6,7 +6,7 @@ use Rattle.lapd_frame.specs.Reading.{reading, header_of, control_of, unnumbered_
 use Rattle.lapd_tei.specs.Events as teis
 use Rattle.model_line.specs.Event.{request, told, nothing, refused}
 use Rattle.lapd_frame.specs.declared.refusals.Refusal.TheVariants.{PoolFull}
-use Rattle.lapd_bits.specs.Stream as stream
+use Rattle.model_bits.specs.Stream as stream
 use Rattle.model_line.specs.declared.config.Config.{Config}
 use Rattle.model_line.specs.Effect.{of_aim}
 use Rattle.model_line.specs.Line.{Line, fresh_line}

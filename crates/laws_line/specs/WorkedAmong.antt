@@ -1,6 +1,6 @@
 -- Worked values: a control frame that waits while other events of its line are between the pulls.
 use Rattle.std.specs.Prelude.{◌≡◌, List, [], ◌∷◌, replicate, refl}
-use Rattle.lapd_bits.specs.Bits.{low_bits}
+use Rattle.model_bits.specs.Bits.{low_bits}
 use Rattle.lapd_frame.specs.declared.services.Service.TheVariants.{Call}
 use Rattle.lapd_frame.specs.Reading.{reading, header_of, control_of, unnumbered_of, supervisory_of}
 use Rattle.lapd_seq.specs.Numbers.{seq}

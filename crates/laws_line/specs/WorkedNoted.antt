@@ -1,6 +1,6 @@
 -- Worked values: what an answer notes as a TEI comes, as it leaves, and of an event of one of its links.
 use Rattle.std.specs.Prelude.{◌≡◌, [], ◌∷◌, ◌++◌, refl}
-use Rattle.lapd_bits.specs.Bits.{low_bits}
+use Rattle.model_bits.specs.Bits.{low_bits}
 use Rattle.lapd_frame.specs.declared.notes.ErrorCode.TheVariants as code
 use Rattle.lapd_frame.specs.declared.notes.Note.TheVariants.{Removed, ReleaseIndication, Error}
 use Rattle.lapd_frame.specs.declared.services.Service.TheVariants.{Call, Packet}

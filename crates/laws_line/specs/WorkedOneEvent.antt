@@ -1,8 +1,8 @@
 -- Worked values: events of one part of a line, which leave all else as it was.
 use Rattle.std.proofs.Common.{ap, arith}
 use Rattle.std.specs.Prelude.{◌≡◌, ℕ, [], ◌∷◌, Some, refl}
-use Rattle.lapd_bits.specs.Bits.{low_bits}
-use Rattle.lapd_bits.specs.declared.heard.Cause.TheVariants.{Fcs}
+use Rattle.model_bits.specs.Bits.{low_bits}
+use Rattle.model_bits.specs.declared.heard.Cause.TheVariants.{Fcs}
 use Rattle.lapd_frame.specs.declared.notes.Note.TheVariants.{ReleaseIndication}
 use Rattle.lapd_frame.specs.declared.services.Service.TheVariants.{Call, Packet}
 use Rattle.lapd_frame.specs.Reading.{reading, header_of, control_of, unnumbered_of}

@@ -1,7 +1,7 @@
 -- Worked values: a poll's last octet, and what is before its answer. With them the laws of a poll say something: they are
 -- what those ask of a line.
 use Rattle.std.specs.Prelude.{◌≡◌, ℕ, true, List, [], ◌∷◌, length, fold, Some, None, refl}
-use Rattle.lapd_bits.specs.Bits.{low_bits}
+use Rattle.model_bits.specs.Bits.{low_bits}
 use Rattle.lapd_frame.specs.declared.addresses.Side.TheVariants.{Network}
 use Rattle.lapd_frame.specs.declared.controls.Control.TheVariants.{ReceiveReady, Ua}
 use Rattle.lapd_frame.specs.declared.services.Service.TheVariants.{Call}

@@ -4,7 +4,7 @@ use Rattle.std.specs.Prelude.{All, fold, flat_map, option_to_list, is_some}
 use Rattle.std.specs.List.{list_any}
 use Rattle.std.specs.Option.{option_map_or, unwrap_or}
 use Rattle.std.proofs.lemmas.List.Elements.{All-head, All-tail}
-use Rattle.lapd_bits.specs.Stream as stream
+use Rattle.model_bits.specs.Stream as stream
 use Rattle.lapd_frame.specs.declared.controls.Control.TheVariants.{Ui}
 use Rattle.lapd_frame.specs.declared.services.Service.{Service}
 use Rattle.lapd_frame.specs.Reading.{reading}

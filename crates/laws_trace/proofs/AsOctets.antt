@@ -3,12 +3,12 @@ use Rattle.std.proofs.Common.{◌≡◌, ℕ, ◌%◌, ◌<◌, ◌≤◌, ◌�
 use Rattle.std.specs.Prelude.{flat_map}
 use Rattle.std.proofs.lemmas.List.{map-append}
 use Rattle.std.proofs.lemmas.List.Elements.{All-nil, All-cons}
-use Rattle.lapd_bits.specs.Bits.{low_bits, bits, flag}
-use Rattle.lapd_bits.specs.Check.{check}
-use Rattle.lapd_bits.specs.Sent.{Item, idle, frame, item_text, line_text}
-use Rattle.lapd_bits.specs.Stuffing.{stuffed}
-use Rattle.lapd_bits.specs.StuffingLaws.{AreOctets}
-use Rattle.lapd_bits.proofs.BitLemmas.{low_bits-mod}
+use Rattle.model_bits.specs.Bits.{low_bits, bits, flag}
+use Rattle.model_bits.specs.Check.{check}
+use Rattle.model_bits.specs.Sent.{Item, idle, frame, item_text, line_text}
+use Rattle.model_bits.specs.Stuffing.{stuffed}
+use Rattle.model_bits.specs.StuffingLaws.{AreOctets}
+use Rattle.model_bits.proofs.BitLemmas.{low_bits-mod}
 use Rattle.model_card.specs.Pulled.{frames_among}
 use Rattle.laws_trace.specs.FramesGoOut.{as_octets}
 use Rattle.laws_trace.proofs.Octets.{HasLast}

@@ -2,14 +2,14 @@
 use Rattle.std.proofs.Common.{◌≡◌, ℕ, zero, suc, ◌+◌, ◌-◌, ◌*◌, ◌%◌, ◌/◌, ◌<◌, ◌≤◌, Bool, List, [], ◌∷◌, ◌++◌, length, take, drop, refl, sym, ap, ◌∙◌, arith, length-append, append_assoc, append-nil}
 use Rattle.std.specs.Prelude.{flat_map}
 use Rattle.std.proofs.lemmas.List.{length-take-le, length-drop, take-append-drop}
-use Rattle.lapd_bits.specs.Bits.{bits, flag, number_of}
-use Rattle.lapd_bits.specs.RoundTrip.{AreHeardWhole, frames_of}
-use Rattle.lapd_bits.specs.Sent.{Item, idle, frame, frame_text, item_text, line_text}
-use Rattle.lapd_bits.specs.Stream as stream
-use Rattle.lapd_bits.specs.Stream.{room_for, heard_in, heard_until}
-use Rattle.lapd_bits.proofs.BitLemmas.{low_bits-number_of_n}
-use Rattle.lapd_bits.proofs.RoundTripFrame.{frames_round_trip_lem}
-use Rattle.lapd_bits.proofs.RoundTripPlaces.{hears, heard_until-onto, hears-append, hears_cut_flag, after_text}
+use Rattle.model_bits.specs.Bits.{bits, flag, number_of}
+use Rattle.model_bits.specs.RoundTrip.{AreHeardWhole, frames_of}
+use Rattle.model_bits.specs.Sent.{Item, idle, frame, frame_text, item_text, line_text}
+use Rattle.model_bits.specs.Stream as stream
+use Rattle.model_bits.specs.Stream.{room_for, heard_in, heard_until}
+use Rattle.model_bits.proofs.BitLemmas.{low_bits-number_of_n}
+use Rattle.model_bits.proofs.RoundTripFrame.{frames_round_trip_lem}
+use Rattle.model_bits.proofs.RoundTripPlaces.{hears, heard_until-onto, hears-append, hears_cut_flag, after_text}
 
 -- eight bits at a time as octets
 octets_in : ℕ → List Bool → List ℕ

@@ -1,7 +1,7 @@
 -- With pulls alone, as many as the bits to go, a flag comes behind the last frame.
 use Rattle.std.proofs.Common.{◌≡◌, ℕ, zero, suc, ◌+◌, ◌-◌, ◌*◌, ◌≤◌, ◌<◌, Bool, true, false, cond, List, [], ◌∷◌, ◌++◌, length, replicate, Option, None, refl, sym, ap, ◌∙◌, ◌⊎◌, inl, inr, arith, append-nil, append_assoc}
 use Rattle.std.proofs.lemmas.Bool.{ltb-false}
-use Rattle.lapd_bits.specs.Sent.{Item, idle}
+use Rattle.model_bits.specs.Sent.{Item, idle}
 use Rattle.model_line.specs.declared.config.Config.{Config}
 use Rattle.model_line.specs.Event.{pull}
 use Rattle.model_line.specs.Line.{Line}

@@ -4,13 +4,13 @@ use Rattle.std.specs.Prelude.{All}
 use mathlib.Core.List.{reverse_aux}
 use Rattle.std.proofs.lemmas.List.{get_or-replicate, append_cancel_left, map-append}
 use Rattle.std.proofs.lemmas.List.Elements.{All-head, All-tail}
-use Rattle.lapd_bits.specs.Bits.{bits}
-use Rattle.lapd_bits.specs.RoundTrip.{IsHeardWhole, AreHeardWhole, frames_of}
-use Rattle.lapd_bits.specs.Sent.{Item, idle, frame, item_text, line_text}
-use Rattle.lapd_bits.specs.Stream as stream
-use Rattle.lapd_bits.specs.Stream.{room_for, heard_in}
-use Rattle.lapd_bits.proofs.FramerStands.{line_text-push}
-use Rattle.lapd_bits.proofs.RoundTripPlaces.{hears, hears-append}
+use Rattle.model_bits.specs.Bits.{bits}
+use Rattle.model_bits.specs.RoundTrip.{IsHeardWhole, AreHeardWhole, frames_of}
+use Rattle.model_bits.specs.Sent.{Item, idle, frame, item_text, line_text}
+use Rattle.model_bits.specs.Stream as stream
+use Rattle.model_bits.specs.Stream.{room_for, heard_in}
+use Rattle.model_bits.proofs.Items.{line_text-push}
+use Rattle.model_bits.proofs.RoundTripPlaces.{hears, hears-append}
 use Rattle.model_line.specs.declared.config.Config.{Config}
 use Rattle.model_line.specs.Line.{Line, fresh_line}
 use Rattle.model_line.specs.Sound as line

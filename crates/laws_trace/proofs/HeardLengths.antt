@@ -4,12 +4,12 @@ use Rattle.std.specs.Prelude.{All}
 use Rattle.std.proofs.lemmas.Bool.{ltb-false, or_parts}
 use Rattle.std.proofs.lemmas.List.{length-take-le}
 use Rattle.std.proofs.lemmas.List.Elements.{All-nil, All-cons, All-head, All-tail, All-append}
-use Rattle.lapd_bits.specs.Bits.{bits}
-use Rattle.lapd_bits.specs.Check.{is_good}
-use Rattle.lapd_bits.specs.Stuffing.{octets_sent}
-use Rattle.lapd_bits.specs.Stream as stream
-use Rattle.lapd_bits.specs.Stream.{ends_flag, ends_abort, has_abort, since_flag, is_short, judged, text_event, gap_event, closed_by_flag, given_up, heard_at, heard_until, heard_in, room_for}
-use Rattle.lapd_bits.specs.declared.heard.Cause.TheVariants.{Abort, Short, Fcs}
+use Rattle.model_bits.specs.Bits.{bits}
+use Rattle.model_bits.specs.Check.{is_good}
+use Rattle.model_bits.specs.Stuffing.{octets_sent}
+use Rattle.model_bits.specs.Stream as stream
+use Rattle.model_bits.specs.Stream.{ends_flag, ends_abort, has_abort, since_flag, is_short, judged, text_event, gap_event, closed_by_flag, given_up, heard_at, heard_until, heard_in, room_for}
+use Rattle.model_bits.specs.declared.heard.Cause.TheVariants.{Abort, Short, Fcs}
 use Rattle.model_line.specs.declared.config.Config.{Config}
 use Rattle.model_line.specs.Line.{Line}
 use Rattle.laws_line.specs.Heard.{Adds}

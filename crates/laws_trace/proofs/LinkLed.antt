@@ -2,8 +2,8 @@
 use Rattle.std.proofs.Common.{◌≡◌, ℕ, ◌+◌, ◌==◌, ◌&&◌, Bool, true, false, cond, List, [], ◌∷◌, ◌++◌, length, map, Option, Some, None, option_map, Result, Ok, Err, refl, sym, ap, ◌∙◌, eqb-true, eq-eqb, true≢false, ◌⊎◌, inl, inr}
 use Rattle.std.specs.Prelude.{fold, nat_lt, option_to_list}
 use Rattle.std.specs.Option.{option_map_or}
-use Rattle.lapd_bits.specs.Stream as stream
-use Rattle.lapd_bits.specs.declared.heard.Cause.TheVariants.{Unserved}
+use Rattle.model_bits.specs.Stream as stream
+use Rattle.model_bits.specs.declared.heard.Cause.TheVariants.{Unserved}
 use Rattle.lapd_frame.specs.declared.addresses.Address.{Address}
 use Rattle.lapd_frame.specs.declared.faults.ReadFault.{ReadFault}
 use Rattle.lapd_frame.specs.declared.faults.ReadFault.TheVariants.{BadExtension, Undefined, WrongSize, Short}

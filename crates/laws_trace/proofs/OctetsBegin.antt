@@ -5,7 +5,7 @@ use Rattle.std.specs.Option.{option_or, option_map_or, unwrap_or}
 use Rattle.std.proofs.lemmas.Grind.{flat_map-append}
 use Rattle.std.proofs.lemmas.List.{get_or-replicate}
 use Rattle.std.proofs.lemmas.List.Elements.{All-nil, All-cons, All-head, All-tail, All-append, All-drop}
-use Rattle.lapd_bits.specs.StuffingLaws.{AreOctets}
+use Rattle.model_bits.specs.StuffingLaws.{AreOctets}
 use Rattle.lapd_frame.specs.declared.addresses.Address.{Address}
 use Rattle.lapd_frame.specs.declared.addresses.Side.{Side}
 use Rattle.lapd_frame.specs.declared.controls.Control.{Control}

@@ -1,6 +1,6 @@
 -- What begins on a line are frames.
 use Rattle.std.specs.Prelude.{ℕ, List, [], All}
-use Rattle.lapd_bits.specs.StuffingLaws.{AreOctets}
+use Rattle.model_bits.specs.StuffingLaws.{AreOctets}
 use Rattle.lapd_frame.specs.Grammar.{Parts, Spells}
 use Rattle.model_line.specs.declared.config.Config.{Config}
 use Rattle.model_line.specs.Request as asked

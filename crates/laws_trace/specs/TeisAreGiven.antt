@@ -1,7 +1,7 @@
 -- A terminal that asks for a TEI is assigned one, where the line may have one more.
 use Rattle.std.specs.Prelude.{◌≡◌, ◌<◌, ℕ, Bool, true, false, List, [], ◌∷◌, ◌++◌, length, fold, Option, None}
 use Rattle.std.specs.List.{list_any, find}
-use Rattle.lapd_bits.specs.Stream as stream
+use Rattle.model_bits.specs.Stream as stream
 use Rattle.lapd_frame.specs.declared.notes.Note.{Note}
 use Rattle.lapd_frame.specs.declared.notes.Note.TheVariants.{Assigned}
 use Rattle.model_line.specs.declared.config.Config.{Config}

@@ -1,6 +1,6 @@
 -- Unit data is heard at the other end.
 use Rattle.std.specs.Prelude.{◌≡◌, ◌≤◌, ℕ, List, [], ◌∷◌, ◌++◌, filter, map, flat_map}
-use Rattle.lapd_bits.specs.Stream as stream
+use Rattle.model_bits.specs.Stream as stream
 use Rattle.model_line.specs.declared.config.Config.{Config}
 use Rattle.laws_line.specs.Drains.{most_pulls}
 use Rattle.model_card.specs.Event.{Event}

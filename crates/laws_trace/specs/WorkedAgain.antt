@@ -1,7 +1,7 @@
 -- Worked values: an I-frame goes again; and a link that lets it be, which breaks the law.
 use Rattle.std.specs.Prelude.{◌≡◌, ◌%◌, ℕ, false, List, [], ◌∷◌, ◌++◌, fold, Some, refl}
 use Rattle.std.proofs.Common.{arith}
-use Rattle.lapd_bits.specs.Bits.{low_bits}
+use Rattle.model_bits.specs.Bits.{low_bits}
 use Rattle.lapd_frame.specs.declared.services.Service.TheVariants.{Call}
 use Rattle.lapd_frame.specs.Reading.{reading, header_of, control_of, unnumbered_of, supervisory_of}
 use Rattle.lapd_seq.specs.Circle.{named, distance_of}

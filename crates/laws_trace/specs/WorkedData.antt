@@ -1,7 +1,7 @@
 -- Worked values: I-frames that go out, and traces that break the law.
 use Rattle.std.specs.Prelude.{◌≡◌, ◌≤◌, ℕ, ◌%◌, List, [], ◌∷◌, ◌++◌, slice_get, Some, flat_map, option_to_list, refl}
 use Rattle.std.proofs.Common.{zero, suc, arith}
-use Rattle.lapd_bits.specs.Bits.{low_bits}
+use Rattle.model_bits.specs.Bits.{low_bits}
 use Rattle.lapd_seq.specs.Circle.{named, distance_of}
 use Rattle.lapd_seq.specs.Numbers.{seq}
 use Rattle.lapd_frame.specs.declared.addresses.Side.TheVariants.{Network}

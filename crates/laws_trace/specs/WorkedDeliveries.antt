@@ -2,7 +2,7 @@
 use Rattle.std.specs.Prelude.{◌≡◌, ℕ, ◌*◌, List, [], ◌∷◌, ◌++◌, take, Some, None, fold, refl}
 use Rattle.std.specs.Option.{option_map_or}
 use Rattle.std.proofs.Common.{ap, ◌∙◌}
-use Rattle.lapd_bits.specs.Stream as stream
+use Rattle.model_bits.specs.Stream as stream
 use Rattle.lapd_frame.specs.declared.notes.ErrorCode.TheVariants.{F}
 use Rattle.lapd_frame.specs.declared.notes.Note.{Note}
 use Rattle.lapd_frame.specs.declared.notes.Note.TheVariants.{EstablishIndication, Error, Data}
@@ -20,7 +20,7 @@ use Rattle.laws_card.specs.Worked as worked
 use Rattle.laws_card.specs.Worked.{usual, hears}
 use Rattle.laws_trace.specs.Deliveries.{nothing_yet, number_in, watch, IsHeard, IsTold}
 use Rattle.laws_trace.specs.Trace.{Seen, heard, noted, lost, trace, trace_of}
-use Rattle.lapd_bits.specs.Bits.{low_bits}
+use Rattle.model_bits.specs.Bits.{low_bits}
 
 -- A frame of TEI 64, and what is told of it: SABME, and an I-frame by its N(S).
 abbrev pub sabme : List Note → List Seen

@@ -1,8 +1,8 @@
 -- Worked values: a TEI that is given, a line that is full, and a moment that breaks the law.
 use Rattle.std.specs.Prelude.{◌≡◌, ℕ, true, List, [], ◌∷◌, ◌++◌, length, take, drop, fold, None, Some, refl}
 use Rattle.std.specs.List.{list_any, find}
-use Rattle.lapd_bits.specs.Bits.{low_bits}
-use Rattle.lapd_bits.specs.Stream as stream
+use Rattle.model_bits.specs.Bits.{low_bits}
+use Rattle.model_bits.specs.Stream as stream
 use Rattle.lapd_frame.specs.declared.notes.Note.{Note}
 use Rattle.lapd_frame.specs.declared.notes.Note.TheVariants.{Assigned}
 use Rattle.lapd_frame.specs.Reading.{reading, header_of, control_of, unnumbered_of}

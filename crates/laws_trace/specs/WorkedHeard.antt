@@ -1,6 +1,6 @@
 -- Worked values: unit data that is heard, and an answer that waits and begins; and lists that break these laws.
 use Rattle.std.specs.Prelude.{◌≡◌, ℕ, true, List, [], ◌∷◌, ◌++◌, map, refl}
-use Rattle.lapd_bits.specs.Bits.{low_bits}
+use Rattle.model_bits.specs.Bits.{low_bits}
 use Rattle.lapd_frame.specs.declared.controls.Control.TheVariants.{Ua}
 use Rattle.lapd_frame.specs.Reading.{reading, header_of, control_of, unnumbered_of}
 use Rattle.lapd_tei.specs.Events as teis

@@ -2,7 +2,7 @@
 use Rattle.std.specs.List.{IsDistinct, AllByRecursion}
 use Rattle.std.specs.Prelude.{◌≡◌, List, [], ◌∷◌, ◌++◌, map, None, ℕ, true, refl}
 use Rattle.std.proofs.lemmas.List.Elements.{All-head}
-use Rattle.lapd_bits.specs.Bits.{low_bits}
+use Rattle.model_bits.specs.Bits.{low_bits}
 use Rattle.lapd_frame.specs.declared.addresses.Side.TheVariants.{Network}
 use Rattle.lapd_frame.specs.declared.notes.Note.TheVariants.{Assigned}
 use Rattle.lapd_frame.specs.declared.timers.Timer.TheVariants.{T201}

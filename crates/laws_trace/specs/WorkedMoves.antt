@@ -1,8 +1,8 @@
 -- Worked values: which state a link moves to; and moves that break the law.
 use Rattle.std.specs.Prelude.{◌≡◌, ℕ, List, [], ◌∷◌, ◌++◌, fold, Option, Some, refl}
 use Rattle.std.specs.Option.{option_map_or}
-use Rattle.lapd_bits.specs.Bits.{low_bits}
-use Rattle.lapd_bits.specs.Stream as stream
+use Rattle.model_bits.specs.Bits.{low_bits}
+use Rattle.model_bits.specs.Stream as stream
 use Rattle.lapd_frame.specs.declared.services.Service.TheVariants.{Call}
 use Rattle.lapd_frame.specs.declared.timers.Timer.TheVariants as timers
 use Rattle.lapd_frame.specs.Reading.{reading, header_of, control_of, unnumbered_of, supervisory_of}

@@ -1,7 +1,7 @@
 -- Worked values: what layer 3 is told of a link; and notes that break the law.
 use Rattle.std.specs.Prelude.{◌≡◌, ℕ, true, false, List, [], ◌∷◌, fold, filter, refl}
 use Rattle.std.specs.List.{list_any}
-use Rattle.lapd_bits.specs.Bits.{low_bits}
+use Rattle.model_bits.specs.Bits.{low_bits}
 use Rattle.lapd_frame.specs.declared.notes.Note.{Note}
 use Rattle.lapd_frame.specs.declared.notes.Note.TheVariants.{EstablishIndication, EstablishConfirm, ReleaseIndication, ReleaseConfirm}
 use Rattle.lapd_frame.specs.declared.services.Service.TheVariants.{Call}

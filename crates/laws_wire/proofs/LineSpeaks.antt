@@ -5,9 +5,9 @@ use Rattle.std.specs.Option.{option_or, unwrap_or}
 use Rattle.std.proofs.lemmas.Bool.{cases_eq}
 use Rattle.std.proofs.lemmas.List.{get_or-set_same, get_or-set_other}
 use Rattle.std.proofs.lemmas.List.Elements.{All-head, All-tail}
-use Rattle.lapd_bits.specs.Sent.{frame as framed_item}
-use Rattle.lapd_bits.specs.Stream as stream
-use Rattle.lapd_bits.specs.RoundTrip.{IsHeardWhole}
+use Rattle.model_bits.specs.Sent.{frame as framed_item}
+use Rattle.model_bits.specs.Stream as stream
+use Rattle.model_bits.specs.RoundTrip.{IsHeardWhole}
 use Rattle.lapd_frame.specs.declared.services.Service.{Service}
 use Rattle.lapd_frame.specs.declared.services.Service.TheVariants.{Call, Packet}
 use Rattle.lapd_frame.specs.declared.timers.Timer.{Timer}
@@ -154,14 +154,14 @@ module _ (c : Config) (service : Service) (tei place : ℕ) (l : Line) (s : IsSo
     event = link.received (link.frame parts)
 
     by-sapi : (y : Service) (tei' : ℕ) (mm : Aim)
-        → (if sapi_of y == management_sapi then (if tei' == group_tei then mm else drop_for Rattle.lapd_bits.specs.declared.heard.Cause.TheVariants.Tei) else to_service l tei' (link.frame parts) (service_of (sapi_of y)))
+        → (if sapi_of y == management_sapi then (if tei' == group_tei then mm else drop_for Rattle.model_bits.specs.declared.heard.Cause.TheVariants.Tei) else to_service l tei' (link.frame parts) (service_of (sapi_of y)))
         ≡ at_place y tei' (link.frame parts) (place_in l tei')
     by-sapi Call tei' mm = refl
     by-sapi Packet tei' mm = refl
 
     its-address : (mm : Aim) → addressed l parts.address (link.frame parts) mm ≡ at_link service tei place event
     its-address mm =
-        ap (λ n. if n == management_sapi then (if parts.address.tei == group_tei then mm else drop_for Rattle.lapd_bits.specs.declared.heard.Cause.TheVariants.Tei) else to_service l parts.address.tei (link.frame parts) (service_of n)) sapi
+        ap (λ n. if n == management_sapi then (if parts.address.tei == group_tei then mm else drop_for Rattle.model_bits.specs.declared.heard.Cause.TheVariants.Tei) else to_service l parts.address.tei (link.frame parts) (service_of n)) sapi
         ∙ by-sapi service parts.address.tei mm
         ∙ ap (λ n. at_place service n (link.frame parts) (place_in l n)) by
         ∙ ap (at_place service tei (link.frame parts)) h.placed

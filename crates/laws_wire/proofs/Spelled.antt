@@ -1,7 +1,7 @@
 -- A frame that a sound link gives is heard whole, and read again.
 use Rattle.std.proofs.Common.{◌≡◌, ℕ, ◌+◌, ◌<◌, ◌≤◌, List, length, Ok, refl}
 use Rattle.std.proofs.lemmas.List.Elements.{All-append}
-use Rattle.lapd_bits.specs.RoundTrip.{IsHeardWhole}
+use Rattle.model_bits.specs.RoundTrip.{IsHeardWhole}
 use Rattle.lapd_frame.specs.declared.addresses.Side.{Side}
 use Rattle.lapd_frame.specs.declared.addresses.Side.TheVariants.{User, Network}
 use Rattle.lapd_frame.specs.Grammar.{Parts, AreOctets, IsFrame, head_of, spelling, other_side}

@@ -11,7 +11,7 @@ use Rattle.lapd_frame.specs.declared.timers.Timer.{Timer}
 use Rattle.lapd_frame.specs.Grammar.{Parts, AreOctets, spelling}
 use Rattle.lapd_frame.specs.Reading.{reading}
 use Rattle.lapd_frame.specs.Services.{sapi_of}
-use Rattle.lapd_bits.specs.RoundTrip.{IsHeardWhole}
+use Rattle.model_bits.specs.RoundTrip.{IsHeardWhole}
 use Rattle.model_link.specs.declared.terms.Terms.{Terms}
 use Rattle.model_link.specs.declared.timers.LinkTimer.{LinkTimer}
 use Rattle.model_link.specs.Events as link

@@ -7,7 +7,7 @@ use Rattle.lapd_frame.specs.declared.refusals.Refusal.{Refusal}
 use Rattle.lapd_frame.specs.declared.refusals.Refusal.TheVariants.{WrongState, TooLong}
 use Rattle.lapd_frame.specs.declared.services.Service.{Service}
 use Rattle.lapd_frame.specs.Grammar.{Parts, AreOctets, spelling, other_side}
-use Rattle.lapd_bits.specs.RoundTrip.{IsHeardWhole}
+use Rattle.model_bits.specs.RoundTrip.{IsHeardWhole}
 use Rattle.model_link.specs.declared.terms.Terms.{Terms}
 use Rattle.model_link.specs.Events as link
 use Rattle.model_link.specs.Link.{Link}

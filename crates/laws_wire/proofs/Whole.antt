@@ -1,9 +1,9 @@
 -- A frame that is heard whole is a frame that came.
 use Rattle.std.proofs.Common.{◌≡◌, ℕ, ◌+◌, ◌≤◌, ◌%◌, ◌⊎◌, inl, inr, false, cond, not, ◌&&◌, ◌||◌, nat_eq, nat_lt, List, length, take, slice_index, ap, ◌∙◌, arith}
 use Rattle.std.proofs.lemmas.Bool.{le-ltb, ne_eqb}
-use Rattle.lapd_bits.specs.RoundTrip.{IsHeardWhole}
-use Rattle.lapd_bits.specs.Stream.{frame, overlong, dropped}
-use Rattle.lapd_bits.specs.declared.heard.Cause.TheVariants as cause
+use Rattle.model_bits.specs.RoundTrip.{IsHeardWhole}
+use Rattle.model_bits.specs.Stream.{frame, overlong, dropped}
+use Rattle.model_bits.specs.declared.heard.Cause.TheVariants as cause
 use Rattle.model_line.specs.Whole.{came}
 
 not-three : (n : ℕ) → 4 ≤ n → nat_eq n 3 ≡ false

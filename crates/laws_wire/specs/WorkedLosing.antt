@@ -1,6 +1,6 @@
 -- Worked values of a call in which frames are lost and timers expire. Each computes.
 use Rattle.std.specs.Prelude.{◌≡◌, List, [], ◌∷◌, ◌++◌, refl}
-use Rattle.lapd_bits.specs.Bits.{low_bits}
+use Rattle.model_bits.specs.Bits.{low_bits}
 use Rattle.lapd_frame.specs.declared.notes.ErrorCode.TheVariants.{F}
 use Rattle.lapd_frame.specs.declared.notes.Note.TheVariants.{Error}
 use Rattle.lapd_frame.specs.declared.services.Service.TheVariants.{Call}

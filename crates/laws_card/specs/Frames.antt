@@ -22,10 +22,7 @@ use Rattle.laws_card.specs.PromisesOfPulls.{IsWaiting}
 -- The frames that came, each with its octets from its address to its information.
 abbrev pub frame_in : Happening → List (List ℕ)
 frame_in (comes line octets) = octets ∷ []
-frame_in (failed line fault) = []
-frame_in (goes line) = []
-frame_in (expires line timer) = []
-frame_in (asks line r) = []
+frame_in other = []
 
 abbrev pub frames_in : List Happening → List (List ℕ)
 frames_in [] = []

@@ -12,7 +12,7 @@ use Rattle.model_link.specs.Events as link
 use Rattle.laws_link.specs.States.{as_heard}
 use Rattle.laws_link.specs.Telling.{told_by, told_cleared}
 use Rattle.model_line.specs.declared.config.Config.{Config}
-use Rattle.model_line.specs.Event.{Event, octet, expiry, request, pull, Answer}
+use Rattle.model_line.specs.Event.{Event, octet, expiry, Answer}
 use Rattle.model_line.specs.Line.{Line, tei_at, link_in, terms}
 use Rattle.model_line.specs.Octet.{heard_side}
 use Rattle.model_line.specs.Sides.{group_tei, IsToGroup}
@@ -33,9 +33,7 @@ pub record NotesOneEvent (c : Config) (e : Event) (before after : Line) (answer 
 -- A TEI comes to the line: that is noted where a terminal asked for it, and not where management did (Q.921 clause 5.3.2).
 abbrev pub noted_coming : Event → ℕ → List Note
 noted_coming (octet value) tei = Assigned tei ∷ []
-noted_coming (expiry timer) tei = []
-noted_coming (request r) tei = []
-noted_coming pull tei = []
+noted_coming other tei = []
 
 pub record NotesComing (e : Event) (before after : Line) (answer : Answer) : Type 0 where
   pub tei : ℕ
@@ -49,8 +47,7 @@ pub record NotesComing (e : Event) (before after : Line) (answer : Answer) : Typ
 abbrev pub noted_leaving : Event → ℕ → List Note
 noted_leaving (octet value) tei = Doubled tei ∷ []
 noted_leaving (expiry timer) tei = Removed tei ∷ []
-noted_leaving (request r) tei = []
-noted_leaving pull tei = []
+noted_leaving other tei = []
 
 abbrev pub noted_ending : Config → Line → Service → ℕ → ℕ → List Note
 noted_ending c before service tei place = told_cleared (link_in before service place).state (terms c service tei)

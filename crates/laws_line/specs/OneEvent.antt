@@ -1,12 +1,12 @@
 -- One part of a line has an event, and all else of the line is as it was.
-use Rattle.std.specs.Prelude.{◌≡◌, ◌≢◌, ◌⊎◌, ℕ, ◌<◌, true, List, [], ◌∷◌, ◌++◌, Option, None, Some}
+use Rattle.std.specs.Prelude.{◌≡◌, ◌≢◌, ◌⊎◌, ℕ, ◌<◌, true, List, [], ◌∷◌, ◌++◌, Option, Some}
 use Rattle.lapd_frame.specs.declared.notes.Note.{Note}
 use Rattle.lapd_frame.specs.declared.services.Service.{Service}
 use Rattle.lapd_frame.specs.declared.services.Service.TheVariants.{Call, Packet}
 use Rattle.lapd_frame.specs.Grammar.{Parts}
 use Rattle.lapd_tei.specs.Events as teis
 use Rattle.lapd_tei.specs.declared.outcome.Change.{Change}
-use Rattle.lapd_tei.specs.declared.outcome.Change.TheVariants.{Gained, Left}
+use Rattle.lapd_tei.specs.declared.outcome.Change.TheVariants.{Left}
 use Rattle.model_link.specs.Events as link
 use Rattle.model_link.specs.Link.{fresh}
 use Rattle.model_link.specs.Machine as links
@@ -40,9 +40,8 @@ abbrev pub noted_ending : Config → Line → Service → ℕ → ℕ → List N
 noted_ending c l service tei place = (links.told (terms c service tei) link.cleared (link_in l service place)).notes
 
 abbrev pub noted_behind : Config → Line → Option Change → List Note
-noted_behind c l None = []
-noted_behind c l (Some (Gained tei place)) = []
 noted_behind c l (Some (Left tei place)) = noted_ending c l Call tei place ++ noted_ending c l Packet tei place
+noted_behind c l other = []
 
 pub record IsManaged (c : Config) (e : Event) (before after : Line) (answer : Answer) (event : teis.Event) : Type 0 where
   pub line : after ≡ record (with_octet_of e before) { management = teis.after event before.management; links = after.links }

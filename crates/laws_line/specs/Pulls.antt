@@ -1,5 +1,5 @@
 -- What a pull begins, of what waits.
-use Rattle.std.specs.Prelude.{◌≡◌, ◌≢◌, ◌⊎◌, ℕ, ◌+◌, ◌-◌, ◌<◌, Bool, true, false, List, length, [], ◌∷◌, ◌++◌, drop, take, slice_get, All, Option, Some, None, if◌then◌else◌}
+use Rattle.std.specs.Prelude.{◌≡◌, ◌⊎◌, ℕ, ◌+◌, ◌-◌, ◌<◌, Bool, true, false, List, length, [], ◌∷◌, ◌++◌, drop, take, slice_get, All, Option, Some, None, if◌then◌else◌}
 use Rattle.std.specs.List.{range_with_len}
 use Rattle.std.specs.Option.{unwrap_or}
 use Rattle.model_bits.specs.Bits.{bits}
@@ -20,7 +20,7 @@ use Rattle.model_line.specs.declared.config.Config.{Config}
 use Rattle.model_line.specs.Line.{Line, UnitData, link_count, service_at, place_at, tei_at, terms, link_at, with_link}
 use Rattle.model_line.specs.Machine.{after}
 use Rattle.model_line.specs.Event.{Event, octet, expiry, request, pull, Answer}
-use Rattle.model_line.specs.Request.{Request, Establish, Release, Data, Assign, Remove, Check, SetBusy, ClearBusy}
+use Rattle.model_line.specs.Request.{Request}
 use Rattle.laws_line.specs.Share.{is_granted}
 use Rattle.model_line.specs.Pull.{begun}
 
@@ -121,20 +121,11 @@ IsServed c contents l =
 -- other event but a pull changes what waits.
 abbrev pub unit_asked : Request → List UnitData
 unit_asked (Request.Unit service tei contents) = record { service = service; tei = tei; contents = contents } ∷ []
-unit_asked (Establish service tei) = []
-unit_asked (Release service tei) = []
-unit_asked (Data service tei contents) = []
-unit_asked (Assign tei) = []
-unit_asked (Remove tei) = []
-unit_asked (Check tei) = []
-unit_asked (SetBusy service tei) = []
-unit_asked (ClearBusy service tei) = []
+unit_asked other = []
 
 abbrev pub units_asked : Event → Answer → List UnitData
 units_asked (request r) answer = if is_granted answer then unit_asked r else []
-units_asked (octet value) answer = []
-units_asked (expiry timer) answer = []
-units_asked pull answer = []
+units_asked other answer = []
 
 abbrev pub UnitsWait : Event → Line → Line → Answer → Type 0
 UnitsWait pull before after answer = Unit {0}

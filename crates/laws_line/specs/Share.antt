@@ -8,7 +8,7 @@ use Rattle.lapd_tei.specs.Events as teis
 use Rattle.model_line.specs.declared.config.Config.{Config}
 use Rattle.model_line.specs.Event.{Event, request, Answer, told}
 use Rattle.model_line.specs.Deliveries.{is_change_at}
-use Rattle.model_line.specs.Effect.{Aim, at_none, at_link, at_management, at_units}
+use Rattle.model_line.specs.Effect.{Aim, at_link, at_management}
 use Rattle.model_line.specs.Line.{Line, link_number, place_at, place_in, terms, link_in, link_at}
 use Rattle.model_line.specs.Machine.{aim_of}
 use Rattle.model_line.specs.Request.{Request, Data}
@@ -21,12 +21,11 @@ abbrev pub ending : Share
 ending = record { restarts = true; empties = true; accepted = []; acknowledged = 0 }
 
 abbrev pub share_aimed : Config → ℕ → Line → Aim → Share
-share_aimed c number l (at_none what) = no_share
 share_aimed c number l (at_link service tei place event) =
     if link_number place service == number then share (terms c service tei) event (link_in l service place) else no_share
 share_aimed c number l (at_management event) =
     if is_change_at (place_at number) (teis.told event l.management).change then ending else no_share
-share_aimed c number l (at_units unit) = no_share
+share_aimed c number l other = no_share
 
 abbrev pub share_of : Config → ℕ → Event → Line → Share
 share_of c number event l = share_aimed c number l (aim_of c event l)

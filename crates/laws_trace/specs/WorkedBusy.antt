@@ -1,8 +1,9 @@
 -- Worked values: layer 3 is busy, and is so no more; which receipts are due, what is told, and traces that break the laws.
-use Rattle.std.specs.Prelude.{◌≡◌, List, [], ◌∷◌, ◌++◌, true, false, fold, flat_map, None, refl}
+use Rattle.std.specs.Prelude.{◌≡◌, List, [], ◌∷◌, ◌++◌, true, false, fold, flat_map, None, refl, ℕ, Bool, Some}
 use Rattle.model_bits.specs.Bits.{low_bits}
 use Rattle.model_bits.specs.Stream as stream
-use Rattle.lapd_frame.specs.declared.notes.Note.TheVariants.{EstablishIndication}
+use Rattle.lapd_frame.specs.declared.notes.Note.TheVariants.{EstablishIndication, Data}
+use Rattle.std.proofs.Common.{ap}
 use Rattle.lapd_frame.specs.declared.services.Service.TheVariants.{Call, Packet}
 use Rattle.lapd_frame.specs.Reading.{reading, header_of, control_of, unnumbered_of, supervisory_of}
 use Rattle.lapd_seq.specs.Circle.{named, distance_of}

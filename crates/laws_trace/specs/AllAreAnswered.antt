@@ -24,7 +24,8 @@ is_answered (Some state) poll = nat_le 7 state
 abbrev pub asked_in : Service → ℕ → ℕ → Moment → List Exchange
 asked_in service tei number m = filter (is_answered (state_of service tei (line_at number m.card))) (flat_map (asked_at m.card.config service tei) (seen_in number m))
 
--- The answers that begin are among these, in their order: so no poll is answered in states 4 to 6.
+-- The answers that begin are among these, in their order: so no more polls are answered than were heard in
+-- state 7 or 8.
 abbrev pub AnswersAreDue : Config → List Event → ℕ → Type 0
 AnswersAreDue c events number =
     (service : Service) (tei : ℕ) →

@@ -52,7 +52,7 @@ is_time service tei number m =
 abbrev pub due_in : Service → ℕ → ℕ → Moment → List (Kind × Bool)
 due_in service tei number m = if is_time service tei number m then command_of (state_after service tei number m) else []
 
--- The commands that begin are among those that are due, in their order: so none goes otherwise, as where T200 ends a state.
+-- The commands that begin are among those that are due, in their order: so no more go, as where T200 ends state 5 or 6.
 abbrev pub CommandsAreDue : Config → List Event → ℕ → Type 0
 CommandsAreDue c events number =
     (service : Service) (tei : ℕ) →

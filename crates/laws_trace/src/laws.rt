@@ -137,8 +137,8 @@ pub fn data_goes_out()
 
 /// Answers are due. The UA, the DM, and the responses RR, RNR and REJ with F=1 of a link that begin are among those that are due,
 /// in their order, and none twice: one for each SABME and each DISC that is heard of it while its TEI is on the line, and one for
-/// each other command with P=1 that is heard while it is in state 7 or 8. So no poll is answered in states 4 to 6, and nothing that
-/// was heard of a TEI that was not on the line (Q.921 clauses 3.5.1, 5.5 and 5.6).
+/// each other command with P=1 that is heard while it is in state 7 or 8. So no more polls are answered than were heard in state 7
+/// or 8, and no more SABME and DISC than were heard of a TEI on the line (Q.921 clauses 3.5.1, 5.5 and 5.6).
 pub fn answers_are_due()
     ensures { Always AnswersAreDue }
 {}
@@ -232,8 +232,8 @@ pub fn links_move()
 
 /// Commands are due. The SABME, the DISC, and the supervisory commands, which are enquiries, of a link that begin are among those
 /// that are due, in their order, and none twice: SABME where the link comes to state 5, DISC where it comes to state 6, and an
-/// enquiry where it comes to state 8, and again where its T200 expires and leaves it there; each with P=1. So no command goes where
-/// T200 ends a state, and none with P=0 (Q.921 clauses 5.5.1, 5.5.3, 5.6.7, 5.7.2 and 5.10.3).
+/// enquiry where it comes to state 8, and again where its T200 expires and leaves it there; each with P=1. So none of these
+/// goes as T200 ends state 5 or 6, beyond those that were due, and none with P=0 (Q.921 clauses 5.5.1, 5.5.3, 5.6.7, 5.7.2 and 5.10.3).
 pub fn commands_are_due()
     ensures { Always CommandsAreDue }
 {}

@@ -1,4 +1,4 @@
--- Turns come to an end in a call, whatever is lost and whichever timers expire.
+-- How many turns there are at most in a call, whatever is lost and whichever timers expire.
 use Rattle.std.specs.Prelude.{ℕ, ◌+◌, ◌*◌, ◌≤◌, Bool, false, List, [], ◌∷◌, All, if◌then◌else◌}
 use Rattle.lapd_frame.specs.declared.services.Service.{Service}
 use Rattle.model_line.specs.declared.config.Config.{Config}
@@ -66,7 +66,7 @@ RoundsComeToRest =
     let w = doing_all ds (calling service tei c line d other) in let most = 2 * most_frames k (expiries ds) (granted_of w) in
     HasNoErrors (rounds (most + 1) w) → (n : ℕ) × (n ≤ most) × IsStill (rounds n w)
 
--- And no error is told where T200 is long enough and UA is not lost.
+-- And no error is told where the call is timely: T200 is long enough, N200 is not used up, and UA is not lost.
 abbrev pub TimelyRoundsComeToRest : Type 0
 TimelyRoundsComeToRest =
     (service : Service) (c d : Config) (line other tei k : ℕ) (ds : List Doing) → CanCall c line d other tei → All (IsRoughTalk service tei) ds →

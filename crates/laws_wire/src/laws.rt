@@ -1,4 +1,4 @@
-//! Two cards on one wire. The law is the contract of a call that does nothing.
+//! Two cards on one wire. Each law is the contract of a call that does nothing.
 
 ghost use Rattle.laws_wire.specs.Call.{CallsComeThrough};
 ghost use Rattle.laws_wire.specs.Counted.{ExpiriesAreCounted};

@@ -11,8 +11,10 @@
 //! # Open
 //!
 //! What is told after an error, so also where a UA was lost, and whether turns come to an end then; a timer of the called
-//! end that expires while its UA waits to go; that a given T200 is long enough; the octets that one card's pulls give,
-//! taken one by one by the other.
+//! end that expires while its UA waits to go; that a given T200 is long enough; losses in a call whose layer 3 asks for
+//! anything but data (so own busy never comes), where other links or lines are at work, or which begin elsewhere than from
+//! nothing; that both links are in state 7 again, and all is acknowledged, where what was lost has arrived; the octets that
+//! one card's pulls give, taken one by one by the other.
 #![tactic(auto)]
 
 mod laws;

@@ -2,7 +2,7 @@
 
 ghost use Rattle.laws_wire.specs.Resting.{MovesComeToAnEnd, RoundsComeToRest, TimelyRoundsComeToRest};
 
-/// Turns come to an end, whatever is lost and whichever timers expire. Two cards have just begun as in
+/// Turns come to an end once nothing more is asked for and no timer expires, whatever was lost before. Two cards have just begun as in
 /// [`crate::a_call_comes_through`], and one is asked to establish. Then, as in [`crate::told_in_order`], data is asked for, T200
 /// and T203 of the link expire at either end, and frames are given, taken or lost, in any order and at any time; each frame that is
 /// given, taken or lost is a move. Where k is at least the window of either end, there are at most 4 (k + 2) moves, and 2 (k + 2)
@@ -16,7 +16,7 @@ pub fn turns_come_to_an_end()
 
 /// Rounds come to rest. After any such call, where nothing more is asked for and no timer expires, rounds in which nothing is lost
 /// lead to where no turn is left: neither end has a frame to give, and none is on its way. At most as many rounds are needed as
-/// the bound of [`turns_come_to_an_end`] says, if no error is told in as many rounds and one more (`rounds`). So it always is where
+/// the bound of [`turns_come_to_an_end`] says, if no error is told in the call, nor in as many rounds and one more (`rounds`). So it always is where
 /// the call was timely, as in [`crate::what_is_lost_arrives`] (`timely`): that law speaks of where no turn is left, and there rounds
 /// always lead. In a round each end in turn gives its next frame, if it has one, and the other takes it.
 pub fn rounds_come_to_rest()

@@ -27,7 +27,7 @@ FramesHaveLengths =
     (octets : List ℕ) → (length octets + 5 ≤ length (line_octets octets)) × (40 * length (line_octets octets) ≤ 48 * length octets + 246)
 
 -- A call for the next frame means the pulls of `GoesWhole` where one waits, and nothing where none does. One that takes a
--- frame lets what may be sent fall. So after as many calls as frames may be sent none waits.
+-- frame lowers what may be sent. So after as many calls as frames may be sent none waits.
 pub record CallsComeToAnEnd : Type 0 where
   pub takes : (c : Config) (l : Line) (t : Taken) → taken c l ≡ Some t → pulls_for c l ≡ replicate (pulls_to_begin l) pull
   pub takes_none : (c : Config) (l : Line) → taken c l ≡ None → pulls_for c l ≡ []

@@ -96,7 +96,7 @@ unit_noted : list_any (is_unit_of Call 64) (notes_of (answer usual (octet 0xFC) 
 unfolding answer seq distance_of named reading header_of control_of unnumbered_of teis.course teis.refusal low_bits
 unit_noted = refl
 
--- A frame of TEI 64 and SAPI 0 with an undefined control field came likewise: its link is established anew, and no other
+-- A frame of TEI 64 and SAPI 0 with an undefined control field came in the same way: its link is established anew, and no other
 -- feels it.
 abbrev pub before_undefined : Line
 before_undefined = record both_up { received = 0x7E ∷ 0x00 ∷ 0x81 ∷ 0x4F ∷ 0x5A ∷ 0x14 ∷ 0xFD ∷ [] }

@@ -18,7 +18,7 @@ use Rattle.laws_line.specs.Messages.{asks}
 use Rattle.laws_line.specs.Worked.{usual, hears}
 use Rattle.laws_line.specs.WorkedPulls.{asked}
 
--- The identity request by Ri 1234 came between two flags, stuffed and with its check, but for the last octet.
+-- The identity request by Ri 1234 came between two flags, stuffed and with its check, except for the last octet.
 abbrev pub asking : Line
 asking = record (fresh_line usual) {
   received = 0x7E ∷ 0x7C ∷ 0xDF ∷ 0x17 ∷ 0x78 ∷ 0x90 ∷ 0xA0 ∷ 0x09 ∷ 0xF8 ∷ 0x6E ∷ 0xA1 ∷ 0xE1 ∷ [];

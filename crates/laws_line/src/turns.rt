@@ -25,7 +25,7 @@ pub fn frames_have_lengths()
 {}
 
 /// A call for the next frame means the pulls of `frames_go_whole` where one waits, and nothing where none does. One that
-/// takes a frame lets what may be sent fall, so after as many calls as frames may be sent, with nothing else between them,
+/// takes a frame lowers what may be sent, so after as many calls as frames may be sent, with nothing else between them,
 /// none waits.
 pub fn calls_come_to_an_end()
     ensures { CallsComeToAnEnd }

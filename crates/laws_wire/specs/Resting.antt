@@ -43,7 +43,7 @@ unfoldable pub expiries : List Doing → ℕ
 expiries [] = 0
 expiries (d ∷ ds) = expiries_in d + expiries ds
 
--- What the bound reckons with, in frames, where at most k are outstanding at either end: SABME and UA, and at each end a REJ for
+-- What the bound counts, in frames, where at most k are outstanding at either end: SABME and UA, and at each end a REJ for
 -- which k go again; for each expiry an enquiry and its answer, for which k go again; and for each request that was granted an
 -- I-frame, its acknowledgement, and a REJ for which k go again.
 abbrev pub most_frames : ℕ → ℕ → ℕ → ℕ

@@ -12,7 +12,7 @@ ghost use Rattle.model_sim.specs.Within.{ScriptsStayWithin};
 /// that a line takes, a request, and for a wait the expiries that fall due, one after the other.
 ///
 /// The configuration is in range (`in_range`), and each event is at a line of the card (`at_lines`). The laws of runs
-/// of a card ask for nothing else of a configuration and of events, but for one: that the pool is never full asks for
+/// of a card ask for nothing else of a configuration and of events, except one: that the pool is never full asks for
 /// slots enough, too, which a card line may give or not. So each law of a card that has just begun holds of each
 /// script: what is stored, numbered, sent and pulled is as they say. [`scripts_stay_within`] says so of what is stored.
 pub fn scripts_are_runs()

@@ -1,6 +1,6 @@
 /*
  * layout.c: where the fields of lapd.h's structs lie. The library's structs are #[repr(C)] with the same fields in the
- * same order (crates/lapd_plain, crates/lapd_c); these are the numbers that such a layout has on x86-64.
+ * same order (crates/lapd_c); these are the numbers that such a layout has on x86-64.
  */
 #include <stddef.h>
 

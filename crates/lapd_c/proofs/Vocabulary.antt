@@ -51,10 +51,10 @@ pub use Rattle.lapd_line.specs.FrameStands.{IsNext, written}
 pub use Rattle.lapd_line.specs.Reports.{report_told}
 pub use Rattle.lapd_line.specs.declared.frame_line.NextFrame.{NextFrame}
 pub use Rattle.lapd_line.specs.declared.reports.Report.{Report}
-pub use Rattle.lapd_plain.specs.Links.{service_at, tei_at}
-pub use Rattle.lapd_plain.specs.Reports.{Shows, contents_of, told_by}
-pub use Rattle.lapd_plain.specs.Requests.{read_of}
-pub use Rattle.lapd_plain.specs.declared.reports.PlainReport.{PlainReport}
+pub use Rattle.lapd_c.specs.LinkPlaces.{service_at, tei_at}
+pub use Rattle.lapd_c.specs.Reports.{Shows, contents_of, told_by}
+pub use Rattle.lapd_c.specs.Requests.{read_of}
+pub use Rattle.lapd_c.specs.declared.plain.reports.PlainReport.{PlainReport}
 pub use Rattle.lapd_store.specs.Store.{Store}
 pub use Rattle.lapd_tei.specs.declared.outcome.Change.{Change}
 pub use Rattle.lapd_tei.specs.declared.outcome.Change.TheVariants.{Gained, Left}

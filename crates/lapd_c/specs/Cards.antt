@@ -2,8 +2,8 @@
 use Rattle.std.specs.Prelude.{◌≡◌, ◌≤◌, ◌<◌, ℕ, is_some, Option, None, Some, option_map}
 use Rattle.model_card.specs.Card as machine
 use Rattle.model_line.specs.Event.{Answer, told, refused, pulled}
-use Rattle.lapd_plain.specs.declared.reports.PlainReport.{PlainReport}
-use Rattle.lapd_plain.specs.Reports.{Shows, ShowsPull}
+use Rattle.lapd_c.specs.declared.plain.reports.PlainReport.{PlainReport}
+use Rattle.lapd_c.specs.Reports.{Shows, ShowsPull}
 use Rattle.lapd_c.specs.declared.card.CardHandle.{CardHandle}
 use Rattle.lapd_c.specs.declared.kinds.AnyCard.TheVariants.{Octets, Frames}
 use Rattle.lapd_c.specs.CardSlots.{HeldCard}

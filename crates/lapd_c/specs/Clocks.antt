@@ -4,9 +4,9 @@ use Rattle.lapd_frame.specs.declared.timers.Order.{Order}
 use Rattle.lapd_frame.specs.declared.timers.Timer.{Timer}
 use Rattle.lapd_clock.specs.Timer.{Lengths}
 use Rattle.lapd_clock.specs.Timers.{Timers, finds_place, with_order}
-use Rattle.lapd_plain.specs.Statuses.{ok, wrong_line, wrong_time, no_place}
-use Rattle.lapd_plain.specs.declared.timers.PlainDue.{PlainDue}
-use Rattle.lapd_plain.specs.Timers.{plain_timer}
+use Rattle.lapd_c.specs.Statuses.{ok, wrong_line, wrong_time, no_place}
+use Rattle.lapd_c.specs.declared.plain.timers.PlainDue.{PlainDue}
+use Rattle.lapd_c.specs.Timers.{plain_timer}
 use Rattle.lapd_c.specs.declared.clock.ClockHandle.{ClockHandle}
 use Rattle.lapd_c.specs.ClockSlots.{HeldClock}
 

@@ -7,7 +7,7 @@ use Rattle.model_card.specs.Run.{run}
 use Rattle.model_line.specs.Event.{Answer, octet, pull, told, refused, pulled, nothing}
 use Rattle.lapd_store.specs.Store.{Store}
 use Rattle.lapd_card.specs.Card.{Held}
-use Rattle.lapd_plain.specs.declared.reports.PlainReport.{PlainReport}
+use Rattle.lapd_c.specs.declared.plain.reports.PlainReport.{PlainReport}
 use Rattle.lapd_c.specs.declared.kinds.AnyCard.TheVariants.{Octets, Frames}
 use Rattle.lapd_c.specs.Cards.{ShowsAnswer, octet_of}
 use Rattle.lapd_c.specs.CardSlots.{HeldCard}

@@ -5,7 +5,7 @@ use Rattle.model_card.specs.Card.{Card, line_at}
 use Rattle.model_card.specs.Happening.{Happening, events_of}
 use Rattle.model_card.specs.Run.{after_all}
 use Rattle.model_card.specs.Said.{Said, says, gives}
-use Rattle.lapd_plain.specs.declared.reports.PlainReport.{PlainReport}
+use Rattle.lapd_c.specs.declared.plain.reports.PlainReport.{PlainReport}
 use Rattle.lapd_c.specs.Cards.{ShowsAnswer}
 
 -- The card after what happens, which means a list of events.

@@ -4,7 +4,7 @@ use Rattle.model_line.specs.Event.{Answer, told, refused, pulled}
 use Rattle.model_card.specs.Card.{Card}
 use Rattle.model_card.specs.Event.{Event}
 use Rattle.model_card.specs.Machine.{answer}
-use Rattle.lapd_plain.specs.Reports.{contents_of}
+use Rattle.lapd_c.specs.Reports.{contents_of}
 
 -- The contents that an answer delivers.
 abbrev pub contents_in : Answer → Option (List ℕ)

@@ -1,4 +1,16 @@
--- What the library for C says.
+-- What the library for C says; first, what the numbers of C mean.
+pub mod Statuses
+pub mod Services
+pub mod Config
+pub mod Timers
+pub mod LinkPlaces
+pub mod Rooms
+pub mod Heads
+pub mod Notes
+pub mod Faults
+pub mod Requests
+pub mod Reports
+pub mod Counters
 pub mod ClockSlots
 pub mod Clocks
 pub mod CardSlots

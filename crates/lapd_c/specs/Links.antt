@@ -1,8 +1,8 @@
 -- The links of a line, one after the other.
 use Rattle.std.specs.Prelude.{◌≡◌, ◌≤◌, ◌<◌, ◌+◌, ℕ, Option, Some, None}
 use Rattle.model_card.specs.Card as machine
-use Rattle.lapd_plain.specs.declared.links.PlainLink.{PlainLink}
-use Rattle.lapd_plain.specs.Links.{service_at, tei_at, plain_link}
+use Rattle.lapd_c.specs.declared.plain.links.PlainLink.{PlainLink}
+use Rattle.lapd_c.specs.LinkPlaces.{service_at, tei_at, plain_link}
 
 -- The state of the link at a place of a line; none where its TEI is not on the line.
 abbrev pub state_at : ℕ → machine.Card → ℕ → Option ℕ

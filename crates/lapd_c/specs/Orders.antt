@@ -2,11 +2,11 @@
 use Rattle.std.specs.Prelude.{ℕ, nat_lt, ◌==◌, Bool, true, not, ◌&&◌, List, [], ◌∷◌, Result, Ok, Err, if◌then◌else◌}
 use Rattle.lapd_frame.specs.declared.timers.Order.{Order}
 use Rattle.lapd_clock.specs.Timers.{Timers, finds_place, with_order}
-use Rattle.lapd_plain.specs.declared.reports.PlainReport.{PlainReport}
-use Rattle.lapd_plain.specs.declared.timers.PlainOrder.{PlainOrder}
-use Rattle.lapd_plain.specs.Reports.{orders_of}
-use Rattle.lapd_plain.specs.Statuses.{ok, wrong_line, wrong_time, wrong_order, no_place}
-use Rattle.lapd_plain.specs.Timers.{order_in}
+use Rattle.lapd_c.specs.declared.plain.reports.PlainReport.{PlainReport}
+use Rattle.lapd_c.specs.declared.plain.timers.PlainOrder.{PlainOrder}
+use Rattle.lapd_c.specs.Reports.{orders_of}
+use Rattle.lapd_c.specs.Statuses.{ok, wrong_line, wrong_time, wrong_order, no_place}
+use Rattle.lapd_c.specs.Timers.{order_in}
 use Rattle.lapd_c.specs.Clocks.{latest}
 
 -- What is wrong with the first order that is none.

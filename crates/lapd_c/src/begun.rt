@@ -3,15 +3,15 @@
 ghost use Rattle.std.specs.Prelude.{◌≡◌, ◌≤◌, ◌<◌, Some, None};
 ghost use Rattle.model_card.specs.Begun.{head_begun_at};
 ghost use Rattle.model_card.specs.Card as machine;
-ghost use Rattle.lapd_plain.specs.Heads.{plain_head};
-ghost use Rattle.lapd_plain.specs.Statuses as status;
+ghost use Rattle.lapd_c.specs.Heads.{plain_head};
+ghost use Rattle.lapd_c.specs.Statuses as status;
 ghost use Rattle.lapd_c.specs.Cards.{card_of, kind_in, IsHandle, OctetsStand};
 ghost use Rattle.lapd_c.specs.Kinds.{CardStands, for_frames};
 
 use crate::card::CardHandle;
 use crate::kinds::AnyCard;
+use crate::plain::{NO_CARD, OK, PlainHead, WRONG_CARD, WRONG_LINE};
 use lapd_card::Card;
-use lapd_plain::{NO_CARD, OK, PlainHead, WRONG_CARD, WRONG_LINE};
 use lapd_store::RawShelf;
 use std::alloc::Global;
 

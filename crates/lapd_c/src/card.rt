@@ -3,8 +3,8 @@
 ghost use Rattle.std.specs.Prelude.{◌≡◌, ◌⊎◌, Some, None, Ok, Err, IfOk, IfSome, IfNone, option_map, replicate};
 ghost use Rattle.model_card.specs.Card as machine;
 ghost use Rattle.model_line.specs.Config.{first_fault};
-ghost use Rattle.lapd_plain.specs.Config.{config_in, config_fault};
-ghost use Rattle.lapd_plain.specs.Statuses as status;
+ghost use Rattle.lapd_c.specs.Config.{config_in, config_fault};
+ghost use Rattle.lapd_c.specs.Statuses as status;
 ghost use Rattle.lapd_count.specs.Counters.{none_counted};
 ghost use Rattle.lapd_c.specs.Counted.{counters_at};
 ghost use Rattle.lapd_c.specs.Kinds.{counters_of};
@@ -12,8 +12,8 @@ ghost use Rattle.lapd_c.specs.Cards.{card_of, IsHandle, OctetsStand, FramesStand
 
 use crate::card_slot::CardSlot;
 use crate::kinds::AnyCard;
+use crate::plain::{NO_CARD, NO_MEMORY, OK, PlainConfig, SECOND_START};
 use lapd_card::{Card, FrameCard};
-use lapd_plain::{NO_CARD, NO_MEMORY, OK, PlainConfig, SECOND_START};
 use lapd_store::RawShelf;
 use model_line::Config;
 use std::alloc::Global;

@@ -3,18 +3,18 @@
 ghost use Rattle.std.specs.Prelude.{◌≡◌, ◌≤◌, ◌⊎◌, Some, None, IfSome, IfNone, option_map};
 ghost use Rattle.lapd_clock.specs.Timers.{Timers, due_at, after_due, next_moment, idle, with_lengths};
 ghost use Rattle.lapd_clock.specs.Timer.{first_out_of_range};
-ghost use Rattle.lapd_plain.specs.Config.{config_fault};
-ghost use Rattle.lapd_plain.specs.Statuses as status;
-ghost use Rattle.lapd_plain.specs.Timers.{order_in};
+ghost use Rattle.lapd_c.specs.Config.{config_fault};
+ghost use Rattle.lapd_c.specs.Statuses as status;
+ghost use Rattle.lapd_c.specs.Timers.{order_in};
 ghost use Rattle.lapd_c.specs.Clocks.{clock_of, IsHandle, plain_due, apply_status, after_apply, lengths_given};
 
 use crate::clock_slot::ClockSlot;
-use lapd_clock::{Clock, Lengths};
-use lapd_frame::Order;
-use lapd_plain::{
+use crate::plain::{
     NO_CLOCK, NO_MEMORY, NO_PLACE, NO_TIMER, OK, PlainConfig, PlainDue, PlainOrder, PlainTimer,
     SECOND_START, WRONG_LINE, WRONG_TIME,
 };
+use lapd_clock::{Clock, Lengths};
+use lapd_frame::Order;
 use std::alloc::Global;
 use std::mem::replace;
 

@@ -1,16 +1,16 @@
 //! The orders of a report, carried out on a clock.
 
 ghost use Rattle.std.specs.Prelude.{◌≡◌, ◌≤◌, ◌<◌, ◌^◌, Some, None, IfSome, option_map};
-ghost use Rattle.lapd_plain.specs.Statuses as status;
-ghost use Rattle.lapd_plain.specs.Timers.{order_in};
+ghost use Rattle.lapd_c.specs.Statuses as status;
+ghost use Rattle.lapd_c.specs.Timers.{order_in};
 ghost use Rattle.lapd_c.specs.Clocks.{clock_of, IsHandle};
 ghost use Rattle.lapd_c.specs.Orders.{fault_in, first_fault_in, is_placed, after_order, all_placed, after_orders, wrong_in, report_status, after_report};
 
 use crate::clock::{ClockHandle, LATEST};
-use lapd_clock::Clock;
-use lapd_plain::{
+use crate::plain::{
     NO_CLOCK, NO_PLACE, OK, PlainOrder, PlainReport, WRONG_LINE, WRONG_ORDER, WRONG_TIME,
 };
+use lapd_clock::Clock;
 use std::alloc::Global;
 
 /// Carries out all orders of a report, in order, at a moment.

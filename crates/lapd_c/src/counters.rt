@@ -2,14 +2,14 @@
 
 ghost use Rattle.std.specs.Prelude.{◌≡◌, ◌≤◌, ◌<◌, None, IfSome, get_or};
 ghost use Rattle.lapd_count.specs.Counters.{none_counted};
-ghost use Rattle.lapd_plain.specs.Counters.{plain_counters};
-ghost use Rattle.lapd_plain.specs.Statuses as status;
+ghost use Rattle.lapd_c.specs.Counters.{plain_counters};
+ghost use Rattle.lapd_c.specs.Statuses as status;
 ghost use Rattle.lapd_c.specs.Cards.{card_of, IsHandle};
 ghost use Rattle.lapd_c.specs.Kinds.{counters_of, line_count};
 
 use crate::card::CardHandle;
 use crate::kinds::AnyCard;
-use lapd_plain::{NO_CARD, OK, PlainCounters, WRONG_LINE};
+use crate::plain::{NO_CARD, OK, PlainCounters, WRONG_LINE};
 use std::alloc::Global;
 
 /// What was counted of a line since the card began.

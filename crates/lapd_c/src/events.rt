@@ -6,10 +6,10 @@ ghost use Rattle.model_card.specs.Event.{at};
 ghost use Rattle.model_card.specs.Machine.{after, answer};
 ghost use Rattle.model_line.specs.Event as line_event;
 ghost use Rattle.model_line.specs.Refusal.{refusal};
-ghost use Rattle.lapd_plain.specs.Statuses as status;
-ghost use Rattle.lapd_plain.specs.Statuses.{refusal_status};
-ghost use Rattle.lapd_plain.specs.Requests.{request_in};
-ghost use Rattle.lapd_plain.specs.Timers.{timer_in};
+ghost use Rattle.lapd_c.specs.Statuses as status;
+ghost use Rattle.lapd_c.specs.Statuses.{refusal_status};
+ghost use Rattle.lapd_c.specs.Requests.{request_in};
+ghost use Rattle.lapd_c.specs.Timers.{timer_in};
 ghost use Rattle.lapd_c.specs.Cards.{card_of, kind_in, IsHandle, Stands, OctetsStand, ShowsAnswer, octet_of};
 ghost use Rattle.lapd_c.specs.Counted.{Counts, counters_at};
 ghost use Rattle.lapd_c.specs.Kinds.{CardStands, AnyStands, counters_of, kind_of, for_frames};
@@ -17,10 +17,10 @@ ghost use Rattle.lapd_card.specs.Counted.{counters_in};
 
 use crate::card::CardHandle;
 use crate::kinds::AnyCard;
-use lapd_card::Card;
-use lapd_plain::{
+use crate::plain::{
     NO_CARD, OK, PlainReport, PlainTimer, WRONG_CARD, WRONG_LINE, refusal_status, request_in,
 };
+use lapd_card::Card;
 use lapd_store::RawShelf;
 use std::alloc::Global;
 

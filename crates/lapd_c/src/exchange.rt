@@ -9,8 +9,8 @@ ghost use Rattle.lapd_card.specs.Card.{line_count};
 ghost use Rattle.lapd_card.specs.Lines.{told_at};
 ghost use Rattle.lapd_card.specs.Stands.{Leads};
 ghost use Rattle.lapd_line.specs.Reports.{report_told};
-ghost use Rattle.lapd_plain.specs.Reports.{Shows, contents_of};
-ghost use Rattle.lapd_plain.specs.Statuses as status;
+ghost use Rattle.lapd_c.specs.Reports.{Shows, contents_of};
+ghost use Rattle.lapd_c.specs.Statuses as status;
 ghost use Rattle.lapd_c.specs.Cards.{card_of, kind_in, IsHandle, OctetsStand, ShowsAnswer, octet_of};
 ghost use Rattle.lapd_c.specs.Kinds.{CardStands, for_frames, shelf_of};
 ghost use Rattle.lapd_c.specs.Counted.{counters_at};
@@ -21,8 +21,8 @@ ghost use Rattle.model_card.specs.Run.{moments};
 
 use crate::card::CardHandle;
 use crate::kinds::AnyCard;
+use crate::plain::{NO_CARD, OK, PlainReport, WRONG_CARD, WRONG_LENGTH, WRONG_LINE};
 use lapd_card::{BareReport, Card, Report};
-use lapd_plain::{NO_CARD, OK, PlainReport, WRONG_CARD, WRONG_LENGTH, WRONG_LINE};
 use lapd_store::RawShelf;
 use std::alloc::Global;
 

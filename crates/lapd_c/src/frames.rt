@@ -4,9 +4,9 @@ ghost use Rattle.std.specs.Prelude.{◌≡◌, ◌≢◌, ◌+◌, ◌≤◌, �
 ghost use Rattle.model_card.specs.Card as machine;
 ghost use Rattle.model_card.specs.Happening.{comes, failed, goes};
 ghost use Rattle.model_card.specs.Said.{said};
-ghost use Rattle.lapd_plain.specs.Faults.{fault_in};
-ghost use Rattle.lapd_plain.specs.Reports.{ShowsPull};
-ghost use Rattle.lapd_plain.specs.Statuses as status;
+ghost use Rattle.lapd_c.specs.Faults.{fault_in};
+ghost use Rattle.lapd_c.specs.Reports.{ShowsPull};
+ghost use Rattle.lapd_c.specs.Statuses as status;
 ghost use Rattle.lapd_c.specs.Cards.{card_of, kind_in, IsHandle, FramesStand};
 ghost use Rattle.lapd_c.specs.Counted.{CountsHappening, counters_at};
 ghost use Rattle.lapd_c.specs.Kinds.{FrameCardStands, for_octets};
@@ -15,10 +15,10 @@ ghost use Rattle.lapd_c.specs.Frames.{after_happening, next_at, IsGiven, ShowsSa
 
 use crate::card::CardHandle;
 use crate::kinds::AnyCard;
-use lapd_card::FrameCard;
-use lapd_plain::{
+use crate::plain::{
     NO_CARD, NO_FRAME, OK, PlainReport, WRONG_CARD, WRONG_LENGTH, WRONG_LINE, fault_in,
 };
+use lapd_card::FrameCard;
 use lapd_store::RawShelf;
 use std::alloc::Global;
 

@@ -11,6 +11,7 @@
 //!   about itself; `links`, which links it has, and `rooms`, how many contents more one takes.
 //! - `clock`: a clock in C, and its exports; `clock_reports`, the orders of a report; `clock_slot`, where it lies.
 //! - `laws`: what holds of the machine's answers, so that a report has room for each.
+//! - `plain`: the structs and numbers of C, and what they mean.
 //! - `loose`: a box as the address of its block; `version`: which version this is.
 //!
 //! # Only tested
@@ -39,6 +40,7 @@ mod kinds;
 mod laws;
 mod links;
 mod loose;
+mod plain;
 mod questions;
 mod rooms;
 mod version;

@@ -2,14 +2,14 @@
 
 ghost use Rattle.std.specs.Prelude.{◌≡◌, ◌≤◌, ◌<◌, ◌⊎◌, Some, None, IfSome};
 ghost use Rattle.model_card.specs.Card as machine;
-ghost use Rattle.lapd_plain.specs.Statuses as status;
+ghost use Rattle.lapd_c.specs.Statuses as status;
 ghost use Rattle.lapd_c.specs.Cards.{card_of, IsHandle, Stands};
 ghost use Rattle.lapd_c.specs.Kinds.{AnyStands};
 ghost use Rattle.lapd_c.specs.Links.{FirstFrom, IsNext, NoneFrom};
 
 use crate::card::CardHandle;
 use crate::kinds::AnyCard;
-use lapd_plain::{LINK_PLACES, NO_CARD, NO_MORE_LINKS, OK, PlainLink, WRONG_LINE, service_at};
+use crate::plain::{LINK_PLACES, NO_CARD, NO_MORE_LINKS, OK, PlainLink, WRONG_LINE, service_at};
 use std::alloc::Global;
 
 /// The first link of a line from a place on, and the place behind it.

@@ -5,14 +5,14 @@ ghost use Rattle.std.specs.Option.{unwrap_or};
 ghost use Rattle.model_card.specs.Card as machine;
 ghost use Rattle.model_card.specs.Stored.{stored, limit};
 ghost use Rattle.model_line.specs.Stored.{held_sent};
-ghost use Rattle.lapd_plain.specs.Statuses as status;
-ghost use Rattle.lapd_plain.specs.Timers.{link_in};
+ghost use Rattle.lapd_c.specs.Statuses as status;
+ghost use Rattle.lapd_c.specs.Timers.{link_in};
 ghost use Rattle.lapd_c.specs.Cards.{card_of, kind_in, IsHandle, Stands};
 ghost use Rattle.lapd_c.specs.Kinds.{AnyStands, for_octets, for_frames};
 
 use crate::card::CardHandle;
 use crate::kinds::AnyCard;
-use lapd_plain::{NO_CARD, OK, WRONG_LINE, link_in};
+use crate::plain::{NO_CARD, OK, WRONG_LINE, link_in};
 use std::alloc::Global;
 
 /// The most lines of a card.

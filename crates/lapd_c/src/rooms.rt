@@ -3,16 +3,16 @@
 ghost use Rattle.std.specs.Prelude.{◌≡◌, ◌≤◌, ◌<◌, None, IfOk, IfErr};
 ghost use Rattle.model_card.specs.Card as machine;
 ghost use Rattle.model_card.specs.Room.{room as machine_room};
-ghost use Rattle.lapd_plain.specs.Rooms.{plain_room};
-ghost use Rattle.lapd_plain.specs.Statuses as status;
-ghost use Rattle.lapd_plain.specs.Statuses.{refusal_status};
-ghost use Rattle.lapd_plain.specs.Timers.{link_in};
+ghost use Rattle.lapd_c.specs.Rooms.{plain_room};
+ghost use Rattle.lapd_c.specs.Statuses as status;
+ghost use Rattle.lapd_c.specs.Statuses.{refusal_status};
+ghost use Rattle.lapd_c.specs.Timers.{link_in};
 ghost use Rattle.lapd_c.specs.Cards.{card_of, IsHandle, Stands};
 ghost use Rattle.lapd_c.specs.Kinds.{AnyStands};
 
 use crate::card::CardHandle;
 use crate::kinds::AnyCard;
-use lapd_plain::{NO_CARD, OK, PlainRoom, WRONG_LINE, link_in, refusal_status};
+use crate::plain::{NO_CARD, OK, PlainRoom, WRONG_LINE, link_in, refusal_status};
 use std::alloc::Global;
 
 /// The room of the link of a service with a TEI, and its V(A).

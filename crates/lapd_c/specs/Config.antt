@@ -1,0 +1,35 @@
+-- The configuration that C gives.
+use Rattle.std.specs.Prelude.{ℕ, ◌==◌, nat_lt, Option, Some, None, option_map, if◌then◌else◌}
+use Rattle.std.specs.Option.{option_or}
+use Rattle.lapd_frame.specs.declared.addresses.Side.{Side}
+use Rattle.lapd_frame.specs.declared.addresses.Side.TheVariants.{User, Network}
+use Rattle.model_line.specs.declared.config.Config.{Config}
+use Rattle.model_line.specs.Config.{first_fault}
+use Rattle.lapd_c.specs.Statuses.{field_status}
+use Rattle.lapd_c.specs.declared.plain.config.PlainConfig.{PlainConfig}
+
+-- The side: 0 the network's, else the user's.
+abbrev pub side_in : ℕ → Side
+side_in side = if side == 0 then Network else User
+
+abbrev pub config_in : PlainConfig → Config
+config_in p = record {
+  lines = p.lines;
+  terminals = p.terminals;
+  k = p.k;
+  k16 = p.k16;
+  queue = p.queue;
+  unit_queue = p.unit_queue;
+  control = p.control;
+  slots = p.slots;
+  n201 = p.n201;
+  n200 = p.n200;
+  side = side_in p.side;
+}
+
+-- The status of a start where a field is out of range: that of the first; the side, which is 0 or 1, comes last.
+abbrev pub side_fault : PlainConfig → Option ℕ
+side_fault p = if nat_lt 1 p.side then Some 43 else None
+
+abbrev pub config_fault : PlainConfig → Option ℕ
+config_fault p = option_or (option_map field_status (first_fault (config_in p))) (side_fault p)

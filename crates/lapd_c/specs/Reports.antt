@@ -1,0 +1,70 @@
+-- What a report shows.
+use Rattle.std.specs.Prelude.{◌≡◌, ℕ, ◌==◌, Bool, List, [], length, take, map, Option, Some, None, if◌then◌else◌}
+use Rattle.model_bits.specs.declared.heard.Cause.{Cause}
+use Rattle.lapd_frame.specs.declared.notes.Note.{Note}
+use Rattle.lapd_frame.specs.declared.timers.Order.{Order}
+use Rattle.model_line.specs.Event.{LineTold}
+use Rattle.lapd_c.specs.declared.plain.notes.PlainNote.{PlainNote}
+use Rattle.lapd_c.specs.declared.plain.reports.PlainReport.{PlainReport}
+use Rattle.lapd_c.specs.declared.plain.timers.PlainOrder.{PlainOrder}
+use Rattle.lapd_c.specs.Notes.{plain_note, cause_number}
+use Rattle.lapd_c.specs.Timers.{plain_order}
+
+-- The notes, the orders and the contents that a report holds.
+abbrev pub notes_in : PlainReport → List PlainNote
+notes_in r = take r.note_count r.notes
+
+abbrev pub orders_of : PlainReport → List PlainOrder
+orders_of r = take r.order_count r.orders
+
+abbrev pub contents_in : PlainReport → Option (List ℕ)
+contents_in r = if r.delivered == 0 then None else Some (take r.length r.contents)
+
+-- Contents, or none where nothing is delivered.
+abbrev pub contents_of : Option (List ℕ) → List ℕ
+contents_of None = []
+contents_of (Some contents) = contents
+
+-- 1 where there are contents, also of no octets; else 0.
+abbrev pub mark_of : Option (List ℕ) → ℕ
+mark_of None = 0
+mark_of (Some contents) = 1
+
+-- An answer of these parts.
+abbrev pub told_by : List Note → List Order → Option Cause → ℕ → Option (List ℕ) → LineTold
+told_by notes orders cause lost contents = record { notes = notes; contents = contents; cause = cause; orders = orders; lost = lost }
+
+-- It shows what an octet, an expiry or a request was answered with: all of it, and nothing else.
+pub record Shows (r : PlainReport) (t : LineTold) : Type 0 where
+  pub note_count : r.note_count ≡ length t.notes
+  pub order_count : r.order_count ≡ length t.orders
+  pub delivered : r.delivered ≡ mark_of t.contents
+  pub octet_count : r.length ≡ length (contents_of t.contents)
+  pub notes : notes_in r ≡ map plain_note t.notes
+  pub orders : orders_of r ≡ map plain_order t.orders
+  pub contents : contents_in r ≡ t.contents
+  pub cause : r.cause ≡ cause_number t.cause
+  pub lost : r.lost ≡ t.lost
+  pub begun : r.begun ≡ 0
+
+-- It shows what a pull was answered with, beside the octet.
+pub record ShowsPull (r : PlainReport) (is_begun : Bool) (given : List Order) : Type 0 where
+  pub note_count : r.note_count ≡ 0
+  pub order_count : r.order_count ≡ length given
+  pub delivered : r.delivered ≡ 0
+  pub octet_count : r.length ≡ 0
+  pub orders : orders_of r ≡ map plain_order given
+  pub contents : contents_in r ≡ None
+  pub cause : r.cause ≡ 0
+  pub lost : r.lost ≡ 0
+  pub begun : r.begun ≡ (if is_begun then 1 else 0)
+
+-- Nothing but the contents, and what is said of them, is another.
+pub record SameButContents (r r' : PlainReport) : Type 0 where
+  pub note_count : r'.note_count ≡ r.note_count
+  pub order_count : r'.order_count ≡ r.order_count
+  pub cause : r'.cause ≡ r.cause
+  pub lost : r'.lost ≡ r.lost
+  pub begun : r'.begun ≡ r.begun
+  pub notes : r'.notes ≡ r.notes
+  pub orders : r'.orders ≡ r.orders

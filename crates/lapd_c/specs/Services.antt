@@ -1,0 +1,12 @@
+-- The service of a number, its SAPI.
+use Rattle.std.specs.Prelude.{ℕ, Option, Some, None, Result, Ok, Err}
+use Rattle.lapd_frame.specs.declared.services.Service.{Service}
+use Rattle.lapd_frame.specs.Services.{service_of}
+use Rattle.lapd_c.specs.Statuses.{wrong_service}
+
+abbrev pub or_wrong_service : Option Service → Result Service ℕ
+or_wrong_service None = Err wrong_service
+or_wrong_service (Some service) = Ok service
+
+abbrev pub service_in : ℕ → Result Service ℕ
+service_in sapi = or_wrong_service (service_of sapi)

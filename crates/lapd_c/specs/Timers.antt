@@ -1,0 +1,65 @@
+-- Timers and orders as numbers.
+use Rattle.std.specs.Prelude.{ℕ, nat_lt, ◌==◌, List, [], ◌∷◌, Result, Ok, Err, if◌then◌else◌}
+use Rattle.lapd_frame.specs.declared.services.Service.{Service}
+use Rattle.lapd_frame.specs.declared.timers.Order.{Order}
+use Rattle.lapd_frame.specs.declared.timers.Order.TheVariants.{Start, Stop}
+use Rattle.lapd_frame.specs.declared.timers.Timer.{Timer}
+use Rattle.lapd_frame.specs.declared.timers.Timer.TheVariants.{T200, T203, T201}
+use Rattle.lapd_frame.specs.Services.{sapi_of}
+use Rattle.lapd_c.specs.declared.plain.timers.PlainOrder.{PlainOrder}
+use Rattle.lapd_c.specs.declared.plain.timers.PlainTimer.{PlainTimer}
+use Rattle.lapd_c.specs.Services.{service_in}
+use Rattle.lapd_c.specs.Statuses.{wrong_tei, wrong_timer, wrong_order}
+
+abbrev pub plain_timer : Timer → PlainTimer
+plain_timer (T200 service tei) = record { timer = 1; service = sapi_of service; tei = tei }
+plain_timer (T203 service tei) = record { timer = 2; service = sapi_of service; tei = tei }
+plain_timer T201 = record { timer = 3; service = 0; tei = 0 }
+
+abbrev pub plain_order : Order → PlainOrder
+plain_order (Start timer) = record { order = 1; timer = plain_timer timer }
+plain_order (Stop timer) = record { order = 2; timer = plain_timer timer }
+
+-- The link that a timer names, or what is wrong.
+abbrev pub with_tei : ℕ → Result Service ℕ → Result (Service × ℕ) ℕ
+with_tei tei (Err wrong) = Err wrong
+with_tei tei (Ok service) = if nat_lt 126 tei then Err wrong_tei else Ok (service, tei)
+
+abbrev pub link_in : ℕ → ℕ → Result (Service × ℕ) ℕ
+link_in service tei = with_tei tei (service_in service)
+
+-- The timer that numbers name, or what is wrong.
+abbrev pub timer_of_link : (Service → ℕ → Timer) → Result (Service × ℕ) ℕ → Result Timer ℕ
+timer_of_link which (Err wrong) = Err wrong
+timer_of_link which (Ok link) = Ok (which link.0 link.1)
+
+abbrev pub timer_in : PlainTimer → Result Timer ℕ
+timer_in p =
+    if p.timer == 1 then timer_of_link T200 (link_in p.service p.tei)
+    else if p.timer == 2 then timer_of_link T203 (link_in p.service p.tei)
+    else if p.timer == 3 then Ok T201
+    else Err wrong_timer
+
+-- The order that numbers name, or what is wrong.
+abbrev pub order_of_timer : (Timer → Order) → Result Timer ℕ → Result Order ℕ
+order_of_timer what (Err wrong) = Err wrong
+order_of_timer what (Ok timer) = Ok (what timer)
+
+abbrev pub order_in : PlainOrder → Result Order ℕ
+order_in p =
+    if p.order == 1 then order_of_timer Start (timer_in p.timer)
+    else if p.order == 2 then order_of_timer Stop (timer_in p.timer)
+    else Err wrong_order
+
+-- All orders of a list, or what is wrong with the first that is none.
+abbrev pub and_before : Order → Result (List Order) ℕ → Result (List Order) ℕ
+and_before order (Err wrong) = Err wrong
+and_before order (Ok orders) = Ok (order ∷ orders)
+
+abbrev pub and_then : Result Order ℕ → Result (List Order) ℕ → Result (List Order) ℕ
+and_then (Err wrong) more = Err wrong
+and_then (Ok order) more = and_before order more
+
+abbrev pub orders_in : List PlainOrder → Result (List Order) ℕ
+orders_in [] = Ok []
+orders_in (p ∷ ps) = and_then (order_in p) (orders_in ps)

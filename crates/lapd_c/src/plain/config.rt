@@ -1,0 +1,83 @@
+//! The configuration of a card.
+
+ghost use Rattle.std.specs.Prelude.{◌≡◌, None, IfNone};
+ghost use Rattle.model_line.specs.Config.{first_fault};
+ghost use Rattle.lapd_c.specs.Config.{config_in, side_in, config_fault};
+
+use crate::plain::statuses::field_status;
+use lapd_frame::Side;
+use model_line::Config;
+
+/// How large a card is, and the limits of its lines and links: [`Config`] in C.
+#[repr(C)]
+#[derive(Clone, Copy)]
+pub struct PlainConfig {
+    /// Lines: 1 to 64.
+    pub lines: u16,
+    /// TEIs on each line at most: 1 to 8.
+    pub terminals: u16,
+    /// The window of call control links: 1 to 127.
+    pub k: u16,
+    /// The window of packet links: 1 to 127.
+    pub k16: u16,
+    /// Contents that wait on each link: the greater of `k` and `k16` to 127.
+    pub queue: u16,
+    /// Unit data that wait on each line: 1 to 16.
+    pub unit_queue: u16,
+    /// Control frames that wait on each link: 2 to 16.
+    pub control: u16,
+    /// Contents that wait on the whole card: 1 to 8192.
+    pub slots: u16,
+    /// Octets of an information field at most: 8 to 260.
+    pub n201: u16,
+    /// How often a command is repeated: 0 to 10.
+    pub n200: u16,
+    /// Which side of its lines the card is: 0 the network's, 1 the user's.
+    pub side: u16,
+}
+
+/// The status of a start whose configuration names no side, and has all else in range.
+const BAD_SIDE: u32 = 43;
+
+/// The side of a number: 0 the network's, else the user's.
+fn side_in(side: u16) -> Side
+    ensures { result ≡ side_in side }
+{
+    if side == 0 { Side::Network } else { Side::User }
+}
+
+impl PlainConfig {
+    /// The same for the card.
+    pub fn config(&self) -> Config
+        ensures { result ≡ config_in self.now }
+    {
+        Config {
+            lines: self.lines,
+            terminals: self.terminals,
+            k: self.k,
+            k16: self.k16,
+            queue: self.queue,
+            unit_queue: self.unit_queue,
+            control: self.control,
+            slots: self.slots,
+            n201: self.n201,
+            n200: self.n200,
+            side: side_in(self.side),
+        }
+    }
+
+    /// The status of a start with this configuration where a field is out of range: that of the first. None where all are
+    /// in range.
+    pub fn fault(&self) -> Option<u32>
+        ensures status { result ≡ config_fault self.now }
+        ensures in_range { IfNone result (first_fault (config_in self.now) ≡ None) }
+    {
+        if let Some(field) = self.config().fault() {
+            return Some(field_status(field));
+        }
+        if self.side > 1 {
+            return Some(BAD_SIDE);
+        }
+        None
+    }
+}

@@ -1,0 +1,75 @@
+//! Notes for layer 3 and management, and why something was dropped.
+
+ghost use Rattle.std.specs.Prelude.{◌≡◌};
+ghost use Rattle.lapd_c.specs.Notes.{plain_note, cause_number, of_link};
+
+use lapd_frame::{Note, Service};
+use model_bits::Cause;
+
+/// A note, by its number. That of a link names its service by its SAPI, and its TEI; that of an error has its letter.
+#[repr(C)]
+#[derive(Clone, Copy)]
+pub struct PlainNote {
+    /// 1 to 11, in the order of [`Note`].
+    pub note: u8,
+    /// 0 or 16; 0 where the note is of both services.
+    pub service: u8,
+    /// The TEI that it is about.
+    pub tei: u8,
+    /// The letter of an error, in ASCII; else 0.
+    pub error: u8,
+}
+
+impl PlainNote {
+    /// A note in C.
+    pub fn of(note: Note) -> PlainNote
+        ensures { result ≡ plain_note note }
+    {
+        match note {
+            Note::EstablishIndication(service, tei) => of_link(1, service, tei),
+            Note::EstablishConfirm(service, tei) => of_link(2, service, tei),
+            Note::ReleaseIndication(service, tei) => of_link(3, service, tei),
+            Note::ReleaseConfirm(service, tei) => of_link(4, service, tei),
+            Note::Data(service, tei) => of_link(5, service, tei),
+            Note::Unit(service, tei) => of_link(6, service, tei),
+            Note::Error(service, tei, code) => PlainNote {
+                note: 7,
+                service: service.sapi(),
+                tei,
+                error: code.letter() as u8,
+            },
+            Note::Assigned(tei) => of_link(8, Service::Call, tei),
+            Note::Removed(tei) => of_link(9, Service::Call, tei),
+            Note::Doubled(tei) => of_link(10, Service::Call, tei),
+            Note::Xid(service, tei) => of_link(11, service, tei),
+        }
+    }
+}
+
+fn of_link(note: u8, service: Service, tei: u8) -> PlainNote
+    ensures { result ≡ of_link note service tei }
+{
+    PlainNote {
+        note,
+        service: service.sapi(),
+        tei,
+        error: 0,
+    }
+}
+
+/// The number of a cause, 1 to 8; 0 where there is none.
+pub fn cause_number(cause: Option<Cause>) -> u8
+    ensures { result ≡ cause_number cause }
+{
+    match cause {
+        None => 0,
+        Some(Cause::Abort) => 1,
+        Some(Cause::Ragged) => 2,
+        Some(Cause::Short) => 3,
+        Some(Cause::Fcs) => 4,
+        Some(Cause::Extension) => 5,
+        Some(Cause::Sapi) => 6,
+        Some(Cause::Tei) => 7,
+        Some(Cause::Unserved) => 8,
+    }
+}

@@ -1,0 +1,155 @@
+//! The report of an event.
+
+ghost use Rattle.std.specs.Prelude.{◌≡◌, ◌≤◌, [], false, length, take, map};
+ghost use Rattle.std.specs.Option.{option_copied};
+ghost use Rattle.model_line.specs.Event.{nothing};
+ghost use Rattle.lapd_c.specs.Notes.{plain_note};
+ghost use Rattle.lapd_c.specs.Timers.{plain_order};
+ghost use Rattle.lapd_c.specs.Reports.{Shows, ShowsPull, SameButContents, contents_in, contents_of, mark_of, orders_of, told_by};
+
+use crate::plain::notes::{PlainNote, cause_number};
+use crate::plain::timers::PlainOrder;
+use lapd_frame::{Note, Order};
+use model_bits::Cause;
+
+/// The most octets of contents that a configuration allows.
+const MOST_OCTETS: usize = 260;
+
+/// What an event led to. Behind the numbers of notes and orders, and behind `length`, the arrays may hold anything.
+#[repr(C)]
+#[derive(Clone, Copy)]
+pub struct PlainReport {
+    /// 0 to 4.
+    pub note_count: u8,
+    /// 0 to 4.
+    pub order_count: u8,
+    /// 1 to 8, or 0 where nothing was dropped.
+    pub cause: u8,
+    /// How many frames found no room to wait.
+    pub lost: u8,
+    /// Of a pull: 1 where it began a frame; else 0.
+    pub begun: u8,
+    /// 1 where contents were delivered; else 0.
+    pub delivered: u8,
+    /// Octets of contents.
+    pub length: u16,
+    /// The notes, in order.
+    pub notes: [PlainNote; 4],
+    /// The orders, in order.
+    pub orders: [PlainOrder; 4],
+    /// The contents.
+    pub contents: [u8; 260],
+}
+
+impl PlainReport {
+    /// Shows that nothing was told: of an octet, of an expiry, of a request, or of a pull that began no frame.
+    pub fn show_nothing(&mut self)
+        ensures told { Shows self.new nothing }
+        ensures pulled { ShowsPull self.new false [] }
+    {
+        self.note_count = 0;
+        self.order_count = 0;
+        self.cause = 0;
+        self.lost = 0;
+        self.begun = 0;
+        self.delivered = 0;
+        self.length = 0;
+    }
+
+    /// Shows what an octet, an expiry or a request was answered with: at most four notes and four orders. Contents
+    /// have at most 260 octets, as no configuration allows more; of longer ones the first 260 are shown.
+    ///
+    /// It stands apart, so that what tells nothing has no part of it in its way.
+    #[inline(never)]
+    pub fn show(
+        &mut self,
+        notes: &[Note],
+        orders: &[Order],
+        cause: Option<Cause>,
+        lost: u8,
+        delivered: Option<&[u8]>,
+    )
+        requires notes { length notes.now ≤ 4 }
+        requires orders { length orders.now ≤ 4 }
+        ensures { length (contents_of (option_copied delivered.entry)) ≤ 260
+            → Shows self.new (told_by notes.now orders.now cause lost (option_copied delivered.entry)) }
+    {
+        self.note_count = write_notes(&mut self.notes, notes);
+        self.order_count = write_orders(&mut self.orders, orders);
+        self.cause = cause_number(cause);
+        self.lost = lost;
+        self.begun = 0;
+        self.deliver(delivered);
+    }
+
+    /// Shows what a pull was answered with: whether it began a frame, and at most four orders.
+    ///
+    /// It stands apart, as `show` does.
+    #[inline(never)]
+    pub fn show_pull(&mut self, begun: bool, orders: &[Order])
+        requires { length orders.now ≤ 4 }
+        ensures { ShowsPull self.new begun orders.now }
+    {
+        self.note_count = 0;
+        self.order_count = write_orders(&mut self.orders, orders);
+        self.cause = 0;
+        self.lost = 0;
+        self.begun = u8::from(begun);
+        self.delivered = 0;
+        self.length = 0;
+    }
+
+    /// The orders that it shows.
+    pub fn orders_told(&self) -> &[PlainOrder]
+        requires { self.now.order_count ≤ 4 }
+        ensures { result.now ≡ orders_of self.now }
+    {
+        &self.orders[..usize::from(self.order_count)]
+    }
+
+    fn deliver(&mut self, delivered: Option<&[u8]>)
+        ensures rest { SameButContents self.old self.new }
+        ensures mark { self.new.delivered ≡ mark_of (option_copied delivered.entry) }
+        ensures length { length (contents_of (option_copied delivered.entry)) ≤ 260
+            → self.new.length ≡ length (contents_of (option_copied delivered.entry)) }
+        ensures contents { length (contents_of (option_copied delivered.entry)) ≤ 260
+            → contents_in self.new ≡ option_copied delivered.entry }
+    {
+        match delivered {
+            None => {
+                self.delivered = 0;
+                self.length = 0;
+            }
+            Some(contents) => {
+                let count = contents.len().min(MOST_OCTETS);
+                self.delivered = 1;
+                self.length = count as u16;
+                self.contents[..count].copy_from_slice(&contents[..count]);
+            }
+        }
+    }
+}
+
+// Writes notes to the first places, and answers how many there are.
+fn write_notes(places: &mut [PlainNote; 4], notes: &[Note]) -> u8
+    requires { length notes.now ≤ 4 }
+    ensures count { result ≡ length notes.now }
+    ensures notes { take result places.new ≡ map plain_note notes.now }
+{
+    for i in 0..notes.len() {
+        places[i] = PlainNote::of(notes[i]);
+    }
+    notes.len() as u8
+}
+
+// Writes orders to the first places, and answers how many there are.
+fn write_orders(places: &mut [PlainOrder; 4], orders: &[Order]) -> u8
+    requires { length orders.now ≤ 4 }
+    ensures count { result ≡ length orders.now }
+    ensures orders { take result places.new ≡ map plain_order orders.now }
+{
+    for i in 0..orders.len() {
+        places[i] = PlainOrder::of(orders[i]);
+    }
+    orders.len() as u8
+}

@@ -1,0 +1,39 @@
+//! What is asked of a line.
+
+ghost use Rattle.std.specs.Prelude.{◌≡◌};
+ghost use Rattle.lapd_c.specs.Requests.{request_in, read_of};
+
+use crate::plain::statuses::{WRONG_LENGTH, WRONG_REQUEST, service_in};
+use model_line::Request;
+
+/// The request of a number, with the service by its SAPI.
+///
+/// # Errors
+///
+/// `WRONG_REQUEST` where the number is that of no request; else `WRONG_SERVICE`; else `WRONG_LENGTH` where there are
+/// contents and the request has none.
+pub fn request_in(request: u8, service: u8, tei: u8, contents: &[u8]) -> Result<Request<'_>, u32>
+    ensures { read_of result ≡ request_in request service tei contents.now }
+{
+    if request == 0 || request > 9 {
+        return Err(WRONG_REQUEST);
+    }
+    let service = service_in(service)?;
+    match request {
+        3 => return Ok(Request::Data(service, tei, contents)),
+        4 => return Ok(Request::Unit(service, tei, contents)),
+        _ => {}
+    }
+    if !contents.is_empty() {
+        return Err(WRONG_LENGTH);
+    }
+    Ok(match request {
+        1 => Request::Establish(service, tei),
+        2 => Request::Release(service, tei),
+        5 => Request::Assign(tei),
+        6 => Request::Remove(tei),
+        7 => Request::Check(tei),
+        8 => Request::SetBusy(service, tei),
+        _ => Request::ClearBusy(service, tei),
+    })
+}

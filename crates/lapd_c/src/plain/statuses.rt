@@ -1,0 +1,98 @@
+//! What a call answers, as a number.
+
+ghost use Rattle.std.specs.Prelude.{◌≡◌};
+ghost use Rattle.lapd_c.specs.Statuses.{refusal_status, field_status};
+ghost use Rattle.lapd_c.specs.Services.{service_in};
+
+use lapd_frame::{Refusal, Service};
+use model_line::Field;
+
+/// The call did what it says.
+pub const OK: u32 = 0;
+/// No card is there: it was not started, or was freed.
+pub const NO_CARD: u32 = 11;
+/// No clock is there.
+pub const NO_CLOCK: u32 = 12;
+/// A card or a clock is there already.
+pub const SECOND_START: u32 = 13;
+/// The card, or the clock, has no such line.
+pub const WRONG_LINE: u32 = 14;
+/// Not the number of a service.
+pub const WRONG_SERVICE: u32 = 15;
+/// A TEI over 126.
+pub const WRONG_TEI: u32 = 16;
+/// Not the number of a timer.
+pub const WRONG_TIMER: u32 = 17;
+/// Not the number of a request.
+pub const WRONG_REQUEST: u32 = 18;
+/// Contents of a request that has none; an exchange of two lengths, or beyond them; or too little room for a frame.
+pub const WRONG_LENGTH: u32 = 19;
+/// An order is none, or a report's number of orders is over 4.
+pub const WRONG_ORDER: u32 = 20;
+/// A moment after the latest one.
+pub const WRONG_TIME: u32 = 21;
+/// Memory was refused.
+pub const NO_MEMORY: u32 = 22;
+/// No timer is due, or none runs.
+pub const NO_TIMER: u32 = 23;
+/// The clock's line has no place for one more timer.
+pub const NO_PLACE: u32 = 24;
+/// The line has no link from that place on.
+pub const NO_MORE_LINKS: u32 = 25;
+/// A call for octets on a card for frames, or one for frames on a card for octets.
+pub const WRONG_CARD: u32 = 26;
+/// Not the number of a cause that a controller tells.
+pub const WRONG_CAUSE: u32 = 27;
+/// No frame of the line waits to be sent.
+pub const NO_FRAME: u32 = 28;
+
+/// The status of a request that was refused: 1 to 10, or 29.
+pub fn refusal_status(why: Refusal) -> u32
+    ensures { result ≡ refusal_status why }
+{
+    match why {
+        Refusal::BadTei => 1,
+        Refusal::NoLink => 2,
+        Refusal::WrongState => 3,
+        Refusal::TooLong => 4,
+        Refusal::QueueFull => 5,
+        Refusal::PoolFull => 6,
+        Refusal::TeiTaken => 7,
+        Refusal::TableFull => 8,
+        Refusal::CheckRunning => 9,
+        Refusal::ControlFull => 10,
+        Refusal::WrongSide => 29,
+    }
+}
+
+/// The status of a start whose configuration has this field out of range, as the first: 33 to 42.
+pub fn field_status(field: Field) -> u32
+    ensures { result ≡ field_status field }
+{
+    match field {
+        Field::Lines => 33,
+        Field::Terminals => 34,
+        Field::K => 35,
+        Field::K16 => 36,
+        Field::Queue => 37,
+        Field::UnitQueue => 38,
+        Field::Control => 39,
+        Field::Slots => 40,
+        Field::N201 => 41,
+        Field::N200 => 42,
+    }
+}
+
+/// The service of a number: its SAPI.
+///
+/// # Errors
+///
+/// [`WRONG_SERVICE`] where it is neither 0 nor 16.
+pub fn service_in(service: u8) -> Result<Service, u32>
+    ensures { result ≡ service_in service }
+{
+    match Service::with_sapi(service) {
+        Some(service) => Ok(service),
+        None => Err(WRONG_SERVICE),
+    }
+}

@@ -1,0 +1,138 @@
+//! Timers, and what is to be done with them.
+
+ghost use Rattle.std.specs.Prelude.{◌≡◌};
+ghost use Rattle.lapd_frame.specs.declared.timers.Timer.{Timer};
+ghost use Rattle.lapd_c.specs.Timers.{plain_timer, plain_order, timer_in, order_in, link_in};
+
+use crate::plain::statuses::{WRONG_ORDER, WRONG_TEI, WRONG_TIMER, service_in};
+use lapd_frame::{Order, Service, Timer};
+
+/// The greatest TEI of a terminal (Q.921 clause 3.3.4).
+const LAST_TEI: u8 = 126;
+
+/// A timer of a line. That of a link names its service by its SAPI, and its TEI; T201 has 0 in both.
+#[repr(C)]
+#[derive(Clone, Copy)]
+pub struct PlainTimer {
+    /// 1 is T200, 2 is T203, 3 is T201.
+    pub timer: u8,
+    /// 0 or 16.
+    pub service: u8,
+    /// 0 to 126.
+    pub tei: u8,
+}
+
+/// What is to be done with a timer: 1 to start it, 2 to stop it.
+#[repr(C)]
+#[derive(Clone, Copy)]
+pub struct PlainOrder {
+    /// 1 or 2.
+    pub order: u8,
+    /// Which timer.
+    pub timer: PlainTimer,
+}
+
+/// A timer that fell due, with its line.
+#[repr(C)]
+#[derive(Clone, Copy)]
+pub struct PlainDue {
+    /// Counted from 0.
+    pub line: u32,
+    /// Which timer of it.
+    pub timer: PlainTimer,
+}
+
+impl PlainTimer {
+    /// A timer in C.
+    pub fn of(timer: Timer) -> PlainTimer
+        ensures { result ≡ plain_timer timer }
+    {
+        match timer {
+            Timer::T200(service, tei) => PlainTimer {
+                timer: 1,
+                service: service.sapi(),
+                tei,
+            },
+            Timer::T203(service, tei) => PlainTimer {
+                timer: 2,
+                service: service.sapi(),
+                tei,
+            },
+            Timer::T201 => PlainTimer {
+                timer: 3,
+                service: 0,
+                tei: 0,
+            },
+        }
+    }
+
+    /// The timer that this is.
+    ///
+    /// # Errors
+    ///
+    /// `WRONG_TIMER` where the number is that of no timer; of a link's timer `WRONG_SERVICE`, then `WRONG_TEI`.
+    pub fn timer(&self) -> Result<Timer, u32>
+        ensures { result ≡ timer_in self.now }
+    {
+        match self.timer {
+            1 => {
+                let (service, tei) = link_in(self.service, self.tei)?;
+                Ok(Timer::T200(service, tei))
+            }
+            2 => {
+                let (service, tei) = link_in(self.service, self.tei)?;
+                Ok(Timer::T203(service, tei))
+            }
+            3 => Ok(Timer::T201),
+            _ => Err(WRONG_TIMER),
+        }
+    }
+}
+
+impl PlainOrder {
+    /// An order in C.
+    pub fn of(order: Order) -> PlainOrder
+        ensures { result ≡ plain_order order }
+    {
+        match order {
+            Order::Start(timer) => PlainOrder {
+                order: 1,
+                timer: PlainTimer::of(timer),
+            },
+            Order::Stop(timer) => PlainOrder {
+                order: 2,
+                timer: PlainTimer::of(timer),
+            },
+        }
+    }
+
+    /// The order that this is.
+    ///
+    /// # Errors
+    ///
+    /// `WRONG_ORDER` where the number is that of no order; else as of its timer.
+    pub fn order(&self) -> Result<Order, u32>
+        ensures { result ≡ order_in self.now }
+    {
+        match self.order {
+            1 => Ok(Order::Start(self.timer.timer()?)),
+            2 => Ok(Order::Stop(self.timer.timer()?)),
+            _ => Err(WRONG_ORDER),
+        }
+    }
+}
+
+/// The link of a service, by its SAPI, with a TEI.
+///
+/// # Errors
+///
+/// `WRONG_SERVICE` where the number is that of no service; else `WRONG_TEI` where the TEI is over 126.
+pub fn link_in(service: u8, tei: u8) -> Result<(Service, u8), u32>
+    ensures { result ≡ link_in service tei }
+{
+    let service = service_in(service)?;
+    if tei > LAST_TEI {
+        return Err(WRONG_TEI);
+    }
+    Ok((service, tei))
+}

@@ -1,6 +1,0 @@
--- What was counted of a line, for C.
-use Rattle.lapd_count.specs.declared.counters.Counters.{Counters}
-use Rattle.lapd_plain.specs.declared.counters.PlainCounters.{PlainCounters}
-
-abbrev pub plain_counters : Counters → PlainCounters
-plain_counters counters = record { values = counters.values }

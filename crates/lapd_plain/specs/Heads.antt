@@ -1,8 +1,0 @@
--- How a frame begins, as numbers.
-use Rattle.std.specs.Prelude.{[], ◌∷◌, Option, Some, None}
-use Rattle.model_bits.specs.declared.heads.Head.{Head}
-use Rattle.lapd_plain.specs.declared.heads.PlainHead.{PlainHead}
-
-abbrev pub plain_head : Option Head → PlainHead
-plain_head None = record { length = 0; octets = 0 ∷ 0 ∷ 0 ∷ 0 ∷ [] }
-plain_head (Some head) = record { length = head.length; octets = head.octets }

@@ -1,6 +1,0 @@
--- How much room a link has, as numbers.
-use Rattle.model_link.specs.declared.rooms.Room.{Room}
-use Rattle.lapd_plain.specs.declared.rooms.PlainRoom.{PlainRoom}
-
-abbrev pub plain_room : Room → PlainRoom
-plain_room room = record { pool = room.pool; queue = room.queue; va = room.va }

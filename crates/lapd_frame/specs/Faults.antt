@@ -10,11 +10,9 @@ use Rattle.lapd_frame.specs.Grammar.{Parts, address_field, allows, row, Spells}
 -- Clause 2.9: fewer than 3 octets, or 3 that end within a control field of two octets (of one octet are those that end
 -- in 11).
 abbrev pub is_short : List ℕ → Bool
-is_short [] = true
-is_short (first ∷ []) = true
-is_short (first ∷ second ∷ []) = true
 is_short (first ∷ second ∷ third ∷ []) = not (third % 4 == 3)
 is_short (first ∷ second ∷ third ∷ fourth ∷ more) = false
+is_short other = true
 
 -- Clause 3.3.1: the first octet's extension bit is not 0, or the second's is not 1.
 abbrev pub has_bad_extension : ℕ → ℕ → Bool

@@ -33,9 +33,7 @@ told_if octets (Some o) = told_in octets o
 -- The octets of a frame that is heard, and none of anything else.
 abbrev pub octets_of : Option stream.Event → List ℕ
 octets_of (Some (stream.frame octets)) = octets
-octets_of (Some (stream.overlong head)) = []
-octets_of (Some (stream.dropped cause)) = []
-octets_of None = []
+octets_of other = []
 
 abbrev pub pulled_of : Pulled → Answer
 pulled_of p = pulled p.octet p.begun (listed p.orders)

@@ -18,9 +18,7 @@ received_of Overlong = machine.overlong
 -- the information that came with it
 abbrev pub info_of : received.Received → List ℕ
 info_of (Frame frame) = frame.info.now
-info_of Undefined = []
-info_of WrongSize = []
-info_of Overlong = []
+info_of other = []
 
 -- what happens but for requests and offers
 abbrev pub event_of : Happening → machine.Event

@@ -1,7 +1,7 @@
 -- What layer 3 knows of a link by its notes.
 use Rattle.std.specs.Prelude.{◌≡◌, Bool, true, false, not, List, fold}
 use Rattle.lapd_frame.specs.declared.notes.Note.{Note}
-use Rattle.lapd_frame.specs.declared.notes.Note.TheVariants.{EstablishIndication, EstablishConfirm, ReleaseIndication, ReleaseConfirm, Data, Unit, Error, Assigned, Removed, Doubled, Xid}
+use Rattle.lapd_frame.specs.declared.notes.Note.TheVariants.{EstablishIndication, EstablishConfirm, ReleaseIndication, ReleaseConfirm}
 use Rattle.model_link.specs.declared.states.State.{State}
 use Rattle.model_link.specs.declared.states.State.TheVariants.{TeiAssigned, AwaitingEstablishment, AwaitingRelease, Established, TimerRecovery}
 use Rattle.model_link.specs.Link.{Link}
@@ -12,13 +12,7 @@ seen up (EstablishIndication service tei) = true
 seen up (EstablishConfirm service tei) = true
 seen up (ReleaseIndication service tei) = false
 seen up (ReleaseConfirm service tei) = false
-seen up (Data service tei) = up
-seen up (Unit service tei) = up
-seen up (Error service tei code) = up
-seen up (Assigned tei) = up
-seen up (Removed tei) = up
-seen up (Doubled tei) = up
-seen up (Xid service tei) = up
+seen up other = up
 
 -- By all notes of an event, one after the other.
 abbrev pub known : Bool → List Note → Bool

@@ -3,7 +3,7 @@ use Rattle.std.specs.Prelude.{◌≡◌, ◌⊎◌, ℕ, ◌≤◌, true, List, 
 use Rattle.lapd_seq.specs.declared.numbers.Seq.{Seq}
 use Rattle.lapd_seq.specs.Numbers.{seq}
 use Rattle.lapd_frame.specs.declared.controls.Control.{Control}
-use Rattle.lapd_frame.specs.declared.controls.Control.TheVariants.{Information, ReceiveReady, ReceiveNotReady, Reject, Sabme, Disc, Ui, Ua, Dm, Frmr, Xid}
+use Rattle.lapd_frame.specs.declared.controls.Control.TheVariants.{ReceiveReady, ReceiveNotReady, Reject}
 use Rattle.lapd_frame.specs.declared.notes.Note.{Note}
 use Rattle.lapd_frame.specs.declared.notes.Note.TheVariants as notes
 use Rattle.lapd_frame.specs.declared.notes.ErrorCode.TheVariants as code
@@ -17,14 +17,7 @@ abbrev pub receipt : Control → Option Seq
 receipt (ReceiveReady nr pf) = Some nr
 receipt (ReceiveNotReady nr pf) = Some nr
 receipt (Reject nr pf) = Some nr
-receipt (Information ns nr p) = None
-receipt (Sabme p) = None
-receipt (Disc p) = None
-receipt (Ui p) = None
-receipt (Ua f) = None
-receipt (Dm f) = None
-receipt (Frmr f) = None
-receipt (Xid pf) = None
+receipt other = None
 
 -- One frame more waits, the last, and its N(R) is V(R).
 pub record HasReceipt (before behind : List ControlFrame) (r : ℕ) : Type 0 where

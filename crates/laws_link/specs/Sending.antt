@@ -2,9 +2,9 @@
 use Rattle.std.specs.Prelude.{◌≡◌, ℕ, zero, suc, ◌+◌, ◌<◌, Bool, false, length, Option, None, Some, if◌then◌else◌}
 use Rattle.lapd_seq.specs.declared.numbers.Seq.{Seq}
 use Rattle.lapd_frame.specs.declared.controls.Control.{Control}
-use Rattle.lapd_frame.specs.declared.controls.Control.TheVariants.{Information, ReceiveReady, ReceiveNotReady, Reject, Sabme, Disc, Ui, Ua, Dm, Frmr, Xid}
+use Rattle.lapd_frame.specs.declared.controls.Control.TheVariants.{ReceiveReady, ReceiveNotReady, Reject}
 use Rattle.model_link.specs.declared.states.State.{State}
-use Rattle.model_link.specs.declared.states.State.TheVariants.{TeiAssigned, AwaitingEstablishment, AwaitingRelease, Established, TimerRecovery}
+use Rattle.model_link.specs.declared.states.State.TheVariants.{Established, TimerRecovery}
 use Rattle.model_link.specs.declared.terms.Terms.{Terms}
 use Rattle.model_link.specs.Link.{Link}
 use Rattle.model_link.specs.Events.{offer}
@@ -22,38 +22,20 @@ pub record MayGo (t : Terms) (l : Link) : Type 0 where
 -- The N(R) of REJ, and of RR, RNR or REJ with F=1.
 abbrev pub rejected : Control → Option Seq
 rejected (Reject nr pf) = Some nr
-rejected (Information ns nr p) = None
-rejected (ReceiveReady nr pf) = None
-rejected (ReceiveNotReady nr pf) = None
-rejected (Sabme p) = None
-rejected (Disc p) = None
-rejected (Ui p) = None
-rejected (Ua f) = None
-rejected (Dm f) = None
-rejected (Frmr f) = None
-rejected (Xid pf) = None
+rejected other = None
 
 abbrev pub reported : Control → Option Seq
 reported (ReceiveReady nr f) = if f then Some nr else None
 reported (ReceiveNotReady nr f) = if f then Some nr else None
 reported (Reject nr f) = if f then Some nr else None
-reported (Information ns nr p) = None
-reported (Sabme p) = None
-reported (Disc p) = None
-reported (Ui p) = None
-reported (Ua f) = None
-reported (Dm f) = None
-reported (Frmr f) = None
-reported (Xid pf) = None
+reported other = None
 
 -- From which N(R) on a frame asks for I-frames again: REJ does in state 7, and in state 8 the response that answers an
 -- enquiry (clauses 5.6.4 and 5.6.7).
 abbrev pub asked_from : State → Bool → Control → Option Seq
-asked_from TeiAssigned command control = None
-asked_from AwaitingEstablishment command control = None
-asked_from AwaitingRelease command control = None
 asked_from Established command control = rejected control
 asked_from TimerRecovery command control = if command then None else reported control
+asked_from other command control = None
 
 -- Contents number n are the first that are not acknowledged, and the next to be sent; the link is in state 7, and its
 -- contents are as they were.

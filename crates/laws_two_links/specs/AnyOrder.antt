@@ -1,7 +1,7 @@
 -- Turns of two ends in any order, on ways that lose nothing: both ways may be busy at once.
 use Rattle.std.specs.Prelude.{◌≡◌, ℕ, ◌+◌, ◌*◌, ◌≤◌, List, [], ◌∷◌, length, if◌then◌else◌}
 use Rattle.lapd_frame.specs.declared.controls.Control.{Control}
-use Rattle.lapd_frame.specs.declared.controls.Control.TheVariants.{Information, ReceiveReady, ReceiveNotReady, Reject, Sabme, Disc, Ui, Ua, Dm, Frmr, Xid}
+use Rattle.lapd_frame.specs.declared.controls.Control.TheVariants.{Information}
 use Rattle.lapd_frame.specs.Grammar.{Parts}
 use Rattle.model_link.specs.Link.{unsent}
 use Rattle.model_link.specs.TwoEnds.{End, Ends, Act, asks, expires, sends, receives, loses, Doing, at_near, at_far, doing}
@@ -36,16 +36,7 @@ pub record IsStill (e : Ends) : Type 0 where
 -- for an acknowledgement that is owed.
 abbrev pub load_of : Control → ℕ
 load_of (Information ns nr p) = 3
-load_of (ReceiveReady nr pf) = 1
-load_of (ReceiveNotReady nr pf) = 1
-load_of (Reject nr pf) = 1
-load_of (Sabme p) = 1
-load_of (Disc p) = 1
-load_of (Ui p) = 1
-load_of (Ua f) = 1
-load_of (Dm f) = 1
-load_of (Frmr f) = 1
-load_of (Xid pf) = 1
+load_of other = 1
 
 abbrev pub load : List Parts → ℕ
 load [] = 0

@@ -11,7 +11,7 @@ use Rattle.model_link.specs.declared.states.State.TheVariants.{TeiAssigned, Awai
 use Rattle.model_link.specs.declared.frames.ControlFrame.{ControlFrame}
 use Rattle.model_link.specs.declared.terms.Terms.{Terms}
 use Rattle.model_link.specs.Link.{Link, is_multiple_frame}
-use Rattle.model_link.specs.Events.{frame, undefined, wrong_size, overlong, Event, received, expired, requested, offer, cleared}
+use Rattle.model_link.specs.Events.{frame, Event, received}
 
 -- An N(R) is valid: it means a number from V(A) to V(S).
 abbrev pub IsValidAt : Link → Seq → Type 0
@@ -75,15 +75,7 @@ answer_to_disc TimerRecovery p = Ua p
 abbrev pub asked_of : State → Control → Option Control
 asked_of state (Sabme p) = Some (answer_to_sabme state p)
 asked_of state (Disc p) = Some (answer_to_disc state p)
-asked_of state (Information ns nr p) = None
-asked_of state (ReceiveReady nr pf) = None
-asked_of state (ReceiveNotReady nr pf) = None
-asked_of state (Reject nr pf) = None
-asked_of state (Ui p) = None
-asked_of state (Ua f) = None
-asked_of state (Dm f) = None
-asked_of state (Frmr f) = None
-asked_of state (Xid pf) = None
+asked_of state other = None
 
 -- Where an answer is asked for, exactly it waits more, the last.
 abbrev pub AnsweredBy : Option Control → List ControlFrame → Link → Type 0
@@ -118,18 +110,8 @@ is_poll command (ReceiveNotReady nr p) = command && p
 is_poll command (Reject nr p) = command && p
 is_poll command (Sabme p) = p
 is_poll command (Disc p) = p
-is_poll command (Ui p) = false
-is_poll command (Ua f) = false
-is_poll command (Dm f) = false
-is_poll command (Frmr f) = false
-is_poll command (Xid pf) = false
+is_poll command other = false
 
 abbrev pub polls : Event → ℕ
 polls (received (frame f)) = if is_poll f.address.command f.control then 1 else 0
-polls (received undefined) = 0
-polls (received wrong_size) = 0
-polls (received overlong) = 0
-polls (expired timer) = 0
-polls (requested request pool_is_full) = 0
-polls offer = 0
-polls cleared = 0
+polls other = 0

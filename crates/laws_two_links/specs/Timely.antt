@@ -1,7 +1,7 @@
 -- A T200 that is long enough: it expires in state 8 only where no enquiry of this end is open (Q.921 clause 5.6.7).
 use Rattle.std.specs.Prelude.{◌≡◌, ◌<◌, Bool, true, false, ◌&&◌, not, List, [], ◌∷◌, All}
 use Rattle.lapd_frame.specs.declared.controls.Control.{Control}
-use Rattle.lapd_frame.specs.declared.controls.Control.TheVariants.{Information, ReceiveReady, ReceiveNotReady, Reject, Sabme, Disc, Ui, Ua, Dm, Frmr, Xid}
+use Rattle.lapd_frame.specs.declared.controls.Control.TheVariants.{ReceiveReady, ReceiveNotReady, Reject}
 use Rattle.model_link.specs.declared.states.State.TheVariants.{TimerRecovery}
 use Rattle.model_link.specs.declared.timers.LinkTimer.{LinkTimer}
 use Rattle.model_link.specs.Machine.{is_running}
@@ -10,17 +10,10 @@ use Rattle.laws_two_links.specs.Ahead.{IsMildRequest, CanRepeat}
 
 -- The P or F bit of a supervisory frame.
 abbrev pub supervisory_bit : Control → Bool
-supervisory_bit (Information ns nr p) = false
 supervisory_bit (ReceiveReady nr pf) = pf
 supervisory_bit (ReceiveNotReady nr pf) = pf
 supervisory_bit (Reject nr pf) = pf
-supervisory_bit (Sabme p) = false
-supervisory_bit (Disc p) = false
-supervisory_bit (Ui p) = false
-supervisory_bit (Ua f) = false
-supervisory_bit (Dm f) = false
-supervisory_bit (Frmr f) = false
-supervisory_bit (Xid pf) = false
+supervisory_bit other = false
 
 -- A supervisory command with P=1 is an enquiry, and a supervisory response with F=1 an answer.
 abbrev pub is_enquiry : Bool → Control → Bool

@@ -29,11 +29,8 @@ moves (d ∷ ds) w = (if is_move d w then 1 else 0) + moves ds (doing d w)
 
 -- How often a timer expires.
 abbrev pub expiries_of : Act → ℕ
-expiries_of (requests r) = 0
 expiries_of (times_out timer) = 1
-expiries_of gives = 0
-expiries_of takes = 0
-expiries_of loses = 0
+expiries_of other = 0
 
 abbrev pub expiries_in : Doing → ℕ
 expiries_in (at_near act) = expiries_of act

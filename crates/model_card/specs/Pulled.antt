@@ -2,7 +2,7 @@
 use Rattle.std.specs.Prelude.{◌≡◌, ℕ, ◌==◌, List, [], ◌∷◌, ◌++◌, flat_map, option_map, option_to_list, if◌then◌else◌}
 use Rattle.model_bits.specs.Sent.{Item, idle, frame}
 use Rattle.model_line.specs.declared.config.Config.{Config}
-use Rattle.model_line.specs.Event.{Event, octet, expiry, request, pull, Answer, told, refused, pulled}
+use Rattle.model_line.specs.Event.{Event, octet, pull, Answer, told, refused, pulled}
 use Rattle.model_line.specs.Line.{Line}
 use Rattle.model_line.specs.Pull.{Taken, begun}
 use Rattle.model_line.specs.Sound.{IsTextOf}
@@ -21,9 +21,7 @@ frame_taken t = t.frame
 
 abbrev pub frame_in : Config → Event → Line → List (List ℕ)
 frame_in c pull l = option_to_list (option_map frame_taken (begun c l))
-frame_in c (octet value) l = []
-frame_in c (expiry timer) l = []
-frame_in c (request r) l = []
+frame_in c other l = []
 
 -- In the moments at a line, in order.
 abbrev pub octet_of : ℕ → Moment → List ℕ

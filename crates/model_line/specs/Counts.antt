@@ -11,7 +11,7 @@ use Rattle.model_line.specs.Event.{Event, octet, expiry, request, pull, Answer, 
 use Rattle.model_line.specs.Line.{Line, terms_at, link_at, link_in}
 use Rattle.model_line.specs.Stored.{sum_of_links}
 use Rattle.model_line.specs.Expiry.{is_running}
-use Rattle.model_line.specs.Effect.{Aim, at_none, at_link, at_management, at_units}
+use Rattle.model_line.specs.Effect.{Aim, at_link}
 use Rattle.model_line.specs.Machine.{aim_of}
 use Rattle.model_line.specs.Octet.{gained}
 
@@ -38,9 +38,7 @@ frames_heard c l = count_by is_frame (stream.heard_in c.n201 l.received)
 -- An octet that ends such a frame.
 abbrev pub hears : Config → Event → Line → Bool
 hears c (octet value) l = option_map_or is_frame (gained c.n201 l.received value) false
-hears c (expiry timer) l = false
-hears c (request r) l = false
-hears c pull l = false
+hears c other l = false
 
 -- Those of four octets or more, as each with a control field of two octets is.
 abbrev pub is_long_frame : stream.Event → Bool
@@ -54,9 +52,7 @@ long_frames_heard c l = count_by is_long_frame (stream.heard_in c.n201 l.receive
 -- An octet that came from the line.
 abbrev pub is_octet : Event → Bool
 is_octet (octet value) = true
-is_octet (expiry timer) = false
-is_octet (request r) = false
-is_octet pull = false
+is_octet other = false
 
 -- A frame that a pull began.
 abbrev pub is_begun : Answer → Bool
@@ -76,16 +72,12 @@ is_accepted pull answer = false
 -- An expiry of a timer that was running.
 abbrev pub is_running_expiry : Event → Line → Bool
 is_running_expiry (expiry timer) l = is_running timer l
-is_running_expiry (octet value) l = false
-is_running_expiry (request r) l = false
-is_running_expiry pull l = false
+is_running_expiry other l = false
 
 -- An REJ with a valid N(R) that meets a link in state 7 or 8.
 abbrev pub rejects_aimed : Line → Aim → Bool
-rejects_aimed l (at_none what) = false
 rejects_aimed l (at_link service tei place event) = links.rejects event (link_in l service place)
-rejects_aimed l (at_management event) = false
-rejects_aimed l (at_units unit) = false
+rejects_aimed l other = false
 
 abbrev pub rejects : Config → Event → Line → Bool
 rejects c event l = rejects_aimed l (aim_of c event l)

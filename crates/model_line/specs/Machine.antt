@@ -49,7 +49,5 @@ answer c pull l = answer_to_pull c l
 
 -- Whether an event puts contents on the card's shelf: data or unit data that the line does not refuse.
 unfoldable pub takes_slot : Config → Event → Line → Bool
-takes_slot c (octet value) l = false
-takes_slot c (expiry timer) l = false
 takes_slot c (request r) l = carries_contents r && not (is_some (refusal c false r l))
-takes_slot c pull l = false
+takes_slot c other l = false

@@ -4,7 +4,7 @@ use Rattle.model_bits.specs.declared.heard.Cause.TheVariants.{Unserved}
 use Rattle.lapd_frame.specs.declared.addresses.Side.{Side}
 use Rattle.lapd_frame.specs.declared.addresses.Side.TheVariants.{User, Network}
 use Rattle.lapd_frame.specs.declared.controls.Control.{Control}
-use Rattle.lapd_frame.specs.declared.controls.Control.TheVariants.{Information, ReceiveReady, ReceiveNotReady, Reject, Sabme, Disc, Ui, Ua, Dm, Frmr, Xid}
+use Rattle.lapd_frame.specs.declared.controls.Control.TheVariants.{Ui}
 use Rattle.lapd_frame.specs.declared.notes.Note.TheVariants as notes
 use Rattle.lapd_frame.specs.declared.services.Service.{Service}
 use Rattle.lapd_frame.specs.Grammar.{Parts}
@@ -26,16 +26,7 @@ group_told service contents = record nothing { notes = notes.Unit service group_
 
 abbrev pub told_of_ui : Config → Service → Control → List ℕ → LineTold → LineTold
 told_of_ui c service (Ui p) info told = if nat_le (length info) c.n201 then group_told service info else told
-told_of_ui c service (Information ns nr p) info told = told
-told_of_ui c service (ReceiveReady nr pf) info told = told
-told_of_ui c service (ReceiveNotReady nr pf) info told = told
-told_of_ui c service (Reject nr pf) info told = told
-told_of_ui c service (Sabme p) info told = told
-told_of_ui c service (Disc p) info told = told
-told_of_ui c service (Ua f) info told = told
-told_of_ui c service (Dm f) info told = told
-told_of_ui c service (Frmr f) info told = told
-told_of_ui c service (Xid pf) info told = told
+told_of_ui c service other info told = told
 
 abbrev pub told_of_group : Config → Parts → Option Service → LineTold → LineTold
 told_of_group c parts None told = told

@@ -16,26 +16,11 @@ pub record Arrived : Type 0 where
 
 abbrev pub information_of : Control → List ℕ → Option Arrived
 information_of (Information ns nr p) octets = Some (record { ns = ns; contents = octets })
-information_of (ReceiveReady nr pf) octets = None
-information_of (ReceiveNotReady nr pf) octets = None
-information_of (Reject nr pf) octets = None
-information_of (Sabme p) octets = None
-information_of (Disc p) octets = None
-information_of (Ui p) octets = None
-information_of (Ua f) octets = None
-information_of (Dm f) octets = None
-information_of (Frmr f) octets = None
-information_of (Xid pf) octets = None
+information_of other octets = None
 
 abbrev pub information_in : Event → Option Arrived
 information_in (received (frame f)) = information_of f.control f.info
-information_in (received undefined) = None
-information_in (received wrong_size) = None
-information_in (received overlong) = None
-information_in (expired timer) = None
-information_in (requested request pool_is_full) = None
-information_in offer = None
-information_in cleared = None
+information_in other = None
 
 -- It is eligible where it has at most N201 octets and meets state 7 or 8 with own busy off.
 abbrev pub is_eligible : Terms → Link → Arrived → Bool

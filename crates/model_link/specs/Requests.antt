@@ -14,10 +14,7 @@ use Rattle.model_link.specs.MultipleFrame.{release_in_7_8, data_in_7_8, set_busy
 -- Which states serve which request (profile).
 abbrev pub is_down : State → Bool
 is_down TeiAssigned = true
-is_down AwaitingEstablishment = false
-is_down AwaitingRelease = false
-is_down Established = false
-is_down TimerRecovery = false
+is_down other = false
 
 abbrev pub serves : State → Request → Bool
 serves state Establish = is_down state
@@ -39,11 +36,8 @@ refusal_of_contents t l pool_is_full octets =
     else None
 
 abbrev pub refusal_for_room : Terms → Link → Bool → Request → Option Refusal
-refusal_for_room t l pool_is_full Establish = None
-refusal_for_room t l pool_is_full Release = None
 refusal_for_room t l pool_is_full (Data octets) = refusal_of_contents t l pool_is_full octets
-refusal_for_room t l pool_is_full SetBusy = None
-refusal_for_room t l pool_is_full ClearBusy = None
+refusal_for_room t l pool_is_full other = None
 
 -- Why a request is refused: the first refusal that holds, or none (profile).
 abbrev pub refusal : Terms → Link → Bool → Request → Option Refusal

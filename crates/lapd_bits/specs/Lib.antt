@@ -9,4 +9,3 @@ pub mod FlagEnd
 pub mod Stuffer
 pub mod FramerText
 pub mod FramerFields
-pub mod Worked

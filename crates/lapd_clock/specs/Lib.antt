@@ -1,7 +1,6 @@
--- When timers fall due. Read in this order: Timer, Timers (with Worked), InOrder, Sound; then Moments and Given.
+-- When timers fall due. Read in this order: Timer, Timers, InOrder, Sound; then Moments and Given.
 pub mod Timer
 pub mod Timers
-pub mod Worked
 pub mod InOrder
 pub mod Sound
 pub mod Places

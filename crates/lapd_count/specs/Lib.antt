@@ -6,4 +6,3 @@ pub mod Kinds
 pub mod Counters
 pub mod Shown
 pub mod Laws
-pub mod Worked

@@ -1,8 +1,7 @@
--- The definitions that the contracts of this crate cite, and worked values of them.
+-- The definitions that the contracts of this crate cite.
 pub mod Faults
 pub mod Grammar
 pub mod Overlong
 pub mod Reading
 pub mod Services
 pub mod ShortLists
-pub mod Worked

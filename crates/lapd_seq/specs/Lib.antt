@@ -1,5 +1,4 @@
--- The definitions that the contracts of this crate cite, and worked values of them.
+-- The definitions that the contracts of this crate cite.
 pub mod Numbers
 pub mod Circle
 pub mod Windows
-pub mod Worked

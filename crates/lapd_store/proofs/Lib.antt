@@ -13,4 +13,3 @@ mod Blocks
 mod SlabLemmas
 mod RawLemmas
 mod RawSound
-mod Worked

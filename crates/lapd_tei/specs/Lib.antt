@@ -1,4 +1,4 @@
--- The definitions that the contracts of this crate cite, and worked values of them.
+-- The definitions that the contracts of this crate cite.
 pub mod Messages
 pub mod Table
 pub mod Machine
@@ -8,4 +8,3 @@ pub mod Events
 pub mod Outcome
 pub mod Sound
 pub mod Laws
-pub mod Worked

@@ -1,4 +1,4 @@
--- What a card does with what it is given and what it hears, and worked values of it.
+-- What a card does with what it is given and what it hears, and worked values of it and of its machine.
 pub mod Contents
 pub mod Faithful
 pub mod Heard
@@ -8,6 +8,8 @@ pub mod Received
 pub mod Promises
 pub mod Timers
 pub mod Laws
+pub mod WorkedCard
+pub mod WorkedHappenings
 pub mod Worked
 pub mod WorkedTimers
 pub mod WorkedNotes

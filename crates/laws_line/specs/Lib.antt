@@ -1,4 +1,4 @@
--- What a line does with what it is given and what it hears, and worked values of it.
+-- What a line does with what it is given and what it hears, and worked values of it and of its machine.
 pub mod Share
 pub mod Loss
 pub mod Pulls
@@ -16,6 +16,9 @@ pub mod Unmanaged
 pub mod Reasons
 pub mod Noted
 pub mod Laws
+pub mod WorkedLine
+pub mod WorkedSides
+pub mod WorkedWhole
 pub mod Worked
 pub mod WorkedPulls
 pub mod WorkedHeard

@@ -7,12 +7,13 @@
 //! which events are those of a link (`Steady`, `Requests`), that one part has each and nothing else changes (`OneEvent`),
 //! which timers are needed, run and started (`Timers`), what notes tell (`Knowledge`), which frames pulls begin (`Begun`),
 //! what TEI management does, row by row (`Messages`), and which event is the cause
-//! (`Causes`) and the reason of a note (`Reasons`), all that an answer notes (`Noted`), whose turn it is (`Turns`), how short answers are (`Short`), the laws (`Laws`), and worked
-//! values (`Worked`, `WorkedPulls`, `WorkedHeard`, `WorkedOneEvent`, `WorkedLinks`, `WorkedMessages`, `WorkedNoted`). `Drains` and
-//! `Among` say what a line comes to with pulls, or with other events between them; their bounds are numbers of pulls,
-//! which are octets of the line, and speak of no time (`docs/PROGRESS.md` has numbers for usual configurations). Each
-//! law is the contract of a call that does nothing; `laws`, `timers`, `notes` and `management` name the fields of `Promises`
-//! (crate `laws_promises`) that say the same of a card, in words.
+//! (`Causes`) and the reason of a note (`Reasons`), all that an answer notes (`Noted`), whose turn it is (`Turns`), how
+//! short answers are (`Short`), the laws (`Laws`), and worked values (`Worked`, `WorkedPulls`, `WorkedHeard`,
+//! `WorkedOneEvent`, `WorkedLinks`, `WorkedMessages`, `WorkedNoted`; of the machine `WorkedLine`, `WorkedSides`,
+//! `WorkedWhole`). `Drains` and `Among` say what a line comes to with pulls, or with other events between them; their
+//! bounds are numbers of pulls, which are octets of the line, and speak of no time (`docs/PROGRESS.md` has numbers for
+//! usual configurations). Each law is the contract of a call that does nothing; `laws`, `timers`, `notes` and
+//! `management` name the fields of `Promises` (crate `laws_promises`) that say the same of a card, in words.
 //!
 //! - `laws`, `timers`, `notes`, `management`, `progress`, `turns`: the laws.
 //!

@@ -1,4 +1,4 @@
--- What a link does with what it is given, and worked values of it.
+-- What a link does with what it is given, and worked values of it and of its machine.
 pub mod Accepted
 pub mod History
 pub mod Offered
@@ -16,6 +16,11 @@ pub mod Waiting
 pub mod Flags
 pub mod Telling
 pub mod Following
+pub mod Samples
+pub mod WorkedRelease
+pub mod WorkedTransfer
+pub mod WorkedRuns
+pub mod WorkedRoom
 pub mod Worked
 pub mod WorkedSending
 pub mod WorkedBeginning

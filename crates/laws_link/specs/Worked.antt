@@ -6,7 +6,7 @@ use Rattle.lapd_frame.specs.Reading.{supervisory_of, unnumbered_of, control_of, 
 use Rattle.model_link.specs.Link.{queue_of}
 use Rattle.model_link.specs.Events.{Event, Data, Release, offer}
 use Rattle.model_link.specs.Machine.{after_all}
-use Rattle.model_link.specs.Samples.{usual, comes, ask, sabme, up}
+use Rattle.laws_link.specs.Samples.{usual, comes, ask, sabme, up}
 use Rattle.laws_link.specs.Accepted.{empties}
 use Rattle.laws_link.specs.History.{nothing_yet, share, with_all}
 use Rattle.laws_link.specs.Offered.{i_frames}

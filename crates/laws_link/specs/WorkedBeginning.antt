@@ -8,7 +8,7 @@ use Rattle.model_link.specs.Deliveries.{restarts}
 use Rattle.model_link.specs.Link.{Link, fresh}
 use Rattle.model_link.specs.Events.{Event, Data, Establish, offer, cleared}
 use Rattle.model_link.specs.Machine.{after_all, told}
-use Rattle.model_link.specs.Samples.{usual, comes, ask, sabme, up}
+use Rattle.laws_link.specs.Samples.{usual, comes, ask, sabme, up}
 use Rattle.laws_link.specs.Beginning.{tells_beginning}
 
 abbrev tells : Event → Link → Bool

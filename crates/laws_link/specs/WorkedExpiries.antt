@@ -14,7 +14,7 @@ use Rattle.model_link.specs.Events.{Event, Establish, Release, expired, offer}
 use Rattle.model_link.specs.Link.{Link, fresh}
 use Rattle.model_link.specs.Machine.{after, after_all, told}
 use Rattle.model_link.specs.Words.{command}
-use Rattle.model_link.specs.Samples.{usual, ask, up}
+use Rattle.laws_link.specs.Samples.{usual, ask, up}
 
 abbrev waits_after : Event → Link → List ControlFrame
 waits_after e l = (after usual e l).waiting

@@ -14,7 +14,7 @@ use Rattle.model_link.specs.declared.frames.ControlFrame.{ControlFrame}
 use Rattle.model_link.specs.Link.{Link, fresh}
 use Rattle.model_link.specs.Events.{Event, SetBusy, expired}
 use Rattle.model_link.specs.Machine.{after, after_all}
-use Rattle.model_link.specs.Samples.{usual, comes, ask, sabme, up}
+use Rattle.laws_link.specs.Samples.{usual, comes, ask, sabme, up}
 use Rattle.laws_link.specs.States.{as_heard, state_after, numbers_begin}
 use Rattle.laws_link.specs.Waiting.{put}
 use Rattle.laws_link.specs.Flags.{peer_busy_left, pending_left}

@@ -11,7 +11,7 @@ use Rattle.model_link.specs.declared.states.State.TheVariants.{AwaitingEstablish
 use Rattle.model_link.specs.Link.{Link}
 use Rattle.model_link.specs.Events.{Data, offer}
 use Rattle.model_link.specs.Machine.{after, after_all, told}
-use Rattle.model_link.specs.Samples.{usual, comes, ask, up}
+use Rattle.laws_link.specs.Samples.{usual, comes, ask, up}
 use Rattle.laws_link.specs.Sending.{i_frames_offered}
 
 -- Contents are accepted, and RNR comes: no I-frame goes.

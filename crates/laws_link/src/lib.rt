@@ -8,8 +8,9 @@
 //! goes again (`Sending`), what follows a delivery (`Owing`), what is told where the numbers begin anew (`Beginning`),
 //! to which state an event leads (`States`), which frames it puts behind those that wait (`Waiting`), what it leaves of
 //! the flags (`Flags`), what it tells (`Telling`), all of these together (`Following`), and worked values (`Worked`,
-//! `WorkedSending`, `WorkedBeginning`, `WorkedFollowing`, `WorkedExpiries`). Each law is the contract of
-//! a call that does nothing.
+//! `WorkedSending`, `WorkedBeginning`, `WorkedFollowing`, `WorkedExpiries`; of the machine `WorkedRelease`,
+//! `WorkedTransfer`, `WorkedRuns`, `WorkedRoom`, over the links of `Samples`). Each law is the contract of a call that
+//! does nothing.
 //!
 //! - `laws`: what becomes of contents;
 //! - `known`: what layer 3 knows, which timers are kept, where numbers begin anew;

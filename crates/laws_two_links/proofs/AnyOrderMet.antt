@@ -9,7 +9,7 @@ use Rattle.lapd_frame.specs.Reading.{supervisory_of, unnumbered_of, control_of, 
 use Rattle.model_link.specs.Events.{Event, Data, requested}
 use Rattle.model_link.specs.Machine.{after_all}
 use Rattle.model_link.specs.Offers
-use Rattle.model_link.specs.Samples.{usual, up}
+use Rattle.laws_link.specs.Samples.{usual, up}
 use Rattle.model_link.specs.TwoEnds.{End, Ends, Act, asks, expires, sends, receives, loses, Doing, at_near, at_far, doing, doing_all}
 use Rattle.laws_two_links.proofs.Premises.{begins}
 use Rattle.model_link.proofs.SoundEvents.{sound-all}

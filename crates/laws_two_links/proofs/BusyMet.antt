@@ -11,9 +11,9 @@ use Rattle.model_link.specs.Link.{frame_of}
 use Rattle.model_link.specs.Words.{command, response}
 use Rattle.model_link.specs.Events.{Data, SetBusy, frame, Event, received, requested, offer}
 use Rattle.model_link.specs.Machine.{after_all}
-use Rattle.model_link.specs.Samples.{usual, up}
+use Rattle.laws_link.specs.Samples.{usual, up}
 use Rattle.model_link.specs.TwoEnds.{Ends, asks, sends, receives, Doing, at_near, at_far, doing_all, StayUp}
-use Rattle.model_link.specs.WorkedEnds.{both}
+use Rattle.laws_two_links.specs.WorkedEnds.{both}
 use Rattle.laws_two_links.proofs.Premises.{begins}
 use Rattle.model_link.proofs.SoundEvents.{sound-all}
 use Rattle.laws_two_links.specs.Ahead.{StayAhead}

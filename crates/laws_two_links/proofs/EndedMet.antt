@@ -9,11 +9,11 @@ use Rattle.model_link.specs.Link.{frame_of}
 use Rattle.model_link.specs.Words.{response}
 use Rattle.model_link.specs.Events.{Data, SetBusy, frame, received, requested, offer}
 use Rattle.model_link.specs.Machine.{after_all}
-use Rattle.model_link.specs.Samples.{usual, up}
+use Rattle.laws_link.specs.Samples.{usual, up}
 use Rattle.model_link.specs.TwoEnds.{doing_all}
 use Rattle.laws_two_links.proofs.Premises.{begins}
 use Rattle.model_link.proofs.SoundEvents.{sound-all}
-use Rattle.model_link.specs.WorkedEnds.{both}
+use Rattle.laws_two_links.specs.WorkedEnds.{both}
 use Rattle.model_link.proofs.Joined.{ends-agree}
 use Rattle.laws_two_links.specs.Rounds.{rounds, IsTaken, HasUnsent}
 use Rattle.laws_two_links.specs.CutOff.{HasMissing, with_t200_expired}

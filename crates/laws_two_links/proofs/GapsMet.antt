@@ -8,7 +8,7 @@ use Rattle.lapd_frame.specs.Reading.{supervisory_of, unnumbered_of, control_of, 
 use Rattle.model_link.specs.Events.{frame, received}
 use Rattle.model_link.specs.Machine.{after, after_all}
 use Rattle.model_link.specs.Words.{response}
-use Rattle.model_link.specs.Samples.{usual, up}
+use Rattle.laws_link.specs.Samples.{usual, up}
 use Rattle.laws_two_links.specs.Gaps.{i_frame, IsFirstGap}
 use Rattle.laws_two_links.proofs.Gapping.{gap-rejected}
 

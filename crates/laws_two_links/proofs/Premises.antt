@@ -10,8 +10,8 @@ use Rattle.model_link.specs.Events.{offer}
 use Rattle.model_link.specs.Machine.{after_all}
 use Rattle.model_link.specs.Sound.{IsInRange}
 use Rattle.model_link.specs.TwoEnds.{Ends, Doing, doing, Begins, StayUp}
-use Rattle.model_link.specs.Samples.{usual, sabme}
-use Rattle.model_link.specs.WorkedEnds.{both, mended}
+use Rattle.laws_link.specs.Samples.{usual, sabme}
+use Rattle.laws_two_links.specs.WorkedEnds.{both, mended}
 use Rattle.model_link.proofs.SoundEvents.{sound-fresh, sound-all}
 
 in-range : IsInRange usual

@@ -10,7 +10,7 @@ use Rattle.model_link.specs.Events.{Request, Establish, Release, Data, SetBusy, 
 use Rattle.model_link.specs.Machine.{after_all}
 use Rattle.laws_link.specs.Timed.{IsTimed}
 use Rattle.model_link.specs.TwoEnds.{End, Ends, Act, asks, expires, sends, receives, loses, Doing, at_near, at_far, doing, doing_all, StayUp}
-use Rattle.model_link.specs.WorkedEnds.{both, mended}
+use Rattle.laws_two_links.specs.WorkedEnds.{both, mended}
 use Rattle.laws_two_links.proofs.Premises.{begins}
 use Rattle.laws_two_links.specs.Ahead.{IsMildRequest, IsMildAct, IsMild, StayAhead}
 use Rattle.laws_two_links.specs.Rounds.{IsReady, IsTaken, HasUnsent}

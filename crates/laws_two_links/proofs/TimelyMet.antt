@@ -12,7 +12,7 @@ use Rattle.lapd_frame.specs.Reading.{supervisory_of, unnumbered_of, control_of, 
 use Rattle.model_link.specs.declared.frames.ControlFrame.{ControlFrame}
 use Rattle.model_link.specs.Machine.{after_all}
 use Rattle.model_link.specs.TwoEnds.{End, Ends, Act, asks, expires, sends, receives, loses, Doing, at_near, at_far, doing}
-use Rattle.model_link.specs.WorkedEnds.{both}
+use Rattle.laws_two_links.specs.WorkedEnds.{both}
 use Rattle.laws_two_links.specs.Timely.{is_enquiry, is_answer, IsNoneOpen, IsTimelyAct, IsTimelyDoing, StayTimely, IsHushed}
 use Rattle.laws_two_links.specs.WorkedTimely.{answered_at_last}
 use Rattle.laws_two_links.specs.WorkedRounds.{losing, cut_off}

@@ -1,6 +1,7 @@
 -- What a link comes to: statements, and worked values.
 pub mod Waits
 pub mod Polls
+pub mod WorkedEnds
 pub mod WorkedPolls
 pub mod Gaps
 pub mod WorkedGaps

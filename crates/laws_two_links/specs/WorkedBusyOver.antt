@@ -6,7 +6,7 @@ use Rattle.lapd_frame.specs.Reading.{supervisory_of, unnumbered_of, control_of, 
 use Rattle.model_link.specs.Events.{SetBusy}
 use Rattle.model_link.specs.Machine.{after_all}
 use Rattle.model_link.specs.TwoEnds.{Ends, asks, sends, receives, at_near, at_far, doing_all}
-use Rattle.model_link.specs.WorkedEnds.{both}
+use Rattle.laws_two_links.specs.WorkedEnds.{both}
 use Rattle.laws_two_links.specs.Rounds.{rounds}
 use Rattle.laws_two_links.specs.CutOff.{with_t200_expired}
 use Rattle.laws_two_links.specs.BusyOver.{with_near_told, with_far_told, with_far_untold}

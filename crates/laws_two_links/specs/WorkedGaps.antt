@@ -8,7 +8,7 @@ use Rattle.model_link.specs.declared.frames.ControlFrame.{ControlFrame}
 use Rattle.model_link.specs.Events.{Event}
 use Rattle.model_link.specs.Words.{response}
 use Rattle.model_link.specs.Machine.{after_all}
-use Rattle.model_link.specs.Samples.{usual, comes, up}
+use Rattle.laws_link.specs.Samples.{usual, comes, up}
 
 abbrev waits_after : List Event → List ControlFrame
 waits_after es = (after_all usual es up).waiting

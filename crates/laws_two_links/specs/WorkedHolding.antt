@@ -5,7 +5,7 @@ use Rattle.lapd_seq.specs.Circle.{distance_of, named}
 use Rattle.lapd_frame.specs.Reading.{supervisory_of, unnumbered_of, control_of, header_of, reading}
 use Rattle.model_link.specs.Machine.{after_all}
 use Rattle.model_link.specs.TwoEnds.{sends, receives, Doing, at_near, at_far, doing_all}
-use Rattle.model_link.specs.WorkedEnds.{both, mended}
+use Rattle.laws_two_links.specs.WorkedEnds.{both, mended}
 use Rattle.laws_two_links.specs.Holding.{begun, near_history, far_history}
 use Rattle.laws_link.specs.History.{nothing_yet}
 

@@ -7,7 +7,7 @@ use Rattle.model_link.specs.declared.timers.LinkTimer.TheVariants.{T200}
 use Rattle.model_link.specs.Events.{SetBusy, ClearBusy}
 use Rattle.model_link.specs.Machine.{after_all}
 use Rattle.model_link.specs.TwoEnds.{Ends, asks, expires, sends, receives, loses, Doing, at_near, at_far, doing_all}
-use Rattle.model_link.specs.WorkedEnds.{both}
+use Rattle.laws_two_links.specs.WorkedEnds.{both}
 use Rattle.laws_two_links.specs.Rounds.{rounds}
 use Rattle.laws_two_links.specs.CutOff.{with_t200_expired}
 use Rattle.laws_two_links.specs.OwnBusy.{with_far_busy}

@@ -10,7 +10,7 @@ use Rattle.model_link.specs.Link.{Link, fresh}
 use Rattle.model_link.specs.Events.{Data, SetBusy}
 use Rattle.model_link.specs.Words.{response}
 use Rattle.model_link.specs.Machine.{after, after_all}
-use Rattle.model_link.specs.Samples.{usual, comes, ask, up}
+use Rattle.laws_link.specs.Samples.{usual, comes, ask, up}
 use Rattle.laws_two_links.specs.Waits.{after_offers, turns}
 
 -- What waits after an event.

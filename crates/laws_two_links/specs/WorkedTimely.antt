@@ -8,7 +8,7 @@ use Rattle.model_link.specs.declared.timers.LinkTimer.TheVariants.{T200}
 use Rattle.model_link.specs.Events.{Data}
 use Rattle.model_link.specs.Machine.{after_all}
 use Rattle.model_link.specs.TwoEnds.{asks, expires, sends, receives, loses, Doing, at_near, at_far, doing_all}
-use Rattle.model_link.specs.WorkedEnds.{both}
+use Rattle.laws_two_links.specs.WorkedEnds.{both}
 
 -- Near sends an I-frame, which is lost; T200 expires, and the enquiry is lost too. Neither is on its way any more, so that
 -- T200 may expire again.

@@ -9,7 +9,7 @@ use Rattle.model_link.specs.declared.timers.LinkTimer.TheVariants.{T200, T203}
 use Rattle.model_link.specs.Events.{Data}
 use Rattle.model_link.specs.Machine.{after_all}
 use Rattle.model_link.specs.TwoEnds.{asks, expires, sends, receives, Doing, at_near, at_far, doing_all}
-use Rattle.model_link.specs.WorkedEnds.{both}
+use Rattle.laws_two_links.specs.WorkedEnds.{both}
 
 -- Near accepts contents; T203 and then T200 expire before a frame has left, so that two enquiries wait; both go.
 abbrev two_enquiries : List Doing

@@ -5,8 +5,9 @@
 //! goes (`Waits`), polls and their answers (`Polls`), I-frames out of sequence (`Gaps`), a busy terminal (`Heeds`), the
 //! timer that a link needs (`Needed`), two ends in rounds (`Rounds`) and in turns of any order (`AnyOrder`), two ends
 //! whose frames were lost (`CutOff`), an end that is busy itself (`OwnBusy`) and is no more (`BusyOver`), what keeps two
-//! links up (`Ahead`, `Timely`); and worked values that compute (`WorkedPolls`, `WorkedGaps`, `WorkedRounds`,
-//! `WorkedAnyOrder`, `WorkedOwnBusy`, `WorkedTimely`, and `WorkedUntimely`, a run in which T200 is too short).
+//! links up (`Ahead`, `Timely`); and worked values that compute (`WorkedEnds`, `WorkedPolls`, `WorkedGaps`,
+//! `WorkedRounds`, `WorkedAnyOrder`, `WorkedOwnBusy`, `WorkedTimely`, and `WorkedUntimely`, a run in which T200 is too
+//! short).
 //! `docs/PROGRESS.md` says it in words.
 //!
 //! - `held`: what two links that face each other hold of what was accepted;

@@ -1,5 +1,5 @@
 -- The latest frame that was put on a line, and how it begins.
-use Rattle.std.specs.Prelude.{◌≡◌, ℕ, List, [], ◌∷◌, length, get_or, fold, Option, Some, None, refl}
+use Rattle.std.specs.Prelude.{ℕ, List, [], ◌∷◌, length, get_or, fold, Option, Some, None}
 use Rattle.model_bits.specs.Sent.{Item, idle, frame}
 use Rattle.model_bits.specs.declared.heads.Head.{Head}
 
@@ -19,15 +19,3 @@ first_four octets = get_or octets 0 0 ∷ get_or octets 1 0 ∷ get_or octets 2 
 abbrev pub head_of : List ℕ → Option Head
 head_of [] = None
 head_of (octet ∷ octets) = Some (record { octets = first_four (octet ∷ octets); length = length (octet ∷ octets) })
-
-worked_latest : latest_frame (frame (1 ∷ 2 ∷ 3 ∷ []) ∷ idle ∷ frame (4 ∷ 5 ∷ 6 ∷ []) ∷ idle ∷ idle ∷ []) ≡ 4 ∷ 5 ∷ 6 ∷ []
-worked_latest = refl
-
-worked_head : head_of (4 ∷ 5 ∷ 6 ∷ []) ≡ Some (record { octets = 4 ∷ 5 ∷ 6 ∷ 0 ∷ []; length = 3 })
-worked_head = refl
-
-worked_long_head : head_of (2 ∷ 129 ∷ 0 ∷ 0 ∷ 8 ∷ 1 ∷ []) ≡ Some (record { octets = 2 ∷ 129 ∷ 0 ∷ 0 ∷ []; length = 6 })
-worked_long_head = refl
-
-worked_none : head_of (latest_frame (idle ∷ [])) ≡ None
-worked_none = refl

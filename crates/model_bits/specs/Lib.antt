@@ -1,7 +1,7 @@
--- The bits of a line. Read in this order: Bits, Stuffing, Check, Stream (what is heard in a line's bits), Sent (what
--- goes out) and Vectors, their worked values; then OpenGap, Heads, Heard and Framer, what a deframer and a framer stand
--- for; and the laws, CheckLaws, StuffingLaws, StreamLaws, FlagLaws and RoundTrip. The definitions go bit by bit over
--- whole lists and know no register, counter or buffer.
+-- The bits of a line. Read in this order: Bits, Stuffing, Check, Stream (what is heard in a line's bits) and Sent (what
+-- goes out); then OpenGap, Heads, Heard and Framer, what a deframer and a framer stand for; and the laws, CheckLaws,
+-- StuffingLaws, StreamLaws, FlagLaws and RoundTrip. The definitions go bit by bit over whole lists and know no register,
+-- counter or buffer.
 pub mod Bits
 pub mod Stuffing
 pub mod StuffingLaws
@@ -11,7 +11,6 @@ pub mod Stream
 pub mod StreamLaws
 pub mod FlagLaws
 pub mod Sent
-pub mod Vectors
 pub mod OpenGap
 pub mod Heads
 pub mod Heard

@@ -21,10 +21,8 @@ pub mod Pulled
 pub mod Isolation
 pub mod Promises
 pub mod Laws
-pub mod Worked
 pub mod Happening
 pub mod Said
 pub mod HappeningLaws
-pub mod WorkedHappenings
 pub mod Counted
 pub mod HappeningsCounted

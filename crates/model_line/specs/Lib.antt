@@ -1,4 +1,4 @@
--- The machine of a line, and worked values of it.
+-- The machine of a line.
 --
 -- Read in this order: Config, Event, Request; Line; Effect, whom an event concerns and what comes of it; Sides; Octet,
 -- Expiry, Refusal, Requested, Pull; Machine. Room and Begun are what a line answers about itself. Stored, Counts, Deliveries,
@@ -21,12 +21,9 @@ pub mod Begun
 pub mod Stored
 pub mod Counts
 pub mod Deliveries
-pub mod Worked
-pub mod WorkedSides
 pub mod Sound
 pub mod Laws
 pub mod Whole
 pub mod WholeAtLine
 pub mod WholeLaws
-pub mod WorkedWhole
 pub mod Counted

@@ -2,10 +2,10 @@
 //! past, and what it answers (Q.921 clauses 2, 3 and 5, either side).
 //!
 //! A line joins what is heard in its octets, TEI management, a link of each service for each TEI, unit data that
-//! waits, and the bits that go out. `specs/` has the machine and worked values of it. It reads from the line and its
-//! events (`Line`, `Event`, `Request`) by what an event is to the parts (`Effect`; `Octet`, `Expiry`, `Requested`),
-//! why a request is refused (`Refusal`) and what a pull takes (`Pull`) to the whole (`Machine`). `Stored`, `Counts` and
-//! `Deliveries` say what is counted of a line.
+//! waits, and the bits that go out. `specs/` has the machine; its worked values are in `laws_line`. It reads from the
+//! line and its events (`Line`, `Event`, `Request`) by what an event is to the parts (`Effect`; `Octet`, `Expiry`,
+//! `Requested`), why a request is refused (`Refusal`) and what a pull takes (`Pull`) to the whole (`Machine`).
+//! `Stored`, `Counts` and `Deliveries` say what is counted of a line.
 //!
 //! The code of a line stands above, in another crate. Here are the plain types that it shares with the definitions:
 //!

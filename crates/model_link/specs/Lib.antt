@@ -1,4 +1,4 @@
--- The machine of a data link, and worked values of it.
+-- The machine of a data link.
 --
 -- Read beside docs/MACHINE.md, in this order: Link, Events, Told; Steps and Words, of which rows are made (a test or
 -- an N(R) in the middle of a row is read at that moment); the states, one equation a row: TeiAssigned,
@@ -26,10 +26,4 @@ pub mod Rises
 pub mod Deliveries
 pub mod Numbered
 pub mod Notes
-pub mod Samples
-pub mod WorkedRelease
-pub mod WorkedTransfer
-pub mod WorkedRuns
-pub mod WorkedRoom
 pub mod TwoEnds
-pub mod WorkedEnds

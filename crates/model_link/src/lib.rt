@@ -2,9 +2,9 @@
 //! service does to it, and what it answers (Q.921 clause 5, states 4 to 8 of annex B, network
 //! side, multiple-frame operation modulo 128).
 //!
-//! `specs/` has the machine, one equation for each row of its tables, and worked values. It reads
-//! from the link's state and its events (`Link`, `Events`) by what is answered (`Told`) and the
-//! words of the tables (`Steps`, `Words`) to the rows of each state (`TeiAssigned`,
+//! `specs/` has the machine, one equation for each row of its tables; its worked values are in
+//! `laws_link`. It reads from the link's state and its events (`Link`, `Events`) by what is answered
+//! (`Told`) and the words of the tables (`Steps`, `Words`) to the rows of each state (`TeiAssigned`,
 //! `AwaitingEstablishment`, `AwaitingRelease`, `MultipleFrame`, `Established`, `TimerRecovery`), to
 //! requests and offers (`Requests`, `Offers`), and to the whole (`Machine`).
 //!

@@ -1,2 +1,3 @@
--- Lemmas: a shelf with two owners.
+-- Lemmas: a shelf with two owners; and worked values of a shelf.
 pub mod SharedShelf
+mod WorkedShelf

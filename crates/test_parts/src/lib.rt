@@ -6,6 +6,8 @@
 //!   shelves, and queues of slots over them.
 //! - `tei`: TEI management. `seq`: sequence numbers, and the window of what was sent.
 //! - `texts`: what the faults of these crates say.
+//!
+//! `specs/` and `proofs/` have worked values of the definitions of these crates and of `model_bits` and `lapd_count`.
 #![tactic(auto)]
 
 #[cfg(test)]

@@ -9,7 +9,7 @@ use Rattle.model_link.specs.Link.{fresh}
 use Rattle.model_link.specs.Events.{Event, Data, offer}
 use Rattle.model_link.specs.Machine.{after_all}
 use Rattle.model_link.specs.Rises.{may_send, price_of_all}
-use Rattle.model_link.specs.Samples.{usual, packet, comes, ask, pulls, out, notes, lost, up}
+use Rattle.laws_link.specs.Samples.{usual, packet, comes, ask, pulls, out, notes, lost, up}
 
 -- 129 I-frames numbered 0 to 127 and 0 again, each acknowledged before the next.
 abbrev numbered_frames : ℕ → ℕ → List Event

@@ -8,7 +8,7 @@ use Rattle.model_link.specs.Link.{Link, fresh}
 use Rattle.model_link.specs.Events.{Data, offer}
 use Rattle.model_link.specs.Machine.{after_all}
 use Rattle.model_link.specs.Room.{room_of, refusal_for}
-use Rattle.model_link.specs.Samples.{usual, with_k_and_queue, comes, ask, sabme}
+use Rattle.laws_link.specs.Samples.{usual, with_k_and_queue, comes, ask, sabme}
 
 -- With k 1 and places for two contents, two leave no place, however many slots are free; once the terminal has
 -- acknowledged the first, there is one.

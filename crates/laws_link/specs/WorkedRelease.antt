@@ -16,7 +16,7 @@ use Rattle.model_link.specs.Events.{Establish, Release, expired, offer, cleared}
 use Rattle.model_link.specs.Requests.{refusal}
 use Rattle.model_link.specs.Machine.{after, after_all, told}
 use Rattle.model_link.specs.Rises.{price_of_all}
-use Rattle.model_link.specs.Samples.{usual, with_n200, packet, comes, ask, out, notes, lost, told_after, sabme, up}
+use Rattle.laws_link.specs.Samples.{usual, with_n200, packet, comes, ask, out, notes, lost, told_after, sabme, up}
 
 -- Establish, and T200 four times with N200 3: SABME four times, then error G and a release indication.
 refused_thrice : out usual (ask Establish ∷ offer ∷ expired T200 ∷ offer ∷ expired T200 ∷ offer ∷ expired T200 ∷ offer ∷ expired T200 ∷ offer ∷ []) fresh

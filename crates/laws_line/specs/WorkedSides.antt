@@ -19,7 +19,7 @@ use Rattle.model_line.specs.Octet.{aim_of_heard}
 use Rattle.model_line.specs.Refusal.{refusal}
 use Rattle.model_line.specs.Machine.{of_request}
 use Rattle.model_line.specs.Pull.{Taken, taken}
-use Rattle.model_line.specs.Worked.{usual}
+use Rattle.laws_line.specs.WorkedLine.{usual}
 
 -- the private exchange's end of a trunk
 abbrev trunk : Config

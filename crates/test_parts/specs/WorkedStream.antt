@@ -1,10 +1,11 @@
 -- Worked values of the definitions, from outside: a published check value, and frames that were worked out
 -- by hand. Each is a fact that computes.
-use Rattle.std.specs.Prelude.{◌≡◌, ◌∷◌, ◌++◌, [], false, map, replicate, refl, take}
+use Rattle.std.specs.Prelude.{◌≡◌, ◌∷◌, ◌++◌, [], false, map, replicate, Some, None, refl, take}
 use Rattle.model_bits.specs.Bits.{bits, low_bits, number_of}
 use Rattle.model_bits.specs.Check.{check, remainder}
 use Rattle.model_bits.specs.Stream.{frame, overlong, dropped, heard_in}
 use Rattle.model_bits.specs.Sent as sent
+use Rattle.model_bits.specs.Heads.{latest_frame, head_of}
 use Rattle.model_bits.specs.declared.heard.Cause.TheVariants.{Abort, Ragged, Short, Fcs}
 
 -- the check of the text 123456789 is 906E, low octet first on the line: the published value of this check
@@ -137,3 +138,16 @@ left_of_octets :
     ≡ 0x0000 ∷ 0x1189 ∷ 0x8408 ∷ 0x0F78 ∷ []
 unfolding low_bits
 left_of_octets = refl
+
+-- the latest frame of a line, and how it begins
+worked_latest : latest_frame (sent.frame (1 ∷ 2 ∷ 3 ∷ []) ∷ sent.idle ∷ sent.frame (4 ∷ 5 ∷ 6 ∷ []) ∷ sent.idle ∷ sent.idle ∷ []) ≡ 4 ∷ 5 ∷ 6 ∷ []
+worked_latest = refl
+
+worked_head : head_of (4 ∷ 5 ∷ 6 ∷ []) ≡ Some (record { octets = 4 ∷ 5 ∷ 6 ∷ 0 ∷ []; length = 3 })
+worked_head = refl
+
+worked_long_head : head_of (2 ∷ 129 ∷ 0 ∷ 0 ∷ 8 ∷ 1 ∷ []) ≡ Some (record { octets = 2 ∷ 129 ∷ 0 ∷ 0 ∷ []; length = 6 })
+worked_long_head = refl
+
+worked_none : head_of (latest_frame (sent.idle ∷ [])) ≡ None
+worked_none = refl

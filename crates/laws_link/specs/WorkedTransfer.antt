@@ -16,7 +16,7 @@ use Rattle.model_link.specs.Events.{received, overlong, Release, Data, SetBusy, 
 use Rattle.model_link.specs.Requests.{refusal}
 use Rattle.model_link.specs.Machine.{after, after_all, told}
 use Rattle.model_link.specs.Rises.{held, price_of_all}
-use Rattle.model_link.specs.Samples.{usual, with_k_and_queue, comes, ask, out, notes, lost, sabme, up}
+use Rattle.laws_link.specs.Samples.{usual, with_k_and_queue, comes, ask, out, notes, lost, sabme, up}
 
 -- The same I-frame twice: one delivery, then REJ. The acknowledgement that was owed goes with it.
 twice : notes usual (comes (0x00 ∷ 0x81 ∷ 0x00 ∷ 0x00 ∷ 0x41 ∷ []) ∷ comes (0x00 ∷ 0x81 ∷ 0x00 ∷ 0x00 ∷ 0x41 ∷ []) ∷ []) up

@@ -12,7 +12,7 @@ use Rattle.lapd_frame.specs.declared.notes.ErrorCode.TheVariants as code
 use Rattle.model_link.specs.declared.terms.Terms.{Terms}
 use Rattle.model_link.specs.declared.timers.LinkTimer.TheVariants.{T200}
 use Rattle.model_link.specs.Link.{Link}
-use Rattle.model_link.specs.Events.{frame, Establish, Release, SetBusy, ClearBusy, Event, received, expired, requested, offer, cleared}
+use Rattle.model_link.specs.Events.{frame, Request, Establish, Release, SetBusy, ClearBusy, Event, received, expired, requested, offer, cleared}
 use Rattle.model_link.specs.Deliveries.{restarts}
 use Rattle.laws_link.specs.Accepted.{empties}
 use Rattle.laws_link.specs.Sending.{asked_from}
@@ -38,8 +38,12 @@ MovesSent t e before after =
 -- The link is established anew: the terminal does it, or this side does it after an error (clauses 5.7.1 and 5.8.2 to
 -- 5.8.6, appendix II).
 abbrev pub is_anew : ErrorCode → Bool
+is_anew code.A = false
+is_anew code.C = false
+is_anew code.D = false
+is_anew code.G = false
+is_anew code.H = false
 is_anew other = true
-is_anew other = false
 
 abbrev pub tells_anew : Note → Bool
 tells_anew (notes.EstablishIndication service tei) = true

@@ -4,67 +4,17 @@ use Rattle.lapd_frame.specs.declared.notes.ErrorCode.TheVariants as code
 use Rattle.lapd_count.specs.declared.kinds.Kind.TheVariants as kind
 
 kind_within : (k : Kind) → kind_place k < 12
-kind_within kind.Information = omega arith
-kind_within kind.ReceiveReady = omega arith
-kind_within kind.ReceiveNotReady = omega arith
-kind_within kind.Reject = omega arith
-kind_within kind.Sabme = omega arith
-kind_within kind.Disc = omega arith
-kind_within kind.Ui = omega arith
-kind_within kind.Ua = omega arith
-kind_within kind.Dm = omega arith
-kind_within kind.Frmr = omega arith
-kind_within kind.Xid = omega arith
-kind_within kind.Undefined = omega arith
+kind_within k = grind arith
 
 cause_within : (c : Cause) → cause_place c < 8
-cause_within Abort = omega arith
-cause_within Ragged = omega arith
-cause_within Short = omega arith
-cause_within Fcs = omega arith
-cause_within Extension = omega arith
-cause_within Sapi = omega arith
-cause_within Tei = omega arith
-cause_within Unserved = omega arith
+cause_within c = grind arith
 
 error_within : (e : ErrorCode) → error_place e < 14
-error_within code.A = omega arith
-error_within code.B = omega arith
-error_within code.C = omega arith
-error_within code.D = omega arith
-error_within code.E = omega arith
-error_within code.F = omega arith
-error_within code.G = omega arith
-error_within code.H = omega arith
-error_within code.I = omega arith
-error_within code.J = omega arith
-error_within code.K = omega arith
-error_within code.L = omega arith
-error_within code.N = omega arith
-error_within code.O = omega arith
+error_within e = grind arith
 
 -- each has a place
 pub place_within : (counter : Counter) → place counter < count
-place_within (Frames Heard k) = omega (arith, kind_within k)
-place_within (Frames Begun k) = omega (arith, kind_within k)
-place_within (Octets Heard) = omega arith
-place_within (Octets Begun) = omega arith
-place_within (Polls Heard) = omega arith
-place_within (Polls Begun) = omega arith
-place_within Overlong = omega arith
-place_within (Dropped cause) = omega (arith, cause_within cause)
-place_within (Errors e) = omega (arith, error_within e)
-place_within EstablishIndications = omega arith
-place_within EstablishConfirms = omega arith
-place_within ReleaseIndications = omega arith
-place_within ReleaseConfirms = omega arith
-place_within Data = omega arith
-place_within Units = omega arith
-place_within Xids = omega arith
-place_within Assigned = omega arith
-place_within Removed = omega arith
-place_within Doubled = omega arith
-place_within Lost = omega arith
+place_within counter = grind (arith, kind_within, cause_within, error_within)
 
 -- so many more of one are so many more of it, and of no other
 one_more : (counters : Counters) (other counter : Counter) (amount : ℕ) → length counters.values ≡ count → value_in counters counter ≤ most

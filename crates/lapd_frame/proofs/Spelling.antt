@@ -109,31 +109,11 @@ enough first second x y pf (octet ∷ more) a b = refl
 
 -- the octets of a frame are not too few
 long-enough : (first second : ℕ) (c : Control) (info : List ℕ) → is_short (first ∷ second ∷ ((row c).field ++ info)) ≡ false
-long-enough first second (Information ns nr pf) info = refl
-long-enough first second (ReceiveReady nr pf) info = refl
-long-enough first second (ReceiveNotReady nr pf) info = refl
-long-enough first second (Reject nr pf) info = refl
-long-enough first second (Sabme pf) info = enough first second _ _ pf info refl refl
-long-enough first second (Disc pf) info = enough first second _ _ pf info refl refl
-long-enough first second (Ui pf) info = enough first second _ _ pf info refl refl
-long-enough first second (Ua pf) info = enough first second _ _ pf info refl refl
-long-enough first second (Dm pf) info = enough first second _ _ pf info refl refl
-long-enough first second (Frmr pf) info = enough first second _ _ pf info refl refl
-long-enough first second (Xid pf) info = enough first second _ _ pf info refl refl
+long-enough first second control info = grind (arith, enough)
 
 -- what follows the control field
 pub info-again : (first second : ℕ) (c : Control) (info : List ℕ) → drop (start_of c) (first ∷ second ∷ ((row c).field ++ info)) ≡ info
-info-again first second (Information ns nr pf) info = refl
-info-again first second (ReceiveReady nr pf) info = refl
-info-again first second (ReceiveNotReady nr pf) info = refl
-info-again first second (Reject nr pf) info = refl
-info-again first second (Sabme pf) info = refl
-info-again first second (Disc pf) info = refl
-info-again first second (Ui pf) info = refl
-info-again first second (Ua pf) info = refl
-info-again first second (Dm pf) info = refl
-info-again first second (Frmr pf) info = refl
-info-again first second (Xid pf) info = refl
+info-again first second control info = grind arith
 
 -- the header of a frame is read again
 header-again : (side : Side) (a : Address) (c : Control) (third fourth : ℕ) → IsTrue (allows (row c).kind a.command) → control_of third fourth ≡ Some c

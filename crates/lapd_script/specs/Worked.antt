@@ -1,7 +1,9 @@
 -- The definitions on worked lines: each fact holds by computing.
 use Rattle.std.specs.Prelude.{◌≡◌, true, false, [], ◌∷◌, codes, Some, None, Ok, Err, refl}
+use Rattle.std.specs.Fmt.{digits}
 use Rattle.hex.specs.Hex.{decode_pairs}
 use Rattle.lapd_frame.specs.declared.addresses.Side.TheVariants.{User, Network}
+use Rattle.lapd_frame.specs.declared.faults.ReadFault.TheVariants.{Short}
 use Rattle.lapd_frame.specs.declared.services.Service.TheVariants.{Call, Packet}
 use Rattle.lapd_script.specs.declared.kind.FaultKind.TheVariants.{UnknownWord, BadNumberOfWords, BadNumber, BadOctets, BadCause}
 use Rattle.lapd_script.specs.declared.command.Asked as asked
@@ -11,6 +13,9 @@ use Rattle.lapd_script.specs.Meaning.{skip, card, rx, into, failed, next, pull, 
 use Rattle.lapd_script.specs.Read.{read}
 use Rattle.lapd_script.specs.Job.{job, run, frame, limits}
 use Rattle.lapd_script.specs.Bound.{bound}
+use Rattle.lapd_script.specs.declared.faults.PlayFault.TheVariants.{Script}
+use Rattle.lapd_script.specs.declared.shown.FrameFault.TheVariants.{NoFrame}
+use Rattle.lapd_script.specs.FaultLines.{play_line, frame_line}
 
 empty : read [] ≡ Ok skip
 empty = refl
@@ -155,3 +160,10 @@ out_of_range = refl
 
 other_words : job (codes "run" ∷ codes "run" ∷ []) ≡ None
 other_words = refl
+
+faulty : play_line (Script 12 BadNumber) ≡ codes "line 12: bad number\n"
+unfolding digits
+faulty = refl
+
+short : frame_line (NoFrame Short) ≡ codes "frame: short\n"
+short = refl

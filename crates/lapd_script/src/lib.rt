@@ -1,4 +1,5 @@
-//! The language of scripts, in which a line card is played: what a line says, and what can be wrong with it.
+//! The language of scripts, in which a line card is played: what a line says, what can be wrong with it, and how the
+//! lines are read.
 //! `docs/FORMAT.md` describes it for those who write scripts.
 //!
 //! - `kind`: what can be wrong with a line.
@@ -7,23 +8,39 @@
 //! - `words`: the words of a line, and how many a line takes.
 //! - `number`, `hex_word`, `cause_word`: words that stand for numbers, for octets and for causes.
 //! - `read`: reads a line.
+//! - `lines`: how the lines of a script are read, in pieces.
+//! - `faults`: why a script is not played to its end.
 //! - `jobs`, `arguments`: what the program can be asked for, and its words.
+//! - `shown`: shows one frame.
+//! - `fault_lines`: the program's fault lines and its exit status with them.
+//!
+//! # Only tested
+//!
+//! What `PlayFault` displays.
 #![tactic(auto)]
 
 mod arguments;
 mod cause_word;
 mod command;
+mod fault_lines;
+mod faults;
 mod hex_word;
 mod jobs;
 mod kind;
+mod lines;
 mod number;
 mod read;
+mod shown;
 mod word;
 mod words;
 
 pub use arguments::job;
 pub use command::{Asked, CardKind, Command};
+pub use fault_lines::{refuse, refuse_digits, refuse_words};
+pub use faults::{LineFault, PlayFault};
 pub use hex_word::octets;
 pub use jobs::{Job, Limits};
 pub use kind::FaultKind;
+pub use lines::ScriptLines;
 pub use read::read_line;
+pub use shown::{FrameFault, show_frame};

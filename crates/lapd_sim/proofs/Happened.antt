@@ -3,7 +3,7 @@ use Rattle.lapd_sim.proofs.Vocabulary.{◌≡◌, ℕ, ◌<◌, nat_lt, List, Bo
 use Rattle.model_line.specs.Pull.{Taken}
 use Rattle.lapd_script.specs.Meaning as meaning
 use Rattle.lapd_script.specs.declared.command.CardKind.TheVariants.{Octets, Frames}
-use Rattle.lapd_sim.specs.declared.faults.LineFault.TheVariants.{Write}
+use Rattle.lapd_script.specs.declared.faults.LineFault.TheVariants.{Write}
 use Rattle.lapd_sim.proofs.Scenes.{right_frames, obeyed_there, broken_there}
 
 -- a frame that comes can be any

@@ -1,9 +1,5 @@
 -- Lemmas: a script that is read, played and printed, on octets and on whole frames.
 pub mod Vocabulary
-pub mod Left
-pub mod Pieces
-pub mod Reading
-pub mod Advancing
 pub mod OneByOne
 pub mod Terminals
 pub mod Scenes
@@ -18,8 +14,4 @@ pub mod Happened
 pub mod Refusing
 pub mod Waits
 pub mod Octets
-pub mod Listeners
 pub mod Pulls
-pub mod OneFrame
-pub mod LongDigits
-pub mod Showing

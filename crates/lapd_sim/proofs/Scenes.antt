@@ -3,7 +3,7 @@ use Rattle.lapd_sim.proofs.Vocabulary.{◌≡◌, ℕ, zero, suc, ◌+◌, ◌<�
 use Rattle.std.specs.Prelude.{◌&&◌}
 use Rattle.lapd_script.specs.Meaning as meaning
 use Rattle.lapd_script.specs.declared.command.CardKind.TheVariants.{Octets, Frames}
-use Rattle.lapd_sim.specs.declared.faults.LineFault.TheVariants.{Write, OutOfMemory}
+use Rattle.lapd_script.specs.declared.faults.LineFault.TheVariants.{Write, OutOfMemory}
 
 -- one octet more
 pub rx_more : (line : ℕ) (xs : List ℕ) (i : ℕ) (s : Scene) → i < length xs

@@ -1,9 +1,7 @@
--- What `play` promises. Read first Read of `lapd_script` (what a line means) and Text of `lapd_transcript` (the
--- lines of a transcript); of `model_sim` Pieces, Setup, Steps and Script: one fold over the lines, up to the first
--- fault. Then Plays here; and for the program FaultLines, Shown and Serves, with Shown of `lapd_transcript` and
--- Kinds of `lapd_script`.
-pub mod Faults
-pub mod ScriptLines
+-- What `play` promises. Read first Read and Pieces of `lapd_script` (what a line means, and where one ends) and Text of
+-- `lapd_transcript` (the lines of a transcript); of `model_sim` Setup, Steps and Script: one fold over the lines, up to
+-- the first fault. Then Plays here; and for the program FaultLines, Shown and Kinds of `lapd_script`, Shown of
+-- `lapd_transcript`, and Serves.
 pub mod Boards
 pub mod Past
 pub mod Stands
@@ -11,8 +9,4 @@ pub mod Obeyed
 pub mod Pages
 pub mod Plays
 pub mod Gives
-pub mod Shown
-pub mod OnLine
-pub mod FaultLines
 pub mod Serves
-pub mod WorkedShown

@@ -10,8 +10,8 @@ use Rattle.lapd_transcript.specs.Streams.{Output, IsPut, IsStuck}
 use Rattle.model_sim.specs.Setup.{Setup, begun}
 use Rattle.model_sim.specs.Steps.{Scene, begun_with, with_card, without_card}
 use Rattle.lapd_sim.specs.declared.setup.Setup as rust
-use Rattle.lapd_sim.specs.declared.faults.LineFault.{LineFault}
-use Rattle.lapd_sim.specs.declared.faults.LineFault.TheVariants.{Faulty, Write, OutOfMemory}
+use Rattle.lapd_script.specs.declared.faults.LineFault.{LineFault}
+use Rattle.lapd_script.specs.declared.faults.LineFault.TheVariants.{Faulty, Write, OutOfMemory}
 use Rattle.lapd_sim.specs.Stands.{Has}
 
 -- The scene in which nothing has been said yet.

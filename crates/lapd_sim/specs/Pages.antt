@@ -4,10 +4,10 @@
 -- more is read, and at the end; so nothing stands on it where a read fails.
 use Rattle.std.specs.Prelude.{◌≡◌, ℕ, List, [], Bool, true, false, Option, Result, Ok, Err}
 use Rattle.lapd_transcript.specs.Streams.{Output, IsPut, IsStuck}
-use Rattle.lapd_sim.specs.declared.faults.PlayFault.{PlayFault}
-use Rattle.lapd_sim.specs.declared.faults.PlayFault.TheVariants.{Read, Write, Script, OutOfMemory}
-use Rattle.lapd_sim.specs.declared.lines.ScriptLines.{ScriptLines}
-use Rattle.lapd_sim.specs.ScriptLines.{Advances}
+use Rattle.lapd_script.specs.declared.faults.PlayFault.{PlayFault}
+use Rattle.lapd_script.specs.declared.faults.PlayFault.TheVariants.{Read, Write, Script, OutOfMemory}
+use Rattle.lapd_script.specs.declared.lines.ScriptLines.{ScriptLines}
+use Rattle.lapd_script.specs.ScriptLines.{Advances}
 
 -- Some text has been put; a read fails only where nothing is left on the page; or a write has failed.
 abbrev pub PutsSome : {A : Type 0} → Result A PlayFault → Output → Output → Type 0

@@ -7,10 +7,10 @@ use Rattle.std.specs.Prelude.{◌≡◌, ℕ, ◌<◌, ◌==◌, ◌⊎◌, List
 use Rattle.std.specs.List.{list_any}
 use Rattle.lapd_transcript.specs.Streams.{Taken, IsWritten, IsBroken, Output, IsPut, IsStuck}
 use Rattle.model_sim.specs.Setup.{Setup}
-use Rattle.model_sim.specs.Pieces.{pieces_of}
+use Rattle.lapd_script.specs.Pieces.{pieces_of}
 use Rattle.model_sim.specs.Script.{played, transcript, first_fault}
-use Rattle.lapd_sim.specs.declared.faults.PlayFault.{PlayFault}
-use Rattle.lapd_sim.specs.declared.faults.PlayFault.TheVariants.{Read, Write, Script, OutOfMemory}
+use Rattle.lapd_script.specs.declared.faults.PlayFault.{PlayFault}
+use Rattle.lapd_script.specs.declared.faults.PlayFault.TheVariants.{Read, Write, Script, OutOfMemory}
 
 -- The lines of what was read whose line feed (octet 10) had come.
 abbrev pub is_whole : List ℕ → Bool

@@ -2,12 +2,12 @@
 use Rattle.std.specs.Prelude.{◌≡◌, ℕ, List, Option, Some, Result}
 use Rattle.lapd_frame.specs.declared.addresses.Side.{Side}
 use Rattle.lapd_transcript.specs.Streams.{Taken}
-use Rattle.lapd_sim.specs.declared.faults.PlayFault.{PlayFault}
-use Rattle.lapd_sim.specs.declared.shown.FrameFault.{FrameFault}
-use Rattle.lapd_sim.specs.FaultLines.{play_line, frame_line, TellsOf}
-use Rattle.lapd_sim.specs.Faults.{reads_failed_by, writes_failed_by}
+use Rattle.lapd_script.specs.declared.faults.PlayFault.{PlayFault}
+use Rattle.lapd_script.specs.declared.shown.FrameFault.{FrameFault}
+use Rattle.lapd_script.specs.FaultLines.{play_line, frame_line, TellsOf}
+use Rattle.lapd_script.specs.Faults.{reads_failed_by, writes_failed_by}
 use Rattle.lapd_sim.specs.Plays.{Plays, status_of}
-use Rattle.lapd_sim.specs.Shown.{ShowsFrame, frame_status}
+use Rattle.lapd_script.specs.Shown.{ShowsFrame, frame_status}
 
 -- What a source tells, and how many of its reads have failed.
 pub record Given : Type 0 where

@@ -1,16 +1,14 @@
 -- What the parts of a simulator stand for: the setup of the machine that a script is played on.
 --
 -- Each part of the simulator stands for a part of the setup: `Holds` is the card with clock and moment, `Sends` a
--- terminal, `Hears` a listener.
-use Rattle.std.specs.Prelude.{◌≡◌, ℕ, List, [], ◌∷◌, length, Option, None, Some}
-use Rattle.model_bits.specs.Framer as framing
-use Rattle.lapd_bits.specs.Deframer as deframing
-use Rattle.lapd_bits.specs.declared.deframer.Deframer.{Deframer}
+-- terminal, `Hears` a listener (both of `lapd_transcript`).
+use Rattle.std.specs.Prelude.{◌≡◌, List, [], ◌∷◌, Option, None, Some}
+use Rattle.lapd_transcript.specs.Listened.{Hears}
+use Rattle.lapd_transcript.specs.Terminal.{Sends}
 use Rattle.model_sim.specs.Setup as machine
 use Rattle.lapd_sim.specs.Boards.{OnBoard, counters_on}
 use Rattle.lapd_sim.specs.declared.setup.Setup.{Setup}
 use Rattle.lapd_sim.specs.declared.exchange.Exchange.{Exchange}
-use Rattle.lapd_sim.specs.declared.terminal.Terminal.{Terminal}
 
 -- The card, its counters, its clock and the moment.
 pub record Holds (e : Exchange) (m : machine.Setup) : Type 0 where
@@ -20,16 +18,6 @@ pub record Holds (e : Exchange) (m : machine.Setup) : Type 0 where
   pub counters : counters_on e.board ≡ m.counters
   pub clock : e.clock ≡ m.clock
   pub now : e.moment ≡ m.now
-
--- A terminal has put these items on its line, and given so many octets of them.
-pub record Sends (t : Terminal) (m : machine.Terminal) : Type 0 where
-  pub octets : List ℕ
-  pub stands : framing.Stands t.framer m.items octets
-  pub given : length octets ≡ m.given
-
--- A listener has heard these octets, in which frames have up to 1,024 octets of information (profile).
-abbrev pub Hears : Deframer → List ℕ → Type 0
-Hears listener taken = deframing.Stands 1024 listener taken
 
 -- One by one.
 abbrev pub Each : {A B : Type 0} → (A → B → Type 0) → List A → List B → Type 0

@@ -11,10 +11,9 @@ ghost use Rattle.lapd_count.specs.Counters.{none_counted};
 ghost use Rattle.lapd_card.specs.Reply.{answer_of_result};
 ghost use Rattle.lapd_line.specs.Reports.{report_told};
 
-use crate::faults::LineFault;
 use lapd_card::{Card, CardFault, Config, Counters, FrameCard, Report, Request};
 use lapd_frame::{Refusal, Timer};
-use lapd_script::{CardKind, FaultKind};
+use lapd_script::{CardKind, FaultKind, LineFault};
 use lapd_store::RawShelf;
 use std::alloc::Global;
 

@@ -21,11 +21,10 @@ ghost use Rattle.model_line.specs.Pull.{taken};
 ghost use Rattle.lapd_transcript.specs.Streams.{Output, Puts, output};
 
 use crate::board::{Board, Plan};
-use crate::faults::LineFault;
 use lapd_card::{Fault, Report, Request, limit};
 use lapd_clock::{Clock, Lengths};
 use lapd_frame::{Order, Timer};
-use lapd_script::{CardKind, FaultKind};
+use lapd_script::{CardKind, FaultKind, LineFault};
 use lapd_transcript::{
     Page, Target, WriteFailed, put_counters, put_refused, put_report, put_stored,
 };

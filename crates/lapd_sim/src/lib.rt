@@ -1,20 +1,16 @@
 //! Plays scripts on a line card: what its lines bring is put on the card, and the transcript of the answers is written.
 //! `docs/FORMAT.md` describes both texts.
 //!
-//! - `lines`: how the lines of a script are read, in pieces.
 //! - `exchange`: the card that a script is played on, and its clock; `board`: the card, for octets or for frames.
-//! - `terminal`: the sender of a terminal.
 //! - `setup`: the card with the terminals and listeners of its lines; `parts`, what it begins with; `traffic`, what
 //!   comes from a line and what a line takes.
 //! - `player`: plays a script; `memory`, one that lies in memory.
-//! - `faults`: why a script is not played to its end.
-//! - `shown`: shows one frame.
-//! - `program`: the program's words, fault lines and exit status.
+//! - `program`: the program's words and exit status.
 //!
 //! # Only tested
 //!
 //! That the answer to each line is written before more is read than that line needs; that `play_octets` and
-//! `frame` succeed where there is memory; the texts that `PlayFault` shows of itself.
+//! `frame` succeed where there is memory.
 //!
 //! # Open
 //!
@@ -23,20 +19,15 @@
 
 mod board;
 mod exchange;
-mod faults;
-mod lines;
 mod memory;
 mod parts;
 mod player;
 mod program;
 mod setup;
-mod shown;
-mod terminal;
 mod traffic;
 
-pub use faults::PlayFault;
-pub use lapd_script::{FaultKind, Job, job};
+pub use lapd_script::{FaultKind, Job, PlayFault, job, refuse};
 pub use lapd_transcript::{ReadFailed, ReadFrom, Source, Target, WriteFailed, WriteTo};
 pub use memory::play_octets;
 pub use player::play;
-pub use program::{refuse, serve};
+pub use program::serve;

@@ -2,8 +2,8 @@
 
 ghost use Rattle.lapd_sim.specs.Plays.{PlaysOctets};
 
-use crate::faults::PlayFault;
 use crate::player::play;
+use lapd_script::PlayFault;
 use lapd_transcript::{ReadFailed, Source, Target, WriteFailed};
 use std::alloc::Global;
 use std::io::Read;

@@ -3,12 +3,14 @@
 ghost use Rattle.std.specs.Prelude.{◌≡◌, [], vec_len, replicate, IfOk};
 ghost use Rattle.model_line.specs.Request as asking;
 ghost use Rattle.model_sim.specs.Steps.{request_for};
-ghost use Rattle.lapd_sim.specs.Stands.{Each, Hears, Sends};
+ghost use Rattle.lapd_sim.specs.Stands.{Each};
+ghost use Rattle.lapd_transcript.specs.Listened.{Hears};
+ghost use Rattle.lapd_transcript.specs.Terminal.{Sends};
 
-use crate::terminal::{LONGEST_INFORMATION, Terminal};
 use lapd_bits::Deframer;
 use lapd_card::Request;
 use lapd_script::Asked;
+use lapd_transcript::{LONGEST_INFORMATION, Terminal};
 use std::alloc::{AllocError, Global};
 
 /// A terminal for each line.

@@ -4,19 +4,17 @@ ghost use Rattle.std.specs.Prelude.{◌≡◌, ◌≤◌, ◌<◌, ℕ, List, []
 ghost use Rattle.lapd_script.specs.Meaning.{meant, IsCounted};
 ghost use Rattle.model_sim.specs.Setup as machine;
 ghost use Rattle.model_sim.specs.Steps.{with_card, without_card};
-ghost use Rattle.lapd_sim.specs.Faults.{reads_failed_by, writes_failed_by};
+ghost use Rattle.lapd_script.specs.Faults.{reads_failed_by, writes_failed_by};
 ghost use Rattle.lapd_sim.specs.Obeyed.{Does, Obeys, StartsBy, said, scene};
 ghost use Rattle.lapd_sim.specs.Pages.{PutsNone, PutsSome, Reaches, is_cut};
 ghost use Rattle.lapd_sim.specs.Plays.{Plays, PlaysOn};
-ghost use Rattle.lapd_sim.specs.ScriptLines.{AreLeft};
+ghost use Rattle.lapd_script.specs.ScriptLines.{AreLeft};
 ghost use Rattle.lapd_transcript.specs.Streams.{Taken, output};
 ghost use Rattle.lapd_sim.specs.Stands.{Has, Stands};
 
 use crate::board::Plan;
-use crate::faults::{LineFault, PlayFault};
-use crate::lines::ScriptLines;
 use crate::setup::Setup;
-use lapd_script::{Command, FaultKind, read_line};
+use lapd_script::{Command, FaultKind, LineFault, PlayFault, ScriptLines, read_line};
 use lapd_transcript::{Page, Source, Target, WriteFailed, send};
 use std::alloc::{AllocError, Global};
 

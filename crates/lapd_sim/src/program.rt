@@ -4,31 +4,22 @@ ghost use Rattle.std.specs.Prelude.{◌≡◌, ◌≢◌, ◌≤◌, ◌↔◌, 
 ghost use Rattle.lapd_script.specs.Bound.{bound};
 ghost use Rattle.lapd_script.specs.Job.{job, run, frame, limits};
 ghost use Rattle.lapd_script.specs.Words.{texts};
-ghost use Rattle.lapd_transcript.specs.Streams.{Writes};
-ghost use Rattle.lapd_sim.specs.declared.faults.PlayFault.{PlayFault};
-ghost use Rattle.lapd_sim.specs.declared.faults.PlayFault.TheVariants.{Write};
-ghost use Rattle.lapd_sim.specs.declared.shown.FrameFault.{FrameFault};
-ghost use Rattle.lapd_sim.specs.FaultLines.{frame_line, play_line, IsTold};
+ghost use Rattle.lapd_script.specs.declared.faults.PlayFault.{PlayFault};
+ghost use Rattle.lapd_script.specs.declared.faults.PlayFault.TheVariants.{Write};
+ghost use Rattle.lapd_script.specs.declared.shown.FrameFault.{FrameFault};
+ghost use Rattle.lapd_script.specs.FaultLines.{frame_line, play_line, IsTold};
 ghost use Rattle.lapd_sim.specs.Plays.{Shows};
 ghost use Rattle.lapd_sim.specs.Serves.{Frames, Runs};
-ghost use Rattle.lapd_sim.specs.Shown.{side_of};
+ghost use Rattle.lapd_script.specs.Shown.{side_of};
 
-use crate::faults::PlayFault;
 use crate::player::play;
-use crate::shown::{FrameFault, show_frame};
 use lapd_frame::Side;
-use lapd_script::{Job, job};
-use lapd_transcript::{Source, Target, WriteFailed, write_bound, write_faulty};
+use lapd_script::{Job, PlayFault, job, refuse, refuse_digits, refuse_words, show_frame};
+use lapd_transcript::{Source, Target, write_bound};
 use std::alloc::Global;
 
 /// The exit status where all was done.
 const DONE: u8 = 0;
-
-/// The exit status after a fault.
-const FAILED: u8 = 1;
-
-/// The exit status where the words ask for nothing that there is.
-const WRONG_WORDS: u8 = 2;
 
 /// Does what the words after the program's name ask for, and answers the exit status.
 ///
@@ -93,41 +84,4 @@ fn side_of(network: bool) -> Side
     ensures { result ≡ side_of network }
 {
     if network { Side::Network } else { Side::User }
-}
-
-/// Writes the line that tells of `fault`, and answers the exit status after it. A line that can't be written changes
-/// nothing else.
-pub fn refuse<F: Target>(fault: PlayFault, faults: &mut F) -> u8
-    ensures status { result ≡ 1 }
-    ensures told { IsTold (play_line fault) (F.taken faults.old) (F.taken faults.new) }
-{
-    let _ = write_fault(fault, faults);
-    FAILED
-}
-
-fn refuse_digits<F: Target>(fault: FrameFault, faults: &mut F) -> u8
-    ensures status { result ≡ 1 }
-    ensures told { IsTold (frame_line fault) (F.taken faults.old) (F.taken faults.new) }
-{
-    let _ = faults.write(fault.line());
-    FAILED
-}
-
-fn refuse_words<F: Target>(faults: &mut F) -> u8
-    ensures status { result ≡ 2 }
-    ensures told { IsTold (codes "usage\n") (F.taken faults.old) (F.taken faults.new) }
-{
-    let _ = faults.write(b"usage\n");
-    WRONG_WORDS
-}
-
-fn write_fault<F: Target>(fault: PlayFault, faults: &mut F) -> Result<(), WriteFailed>
-    ensures { Writes result (F.taken faults.old) (F.taken faults.new) (play_line fault) }
-{
-    match fault {
-        PlayFault::Read => faults.write(b"read failed\n"),
-        PlayFault::Write => faults.write(b"write failed\n"),
-        PlayFault::Script { line, kind } => write_faulty(faults, line, kind.words().as_bytes()),
-        PlayFault::OutOfMemory => faults.write(b"out of memory\n"),
-    }
 }

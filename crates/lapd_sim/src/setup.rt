@@ -10,14 +10,12 @@ ghost use Rattle.lapd_transcript.specs.Streams.{Output, output};
 
 use crate::board::Plan;
 use crate::exchange::Exchange;
-use crate::faults::LineFault;
 use crate::parts::{listeners, request_for, terminals};
-use crate::terminal::{LONGEST_FRAME, SHORTEST_FRAME, Terminal};
-use crate::traffic::{pull, receive, send, tell, tell_next};
+use crate::traffic::{pull, receive, send, tell_next};
 use lapd_bits::Deframer;
 use lapd_card::Fault;
-use lapd_script::{Asked, CardKind, FaultKind};
-use lapd_transcript::{Page, Target, WriteFailed};
+use lapd_script::{Asked, CardKind, FaultKind, LineFault};
+use lapd_transcript::{LONGEST_FRAME, Page, SHORTEST_FRAME, Target, Terminal, WriteFailed, tell};
 use std::alloc::Global;
 
 /// The card with its clock, and for each line the terminal that sends, and what listens to the octets that are pulled.

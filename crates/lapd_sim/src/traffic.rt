@@ -1,24 +1,22 @@
 //! What comes from a line, and what a line takes.
 
-ghost use Rattle.std.specs.Prelude.{◌≡◌, ◌<◌, ◌≤◌, ℕ, List, [], ◌++◌, length, flat_map, Option, IfSome, OnOk};
+ghost use Rattle.std.specs.Prelude.{◌≡◌, ◌<◌, ◌≤◌, ℕ, List, [], length, Option, IfSome, OnOk};
 ghost use Rattle.model_bits.specs.Framer as framing;
 ghost use Rattle.model_bits.specs.Sent.{Item};
 ghost use Rattle.lapd_transcript.specs.Streams.{Puts, output};
-ghost use Rattle.lapd_transcript.specs.Text.{frame_text};
+ghost use Rattle.lapd_transcript.specs.Terminal as sending;
+ghost use Rattle.lapd_transcript.specs.Terminal.{Sends};
 ghost use Rattle.lapd_script.specs.declared.command.CardKind.TheVariants.{Octets};
 ghost use Rattle.model_sim.specs.Setup as machine;
 ghost use Rattle.model_line.specs.Pull.{Taken};
-ghost use Rattle.model_sim.specs.Steps.{after_rx, pulls, pulled_text, next_text};
+ghost use Rattle.model_sim.specs.Steps.{after_rx, pulls, next_text};
 ghost use Rattle.lapd_sim.specs.Boards.{IsTaken};
 ghost use Rattle.lapd_sim.specs.Gives.{Gives};
 ghost use Rattle.lapd_sim.specs.Obeyed.{scene, Tells};
-ghost use Rattle.lapd_sim.specs.Stands.{Hears, Holds, Sends};
+ghost use Rattle.lapd_sim.specs.Stands.{Holds};
 
 use crate::exchange::Exchange;
-use crate::terminal::Terminal;
-use lapd_bits::Deframer;
-use lapd_transcript::{Page, Target, WriteFailed, put_frame, put_nothing, put_sent};
-use model_bits::Heard;
+use lapd_transcript::{Page, Target, Terminal, WriteFailed, put_frame, put_nothing};
 
 /// Octets come from a line.
 pub(crate) fn receive<T: Target>(
@@ -56,9 +54,9 @@ pub(crate) fn send<T: Target>(
     requires short { 3 ≤ length frame.now }
     requires long { length frame.now ≤ 1028 }
     ensures plan { exchange.new.plan ≡ exchange.old.plan }
-    ensures told { (m : machine.Setup) (t : machine.Terminal) → Holds exchange.old m → Sends terminal.old t
-        → Tells result (output (T.taken target.old) page.old.items) (output (T.taken target.new) page.new.items) (Holds exchange.new) (after_rx line (machine.octets_sent frame.now t) (scene m)) }
-    ensures after { OnOk result ((t : machine.Terminal) → Sends terminal.old t → Sends terminal.new (machine.after_sending frame.now t)) }
+    ensures told { (m : machine.Setup) (t : sending.Terminal) → Holds exchange.old m → Sends terminal.old t
+        → Tells result (output (T.taken target.old) page.old.items) (output (T.taken target.new) page.new.items) (Holds exchange.new) (after_rx line (sending.octets_sent frame.now t) (scene m)) }
+    ensures after { OnOk result ((t : sending.Terminal) → Sends terminal.old t → Sends terminal.new (sending.after_sending frame.now t)) }
 {
     if let Err(WriteFailed) = give(terminal, exchange, line, target, page) {
         return Err(WriteFailed);
@@ -113,25 +111,6 @@ pub(crate) fn pull(exchange: &mut Exchange, line: usize, room: &mut [u8])
     }
 }
 
-/// Tells the octets that a line took, and the frames that are complete in them.
-pub(crate) fn tell<T: Target>(
-    listener: &mut Deframer,
-    line: usize,
-    octets: &[u8],
-    target: &mut T,
-    page: &mut Page,
-) -> Result<(), WriteFailed>
-    requires { line < 65536 }
-    ensures told { (past : List ℕ) → Hears listener.old past
-        → Puts result (output (T.taken target.old) page.old.items) (output (T.taken target.new) page.new.items) (pulled_text line past octets.now) }
-    ensures after { OnOk result ((past : List ℕ) → Hears listener.old past → Hears listener.new (past ++ octets.now)) }
-{
-    if let Err(WriteFailed) = put_sent(target, page, line as u16, octets) {
-        return Err(WriteFailed);
-    }
-    show_frames(listener, line, octets, target, page)
-}
-
 /// Tells the frame that a line took, of so many octets in the beginning of `room`, or that none waited.
 pub(crate) fn tell_next<T: Target>(
     line: usize,
@@ -149,28 +128,4 @@ pub(crate) fn tell_next<T: Target>(
         Some(count) => put_frame(target, page, line as u16, &room[..count]),
         None => put_nothing(target, page, line as u16),
     }
-}
-
-/// Tells the frames that are complete in what a line took.
-fn show_frames<T: Target>(
-    listener: &mut Deframer,
-    line: usize,
-    octets: &[u8],
-    target: &mut T,
-    page: &mut Page,
-) -> Result<(), WriteFailed>
-    requires { line < 65536 }
-    ensures told { (past : List ℕ) → Hears listener.old past
-        → Puts result (output (T.taken target.old) page.old.items) (output (T.taken target.new) page.new.items) (flat_map (frame_text line) (machine.found past octets.now)) }
-    ensures after { OnOk result ((past : List ℕ) → Hears listener.old past → Hears listener.new (past ++ octets.now)) }
-{
-    for octet in octets {
-        listener.step(*octet);
-        if let Heard::Frame(frame) = listener.latest() {
-            if let Err(WriteFailed) = put_frame(target, page, line as u16, frame) {
-                return Err(WriteFailed);
-            }
-        }
-    }
-    Ok(())
 }

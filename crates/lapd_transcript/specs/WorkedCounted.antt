@@ -4,8 +4,8 @@ use Rattle.std.specs.Fmt.{digits}
 use Rattle.std.specs.List.{range_with_len}
 use Rattle.model_bits.specs.declared.heard.Cause.TheVariants.{Fcs}
 use Rattle.lapd_frame.specs.declared.notes.ErrorCode.TheVariants.{F}
-use Rattle.lapd_count.specs.declared.counter.Counter.TheVariants.{Frames, Octets, Dropped, Errors, Data, Lost}
-use Rattle.lapd_count.specs.declared.counter.Way.TheVariants.{Heard, Begun}
+use Rattle.lapd_count.specs.declared.counter.Counter.TheVariants.{Frames, Octets, Dropped, Errors, Lost}
+use Rattle.lapd_count.specs.declared.counter.Way.TheVariants.{Heard}
 use Rattle.lapd_count.specs.declared.kinds.Kind.TheVariants.{Sabme}
 use Rattle.lapd_count.specs.Counters.{place, none_counted, with_all}
 use Rattle.lapd_transcript.specs.Counted.{all_counters, group_name, own_name, counters_text}

@@ -8,6 +8,8 @@
 //! - `notes`: what an event brought; `counters`: what was counted of a line.
 //! - `shown`: what a frame says, octets of a line, and the bound of a card.
 //! - `names`: the names that stand in them.
+//! - `terminal`: the sender of a terminal; `one_frame`: what one frame is on its line.
+//! - `listener`: tells the octets that a line takes, and the frames in them.
 //!
 //! # Only tested
 //!
@@ -21,20 +23,26 @@
 
 mod counters;
 mod lines;
+mod listener;
 mod names;
 mod notes;
+mod one_frame;
 mod output;
 mod read_from;
 mod shown;
 mod streams;
+mod terminal;
 mod write_to;
 
 pub use counters::put_counters;
 pub use lines::{
     put_frame, put_nothing, put_refused, put_report, put_sent, put_stored, write_faulty,
 };
+pub use listener::tell;
+pub use one_frame::on_line;
 pub use output::{Page, send};
 pub use read_from::ReadFrom;
 pub use shown::{write_bound, write_line_octets, write_shown};
 pub use streams::{ReadFailed, Source, Target, WriteFailed};
+pub use terminal::{LONGEST_FRAME, LONGEST_INFORMATION, SHORTEST_FRAME, Terminal};
 pub use write_to::WriteTo;

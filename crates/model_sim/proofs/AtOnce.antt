@@ -1,5 +1,5 @@
 -- On a card for frames, what comes, fails or goes is carried out and told as one answer.
-use Rattle.model_sim.proofs.Vocabulary.{◌≡◌, ℕ, zero, suc, ◌<◌, true, List, [], ◌∷◌, ◌++◌, map, replicate, is_some, if◌then◌else◌, Option, Some, None, refl, sym, ap, ◌∙◌, subst, append_assoc, append-nil, fold, flat_map, All-nil, All-cons, AreOctets, Config, Answer, told, pulled, pull, nothing, orders_in, Line, Taken, taken, Card, line_at, at, answer, moments, after_all, answers_to, octet_alone, pulls_for, pulls_to_begin, Happening, comes, failed, goes, line_of, events_at, events_of, spelled, HappensAt, AreIdle, answer_in, happening_counted, Counters, Said, says, gives, next_of, said, Means, frames_are_of_lines, lines_stay_idle, frames_come_whole, frames_go_whole, Setup, ordered, Scene, answer_text, with_event, with_events, with_counters, after_happening}
+use Rattle.model_sim.proofs.Vocabulary.{◌≡◌, ℕ, zero, suc, ◌<◌, true, List, [], ◌∷◌, ◌++◌, map, replicate, is_some, if◌then◌else◌, Option, Some, None, refl, sym, ap, ◌∙◌, subst, append_assoc, append-nil, fold, flat_map, All-nil, All-cons, AreOctets, Config, Answer, told, pulled, pull, nothing, orders_in, Line, Taken, taken, Card, line_at, at, answer, moments, after_all, answers_to, octet_alone, pulls_to_begin, Happening, comes, failed, goes, line_of, events_at, events_of, HappensAt, AreIdle, answer_in, happening_counted, Counters, Said, says, gives, said, Means, frames_are_of_lines, lines_stay_idle, frames_come_whole, frames_go_whole, ordered, Scene, answer_text, with_event, with_events, with_counters, after_happening}
 use Rattle.lapd_clock.specs.Timers as clocks
 use Rattle.lapd_frame.specs.declared.timers.Order.{Order}
 use Rattle.model_line.specs.Event as line_event

@@ -1,5 +1,5 @@
 -- The text of a script is what the answers to its events say.
-use Rattle.model_sim.proofs.Vocabulary.{◌≡◌, ℕ, zero, suc, ◌+◌, Bool, true, false, cond, List, [], ◌∷◌, ◌++◌, replicate, get_or, Option, Some, None, Result, Ok, Err, refl, sym, ap, ◌∙◌, subst, nat_lt, nat_le, append_assoc, append-nil, fold, none-some, Timer, LengthFault, Lengths, first_out_of_range, Config, pull, expiry, Event, at, Card, fresh, after, answer, moments, after_all, comes, failed, events_of, CardKind, Octets, Frames, FaultKind, TooLong, BadNumber, BadLine, BadFrame, TimeOver, read, pieces_of, line_in, Setup, begun, terminal_at, octets_sent, Scene, answer_text, octet_in, pulled_text, with_event, with_events, octets_at, Pulls, one_pull, pulls, expired, expiries, after_rx, after_in, after_pull, after_happening, after_next, after_counters, after_coming, can_come, for_octets, for_frames, after_wait, after_timers, with_timers, with_card, without_card, last_moment, Fault, Played, not_begun, faulty, is_too_long, after_scene, after_bench, after_reading, one_more, expiry_events, coming_events, read_events, unless_fault, line_events, events_from, first_card, replies_text, octet_given, meant_moments, read_moments, read_text, line_moments, moments_from, text_from, TranscriptsAreReplies}
+use Rattle.model_sim.proofs.Vocabulary.{◌≡◌, ℕ, zero, suc, ◌+◌, Bool, true, false, cond, List, [], ◌∷◌, ◌++◌, replicate, get_or, Option, Some, None, Result, Ok, Err, refl, sym, ap, ◌∙◌, subst, nat_lt, nat_le, append_assoc, append-nil, fold, none-some, Timer, LengthFault, Lengths, first_out_of_range, Config, pull, expiry, Event, at, Card, fresh, after, answer, moments, after_all, comes, failed, events_of, CardKind, Octets, Frames, FaultKind, TooLong, BadNumber, BadLine, BadFrame, TimeOver, read, pieces_of, line_in, Setup, begun, terminal_at, octets_sent, Scene, answer_text, octet_in, pulled_text, with_event, with_events, octets_at, Pulls, one_pull, pulls, expired, expiries, after_rx, after_pull, after_happening, after_next, after_counters, after_coming, can_come, for_octets, for_frames, after_wait, after_timers, with_timers, with_card, without_card, last_moment, Fault, Played, not_begun, faulty, is_too_long, after_scene, after_bench, after_reading, one_more, expiry_events, coming_events, read_events, unless_fault, line_events, events_from, first_card, replies_text, octet_given, meant_moments, read_moments, read_text, line_moments, moments_from, text_from, TranscriptsAreReplies}
 use Rattle.std.specs.Prelude.{map}
 use Rattle.lapd_clock.specs.Timers as clocks
 use Rattle.lapd_script.specs.Meaning as line

@@ -27,11 +27,14 @@ pub use Rattle.lapd_frame.specs.declared.addresses.Side.TheVariants.{Network}
 pub use Rattle.lapd_frame.specs.declared.timers.Timer.{Timer}
 pub use Rattle.lapd_script.specs.Job.{Job, frame, job, job_or_none, limits, limits_of, run}
 pub use Rattle.lapd_script.specs.Number.{number}
+pub use Rattle.lapd_script.specs.Pieces.{line_in, pieces_of}
 pub use Rattle.lapd_script.specs.Read.{read, ◌>>=◌}
 pub use Rattle.lapd_script.specs.declared.command.CardKind.{CardKind}
 pub use Rattle.lapd_script.specs.declared.command.CardKind.TheVariants.{Frames, Octets}
 pub use Rattle.lapd_script.specs.declared.kind.FaultKind.{FaultKind}
 pub use Rattle.lapd_script.specs.declared.kind.FaultKind.TheVariants.{BadCard, BadFrame, BadLine, BadNumber, TimeOver, TooLong}
+pub use Rattle.lapd_transcript.specs.Listened.{found, frame_in, pulled_text}
+pub use Rattle.lapd_transcript.specs.Terminal.{Terminal, after_sending, octets_sent, sending, with_frame}
 pub use Rattle.model_bits.proofs.BitLemmas.{bits-append, length-bits, low_bits-number_of_n}
 pub use Rattle.model_bits.proofs.Items.{line_text-push}
 pub use Rattle.model_bits.proofs.OneEvent.{one_event_an_octet}
@@ -71,10 +74,9 @@ unfoldable pub use Rattle.model_link.specs.Told.{starts}
 pub use Rattle.model_sim.specs.Asked.{LimitsAreOfCards, limits_of_card, limits_words}
 pub use Rattle.model_sim.specs.Events.{HasRun, ScriptsAreRuns, card_meant, coming_events, events_from, events_until, expiry_events, first_card, line_events, meant_events, read_events, script_events, unless_fault}
 pub use Rattle.model_sim.specs.Heard.{FramesAreHeard, all_sent}
-pub use Rattle.model_sim.specs.Pieces.{line_in, pieces_of}
 pub use Rattle.model_sim.specs.Replies.{TranscriptsAreReplies, line_moments, meant_moments, moments_from, octet_given, read_moments, read_text, replies_text, text_from}
 pub use Rattle.model_sim.specs.Script.{Fault, Played, after_bench, after_reading, after_scene, faulty, is_too_long, not_begun, one_more, played, unless_faulty}
-pub use Rattle.model_sim.specs.Setup.{Setup, Terminal, after_sending, begun, found, frame_in, happened, octets_sent, ordered, sending, terminal_at, with_frame, with_terminal}
-pub use Rattle.model_sim.specs.Steps.{Pulls, Scene, after_coming, after_counters, after_happening, after_in, after_next, after_pull, after_rx, after_timers, after_wait, answer_text, at_expiry, can_come, expired, expiries, for_frames, for_octets, held, last_moment, moment_of, octet_in, octets_at, one_pull, pulled_text, pulls, request_for, until, with_card, with_counters, with_event, with_events, with_timers, without_card}
+pub use Rattle.model_sim.specs.Setup.{Setup, begun, happened, ordered, terminal_at, with_terminal}
+pub use Rattle.model_sim.specs.Steps.{Pulls, Scene, after_coming, after_counters, after_happening, after_in, after_next, after_pull, after_rx, after_timers, after_wait, answer_text, at_expiry, can_come, expired, expiries, for_frames, for_octets, held, last_moment, moment_of, octet_in, octets_at, one_pull, pulls, request_for, until, with_card, with_counters, with_event, with_events, with_timers, without_card}
 pub use Rattle.model_sim.specs.Waits.{AllLater, WaitsLeaveNothingDue}
 pub use Rattle.model_sim.specs.Within.{ScriptsStayWithin, bound_of}

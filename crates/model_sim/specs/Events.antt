@@ -13,8 +13,9 @@ use Rattle.lapd_script.specs.declared.command.CardKind.TheVariants.{Octets, Fram
 use Rattle.lapd_script.specs.declared.kind.FaultKind.{FaultKind}
 use Rattle.lapd_script.specs.Meaning as line
 use Rattle.lapd_script.specs.Read.{read}
-use Rattle.model_sim.specs.Pieces.{pieces_of, line_in}
-use Rattle.model_sim.specs.Setup.{Setup, terminal_at, octets_sent}
+use Rattle.lapd_script.specs.Pieces.{pieces_of, line_in}
+use Rattle.model_sim.specs.Setup.{Setup, terminal_at}
+use Rattle.lapd_transcript.specs.Terminal.{octets_sent}
 use Rattle.model_sim.specs.Steps.{Scene, octets_at, expired, request_for}
 use Rattle.model_sim.specs.Script.{Fault, Played, not_begun, one_more, played}
 

@@ -2,7 +2,8 @@
 use Rattle.std.specs.Prelude.{◌≡◌, ℕ, List, [], ◌∷◌, ◌++◌, All, map, filter_map}
 use Rattle.model_bits.specs.RoundTrip.{IsHeardWhole}
 use Rattle.model_bits.specs.Stream as stream
-use Rattle.model_sim.specs.Setup.{Terminal, octets_sent, after_sending, frame_in, found}
+use Rattle.lapd_transcript.specs.Terminal.{Terminal, octets_sent, after_sending}
+use Rattle.lapd_transcript.specs.Listened.{frame_in, found}
 
 -- All the octets that a terminal puts on its line for frames, one after the other.
 abbrev pub all_sent : List (List ℕ) → Terminal → List ℕ

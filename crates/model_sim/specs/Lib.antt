@@ -1,5 +1,4 @@
--- A script as a run of a card. Read in this order: Pieces, Setup, Steps, Script; the others are what its laws say.
-pub mod Pieces
+-- A script as a run of a card. Read in this order: Pieces of `lapd_script`, Setup, Steps, Script; the others are what its laws say.
 pub mod Setup
 pub mod Steps
 pub mod Script

@@ -10,9 +10,10 @@ use Rattle.lapd_script.specs.Meaning as line
 use Rattle.lapd_script.specs.Read.{read}
 use Rattle.lapd_transcript.specs.Counted.{counters_text}
 use Rattle.lapd_transcript.specs.Text.{stored_text}
-use Rattle.model_sim.specs.Pieces.{pieces_of, line_in}
+use Rattle.lapd_script.specs.Pieces.{pieces_of, line_in}
 use Rattle.model_sim.specs.Setup.{Setup, counters_at, taken_at}
-use Rattle.model_sim.specs.Steps.{answer_text, octet_in, pulled_text, next_text, held}
+use Rattle.model_sim.specs.Steps.{answer_text, octet_in, next_text, held}
+use Rattle.lapd_transcript.specs.Listened.{pulled_text}
 use Rattle.model_sim.specs.Script.{Played, not_begun, one_more, played, transcript}
 use Rattle.model_sim.specs.Events.{meant_events, unless_fault, script_events, first_card}
 

@@ -4,7 +4,7 @@ use Rattle.lapd_script.specs.declared.kind.FaultKind.{FaultKind}
 use Rattle.lapd_script.specs.declared.kind.FaultKind.TheVariants.{TooLong}
 use Rattle.lapd_script.specs.Meaning.{Meaning}
 use Rattle.lapd_script.specs.Read.{read}
-use Rattle.model_sim.specs.Pieces.{pieces_of, line_in}
+use Rattle.lapd_script.specs.Pieces.{pieces_of, line_in}
 use Rattle.model_sim.specs.Setup.{Setup}
 use Rattle.model_sim.specs.Steps.{Scene, with_card, without_card}
 

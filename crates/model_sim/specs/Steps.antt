@@ -1,5 +1,5 @@
 -- What each line of a script makes of the setup, and what it says in the transcript.
-use Rattle.std.specs.Prelude.{ℕ, zero, suc, ◌+◌, ◌-◌, ◌^◌, nat_lt, nat_le, Bool, true, ◌&&◌, if◌then◌else◌, List, [], ◌∷◌, ◌++◌, length, map, fold, flat_map, sum_by, Option, None, Some, Result, Ok, Err}
+use Rattle.std.specs.Prelude.{ℕ, zero, suc, ◌+◌, ◌-◌, ◌^◌, nat_lt, nat_le, Bool, true, ◌&&◌, if◌then◌else◌, List, [], ◌∷◌, ◌++◌, length, map, fold, sum_by, Option, None, Some, Result, Ok, Err}
 use Rattle.lapd_frame.specs.declared.timers.Timer.{Timer}
 use Rattle.lapd_clock.specs.Timer.{Lengths, first_out_of_range}
 use Rattle.lapd_clock.specs.Timers as clocks
@@ -23,9 +23,11 @@ use Rattle.lapd_script.specs.declared.command.Asked.TheVariants as asked
 use Rattle.lapd_script.specs.declared.command.CardKind.{CardKind}
 use Rattle.lapd_script.specs.declared.command.CardKind.TheVariants.{Octets, Frames}
 use Rattle.lapd_script.specs.Meaning as line
-use Rattle.lapd_transcript.specs.Text.{report_text, refused_text, sent_text, frame_text, nothing_text, stored_text}
+use Rattle.lapd_transcript.specs.Text.{report_text, refused_text, frame_text, nothing_text, stored_text}
 use Rattle.lapd_transcript.specs.Counted.{counters_text}
-use Rattle.model_sim.specs.Setup.{Setup, begun, happened, terminal_at, counters_at, taken_at, octets_sent, after_sending, with_terminal, found, with_taken}
+use Rattle.model_sim.specs.Setup.{Setup, begun, happened, terminal_at, counters_at, taken_at, with_terminal, with_taken}
+use Rattle.lapd_transcript.specs.Terminal.{octets_sent, after_sending}
+use Rattle.lapd_transcript.specs.Listened.{pulled_text}
 
 -- A scene: the setup, and what has been said.
 pub record Scene : Type 0 where
@@ -74,9 +76,6 @@ one_pull line p = record { setup = happened p.setup (at line pull); octets = p.o
 abbrev pub pulls : ℕ → ℕ → Pulls → Pulls
 pulls zero line p = p
 pulls (suc count) line p = pulls count line (one_pull line p)
-
-abbrev pub pulled_text : ℕ → List ℕ → List ℕ → List ℕ
-pulled_text line before octets = sent_text line octets ++ flat_map (frame_text line) (found before octets)
 
 abbrev pub after_pulls : ℕ → Pulls → List ℕ → Scene
 after_pulls line p text = record { setup = with_taken line p.octets p.setup; text = text ++ pulled_text line (taken_at line p.setup) p.octets }

@@ -3,7 +3,7 @@ use Rattle.std.specs.Prelude.{◌≡◌, ℕ, ◌+◌, ◌<◌, List, All, None,
 use Rattle.lapd_clock.specs.InOrder.{IsInOrder}
 use Rattle.lapd_clock.specs.Timer.{AreInRange}
 use Rattle.lapd_clock.specs.Timers.{is_before, due_at}
-use Rattle.model_sim.specs.Pieces.{pieces_of}
+use Rattle.lapd_script.specs.Pieces.{pieces_of}
 use Rattle.model_sim.specs.Setup.{Setup}
 use Rattle.model_sim.specs.Steps.{Scene, after_wait}
 use Rattle.model_sim.specs.Script.{played}

@@ -5,7 +5,7 @@ use Rattle.model_card.specs.Card.{fresh}
 use Rattle.model_card.specs.Run.{after_all}
 use Rattle.model_card.specs.Stored.{stored, limit}
 use Rattle.lapd_script.specs.Bound.{bound}
-use Rattle.model_sim.specs.Pieces.{pieces_of}
+use Rattle.lapd_script.specs.Pieces.{pieces_of}
 use Rattle.model_sim.specs.Setup.{Setup}
 use Rattle.model_sim.specs.Steps.{held}
 use Rattle.model_sim.specs.Script.{played}

@@ -1,6 +1,7 @@
 -- Hand-written answers for `send`.
 use Rattle.lapd_sim.proofs.Vocabulary.{◌++◌, length, Ok, Err, with_frame, Holds, output}
-use Rattle.lapd_sim.proofs.Terminals.{items_tail, frame_tail, gives_loaded, gives_whole, gives_rest, none_left, rest_stays, sent_told, sent_after, sent_broken, on_ok}
+use Rattle.lapd_sim.proofs.Terminals.{gives_loaded, gives_whole, gives_rest, sent_told, sent_after, sent_broken, on_ok}
+use Rattle.lapd_transcript.proofs.Sending.{items_tail, frame_tail, none_left, rest_stays}
 use Rattle.lapd_sim.proofs.traffic.send.Goals as goal
 
 pub returns-in-Err-clause-told : goal.returns-in-Err-clause-told

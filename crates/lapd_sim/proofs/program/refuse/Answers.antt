@@ -1,5 +1,0 @@
--- Hand-written answers for `refuse`.
-use Rattle.lapd_sim.proofs.program.refuse.Goals as goal
-
-pub returns-clause-told : goal.returns-clause-told
-returns-clause-told g c = (c.write_fault.result, c.write_fault.ensures)

@@ -1,5 +1,0 @@
--- Hand-written answers for `refuse_words`.
-use Rattle.lapd_sim.proofs.program.refuse_words.Goals as goal
-
-pub returns-clause-told : goal.returns-clause-told
-returns-clause-told g c = (c.write.result, c.write.ensures)

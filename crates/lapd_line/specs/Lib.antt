@@ -1,7 +1,7 @@
 -- What a line answers and stands for.
 --
 -- Read after those of `model_line`, in this order: Reports; Units and Links, what waits and in which slots; Awake;
--- LinkLayer; Counted; Stands. The other files are named by private functions alone.
+-- LinkLayer; Counted; Stands, and FrameStands of a line for frames. The other files are named by private functions alone.
 pub mod Reports
 pub mod Units
 pub mod Links

@@ -1,9 +1,9 @@
 -- The machine of a card.
 --
--- Read in this order: Event, Card, Machine, Run. Stored, Counts, ByEvent, Drops, Numbered, Pulled, Isolation and
--- Sound are the words of the laws, Promises and Laws their statements. Room and Begun are what a card answers about itself. Happening is
--- what happens at a card for whole frames, and Said what it answers. Counted is what is counted of its lines, and
--- HappeningsCounted the same of happenings.
+-- Read in this order: Event, Card, Machine, Run. Stored, Counts, ByEvent, Drops, Numbered, Pulled, Isolation, Sound and
+-- Reached are the words of the laws, Promises and Laws their statements. Room and Begun are what a card answers about
+-- itself. Happening is what happens at a card for whole frames, Said what it answers, and HappeningLaws what is proved
+-- of it. Counted is what is counted of its lines, and HappeningsCounted the same of happenings.
 pub mod Event
 pub mod Card
 pub mod Machine

@@ -1,9 +1,9 @@
 -- The machine of a line.
 --
 -- Read in this order: Config, Event, Request; Line; Effect, whom an event concerns and what comes of it; Sides; Octet,
--- Expiry, Refusal, Requested, Pull; Machine. Room and Begun are what a line answers about itself. Stored, Counts, Deliveries,
--- Sound and Turns are the words of the laws, whose sentences stand in `src/laws.rt`. Whole is what a whole frame means in
--- octets, and WholeAtLine what such octets and pulls are at a line. Counted is what its counters count.
+-- Expiry, Refusal, Requested, Pull; Machine. Room and Begun are what a line answers about itself. Stored, Counts, Deliveries
+-- and Sound are the words of the laws, Laws their statements. Whole is what a whole frame means in octets, WholeAtLine what
+-- such octets and pulls are at a line, and WholeLaws what is proved of them. Counted is what its counters count.
 pub mod Config
 pub mod Request
 pub mod Event

@@ -1,17 +1,21 @@
 -- How many messages wait after each row of the table, and how many are lost; what a message does that is not served;
 -- and which TEI a terminal is assigned.
-use Rattle.lapd_tei.proofs.Vocabulary.{◌≡◌, ℕ, ◌+◌, ◌<◌, ◌≤◌, true, false, cond, List, [], ◌∷◌, ◌++◌, length, Option, Some, None, subst, ap, ◌∙◌, refl, sym, arith, length-append, option_map, false≢true, nat_tests, Message, IdentityAssigned, IdentityDenied, IdentityCheckRequest, IdentityRemove, Heard, Event, course, IdentityRequest, Places, place_of, free_place, free_tei, Management, Gained, messages_limit, Course, begun, no_room, with_message, lost_after, left, lose_one, unserved, assign, assign_new, request, remembered_in, serve, AssignsLowest}
+use Rattle.lapd_tei.proofs.Vocabulary.{◌≡◌, ℕ, ◌+◌, ◌<◌, ◌≤◌, true, false, cond, List, [], ◌∷◌, ◌++◌, length, Option, Some, None, subst, ap, ◌∙◌, refl, sym, arith, length-append, option_map, false≢true, nat_tests, Message, IdentityAssigned, IdentityDenied, IdentityCheckRequest, IdentityRemove, Heard, Event, course, TeiTold, Follows, is_some, IdentityRequest, Places, place_of, free_place, free_tei, Management, Gained, messages_limit, Course, begun, no_room, with_message, lost_after, left, lose_one, unserved, assign, assign_new, request, remembered_in, serve, AssignsLowest}
 use Rattle.lapd_tei.proofs.Tables.{free_tei-is}
 use Rattle.lapd_tei.proofs.Walk.{OfEvents, of_event, of_serve}
+
+-- What is told of an event, one note and one order at most.
+pub record IsBrief (t : TeiTold) : Type 0 where
+  pub notes : length t.notes ≤ 1
+  pub orders : length t.orders ≤ 1
 
 -- Where an event has led, from m on.
 pub record Counts (m : Management) (c : Course) : Type 0 where
   pub waits : length c.now.waiting ≤ length m.waiting + 1
   pub lost : c.told.lost ≤ 1
   pub idle : c.told.unserved ≡ true → c ≡ unserved (begun m)
-
-is_served : (m : Management) (c : Course) → c.told.unserved ≡ false → c.told.unserved ≡ true → c ≡ unserved (begun m)
-is_served m c served other = absurd (false≢true (sym served ∙ other))
+  pub brief : IsBrief c.told
+  pub follows : Follows (is_some m.check) c.told.orders (is_some c.now.check)
 
 one_waits : (message : Message) (waiting : List Message) → length (with_message message waiting) ≤ length waiting + 1
 one_waits message waiting =
@@ -23,44 +27,54 @@ one_waits message waiting =
 one_lost : (waiting : List Message) → lost_after waiting 0 ≤ 1
 one_lost waiting = elim (no_room waiting) as (λ b. cond b (0 + 1) 0 ≤ 1) [ true ↦ omega arith | false ↦ omega arith ]
 
--- a row that sends one message, one that sends none, and one that is not served
-sends : (message : Message) (m : Management) (c : Course) → c.now.waiting ≡ with_message message m.waiting → c.told.lost ≡ lost_after m.waiting 0 → c.told.unserved ≡ false → Counts m c
-sends message m c waits lost served = record {
+-- a row that sends one message, and one that sends none
+sends : (message : Message) (m : Management) (c : Course) → c.now.waiting ≡ with_message message m.waiting → c.told.lost ≡ lost_after m.waiting 0 → c.told.unserved ≡ false
+    → length c.told.notes ≤ 1 → length c.told.orders ≤ 1 → Follows (is_some m.check) c.told.orders (is_some c.now.check) → Counts m c
+sends message m c waits lost served notes orders follows = record {
   waits = subst (λ w. length w ≤ length m.waiting + 1) (sym waits) (one_waits message m.waiting);
   lost = subst (λ n. n ≤ 1) (sym lost) (one_lost m.waiting);
-  idle = is_served m c served;
+  idle = λ other. absurd (false≢true (sym served ∙ other));
+  brief = record { notes = notes; orders = orders };
+  follows = follows;
 }
 
-is_quiet : (m : Management) (c : Course) → c.now.waiting ≡ m.waiting → c.told.lost ≤ 1 → c.told.unserved ≡ false → Counts m c
-is_quiet m c waits lost served = record {
+is_quiet : (m : Management) (c : Course) → c.now.waiting ≡ m.waiting → c.told.lost ≤ 1 → (c.told.unserved ≡ true → c ≡ unserved (begun m))
+    → length c.told.notes ≤ 1 → length c.told.orders ≤ 1 → Follows (is_some m.check) c.told.orders (is_some c.now.check) → Counts m c
+is_quiet m c waits lost idle notes orders follows = record {
   waits = subst (λ w. length w ≤ length m.waiting + 1) (sym waits) (omega arith);
   lost = lost;
-  idle = is_served m c served;
+  idle = idle;
+  brief = record { notes = notes; orders = orders };
+  follows = follows;
 }
 
 ways : (e : Event) (m : Management) → OfEvents e m (Counts m)
 ways e m = record {
   messages = record {
-    is_unserved = record { waits = omega arith; lost = omega arith; idle = λ e. refl };
-    is_lost = is_quiet m _ refl (omega arith) refl;
-    is_denied = λ ri. sends (IdentityDenied ri) m _ refl refl refl;
-    comes_again = λ ri tei is. sends (IdentityAssigned ri tei) m _ refl refl refl;
-    is_new = λ ri place tei new at free. sends (IdentityAssigned ri tei) m _ refl refl refl;
-    begins = λ tei on. sends (IdentityCheckRequest tei) m _ refl refl refl;
-    is_counted = λ own is few. is_quiet m _ refl (omega arith) refl;
-    is_doubled = λ own tei is same. sends (IdentityRemove tei) m _ refl refl refl;
+    is_unserved = is_quiet m _ refl (omega arith) (λ _. refl) (omega arith) (omega arith) refl;
+    is_lost = quiet _ refl (omega arith) refl (omega arith) (omega arith) refl;
+    is_denied = λ ri. sends (IdentityDenied ri) m _ refl refl refl (omega arith) (omega arith) refl;
+    comes_again = λ ri tei is. sends (IdentityAssigned ri tei) m _ refl refl refl (omega arith) (omega arith) refl;
+    is_new = λ ri place tei new at free. sends (IdentityAssigned ri tei) m _ refl refl refl (omega arith) (omega arith) refl;
+    begins = λ tei on. sends (IdentityCheckRequest tei) m _ refl refl refl (omega arith) (omega arith) refl;
+    is_counted = λ own is few. quiet _ refl (omega arith) refl (omega arith) (omega arith) (rw is refl);
+    is_doubled = λ own tei is same. sends (IdentityRemove tei) m _ refl refl refl (omega arith) (omega arith) refl;
   };
   expiries = record {
-    is_idle = λ is. is_quiet m _ refl (omega arith) refl;
-    asks_again = λ own is. sends (IdentityCheckRequest own.tei) m _ refl refl refl;
-    is_removed = λ own is. is_quiet m _ refl (omega arith) refl;
-    ends = λ own is. is_quiet m _ refl (omega arith) refl;
+    is_idle = λ is. quiet _ refl (omega arith) refl (omega arith) (omega arith) refl;
+    asks_again = λ own is. sends (IdentityCheckRequest own.tei) m _ refl refl refl (omega arith) (omega arith) refl;
+    is_removed = λ own is. quiet _ refl (omega arith) refl (omega arith) (omega arith) refl;
+    ends = λ own is. quiet _ refl (omega arith) refl (omega arith) (omega arith) refl;
   };
-  is_refused = is_quiet m _ refl (omega arith) refl;
-  joins = λ tei place is off at. is_quiet m _ refl (omega arith) refl;
-  leaves_checked = λ tei on. sends (IdentityRemove tei) m _ refl refl refl;
-  leaves = λ tei on other. sends (IdentityRemove tei) m _ refl refl refl;
+  is_refused = quiet _ refl (omega arith) refl (omega arith) (omega arith) refl;
+  joins = λ tei place is off at. quiet _ refl (omega arith) refl (omega arith) (omega arith) refl;
+  leaves_checked = λ tei on. sends (IdentityRemove tei) m _ refl refl refl (omega arith) (omega arith) refl;
+  leaves = λ tei on other. sends (IdentityRemove tei) m _ refl refl refl (omega arith) (omega arith) refl;
 }
+  where
+    quiet : (c : Course) → c.now.waiting ≡ m.waiting → c.told.lost ≤ 1 → c.told.unserved ≡ false → length c.told.notes ≤ 1 → length c.told.orders ≤ 1
+        → Follows (is_some m.check) c.told.orders (is_some c.now.check) → Counts m c
+    quiet c waits lost served notes orders follows = is_quiet m c waits lost (λ other. absurd (false≢true (sym served ∙ other))) notes orders follows
 
 pub counts : (e : Event) (m : Management) → Counts m (course e m)
 counts e m = of_event m (Counts m) e (ways e m)

@@ -1,6 +1,6 @@
 -- How many messages wait after each row of the table, and how many are lost; what a message does that is not served;
 -- and which TEI a terminal is assigned.
-use Rattle.lapd_tei.proofs.Vocabulary.{◌≡◌, ℕ, ◌+◌, ◌<◌, ◌≤◌, true, false, cond, List, [], ◌∷◌, ◌++◌, length, Option, Some, None, subst, ap, ◌∙◌, refl, sym, arith, length-append, option_map, false≢true, nat_tests, Message, IdentityAssigned, IdentityDenied, IdentityCheckRequest, IdentityRemove, Heard, Event, course, TeiTold, Follows, is_some, IdentityRequest, Places, place_of, free_place, free_tei, Management, Gained, messages_limit, Course, begun, no_room, with_message, lost_after, left, lose_one, unserved, assign, assign_new, request, remembered_in, serve, AssignsLowest}
+use Rattle.lapd_tei.proofs.Vocabulary.{◌≡◌, ℕ, ◌+◌, ◌<◌, ◌≤◌, true, false, cond, List, [], ◌∷◌, ◌++◌, length, Option, Some, None, subst, ◌∙◌, refl, sym, arith, length-append, option_map, false≢true, nat_tests, Message, IdentityAssigned, IdentityDenied, IdentityCheckRequest, IdentityRemove, Heard, Event, course, TeiTold, Follows, is_some, IdentityRequest, Places, place_of, free_place, free_tei, Management, Gained, messages_limit, Course, begun, no_room, with_message, lost_after, left, unserved, request, remembered_in, serve, AssignsLowest}
 use Rattle.lapd_tei.proofs.Tables.{free_tei-is}
 use Rattle.lapd_tei.proofs.Walk.{OfEvents, of_event, of_serve}
 
@@ -38,12 +38,12 @@ sends message m c waits lost served notes orders follows = record {
   follows = follows;
 }
 
-is_quiet : (m : Management) (c : Course) → c.now.waiting ≡ m.waiting → c.told.lost ≤ 1 → (c.told.unserved ≡ true → c ≡ unserved (begun m))
+quiet : (m : Management) (c : Course) → c.now.waiting ≡ m.waiting → c.told.lost ≤ 1 → c.told.unserved ≡ false
     → length c.told.notes ≤ 1 → length c.told.orders ≤ 1 → Follows (is_some m.check) c.told.orders (is_some c.now.check) → Counts m c
-is_quiet m c waits lost idle notes orders follows = record {
+quiet m c waits lost served notes orders follows = record {
   waits = subst (λ w. length w ≤ length m.waiting + 1) (sym waits) (omega arith);
   lost = lost;
-  idle = idle;
+  idle = λ other. absurd (false≢true (sym served ∙ other));
   brief = record { notes = notes; orders = orders };
   follows = follows;
 }
@@ -51,30 +51,26 @@ is_quiet m c waits lost idle notes orders follows = record {
 ways : (e : Event) (m : Management) → OfEvents e m (Counts m)
 ways e m = record {
   messages = record {
-    is_unserved = is_quiet m _ refl (omega arith) (λ _. refl) (omega arith) (omega arith) refl;
-    is_lost = quiet _ refl (omega arith) refl (omega arith) (omega arith) refl;
+    is_unserved = record { waits = omega arith; lost = omega arith; idle = λ _. refl; brief = record { notes = omega arith; orders = omega arith }; follows = refl };
+    is_lost = quiet m _ refl (omega arith) refl (omega arith) (omega arith) refl;
     is_denied = λ ri. sends (IdentityDenied ri) m _ refl refl refl (omega arith) (omega arith) refl;
     comes_again = λ ri tei is. sends (IdentityAssigned ri tei) m _ refl refl refl (omega arith) (omega arith) refl;
     is_new = λ ri place tei new at free. sends (IdentityAssigned ri tei) m _ refl refl refl (omega arith) (omega arith) refl;
     begins = λ tei on. sends (IdentityCheckRequest tei) m _ refl refl refl (omega arith) (omega arith) refl;
-    is_counted = λ own is few. quiet _ refl (omega arith) refl (omega arith) (omega arith) (rw is refl);
+    is_counted = λ own is few. quiet m _ refl (omega arith) refl (omega arith) (omega arith) (rw is refl);
     is_doubled = λ own tei is same. sends (IdentityRemove tei) m _ refl refl refl (omega arith) (omega arith) refl;
   };
   expiries = record {
-    is_idle = λ is. quiet _ refl (omega arith) refl (omega arith) (omega arith) refl;
+    is_idle = λ is. quiet m _ refl (omega arith) refl (omega arith) (omega arith) refl;
     asks_again = λ own is. sends (IdentityCheckRequest own.tei) m _ refl refl refl (omega arith) (omega arith) refl;
-    is_removed = λ own is. quiet _ refl (omega arith) refl (omega arith) (omega arith) refl;
-    ends = λ own is. quiet _ refl (omega arith) refl (omega arith) (omega arith) refl;
+    is_removed = λ own is. quiet m _ refl (omega arith) refl (omega arith) (omega arith) refl;
+    ends = λ own is. quiet m _ refl (omega arith) refl (omega arith) (omega arith) refl;
   };
-  is_refused = quiet _ refl (omega arith) refl (omega arith) (omega arith) refl;
-  joins = λ tei place is off at. quiet _ refl (omega arith) refl (omega arith) (omega arith) refl;
+  is_refused = quiet m _ refl (omega arith) refl (omega arith) (omega arith) refl;
+  joins = λ tei place is off at. quiet m _ refl (omega arith) refl (omega arith) (omega arith) refl;
   leaves_checked = λ tei on. sends (IdentityRemove tei) m _ refl refl refl (omega arith) (omega arith) refl;
   leaves = λ tei on other. sends (IdentityRemove tei) m _ refl refl refl (omega arith) (omega arith) refl;
 }
-  where
-    quiet : (c : Course) → c.now.waiting ≡ m.waiting → c.told.lost ≤ 1 → c.told.unserved ≡ false → length c.told.notes ≤ 1 → length c.told.orders ≤ 1
-        → Follows (is_some m.check) c.told.orders (is_some c.now.check) → Counts m c
-    quiet c waits lost served notes orders follows = is_quiet m c waits lost (λ other. absurd (false≢true (sym served ∙ other))) notes orders follows
 
 pub counts : (e : Event) (m : Management) → Counts m (course e m)
 counts e m = of_event m (Counts m) e (ways e m)
@@ -103,18 +99,6 @@ Gains ri place tei m c = (c.told.change ≡ Some (Gained tei place)) × (c.now.w
 roomy : (waiting : List Message) → length waiting < messages_limit → no_room waiting ≡ false
 roomy waiting few = grind (arith, nat_tests)
 
-gains-new : (ri place tei : ℕ) (m : Management) → no_room m.waiting ≡ false → Gains ri place tei m (assign_new ri (Some place) (Some tei) (begun m))
-gains-new ri place tei m room = (refl, ap (λ b. cond b m.waiting (m.waiting ++ IdentityAssigned ri tei ∷ [])) room)
-
-gains-request : (ri place tei : ℕ) (m : Management) → no_room m.waiting ≡ false → remembered_in ri m.remembered ≡ None
-    → free_place m.places ≡ Some place → free_tei m.places ≡ Some tei → Gains ri place tei m (request ri (begun m))
-gains-request ri place tei m room new at free =
-    subst (λ b. Gains ri place tei m ((cond b lose_one (assign ri (remembered_in ri m.remembered))) (begun m))) (sym room)
-    (subst (λ o. Gains ri place tei m (assign ri o (begun m))) (sym new)
-    (subst (λ o. Gains ri place tei m (assign_new ri o (free_tei m.places) (begun m))) (sym at)
-    (subst (λ o. Gains ri place tei m (assign_new ri (Some place) o (begun m))) (sym free) (gains-new ri place tei m room))))
-
 pub gains-serve : (ri place tei : ℕ) (m : Management) (o : Option Heard) → o ≡ Some (IdentityRequest ri) → remembered_in ri m.remembered ≡ None
     → length m.waiting < messages_limit → free_place m.places ≡ Some place → free_tei m.places ≡ Some tei → Gains ri place tei m (serve o (begun m))
-gains-serve ri place tei m o asks new room at free =
-    subst (λ o. Gains ri place tei m (serve o (begun m))) (sym asks) (gains-request ri place tei m (roomy m.waiting room) new at free)
+gains-serve ri place tei m o asks new room at free = rw (asks, roomy m.waiting room, new, at, free, roomy m.waiting room) (refl, refl)

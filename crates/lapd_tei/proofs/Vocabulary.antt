@@ -23,3 +23,4 @@ pub use Rattle.lapd_tei.specs.Rows.{assign, assign_new, count, counted, doubled,
 pub use Rattle.lapd_tei.specs.Sound.{IsAt, IsSound, IsSoundCheck, IsSoundMemory, IsSoundQueue, IsSoundTable, same_ri, same_tei}
 pub use Rattle.lapd_tei.specs.Table.{Places, automatic, free_place, free_tei, has, is_free, is_off, is_on, place_of}
 pub use Rattle.lapd_tei.specs.Words.{Course, Step, begin_check, begun, check_is, end_check, freed, is_of_other, latest, leave, left, lose_one, lost_after, no_room, send, unserved, with_message}
+pub use Rattle.lapd_tei.specs.Outcome.{management_of}

@@ -41,12 +41,12 @@ same_timers ls lines m places es fs e f i = record { lines = e i; places = place
 pub timers_in-stopped : (ls : Lengths) (places k : ℕ) (lines : List Line) (u v : Line) (t : Timer) (now : ℕ) → k < length lines → u ≡ get_or lines k u → v.items ≡ all_but t u.items → timers_in ls places (set lines k v) ≡ with_order (timers_in ls places lines) k (Stop t) now
 unfolding with_order
 timers_in-stopped ls places k lines u v t now within at new =
-    same_timers ls _ _ places _ _ (length-set lines k v) (in_order-stopped k lines u v t within at new)
+    same_timers ls _ _ places _ _ (length-set lines k v) (in_order-stopped k lines within u at v t new)
 
 -- whether a timer of line k finds its place
 pub finds_place-restarted : (ls : Lengths) (places k : ℕ) (lines : List Line) (u : Line) (t : Timer) → IsSound (timers_in ls places lines) → k < length lines → u ≡ get_or lines k u → finds_place (timers_in ls places lines) k (Start t) ≡ not (length (all_but t u.items) == places)
 finds_place-restarted ls places k lines u t sound within at =
-    finds_place-without (timers_in ls places lines) k t (sound.in_places k) ∙ ap (λ n. not (n == places)) (count_on-stopped k lines u t within at)
+    finds_place-without (timers_in ls places lines) k t (sound.in_places k) ∙ ap (λ n. not (n == places)) (count_on-stopped k lines within u at t)
 
 pub timers_in-restarted : (ls : Lengths) (b : Bool) (places k : ℕ) (lines : List Line) (u v : Line) (h : Held) (now : ℕ) → IsSound (timers_in ls places lines) → k < length lines → u ≡ get_or lines k u
     → h.moment ≡ now + duration ls h.timer → b ≡ not (length (all_but h.timer u.items) == places) → v.items ≡ cond b (put_in_order held_before h (all_but h.timer u.items)) (all_but h.timer u.items)
@@ -54,12 +54,12 @@ pub timers_in-restarted : (ls : Lengths) (b : Bool) (places k : ℕ) (lines : Li
 unfolding with_order
 timers_in-restarted ls true places k lines u v h now sound within at moment placed_is new =
     let found = finds_place-restarted ls places k lines u h.timer sound within at ∙ sym placed_is in
-    same_timers ls _ _ places _ _ (length-set lines k v) (in_order-restarted k lines u v h within at new)
+    same_timers ls _ _ places _ _ (length-set lines k v) (in_order-restarted k lines within u at v h new)
     ∙ ap (λ m. record { lines = length lines; places = places; lengths = ls; running = put_in_order is_before (record { moment = m; line = k; timer = h.timer }) (without k h.timer (in_order (from_line 0 lines))) }) moment
     ∙ sym (ap (λ b. cond b (record { lines = length lines; places = places; lengths = ls; running = put_in_order is_before (record { moment = now + duration ls h.timer; line = k; timer = h.timer }) (without k h.timer (in_order (from_line 0 lines))) }) (timers_in ls places lines)) found)
 timers_in-restarted ls false places k lines u v h now sound within at moment placed_is new =
     let found = finds_place-restarted ls places k lines u h.timer sound within at ∙ sym placed_is in
-    same_timers ls _ _ places _ _ (length-set lines k v) (in_order-stopped k lines u v h.timer within at new ∙ without-no_place (timers_in ls places lines) k h.timer found)
+    same_timers ls _ _ places _ _ (length-set lines k v) (in_order-stopped k lines within u at v h.timer new ∙ without-no_place (timers_in ls places lines) k h.timer found)
     ∙ sym (ap (λ b. cond b (record { lines = length lines; places = places; lengths = ls; running = put_in_order is_before (record { moment = now + duration ls h.timer; line = k; timer = h.timer }) (without k h.timer (in_order (from_line 0 lines))) }) (timers_in ls places lines)) found)
 
 pub timers_in-none : (ls : Lengths) (places : ℕ) (lines : List Line) → AllByRecursion (λ v. v.items ≡ []) lines → timers_in ls places lines ≡ record { lines = length lines; places = places; lengths = ls; running = [] }

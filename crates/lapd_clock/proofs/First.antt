@@ -1,13 +1,8 @@
 -- The first timer of all lines.
-use Rattle.lapd_clock.proofs.Vocabulary.{◌≡◌, ℕ, zero, suc, ◌+◌, ◌==◌, ◌<◌, ◌≤◌, true, false, cond, List, [], ◌∷◌, ◌++◌, length, take, get_or, set, drop, Option, Some, None, nat_lt, refl, sym, ap, ◌∙◌, subst, arith, length-append, length-take, Ordering, Less, Equal, Greater, take_more, AllByRecursion, nat_cmp, ordering_then, is_lt, false≢true, nat_tests, tied_itself, put_in_order, IsInOrder, timer_cmp, Expiry, is_before, Held, Line, held_before, expiry_on, on_line, from_line, in_order, earlier_of, IsFirst, IsFirstLine, IsFirstAfter, AreFirstAfter, IsLineKept}
-use Rattle.lapd_clock.proofs.Ordered.{All-put_in_order, All-from_put_in_order, put_in_order-first}
+use Rattle.lapd_clock.proofs.Vocabulary.{◌≡◌, ℕ, zero, suc, ◌+◌, ◌==◌, ◌<◌, ◌≤◌, true, false, cond, List, [], ◌∷◌, ◌++◌, length, take, get_or, set, drop, Option, Some, None, nat_lt, refl, sym, ap, ◌∙◌, subst, arith, get_or_default, length-append, length-take, Ordering, Less, Equal, Greater, take_more, AllByRecursion, nat_cmp, ordering_then, is_lt, false≢true, nat_tests, tied_itself, IsInOrder, timer_cmp, Expiry, is_before, Held, Line, held_before, expiry_on, on_line, from_line, in_order, earlier_of, IsFirst, IsFirstLine, IsFirstAfter, AreFirstAfter, IsLineKept}
+use Rattle.lapd_clock.proofs.Ordered.{All-append, All-put_in_order, All-from_put_in_order, put_in_order-first}
 use Rattle.lapd_clock.proofs.TimerOrder.{before_order, expiry_total}
-use Rattle.lapd_clock.proofs.StandsFor.{same_line, behind}
-
--- what holds of two lists holds of both joined
-All-append : {X : Type 0} (P : X → Type 0) (xs ys : List X) → AllByRecursion P xs → AllByRecursion P ys → AllByRecursion P (xs ++ ys)
-All-append P [] ys h k = k
-All-append P (x ∷ xs) ys h k = (h.0, All-append P xs ys h.1 k)
+use Rattle.lapd_clock.proofs.StandsFor.{same_line, here, in_order-first}
 
 -- comparing a greater number with a less one
 greater : (x y : ℕ) → y < x → nat_cmp x y ≡ Greater
@@ -139,15 +134,22 @@ pub record Leads (line : ℕ) (held : Held) (lines : List Line) : Type 0 where
   pub taken : (u v : Line) → u ≡ get_or lines line u → v.items ≡ drop 1 u.items → in_order (from_line 0 (set lines line v)) ≡ rest
 
 pub first_leads : (places line : ℕ) (held : Held) (lines : List Line) → AllByRecursion (IsLineKept places) lines → IsFirstLine lines line held → Leads line held lines
-first_leads places line held lines each first =
-    let others = behind 0 line lines held first.in_range first.front in
-    let all : in_order (from_line 0 lines) ≡ put_in_order is_before (expiry_on line held) (in_order others.rest) = others.all ∙ ap (λ n. put_in_order is_before (expiry_on n held) (in_order others.rest)) (omega arith) in
-    let none_before = All-in_order (λ y. is_before y (expiry_on line held) ≡ false) (from_line 0 lines) (all_of_lines places (expiry_on line held) 0 lines each first.least) in
+first_leads places line held [] each first = absurd (omega (arith, first.in_range))
+first_leads places line held (l ∷ ls) each first =
+    let lines = l ∷ ls in
+    let e = expiry_on line held in
+    let at_line = here line lines first.in_range in
+    let u = get_or lines line l in
+    let at = get_or_default lines line l u first.in_range in
+    let rest = in_order (at_line.before ++ (on_line line (drop 1 u.items) ++ at_line.behind)) in
+    let all = in_order-first line lines first.in_range u at held (first.front l) in
+    let none_before = All-in_order (λ y. is_before y e ≡ false) (from_line 0 lines) (all_of_lines places e 0 lines each first.least) in
     record {
       in_range = first.in_range;
-      rest = in_order others.rest;
-      all = all ∙ put_in_order-first is_before (expiry_on line held) (in_order others.rest) (All-from_put_in_order is_before (λ y. is_before y (expiry_on line held) ≡ false) (expiry_on line held) (in_order others.rest) (subst (AllByRecursion (λ y. is_before y (expiry_on line held) ≡ false)) all none_before));
-      taken = λ u v at new. ap in_order (others.taken u v at new);
+      rest = rest;
+      all = all ∙ put_in_order-first is_before e rest (All-from_put_in_order is_before (λ y. is_before y e ≡ false) e rest (subst (AllByRecursion (λ y. is_before y e ≡ false)) all none_before));
+      taken = λ v w there new. ap in_order (at_line.with_line w ∙ ap (λ hs. at_line.before ++ (on_line line hs ++ at_line.behind))
+          (new ∙ ap (λ (x : Line). drop 1 x.items) (there ∙ get_or_default lines line v l first.in_range)));
     }
 
 -- the same of what was found in the lines as they were seen

@@ -1,24 +1,24 @@
 -- The first of the set is the first timer of the line that was found: it is due, or none is.
-use Rattle.lapd_clock.proofs.Vocabulary.{◌≡◌, ◌<◌, [], All, length, sym, ap, ◌∙◌, subst, arith, length-set, AllByRecursion, All-nil, IfNone, IsInOrder, lengths_of, Expiry, Timers, is_before, due_at, first_due, after_due, after_first_due, IsSound, IsLeastDue, Line, IsLineKept, held_before, expiry_on, timers_in}
-use Rattle.lapd_clock.proofs.First.{found_leads}
+use Rattle.lapd_clock.proofs.Vocabulary.{◌<◌, All, length, sym, ap, ◌∙◌, subst, arith, length-set, All-nil, IfNone, IsInOrder, lengths_of, Expiry, Timers, is_before, due_at, first_due, after_due, after_first_due, IsSound, IsLeastDue, IsLineKept, held_before, expiry_on, timers_in}
+use Rattle.lapd_clock.proofs.First.{found_leads, none_found}
 use Rattle.lapd_clock.proofs.Running.{after_due_sound}
 use Rattle.lapd_clock.proofs.Calls.{All-at, IsInOrder-drop_first, kept_with, same_timers, timers_in-none, none_due, none_taken, one_due, one_taken, all_later, first_is_least}
 use Rattle.lapd_clock.proofs.clock.Clock.due.Goals as goal
 
 pub returns-in_err-line-clause-due : goal.returns-in_err-line-clause-due
 returns-in_err-line-clause-due c =
-    let none = subst (AllByRecursion (λ (v : Line). v.items ≡ [])) c.deref.ensures.value c.in_err-line.ensures in
+    let none = none_found c.self.inside.lines.items c.deref.result.now c.deref.ensures.value c.in_err-line.ensures in
     c.from_residual.ensures ∙ sym (ap (λ t. due_at t c.args.now) (sym c.self.view_is ∙ timers_in-none (lengths_of c.self.inside.lengths) c.self.inside.places c.self.inside.lines.items none))
 
 pub returns-in_err-line-clause-after : goal.returns-in_err-line-clause-after
 returns-in_err-line-clause-after c =
-    let none = subst (AllByRecursion (λ (v : Line). v.items ≡ [])) c.deref.ensures.value c.in_err-line.ensures in
+    let none = none_found c.self.inside.lines.items c.deref.result.now c.deref.ensures.value c.in_err-line.ensures in
     let idle = sym c.self.view_is ∙ timers_in-none (lengths_of c.self.inside.lengths) c.self.inside.places c.self.inside.lines.items none in
     idle ∙ sym (ap (λ t. after_due t c.args.now) idle)
 
 pub returns-in_err-line-clause-none : goal.returns-in_err-line-clause-none
 returns-in_err-line-clause-none c =
-    let none = subst (AllByRecursion (λ (v : Line). v.items ≡ [])) c.deref.ensures.value c.in_err-line.ensures in
+    let none = none_found c.self.inside.lines.items c.deref.result.now c.deref.ensures.value c.in_err-line.ensures in
     let idle = sym c.self.view_is ∙ timers_in-none (lengths_of c.self.inside.lengths) c.self.inside.places c.self.inside.lines.items none in
     let all = subst (λ (t : Timers). All (λ (held : Expiry). c.args.now < held.moment) t.running) (sym idle) (All-nil (λ (held : Expiry). c.args.now < held.moment)) in
     subst (λ r. IfNone r (All (λ (held : Expiry). c.args.now < held.moment) c.args.self.now.running)) (sym c.from_residual.ensures) all

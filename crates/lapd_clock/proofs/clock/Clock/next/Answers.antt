@@ -1,13 +1,13 @@
 -- The first of the set is the first timer of the line that was found.
-use Rattle.lapd_clock.proofs.Vocabulary.{◌≡◌, ◌≤◌, [], All, sym, ap, ◌∙◌, subst, AllByRecursion, IsInOrder, lengths_of, Expiry, Timers, is_before, next_moment, first_moment, Line, expiry_on}
-use Rattle.lapd_clock.proofs.First.{found_leads}
+use Rattle.lapd_clock.proofs.Vocabulary.{◌≤◌, All, sym, ap, ◌∙◌, subst, IsInOrder, lengths_of, Expiry, Timers, is_before, next_moment, first_moment, expiry_on}
+use Rattle.lapd_clock.proofs.First.{found_leads, none_found}
 use Rattle.lapd_clock.proofs.Calls.{timers_in-none, all_no_earlier}
 use Rattle.lapd_clock.proofs.clock.Clock.next.Goals as goal
 
 pub returns-in_err-held-clause-next : goal.returns-in_err-held-clause-next
 returns-in_err-held-clause-next c =
     let lines = c.self.inside.lines.items in
-    let none = subst (AllByRecursion (λ (v : Line). v.items ≡ [])) c.deref.ensures.value c.in_err-held.ensures in
+    let none = none_found c.self.inside.lines.items c.deref.result.now c.deref.ensures.value c.in_err-held.ensures in
     c.from_residual.ensures ∙ sym (ap next_moment (sym c.self.view_is ∙ timers_in-none (lengths_of c.self.inside.lengths) c.self.inside.places lines none))
 
 pub returns-clause-next : goal.returns-clause-next

@@ -1,5 +1,5 @@
 -- The words with which the proofs of this crate speak, from where they are defined.
-pub use Rattle.std.proofs.Common.{All, Bool, Contains, inl, inr, List, None, Option, Some, [], ap, arith, cond, count_by, drop, false, filter, get_or, is_ok, length, length-append, length-set, length-take, ltb, nat_le, nat_lt, not, refl, rules, set, slice_get, subst, suc, sym, take, true, unwrap_or, vec_len, zero, ℕ, ◌&&◌, ◌*◌, ◌++◌, ◌+◌, ◌-◌, ◌<◌, ◌==◌, ◌||◌, ◌∙◌, ◌∷◌, ◌≡◌, ◌≢◌, ◌≤◌}
+pub use Rattle.std.proofs.Common.{All, Bool, Contains, inl, inr, List, None, Option, Some, [], ap, arith, cond, count_by, drop, false, filter, get_or, is_ok, length, length-append, length-set, length-take, ltb, nat_le, nat_lt, not, refl, rules, set, slice_get, subst, suc, sym, take, true, unwrap_or, vec_len, vec_capacity, zero, ℕ, ◌&&◌, ◌*◌, ◌++◌, ◌+◌, ◌-◌, ◌<◌, ◌==◌, ◌||◌, ◌∙◌, ◌∷◌, ◌≡◌, ◌≢◌, ◌≤◌}
 pub use Rattle.std.proofs.lemmas.Bool.{cases_lt, false≢true}
 pub use Rattle.std.proofs.lemmas.Bool.Decides.{nat_tests}
 pub use Rattle.std.proofs.lemmas.Cmp.{eq_by_cmp_equiv, nat_cmp_total, nat_eq_equiv, on_total, then_total, tied_itself}

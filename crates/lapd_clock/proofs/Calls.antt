@@ -1,10 +1,10 @@
 -- What the calls of a clock do to the set that its lines stand for.
-use Rattle.lapd_clock.proofs.Vocabulary.{◌≡◌, ℕ, zero, suc, ◌+◌, ◌<◌, ◌≤◌, Bool, true, false, cond, not, ◌==◌, nat_le, List, [], ◌∷◌, length, drop, get_or, set, Some, None, All, Contains, refl, sym, ap, ◌∙◌, subst, arith, length-set, AllByRecursion, nat_tests, All-from_recursion, length-filter, count_by-le-length, put_in_order, IsInOrder, Timer, Lengths, Start, Stop, duration, is_same, Expiry, Timers, is_before, without, finds_place, with_order, after_first_due, first_due, IsSound, IsLeastDue, Held, Line, held_before, all_but, from_line, in_order, timers_in, IsLineKept, IsKept, Order, vec_len, vec_capacity}
+use Rattle.lapd_clock.proofs.Vocabulary.{◌≡◌, ℕ, zero, suc, ◌+◌, ◌<◌, ◌≤◌, Bool, true, false, cond, not, ◌==◌, nat_le, List, [], ◌∷◌, length, drop, get_or, set, Some, None, All, Contains, refl, sym, ap, ◌∙◌, subst, arith, length-set, AllByRecursion, nat_tests, All-from_recursion, length-filter, count_by-le-length, put_in_order, IsInOrder, Timer, Lengths, Start, Stop, duration, is_same, Expiry, Timers, is_before, without, finds_place, with_order, after_first_due, first_due, IsSound, IsLeastDue, Held, Line, held_before, all_but, from_line, in_order, timers_in, IsLineKept, IsKept, Order, vec_len, vec_capacity, due_at, after_due, first_moment, next_moment, expiry_on, IsFirst, IsFirstLine}
 use Rattle.lapd_clock.proofs.Ordered.{IsInOrder-put_in_order, IsInOrder-filter}
 use Rattle.lapd_clock.proofs.TimerOrder.{held_order}
 use Rattle.lapd_clock.proofs.StandsFor.{in_order-stopped, in_order-restarted, count_on-stopped}
-use Rattle.lapd_clock.proofs.Running.{finds_place-without, without-no_place, with_order_sound}
-use Rattle.lapd_clock.proofs.First.{from_line-none, before_itself, no_earlier}
+use Rattle.lapd_clock.proofs.Running.{finds_place-without, without-no_place, with_order_sound, after_due_sound}
+use Rattle.lapd_clock.proofs.First.{Leads, found_leads, none_found, from_line-none, before_itself, no_earlier}
 
 -- ---- lines one by one
 
@@ -100,10 +100,6 @@ module _ (ls : Lengths) (places k : ℕ) (lines : List Line) (t : Timers) (view 
           taken = omega (arith, own.taken, room);
         })
 
--- one line changed: the clock keeps what it keeps
-pub kept_with : (ls : Lengths) (places k : ℕ) (lines : List Line) (v : Line) → AllByRecursion (IsLineKept places) lines → IsLineKept places v → IsSound (timers_in ls places (set lines k v)) → IsKept ls places (set lines k v)
-kept_with ls places k lines v each one sound = record { each = All-set (IsLineKept places) lines k v one each; sound = sound }
-
 -- ---- what is due
 
 not_yet : (moment now : ℕ) → now < moment → nat_le moment now ≡ false
@@ -111,15 +107,6 @@ not_yet moment now h = grind (arith, nat_tests)
 
 by_now : (moment now : ℕ) → moment ≤ now → nat_le moment now ≡ true
 by_now moment now h = grind (arith, nat_tests)
-
-pub none_due : (e : Expiry) (es : List Expiry) (now : ℕ) → now < e.moment → first_due (e ∷ es) now ≡ None
-none_due e es now h = ap (λ b. cond b (Some (e.line, e.timer)) None) (not_yet e.moment now h)
-
-pub none_taken : (e : Expiry) (es : List Expiry) (now : ℕ) → now < e.moment → after_first_due (e ∷ es) now ≡ e ∷ es
-none_taken e es now h = ap (λ b. cond b es (e ∷ es)) (not_yet e.moment now h)
-
-pub one_due : (e : Expiry) (es : List Expiry) (now : ℕ) → e.moment ≤ now → first_due (e ∷ es) now ≡ Some (e.line, e.timer)
-one_due e es now h = ap (λ b. cond b (Some (e.line, e.timer)) None) (by_now e.moment now h)
 
 pub one_taken : (e : Expiry) (es : List Expiry) (now : ℕ) → e.moment ≤ now → after_first_due (e ∷ es) now ≡ es
 one_taken e es now h = ap (λ b. cond b es (e ∷ es)) (by_now e.moment now h)
@@ -137,10 +124,72 @@ all_later e es now h k i d within =
     let from : e.moment ≤ (get_or (e ∷ es) i d).moment = all_no_earlier e es h i d within in
     omega (arith, from, k)
 
-pub first_is_least : (c : Timers) (e : Expiry) (es : List Expiry) (now : ℕ) → c.running ≡ e ∷ es → IsInOrder is_before (e ∷ es) → e.moment ≤ now → IsLeastDue c now e.line e.timer
-first_is_least c e es now is h k = record {
-  moment = e.moment;
-  held = subst (λ xs. Contains xs e) (sym is) (0, omega arith, refl);
-  due = k;
-  least = subst (All (λ other. is_before other e ≡ false)) (sym is) (All-from_recursion (λ other. is_before other e ≡ false) (e ∷ es) (before_itself e, h.0));
-}
+-- ---- the first of the set, as it was found
+
+module _ (ls : Lengths) (places : ℕ) (lines : List Line) (t : Timers) (view : timers_in ls places lines ≡ t) (kept : IsKept ls places lines) (seen : List Line) (same : seen ≡ lines) where
+  -- where no line has a timer
+  pub idle : IsFirst (length seen) seen None → t ≡ record { lines = length lines; places = places; lengths = ls; running = [] }
+  idle none = sym view ∙ timers_in-none ls places lines (none_found lines seen same none)
+
+  module _ (line : ℕ) (held : Held) (first : IsFirstLine (length seen) seen line held) where
+    leads : Leads line held lines
+    leads = found_leads places line held lines seen kept.each same first
+
+    abbrev e : Expiry
+    e = expiry_on line held
+
+    is : t.running ≡ e ∷ leads.rest
+    is = ap (λ (c : Timers). c.running) (sym view) ∙ leads.all
+
+    ordered : IsInOrder is_before (e ∷ leads.rest)
+    ordered = subst (IsInOrder is_before) leads.all kept.sound.in_order
+
+    pub next_is : next_moment t ≡ Some held.moment
+    next_is = ap first_moment is
+
+    pub none_earlier : All (λ other. held.moment ≤ other.moment) t.running
+    none_earlier = subst (All (λ other. held.moment ≤ other.moment)) (sym is) (all_no_earlier e leads.rest ordered)
+
+    module _ (now : ℕ) where
+      -- it is not due yet,
+      module _ (h : now < held.moment) where
+        pub none_due : due_at t now ≡ None
+        none_due = ap (λ es. first_due es now) is ∙ ap (λ b. cond b (Some (line, held.timer)) None) (not_yet held.moment now h)
+
+        pub none_taken : after_due t now ≡ t
+        none_taken = ap (λ es. record t { running = es }) (ap (λ es. after_first_due es now) is ∙ ap (λ b. cond b leads.rest (e ∷ leads.rest)) (not_yet held.moment now h) ∙ sym is)
+
+        pub later : All (λ other. now < other.moment) t.running
+        later = subst (All (λ other. now < other.moment)) (sym is) (all_later e leads.rest now ordered h)
+
+      -- or it is, and is taken out
+      module _ (h : held.moment ≤ now) where
+        pub one_due : due_at t now ≡ Some (line, held.timer)
+        one_due = ap (λ es. first_due es now) is ∙ ap (λ b. cond b (Some (line, held.timer)) None) (by_now held.moment now h)
+
+        pub least : IsLeastDue t now line held.timer
+        least = record {
+          moment = held.moment;
+          held = subst (λ xs. Contains xs e) (sym is) (0, omega arith, refl);
+          due = h;
+          least = subst (All (λ other. is_before other e ≡ false)) (sym is) (All-from_recursion (λ other. is_before other e ≡ false) (e ∷ leads.rest) (before_itself e, ordered.0));
+        }
+
+        module _ (u v : Line) (at : u ≡ get_or lines line u) (new : v.items ≡ drop 1 u.items) where
+          left : timers_in ls places (set lines line v) ≡ after_due (timers_in ls places lines) now
+          left = same_timers ls _ _ places _ _ (length-set lines line v) (leads.taken u v at new ∙ sym (one_taken e leads.rest now h) ∙ ap (λ es. after_first_due es now) (sym leads.all))
+
+          pub after_first : timers_in ls places (set lines line v) ≡ after_due t now
+          after_first = left ∙ ap (λ c. after_due c now) view
+
+          pub kept_after : vec_len v ≤ vec_len u → vec_capacity v ≡ vec_capacity u → IsKept ls places (set lines line v)
+          kept_after fewer room =
+              let own = All-at (IsLineKept places) lines line u leads.in_range at kept.each in
+              record {
+                each = All-set (IsLineKept places) lines line v (record {
+                  ordered = subst (IsInOrder held_before) (sym new) (IsInOrder-drop_first u.items own.ordered);
+                  fits = omega (arith, own.fits, fewer);
+                  taken = omega (arith, own.taken, room);
+                }) kept.each;
+                sound = subst IsSound (sym left) (after_due_sound ls (length lines) places _ now kept.sound);
+              }

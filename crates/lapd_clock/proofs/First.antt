@@ -1,13 +1,8 @@
 -- The first timer of all lines.
-use Rattle.lapd_clock.proofs.Vocabulary.{◌≡◌, ℕ, zero, suc, ◌+◌, ◌==◌, ◌<◌, ◌≤◌, true, false, cond, List, [], ◌∷◌, ◌++◌, length, take, get_or, set, drop, Option, Some, None, nat_lt, refl, sym, ap, ◌∙◌, subst, arith, length-append, length-take, Ordering, Less, Equal, Greater, take_more, AllByRecursion, nat_cmp, ordering_then, is_lt, false≢true, nat_tests, tied_itself, put_in_order, IsInOrder, timer_cmp, Expiry, is_before, Held, Line, held_before, expiry_on, on_line, from_line, in_order, earlier_of, IsFirst, IsFirstLine, IsFirstAfter, AreFirstAfter, IsLineKept}
-use Rattle.lapd_clock.proofs.Ordered.{All-put_in_order, All-from_put_in_order, put_in_order-first}
+use Rattle.lapd_clock.proofs.Vocabulary.{All, recursion_from_All, ◌≡◌, ℕ, suc, ◌+◌, ◌==◌, ◌<◌, ◌≤◌, true, false, cond, List, [], ◌∷◌, ◌++◌, length, get_or, set, drop, Option, Some, None, nat_lt, refl, sym, ap, ◌∙◌, subst, arith, get_or_default, Ordering, Less, Equal, Greater, AllByRecursion, nat_cmp, ordering_then, is_lt, false≢true, nat_tests, tied_itself, IsInOrder, timer_cmp, Expiry, is_before, Held, Line, held_before, expiry_on, on_line, from_line, in_order, earlier_of, IsFirst, IsFirstLine, IsLineKept, slice_get, cases_lt, none-some, same_Some, IsAtFront, inl, inr}
+use Rattle.lapd_clock.proofs.Ordered.{All-append, All-put_in_order, All-from_put_in_order, put_in_order-first}
 use Rattle.lapd_clock.proofs.TimerOrder.{before_order, expiry_total}
-use Rattle.lapd_clock.proofs.StandsFor.{same_line, behind}
-
--- what holds of two lists holds of both joined
-All-append : {X : Type 0} (P : X → Type 0) (xs ys : List X) → AllByRecursion P xs → AllByRecursion P ys → AllByRecursion P (xs ++ ys)
-All-append P [] ys h k = k
-All-append P (x ∷ xs) ys h k = (h.0, All-append P xs ys h.1 k)
+use Rattle.lapd_clock.proofs.StandsFor.{same_line, here, in_order-first}
 
 -- comparing a greater number with a less one
 greater : (x y : ℕ) → y < x → nat_cmp x y ≡ Greater
@@ -41,89 +36,83 @@ no_earlier a b =
 
 -- ---- the first of the lines so far, and of one more
 
--- one more line
-AreFirstAfter-push : (e : Expiry) (i : ℕ) (xs : List Line) (v : Line) → AreFirstAfter e i xs → IsFirstAfter e (i + length xs) v.items → AreFirstAfter e i (xs ++ v ∷ [])
-AreFirstAfter-push e i [] v h k = (subst (λ n. IsFirstAfter e n v.items) (omega arith) k, tt)
-AreFirstAfter-push e i (x ∷ xs) v h k = (h.0, AreFirstAfter-push e (i + 1) xs v h.1 (subst (λ n. IsFirstAfter e n v.items) (omega arith) k))
+module _ (lines : List Line) (n : ℕ) (v : Line) (within : n < length lines) (at : v ≡ get_or lines n v) where
+  at_front : (g : Held) → slice_get v.items 0 ≡ Some g → IsAtFront lines n g
+  at_front g front d = subst (λ w. slice_get w.items 0 ≡ Some g) (at ∙ get_or_default lines n v d within) front
 
--- no timer of lines that have none goes first
-AreFirstAfter-none : (e : Expiry) (i : ℕ) (xs : List Line) → AllByRecursion (λ v. v.items ≡ []) xs → AreFirstAfter e i xs
-AreFirstAfter-none e i [] h = tt
-AreFirstAfter-none e i (x ∷ xs) h = (subst (λ hs. IsFirstAfter e i hs) (sym h.0) tt, AreFirstAfter-none e (i + 1) xs h.1)
+  front_of : (g : Held) → IsAtFront lines n g → slice_get v.items 0 ≡ Some g
+  front_of g front = subst (λ w. slice_get w.items 0 ≡ Some g) (sym at) (front v)
 
--- what none goes before, none goes before something earlier
-AreFirstAfter-earlier : (e f : Expiry) → is_before e f ≡ false → (i : ℕ) (xs : List Line) → AreFirstAfter e i xs → AreFirstAfter f i xs
-AreFirstAfter-earlier e f ef i [] h = tt
-AreFirstAfter-earlier e f ef i (x ∷ xs) h = (one x.items h.0, AreFirstAfter-earlier e f ef (i + 1) xs h.1)
-  where
-    one : (hs : List Held) → IsFirstAfter e i hs → IsFirstAfter f i hs
-    one [] h = tt
-    one (g ∷ gs) h = before_order.chain (expiry_on i g) e f h ef
+  -- what holds of the fronts of the lines before holds with one more
+  one_more : (P : ℕ → Held → Type 0) → ((k : ℕ) (g : Held) → k < n → IsAtFront lines k g → P k g) → ((g : Held) → slice_get v.items 0 ≡ Some g → P n g)
+      → (k : ℕ) (g : Held) → k < n + 1 → IsAtFront lines k g → P k g
+  one_more P before last k g lt front =
+      elim (cases_lt k n) as (λ _. P k g) [
+        | inl less ↦ before k g less front
+        | inr more ↦
+            let same : n ≡ k = omega (arith, lt, more) in
+            subst (λ j. P j g) same (last g (front_of g (subst (λ j. IsAtFront lines j g) (sym same) front)))
+      ]
 
--- the elements of a list with one more
-get_or-push : (xs : List Line) (v d : Line) → get_or (xs ++ v ∷ []) (length xs) d ≡ v
-get_or-push [] v d = refl
-get_or-push (x ∷ xs) v d = get_or-push xs v d
+  -- the first line stays so where the front of this one goes no earlier,
+  still_first : (k : ℕ) (h : Held) → IsFirstLine n lines k h → ((g : Held) → slice_get v.items 0 ≡ Some g → is_before (expiry_on n g) (expiry_on k h) ≡ false) → IsFirstLine (n + 1) lines k h
+  still_first k h first later = record {
+    in_range = omega (arith, first.in_range);
+    front = first.front;
+    least = one_more (λ j g. is_before (expiry_on j g) (expiry_on k h) ≡ false) first.least later;
+  }
 
-get_or-push_before : (xs : List Line) (v d : Line) (k : ℕ) → k < length xs → get_or (xs ++ v ∷ []) k d ≡ get_or xs k d
-get_or-push_before [] v d k h = absurd (omega arith)
-get_or-push_before (x ∷ xs) v d zero h = refl
-get_or-push_before (x ∷ xs) v d (suc k) h = get_or-push_before xs v d k (omega arith)
+  -- and this one becomes it where those before go no earlier
+  new_first : (h : Held) → slice_get v.items 0 ≡ Some h → ((k : ℕ) (g : Held) → k < n → IsAtFront lines k g → is_before (expiry_on k g) (expiry_on n h) ≡ false) → IsFirstLine (n + 1) lines n h
+  new_first h front before = record {
+    in_range = omega arith;
+    front = at_front h front;
+    least = one_more (λ j g. is_before (expiry_on j g) (expiry_on n h) ≡ false) before (λ g there. subst (λ x. is_before (expiry_on n x) (expiry_on n h) ≡ false) (same_Some h g (sym front ∙ there)) (before_itself (expiry_on n h)));
+  }
 
--- one more line leaves the first line where it is, where its first timer goes no earlier,
-still_first : (xs : List Line) (v : Line) (k : ℕ) (h : Held) → IsFirstLine xs k h → IsFirstAfter (expiry_on k h) (length xs) v.items → IsFirstLine (xs ++ v ∷ []) k h
-still_first xs v k h first after = record {
-  in_range = omega (arith, length-append xs (v ∷ []), first.in_range);
-  front = λ d. rw (get_or-push_before xs v d k first.in_range) (first.front d);
-  least = AreFirstAfter-push (expiry_on k h) 0 xs v first.least (subst (λ n. IsFirstAfter (expiry_on k h) n v.items) (omega arith) after);
-}
+  more : (hs : List Held) (first : Option (ℕ × Held)) → v.items ≡ hs → IsFirst n lines first → IsFirst (n + 1) lines (earlier_of first n hs)
+  more [] None e none = λ k d lt.
+      elim (cases_lt k n) as (λ _. (get_or lines k d).items ≡ []) [
+        | inl less ↦ none k d less
+        | inr last ↦ let same : n ≡ k = omega (arith, lt, last) in subst (λ j. (get_or lines j d).items ≡ []) same (ap (λ (w : Line). w.items) (sym (at ∙ get_or_default lines n v d within)) ∙ e)
+      ]
+  more [] (Some first) e h = still_first first.0 first.1 h (λ g there. absurd (none-some g (sym (ap (λ hs. slice_get hs 0) e) ∙ there)))
+  more (g ∷ gs) None e none = new_first g (ap (λ hs. slice_get hs 0) e) (λ k x lt front. absurd (none-some x (sym (ap (λ hs. slice_get hs 0) (none k v lt)) ∙ front v)))
+  more (g ∷ gs) (Some first) e h =
+      let front = ap (λ hs. slice_get hs 0) e in
+      let leader = expiry_on first.0 first.1 in
+      (elim (nat_lt g.moment first.1.moment) as (λ b. nat_lt g.moment first.1.moment ≡ b → IsFirst (n + 1) lines (cond b (Some (n, g)) (Some first))) [
+        | true ↦ λ less.
+            let earlier : g.moment < first.1.moment = grind (arith, nat_tests) in
+            new_first g front (λ k x lt there. before_order.chain (expiry_on k x) leader (expiry_on n g) (h.least k x lt there) (later_moment leader (expiry_on n g) earlier))
+        | false ↦ λ not_less.
+            let later : first.1.moment ≤ g.moment = grind (arith, nat_tests) in
+            still_first first.0 first.1 h (λ x there. subst (λ y. is_before (expiry_on n y) leader ≡ false) (same_Some g x (sym front ∙ there)) (later_line (expiry_on n g) leader later h.in_range))
+      ]) refl
 
--- and becomes the first line, where those before go no earlier
-new_first : (xs : List Line) (v : Line) (h : Held) (t : List Held) → v.items ≡ h ∷ t → AreFirstAfter (expiry_on (length xs) h) 0 xs → IsFirstLine (xs ++ v ∷ []) (length xs) h
-new_first xs v h t e least = record {
-  in_range = omega (arith, length-append xs (v ∷ []));
-  front = λ d. rw (get_or-push xs v d, e) refl;
-  least = AreFirstAfter-push (expiry_on (length xs) h) 0 xs v least
-      (subst (λ hs. IsFirstAfter (expiry_on (length xs) h) (0 + length xs) hs) (sym e) (subst (λ n. is_before (expiry_on n h) (expiry_on (length xs) h) ≡ false) (omega arith) (before_itself (expiry_on (length xs) h))));
-}
-
--- what is first in the lines, and in one more
-IsFirst-push : (xs : List Line) (v : Line) (hs : List Held) (first : Option (ℕ × Held)) → v.items ≡ hs → IsFirst xs first → IsFirst (xs ++ v ∷ []) (earlier_of first (length xs) hs)
-IsFirst-push xs v [] None e h = All-append (λ w. w.items ≡ []) xs (v ∷ []) h (e, tt)
-IsFirst-push xs v [] (Some first) e h = still_first xs v first.0 first.1 h (subst (λ hs. IsFirstAfter (expiry_on first.0 first.1) (length xs) hs) (sym e) tt)
-IsFirst-push xs v (g ∷ gs) None e h = new_first xs v g gs e (AreFirstAfter-none _ 0 xs h)
-IsFirst-push xs v (g ∷ gs) (Some first) e h =
-    (elim (nat_lt g.moment first.1.moment) as (λ b. nat_lt g.moment first.1.moment ≡ b → IsFirst (xs ++ v ∷ []) (cond b (Some (length xs, g)) (Some first))) [
-      | true ↦ λ less. let earlier : g.moment < first.1.moment = grind (arith, nat_tests) in
-          new_first xs v g gs e (AreFirstAfter-earlier (expiry_on first.0 first.1) (expiry_on (length xs) g) (later_moment (expiry_on first.0 first.1) (expiry_on (length xs) g) earlier) 0 xs h.least)
-      | false ↦ λ not_less. let later : first.1.moment ≤ g.moment = grind (arith, nat_tests) in
-          still_first xs v first.0 first.1 h (subst (λ hs. IsFirstAfter (expiry_on first.0 first.1) (length xs) hs) (sym e) (later_line (expiry_on (length xs) g) (expiry_on first.0 first.1) later h.in_range))
-    ]) refl
-
--- the same for the lines before one, and with it
-pub IsFirst-more : (lines : List Line) (n : ℕ) (v : Line) (first : Option (ℕ × Held)) → n < length lines → v ≡ get_or lines n v → IsFirst (take n lines) first → IsFirst (take (n + 1) lines) (earlier_of first n v.items)
-IsFirst-more lines n v first within at h =
-    let count : length (take n lines) ≡ n = omega (arith, length-take n lines) in
-    rw (take_more lines n v within) (subst (λ w. IsFirst (take n lines ++ w ∷ []) (earlier_of first n v.items)) at
-    (subst (λ k. IsFirst (take n lines ++ v ∷ []) (earlier_of first k v.items)) count (IsFirst-push (take n lines) v v.items first refl h)))
+  pub IsFirst-more : (first : Option (ℕ × Held)) → IsFirst n lines first → IsFirst (n + 1) lines (earlier_of first n v.items)
+  IsFirst-more first h = more v.items first refl h
 
 -- ---- what is first in the lines is first in the set
 
 -- none of a line goes before what its first timer does not go before, and so none of all lines
-all_of_line : (e : Expiry) (i : ℕ) (hs : List Held) → IsInOrder held_before hs → IsFirstAfter e i hs → AllByRecursion (λ y. is_before y e ≡ false) (on_line i hs)
+all_of_line : (e : Expiry) (i : ℕ) (hs : List Held) → IsInOrder held_before hs → ((g : Held) → slice_get hs 0 ≡ Some g → is_before (expiry_on i g) e ≡ false) → AllByRecursion (λ y. is_before y e ≡ false) (on_line i hs)
 unfolding on_line
-all_of_line e i [] h k = tt
-all_of_line e i (g ∷ gs) h k = (k, behind_first gs h.0)
+all_of_line e i [] h least = tt
+all_of_line e i (g ∷ gs) h least = (least g refl, behind_first gs h.0)
   where
     behind_first : (xs : List Held) → AllByRecursion (λ later. held_before later g ≡ false) xs → AllByRecursion (λ y. is_before y e ≡ false) (on_line i xs)
     behind_first [] h = tt
-    behind_first (x ∷ xs) h = (before_order.chain (expiry_on i x) (expiry_on i g) e (same_line i x g ∙ h.0) k, behind_first xs h.1)
+    behind_first (x ∷ xs) h = (before_order.chain (expiry_on i x) (expiry_on i g) e (same_line i x g ∙ h.0) (least g refl), behind_first xs h.1)
 
-all_of_lines : (places : ℕ) (e : Expiry) (i : ℕ) (lines : List Line) → AllByRecursion (IsLineKept places) lines → AreFirstAfter e i lines → AllByRecursion (λ y. is_before y e ≡ false) (from_line i lines)
+all_of_lines : (places : ℕ) (e : Expiry) (i : ℕ) (lines : List Line) → AllByRecursion (IsLineKept places) lines
+    → ((k : ℕ) (g : Held) → k < length lines → IsAtFront lines k g → is_before (expiry_on (i + k) g) e ≡ false) → AllByRecursion (λ y. is_before y e ≡ false) (from_line i lines)
 unfolding from_line
-all_of_lines places e i [] h k = tt
-all_of_lines places e i (v ∷ vs) h k =
-    All-append _ (on_line i v.items) (from_line (i + 1) vs) (all_of_line e i v.items h.0.ordered k.0) (all_of_lines places e (i + 1) vs h.1 k.1)
+all_of_lines places e i [] h least = tt
+all_of_lines places e i (v ∷ vs) h least =
+    All-append (λ y. is_before y e ≡ false) (on_line i v.items) (from_line (i + 1) vs)
+    (all_of_line e i v.items h.0.ordered (λ g front. subst (λ k. is_before (expiry_on k g) e ≡ false) (omega arith) (least 0 g (omega arith) (λ d. front))))
+    (all_of_lines places e (i + 1) vs h.1 (λ k g lt front. subst (λ j. is_before (expiry_on j g) e ≡ false) (omega arith) (least (suc k) g (omega arith) front)))
 
 -- what holds of all holds of the set
 All-in_order : (P : Expiry → Type 0) (es : List Expiry) → AllByRecursion P es → AllByRecursion P (in_order es)
@@ -138,25 +127,36 @@ pub record Leads (line : ℕ) (held : Held) (lines : List Line) : Type 0 where
   pub all : in_order (from_line 0 lines) ≡ expiry_on line held ∷ rest
   pub taken : (u v : Line) → u ≡ get_or lines line u → v.items ≡ drop 1 u.items → in_order (from_line 0 (set lines line v)) ≡ rest
 
-pub first_leads : (places line : ℕ) (held : Held) (lines : List Line) → AllByRecursion (IsLineKept places) lines → IsFirstLine lines line held → Leads line held lines
-first_leads places line held lines each first =
-    let others = behind 0 line lines held first.in_range first.front in
-    let all : in_order (from_line 0 lines) ≡ put_in_order is_before (expiry_on line held) (in_order others.rest) = others.all ∙ ap (λ n. put_in_order is_before (expiry_on n held) (in_order others.rest)) (omega arith) in
-    let none_before = All-in_order (λ y. is_before y (expiry_on line held) ≡ false) (from_line 0 lines) (all_of_lines places (expiry_on line held) 0 lines each first.least) in
+pub first_leads : (places line : ℕ) (held : Held) (lines : List Line) → AllByRecursion (IsLineKept places) lines → IsFirstLine (length lines) lines line held → Leads line held lines
+first_leads places line held [] each first = absurd (omega (arith, first.in_range))
+first_leads places line held (l ∷ ls) each first =
+    let lines = l ∷ ls in
+    let e = expiry_on line held in
+    let at_line = here line lines first.in_range in
+    let u = get_or lines line l in
+    let at = get_or_default lines line l u first.in_range in
+    let rest = in_order (at_line.before ++ (on_line line (drop 1 u.items) ++ at_line.behind)) in
+    let all = in_order-first line lines first.in_range u at held (first.front l) in
+    let none_before = All-in_order (λ y. is_before y e ≡ false) (from_line 0 lines) (all_of_lines places e 0 lines each (λ k g lt front. subst (λ j. is_before (expiry_on j g) e ≡ false) (omega arith) (first.least k g lt front))) in
     record {
       in_range = first.in_range;
-      rest = in_order others.rest;
-      all = all ∙ put_in_order-first is_before (expiry_on line held) (in_order others.rest) (All-from_put_in_order is_before (λ y. is_before y (expiry_on line held) ≡ false) (expiry_on line held) (in_order others.rest) (subst (AllByRecursion (λ y. is_before y (expiry_on line held) ≡ false)) all none_before));
-      taken = λ u v at new. ap in_order (others.taken u v at new);
+      rest = rest;
+      all = all ∙ put_in_order-first is_before e rest (All-from_put_in_order is_before (λ y. is_before y e ≡ false) e rest (subst (AllByRecursion (λ y. is_before y e ≡ false)) all none_before));
+      taken = λ v w there new. ap in_order (at_line.with_line w ∙ ap (λ hs. at_line.before ++ (on_line line hs ++ at_line.behind))
+          (new ∙ ap (λ (x : Line). drop 1 x.items) (there ∙ get_or_default lines line v l first.in_range)));
     }
 
 -- the same of what was found in the lines as they were seen
-pub found_leads : (places line : ℕ) (held : Held) (lines seen : List Line) → AllByRecursion (IsLineKept places) lines → seen ≡ lines → IsFirstLine seen line held → Leads line held lines
+pub found_leads : (places line : ℕ) (held : Held) (lines seen : List Line) → AllByRecursion (IsLineKept places) lines → seen ≡ lines → IsFirstLine (length seen) seen line held → Leads line held lines
 found_leads places line held lines seen each same first =
-    first_leads places line held lines each (subst (λ ls. IsFirstLine ls line held) same first)
+    first_leads places line held lines each (subst (λ ls. IsFirstLine (length ls) ls line held) same first)
 
 -- lines without a timer stand for the empty set
 pub from_line-none : (i : ℕ) (lines : List Line) → AllByRecursion (λ v. v.items ≡ []) lines → from_line i lines ≡ []
 unfolding from_line on_line
 from_line-none i [] h = refl
 from_line-none i (v ∷ vs) h = ap (λ hs. on_line i hs ++ from_line (i + 1) vs) h.0 ∙ from_line-none (i + 1) vs h.1
+
+-- and so do lines in which none was found
+pub none_found : (lines seen : List Line) → seen ≡ lines → IsFirst (length seen) seen None → AllByRecursion (λ v. v.items ≡ []) lines
+none_found lines seen same none = recursion_from_All (λ (v : Line). v.items ≡ []) lines (subst (All (λ (v : Line). v.items ≡ [])) same none)

@@ -1,5 +1,5 @@
 -- Lists in an order: what `put_in_order` and an insertion sort do to them.
-use Rattle.lapd_clock.proofs.Vocabulary.{◌≡◌, ℕ, suc, ◌+◌, Bool, true, false, cond, not, List, [], ◌∷◌, length, filter, count_by, refl, sym, ap, ◌∙◌, arith, subst, false≢true, sum_by-cons, sum_by-insert, IsStrictWeakOrder, AllByRecursion, prefix_len, insert, position_or_len, sum_by, put_in_order, IsInOrder}
+use Rattle.lapd_clock.proofs.Vocabulary.{◌++◌, ◌≡◌, ℕ, suc, ◌+◌, Bool, true, false, cond, not, List, [], ◌∷◌, length, filter, count_by, refl, sym, ap, ◌∙◌, arith, subst, false≢true, sum_by-cons, sum_by-insert, IsStrictWeakOrder, AllByRecursion, prefix_len, insert, position_or_len, sum_by, put_in_order, IsInOrder}
 
 -- a count over one more element
 pub count_by-cons : {X : Type 0} (p : X → Bool) (x : X) (xs : List X) → count_by p (x ∷ xs) ≡ cond (p x) 1 0 + count_by p xs
@@ -13,6 +13,11 @@ All-filter P p (y ∷ ys) h =
       | true ↦ (h.0, All-filter P p ys h.1)
       | false ↦ All-filter P p ys h.1
     ]
+
+-- what holds of two lists holds of both joined
+pub All-append : {X : Type 0} (P : X → Type 0) (xs ys : List X) → AllByRecursion P xs → AllByRecursion P ys → AllByRecursion P (xs ++ ys)
+All-append P [] ys h k = k
+All-append P (x ∷ xs) ys h k = (h.0, All-append P xs ys h.1 k)
 
 module _ {X : Type 0} (before : X → X → Bool) where
   -- an element that comes before x stays in front of it,

@@ -1,6 +1,6 @@
 -- The set that the lines stand for, when the timers of one line change.
-use Rattle.lapd_clock.proofs.Vocabulary.{◌≡◌, ◌≢◌, ℕ, zero, suc, ◌+◌, ◌<◌, Bool, true, false, cond, not, ◌&&◌, ◌==◌, List, [], ◌∷◌, ◌++◌, length, drop, filter, count_by, Some, slice_get, get_or, set, refl, sym, ap, ◌∙◌, arith, HoldsAt, nat_cmp, ordering_then, is_lt, nat_tests, nat_cmp_total, tied_itself, filter-append, sum_by-append, put_in_order, IsInOrder, Timer, timer_cmp, is_same, Expiry, is_before, is_of, without, count_on, Held, Line, held_before, all_but, expiry_on, on_line, from_line, in_order}
-use Rattle.lapd_clock.proofs.Ordered.{put_in_order-after, put_in_order-here, by_place, put_in_order-swap, filter-put_in_order, IsInOrder-put_in_order, count_by-put_in_order, count_by-cons}
+use Rattle.lapd_clock.proofs.Vocabulary.{◌≡◌, ◌≢◌, ℕ, zero, suc, ◌+◌, ◌<◌, Bool, true, false, cond, not, ◌&&◌, ◌==◌, List, [], ◌∷◌, ◌++◌, length, drop, filter, count_by, Some, slice_get, get_or, set, refl, sym, ap, ◌∙◌, arith, nat_cmp, ordering_then, is_lt, nat_tests, nat_cmp_total, tied_itself, filter-append, sum_by-append, put_in_order, IsInOrder, Timer, timer_cmp, is_same, Expiry, is_before, is_of, without, count_on, Held, Line, held_before, all_but, expiry_on, on_line, from_line, in_order, AllByRecursion, append_assoc, set-get_or}
+use Rattle.lapd_clock.proofs.Ordered.{All-append, put_in_order-after, put_in_order-here, by_place, put_in_order-swap, filter-put_in_order, IsInOrder-put_in_order, count_by-put_in_order, count_by-cons}
 use Rattle.lapd_clock.proofs.TimerOrder.{before_order, same_expiry}
 
 -- a number is itself, and no other
@@ -43,30 +43,6 @@ front_is : (hs : List Held) (h : Held) → slice_get hs 0 ≡ Some h → hs ≡ 
 front_is [] h e = cc
 front_is (x ∷ xs) h e = ap (λ (y : Held). y ∷ xs) cc
 
--- the timers behind the first one, h, of line k
-pub record Behind (i k : ℕ) (lines : List Line) (h : Held) : Type 0 where
-  pub rest : List Expiry
-  pub all : in_order (from_line i lines) ≡ put_in_order is_before (expiry_on (i + k) h) (in_order rest)
-  pub taken : (u v : Line) → u ≡ get_or lines k u → v.items ≡ drop 1 u.items → from_line i (set lines k v) ≡ rest
-
-pub behind : (i k : ℕ) (lines : List Line) (h : Held) → k < length lines → HoldsAt (λ v. slice_get v.items 0 ≡ Some h) lines k → Behind i k lines h
-unfolding from_line on_line in_order
-behind i k [] h within front = absurd (omega arith)
-behind i zero (l ∷ ls) h within front = record {
-  rest = on_line i (drop 1 l.items) ++ from_line (i + 1) ls;
-  all = ap (λ hs. in_order (on_line i hs ++ from_line (i + 1) ls)) (front_is l.items h (front l))
-      ∙ ap (λ n. put_in_order is_before (expiry_on n h) (in_order (on_line i (drop 1 l.items) ++ from_line (i + 1) ls))) (omega arith);
-  taken = λ u v at new. ap (λ hs. on_line i hs ++ from_line (i + 1) ls) (new ∙ ap (λ (w : Line). drop 1 w.items) at);
-}
-behind i (suc k) (l ∷ ls) h within front =
-    let later = behind (i + 1) k ls h (omega arith) front in
-    record {
-      rest = on_line i l.items ++ later.rest;
-      all = in_order-behind (expiry_on (i + suc k) h) (on_line i l.items) later.rest (from_line (i + 1) ls)
-          (later.all ∙ ap (λ n. put_in_order is_before (expiry_on n h) (in_order later.rest)) (omega arith));
-      taken = λ u v at new. ap (λ es. on_line i l.items ++ es) (later.taken u v at new);
-    }
-
 -- one timer of line k is not one of any other line
 on_line-all_but : (k : ℕ) (t : Timer) (hs : List Held) → on_line k (all_but t hs) ≡ without k t (on_line k hs)
 unfolding on_line
@@ -78,62 +54,57 @@ on_line-all_but k t (x ∷ xs) =
     ])
     ∙ ap (λ b. cond (not (b && is_same x.timer t)) (expiry_on k x ∷ without k t (on_line k xs)) (without k t (on_line k xs))) (sym (same_number k))
 
-without-other_line : (k i : ℕ) (t : Timer) (hs : List Held) → i ≢ k → without k t (on_line i hs) ≡ on_line i hs
+-- what is of no timer of a line
+abbrev Apart : ℕ → List Expiry → Type 0
+Apart k es = AllByRecursion (λ e. (e.line == k) ≡ false) es
+
+apart-on_line : (k i : ℕ) (hs : List Held) → i ≢ k → Apart k (on_line i hs)
 unfolding on_line
-without-other_line k i t [] ne = refl
-without-other_line k i t (x ∷ xs) ne =
-    ap (λ b. cond (not (b && is_same x.timer t)) (expiry_on i x ∷ without k t (on_line i xs)) (without k t (on_line i xs))) (other_number i k ne)
-    ∙ ap (λ l. expiry_on i x ∷ l) (without-other_line k i t xs ne)
+apart-on_line k i [] ne = tt
+apart-on_line k i (x ∷ xs) ne = (other_number i k ne, apart-on_line k i xs ne)
 
-without-later_lines : (k i : ℕ) (t : Timer) (lines : List Line) → k < i → without k t (from_line i lines) ≡ from_line i lines
+apart-from_line : (k i : ℕ) (lines : List Line) → k < i → Apart k (from_line i lines)
 unfolding from_line
-without-later_lines k i t [] h = refl
-without-later_lines k i t (l ∷ ls) h =
-    filter-append (λ e. not (is_of k t e)) (on_line i l.items) (from_line (i + 1) ls)
-    ∙ ap (λ es. es ++ without k t (from_line (i + 1) ls)) (without-other_line k i t l.items (omega arith))
-    ∙ ap (λ es. on_line i l.items ++ es) (without-later_lines k (i + 1) t ls (omega arith))
+apart-from_line k i [] h = tt
+apart-from_line k i (l ∷ ls) h =
+    All-append (λ e. (e.line == k) ≡ false) (on_line i l.items) (from_line (i + 1) ls) (apart-on_line k i l.items (omega arith)) (apart-from_line k (i + 1) ls (omega arith))
 
--- taking a timer out of the lines from i on is taking it out of line i,
-without-here : (i : ℕ) (t : Timer) (l : Line) (ls : List Line) → without i t (from_line i (l ∷ ls)) ≡ on_line i (all_but t l.items) ++ from_line (i + 1) ls
-unfolding from_line
-without-here i t l ls =
-    filter-append (λ e. not (is_of i t e)) (on_line i l.items) (from_line (i + 1) ls)
-    ∙ ap (λ es. es ++ without i t (from_line (i + 1) ls)) (sym (on_line-all_but i t l.items))
-    ∙ ap (λ es. on_line i (all_but t l.items) ++ es) (without-later_lines i (i + 1) t ls (omega arith))
+without-apart : (k : ℕ) (t : Timer) (es : List Expiry) → Apart k es → without k t es ≡ es
+without-apart k t [] h = refl
+without-apart k t (e ∷ es) h =
+    ap (λ b. cond (not (b && is_same e.timer t)) (e ∷ without k t es) (without k t es)) h.0 ∙ ap (λ l. e ∷ l) (without-apart k t es h.1)
 
--- or out of those behind it
-without-behind : (i k : ℕ) (t : Timer) (l : Line) (ls : List Line) → i < k → without k t (from_line i (l ∷ ls)) ≡ on_line i l.items ++ without k t (from_line (i + 1) ls)
-unfolding from_line
-without-behind i k t l ls h =
-    filter-append (λ e. not (is_of k t e)) (on_line i l.items) (from_line (i + 1) ls)
-    ∙ ap (λ es. es ++ without k t (from_line (i + 1) ls)) (without-other_line k i t l.items (omega arith))
+count_on-apart : (k : ℕ) (es : List Expiry) → Apart k es → count_on k es ≡ 0
+count_on-apart k [] h = refl
+count_on-apart k (e ∷ es) h = count_by-cons (λ x. x.line == k) e es ∙ ap (λ b. cond b 1 0 + count_on k es) h.0 ∙ omega (arith, count_on-apart k es h.1)
 
-from_line-all_but : (i k : ℕ) (lines : List Line) (u v : Line) (t : Timer) → k < length lines → u ≡ get_or lines k u → v.items ≡ all_but t u.items → from_line i (set lines k v) ≡ without (i + k) t (from_line i lines)
-unfolding from_line
-from_line-all_but i k [] u v t within at new = absurd (omega arith)
-from_line-all_but i zero (l ∷ ls) u v t within at new =
-    ap (λ hs. on_line i hs ++ from_line (i + 1) ls) (new ∙ ap (λ (w : Line). all_but t w.items) at)
-    ∙ sym (without-here i t l ls) ∙ ap (λ n. without n t (from_line i (l ∷ ls))) (omega arith)
-from_line-all_but i (suc k) (l ∷ ls) u v t within at new =
-    let there : i + 1 + k ≡ i + suc k = omega arith in
-    ap (λ es. on_line i l.items ++ es) (from_line-all_but (i + 1) k ls u v t (omega arith) at new ∙ ap (λ n. without n t (from_line (i + 1) ls)) there)
-    ∙ sym (without-behind i (i + suc k) t l ls (omega arith))
+-- the timers of the lines from i on, around those of the k-th of these, which is line n
+pub record Around (n i k : ℕ) (lines : List Line) : Type 0 where
+  pub before : List Expiry
+  pub behind : List Expiry
+  pub apart_before : Apart n before
+  pub apart_behind : Apart n behind
+  pub with_line : (v : Line) → from_line i (set lines k v) ≡ before ++ (on_line n v.items ++ behind)
 
--- and putting it in with another moment is putting it into the set without it
-from_line-restarted : (i k : ℕ) (lines : List Line) (u v : Line) (h : Held) → k < length lines → u ≡ get_or lines k u → v.items ≡ put_in_order held_before h (all_but h.timer u.items) → in_order (from_line i (set lines k v)) ≡ put_in_order is_before (expiry_on (i + k) h) (in_order (without (i + k) h.timer (from_line i lines)))
+around : (n i k : ℕ) (lines : List Line) → n ≡ i + k → k < length lines → Around n i k lines
 unfolding from_line
-from_line-restarted i k [] u v h within at new = absurd (omega arith)
-from_line-restarted i zero (l ∷ ls) u v h within at new =
-    ap (λ hs. in_order (on_line i hs ++ from_line (i + 1) ls)) (new ∙ ap (λ (w : Line). put_in_order held_before h (all_but h.timer w.items)) at)
-    ∙ ap (λ es. in_order (es ++ from_line (i + 1) ls)) (on_line-put_in_order i h (all_but h.timer l.items))
-    ∙ in_order-put_in_order (expiry_on i h) (on_line i (all_but h.timer l.items)) (from_line (i + 1) ls)
-    ∙ ap (λ es. put_in_order is_before (expiry_on i h) (in_order es)) (sym (without-here i h.timer l ls))
-    ∙ ap (λ n. put_in_order is_before (expiry_on n h) (in_order (without n h.timer (from_line i (l ∷ ls))))) (omega arith)
-from_line-restarted i (suc k) (l ∷ ls) u v h within at new =
-    let there : i + 1 + k ≡ i + suc k = omega arith in
-    in_order-behind (expiry_on (i + suc k) h) (on_line i l.items) (without (i + suc k) h.timer (from_line (i + 1) ls)) (from_line (i + 1) (set ls k v))
-    (from_line-restarted (i + 1) k ls u v h (omega arith) at new ∙ ap (λ n. put_in_order is_before (expiry_on n h) (in_order (without n h.timer (from_line (i + 1) ls)))) there)
-    ∙ ap (λ es. put_in_order is_before (expiry_on (i + suc k) h) (in_order es)) (sym (without-behind i (i + suc k) h.timer l ls (omega arith)))
+around n i k [] is within = absurd (omega arith)
+around n i zero (l ∷ ls) is within = record {
+  before = [];
+  behind = from_line (i + 1) ls;
+  apart_before = tt;
+  apart_behind = apart-from_line n (i + 1) ls (omega (arith, is));
+  with_line = λ v. ap (λ m. on_line m v.items ++ from_line (i + 1) ls) (omega (arith, is));
+}
+around n i (suc k) (l ∷ ls) is within =
+    let later = around n (i + 1) k ls (omega (arith, is)) (omega arith) in
+    record {
+      before = on_line i l.items ++ later.before;
+      behind = later.behind;
+      apart_before = All-append (λ e. (e.line == n) ≡ false) (on_line i l.items) later.before (apart-on_line n i l.items (λ same. absurd (omega (arith, is, same)))) later.apart_before;
+      apart_behind = later.apart_behind;
+      with_line = λ v. ap (λ es. on_line i l.items ++ es) (later.with_line v) ∙ sym (append_assoc (on_line i l.items) later.before (on_line n v.items ++ later.behind));
+    }
 
 pub IsInOrder-in_order : (es : List Expiry) → IsInOrder is_before (in_order es)
 unfolding in_order
@@ -150,19 +121,6 @@ filter-in_order p (e ∷ es) =
       | false ↦ filter-in_order p es
     ])
 
--- the set without a timer, and with it started anew
-pub in_order-stopped : (k : ℕ) (lines : List Line) (u v : Line) (t : Timer) → k < length lines → u ≡ get_or lines k u → v.items ≡ all_but t u.items → in_order (from_line 0 (set lines k v)) ≡ without k t (in_order (from_line 0 lines))
-in_order-stopped k lines u v t within at new =
-    ap in_order (from_line-all_but 0 k lines u v t within at new ∙ ap (λ n. without n t (from_line 0 lines)) (omega arith))
-    ∙ sym (filter-in_order (λ e. not (is_of k t e)) (from_line 0 lines))
-
-pub in_order-restarted : (k : ℕ) (lines : List Line) (u v : Line) (h : Held) → k < length lines → u ≡ get_or lines k u → v.items ≡ put_in_order held_before h (all_but h.timer u.items) → in_order (from_line 0 (set lines k v)) ≡ put_in_order is_before (expiry_on k h) (without k h.timer (in_order (from_line 0 lines)))
-in_order-restarted k lines u v h within at new =
-    from_line-restarted 0 k lines u v h within at new
-    ∙ ap (λ n. put_in_order is_before (expiry_on n h) (in_order (without n h.timer (from_line 0 lines)))) (omega arith)
-    ∙ ap (put_in_order is_before (expiry_on k h)) (sym (filter-in_order (λ e. not (is_of k h.timer e)) (from_line 0 lines)))
-
--- the timers of a line are those that it keeps
 count_by-in_order : (p : Expiry → Bool) (es : List Expiry) → count_by p (in_order es) ≡ count_by p es
 unfolding in_order
 count_by-in_order p [] = refl
@@ -177,42 +135,58 @@ count_on-on_line k (x ∷ xs) =
     ∙ ap (λ b. cond b 1 0 + count_on k (on_line k xs)) (same_number k)
     ∙ omega (arith, count_on-on_line k xs)
 
-count_on-other_line : (k i : ℕ) (hs : List Held) → i ≢ k → count_on k (on_line i hs) ≡ 0
-unfolding on_line
-count_on-other_line k i [] ne = refl
-count_on-other_line k i (x ∷ xs) ne =
-    count_by-cons (λ e. e.line == k) (expiry_on i x) (on_line i xs)
-    ∙ ap (λ b. cond b 1 0 + count_on k (on_line i xs)) (other_number i k ne)
-    ∙ omega (arith, count_on-other_line k i xs ne)
-
 count_on-append : (k : ℕ) (xs ys : List Expiry) → count_on k (xs ++ ys) ≡ count_on k xs + count_on k ys
 count_on-append k xs ys = sum_by-append (λ e. cond (e.line == k) 1 0) xs ys
 
-count_on-later_lines : (k i : ℕ) (lines : List Line) → k < i → count_on k (from_line i lines) ≡ 0
-unfolding from_line
-count_on-later_lines k i [] h = refl
-count_on-later_lines k i (l ∷ ls) h =
-    count_on-append k (on_line i l.items) (from_line (i + 1) ls)
-    ∙ omega (arith, count_on-other_line k i l.items (omega arith), count_on-later_lines k (i + 1) ls (omega arith))
+module _ (k : ℕ) (lines : List Line) (within : k < length lines) where
+  pub here : Around k 0 k lines
+  here = around k 0 k lines (omega arith) within
 
-count_on-without_from_line : (i k : ℕ) (lines : List Line) (u : Line) (t : Timer) → k < length lines → u ≡ get_or lines k u → count_on (i + k) (without (i + k) t (from_line i lines)) ≡ length (all_but t u.items)
-count_on-without_from_line i k [] u t within at = absurd (omega arith)
-count_on-without_from_line i zero (l ∷ ls) u t within at =
-    ap (λ n. count_on n (without n t (from_line i (l ∷ ls)))) (omega arith)
-    ∙ ap (count_on i) (without-here i t l ls)
-    ∙ count_on-append i (on_line i (all_but t l.items)) (from_line (i + 1) ls)
-    ∙ omega (arith, count_on-on_line i (all_but t l.items), count_on-later_lines i (i + 1) ls (omega arith), ap (λ (w : Line). length (all_but t w.items)) at)
-count_on-without_from_line i (suc k) (l ∷ ls) u t within at =
-    let there : i + suc k ≡ i + 1 + k = omega arith in
-    ap (count_on (i + suc k)) (without-behind i (i + suc k) t l ls (omega arith))
-    ∙ count_on-append (i + suc k) (on_line i l.items) (without (i + suc k) t (from_line (i + 1) ls))
-    ∙ ap (λ n. n + count_on (i + suc k) (without (i + suc k) t (from_line (i + 1) ls))) (count_on-other_line (i + suc k) i l.items (omega arith))
-    ∙ ap (λ n. 0 + count_on n (without n t (from_line (i + 1) ls))) there
-    ∙ omega (arith, count_on-without_from_line (i + 1) k ls u t (omega arith) at)
+  module _ (u : Line) (at : u ≡ get_or lines k u) where
+    pub whole : from_line 0 lines ≡ here.before ++ (on_line k u.items ++ here.behind)
+    whole = ap (from_line 0) (sym (ap (set lines k) at ∙ set-get_or lines k u)) ∙ here.with_line u
 
-pub count_on-stopped : (k : ℕ) (lines : List Line) (u : Line) (t : Timer) → k < length lines → u ≡ get_or lines k u → count_on k (without k t (in_order (from_line 0 lines))) ≡ length (all_but t u.items)
-count_on-stopped k lines u t within at =
-    ap (count_on k) (filter-in_order (λ e. not (is_of k t e)) (from_line 0 lines))
-    ∙ count_by-in_order (λ e. e.line == k) (without k t (from_line 0 lines))
-    ∙ ap (λ n. count_on n (without n t (from_line 0 lines))) (omega arith)
-    ∙ count_on-without_from_line 0 k lines u t within at
+    -- the set without a timer of the line,
+    without_one : (t : Timer) → without k t (in_order (from_line 0 lines)) ≡ in_order (here.before ++ (on_line k (all_but t u.items) ++ here.behind))
+    without_one t =
+        let p = λ (e : Expiry). not (is_of k t e) in
+        let rest = on_line k u.items ++ here.behind in
+        filter-in_order p (from_line 0 lines)
+        ∙ ap (λ es. in_order (filter p es)) whole
+        ∙ ap in_order (filter-append p here.before rest
+        ∙ ap (λ es. es ++ filter p rest) (without-apart k t here.before here.apart_before)
+        ∙ ap (λ es. here.before ++ es) (filter-append p (on_line k u.items) here.behind
+        ∙ ap (λ es. es ++ filter p here.behind) (sym (on_line-all_but k t u.items))
+        ∙ ap (λ es. on_line k (all_but t u.items) ++ es) (without-apart k t here.behind here.apart_behind)))
+
+    module _ (v : Line) where
+      pub in_order-stopped : (t : Timer) → v.items ≡ all_but t u.items → in_order (from_line 0 (set lines k v)) ≡ without k t (in_order (from_line 0 lines))
+      in_order-stopped t new = ap in_order (here.with_line v ∙ ap (λ hs. here.before ++ (on_line k hs ++ here.behind)) new) ∙ sym (without_one t)
+
+      -- and with it started anew
+      pub in_order-restarted : (h : Held) → v.items ≡ put_in_order held_before h (all_but h.timer u.items)
+          → in_order (from_line 0 (set lines k v)) ≡ put_in_order is_before (expiry_on k h) (without k h.timer (in_order (from_line 0 lines)))
+      in_order-restarted h new =
+          let others = all_but h.timer u.items in
+          ap in_order (here.with_line v ∙ ap (λ hs. here.before ++ (on_line k hs ++ here.behind)) new)
+          ∙ in_order-behind (expiry_on k h) here.before (on_line k others ++ here.behind) (on_line k (put_in_order held_before h others) ++ here.behind)
+          (ap (λ es. in_order (es ++ here.behind)) (on_line-put_in_order k h others) ∙ in_order-put_in_order (expiry_on k h) (on_line k others) here.behind)
+          ∙ ap (put_in_order is_before (expiry_on k h)) (sym (without_one h.timer))
+
+    -- the timers of a line are those that it keeps
+    pub count_on-stopped : (t : Timer) → count_on k (without k t (in_order (from_line 0 lines))) ≡ length (all_but t u.items)
+    count_on-stopped t =
+        let others = on_line k (all_but t u.items) in
+        ap (count_on k) (without_one t)
+        ∙ count_by-in_order (λ e. e.line == k) (here.before ++ (others ++ here.behind))
+        ∙ count_on-append k here.before (others ++ here.behind)
+        ∙ omega (arith, count_on-append k others here.behind, count_on-apart k here.before here.apart_before, count_on-on_line k (all_but t u.items), count_on-apart k here.behind here.apart_behind)
+
+    -- the first timer of a line, and what stays without it
+    pub in_order-first : (h : Held) → slice_get u.items 0 ≡ Some h
+        → in_order (from_line 0 lines) ≡ put_in_order is_before (expiry_on k h) (in_order (here.before ++ (on_line k (drop 1 u.items) ++ here.behind)))
+    unfolding in_order on_line
+    in_order-first h front =
+        let rest = on_line k (drop 1 u.items) ++ here.behind in
+        ap in_order (whole ∙ ap (λ hs. here.before ++ (on_line k hs ++ here.behind)) (front_is u.items h front))
+        ∙ in_order-behind (expiry_on k h) here.before rest (expiry_on k h ∷ rest) refl

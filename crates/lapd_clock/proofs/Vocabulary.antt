@@ -1,13 +1,14 @@
 -- The words with which the proofs of this crate speak, from where they are defined.
-pub use Rattle.std.proofs.Common.{All, Bool, Contains, List, None, Option, Some, [], ap, arith, cond, count_by, drop, false, filter, get_or, is_ok, length, length-append, length-set, length-take, ltb, nat_le, nat_lt, not, refl, rules, set, slice_get, subst, suc, sym, take, true, unwrap_or, vec_len, zero, ℕ, ◌&&◌, ◌*◌, ◌++◌, ◌+◌, ◌-◌, ◌<◌, ◌==◌, ◌||◌, ◌∙◌, ◌∷◌, ◌≡◌, ◌≢◌, ◌≤◌}
-pub use Rattle.std.proofs.lemmas.Bool.{false≢true}
+pub use Rattle.std.proofs.Common.{All, Bool, Contains, inl, inr, List, None, Option, Some, [], ap, arith, cond, count_by, drop, false, filter, get_or, is_ok, length, length-append, length-set, length-take, ltb, nat_le, nat_lt, not, refl, rules, set, slice_get, subst, suc, sym, take, true, unwrap_or, vec_len, vec_capacity, zero, ℕ, ◌&&◌, ◌*◌, ◌++◌, ◌+◌, ◌-◌, ◌<◌, ◌==◌, ◌||◌, ◌∙◌, ◌∷◌, ◌≡◌, ◌≢◌, ◌≤◌}
+pub use Rattle.std.proofs.lemmas.Bool.{cases_lt, false≢true}
 pub use Rattle.std.proofs.lemmas.Bool.Decides.{nat_tests}
 pub use Rattle.std.proofs.lemmas.Cmp.{eq_by_cmp_equiv, nat_cmp_total, nat_eq_equiv, on_total, then_total, tied_itself}
 pub use Rattle.std.proofs.lemmas.Fn.{filter_same}
 pub use Rattle.std.proofs.lemmas.Iterator.{YieldsList-from_slice}
 pub use Rattle.std.proofs.lemmas.Iterator.Search.{position_from_yields_List}
-pub use Rattle.std.proofs.lemmas.List.{take_more}
+pub use Rattle.std.proofs.lemmas.List.{append_assoc, get_or_default, set-get_or, take_more}
 pub use Rattle.std.proofs.lemmas.List.Elements.{All-from_recursion, All-nil, filter-append, recursion_from_All}
+pub use Rattle.std.proofs.lemmas.Option.{none-some, same_Some}
 pub use Rattle.std.proofs.lemmas.List.Filters.{sum_by-filter_both}
 pub use Rattle.std.proofs.lemmas.List.Sorted.{ranks_by}
 pub use Rattle.std.proofs.lemmas.List.Sums.{count_by-le-length, length-filter, prefix_len-le-length, sum_by-append, sum_by-cons, sum_by-insert}
@@ -21,7 +22,7 @@ pub use Rattle.std.specs.declared.cmp.Ordering.TheVariants.{Equal, Greater, Less
 pub use Rattle.lapd_clock.specs.Given.{lengths_of}
 pub use Rattle.lapd_clock.specs.InOrder.{IsInOrder, put_in_order}
 pub use Rattle.lapd_clock.specs.Moments.{MovesOne, moment_of}
-pub use Rattle.lapd_clock.specs.Places.{AreFirstAfter, IsFirst, IsFirstAfter, IsFirstLine, IsKept, IsLineKept, Line, all_but, earlier_of, expiry_on, held_before, timers_in}
+pub use Rattle.lapd_clock.specs.Places.{IsAtFront, IsFirst, IsFirstLine, IsKept, IsLineKept, Line, all_but, earlier_of, expiry_on, held_before, timers_in}
 unfoldable pub use Rattle.lapd_clock.specs.Places.{from_line, in_order, on_line}
 pub use Rattle.lapd_clock.specs.Sound.{IsLeastDue, IsOneEach, IsSound}
 pub use Rattle.lapd_clock.specs.Timer.{AreInRange, Call, Lengths, Order, Packet, Service, Start, Stop, T200, T201, T203, Timer, duration, is_same, kind_rank, rank_of_service, service_rank, tei_rank, timer_cmp}

@@ -1,6 +1,6 @@
 -- How the places of the lines stand for the set of running timers: each line keeps its own, in the order in which they
 -- fall due.
-use Rattle.std.specs.Prelude.{◌≡◌, ℕ, ◌+◌, ◌≤◌, Bool, false, not, if◌then◌else◌, List, [], ◌∷◌, ◌++◌, length, filter, Option, None, Some, nat_lt, slice_get, ◌<◌, Vec, vec_len, vec_capacity}
+use Rattle.std.specs.Prelude.{◌≡◌, ℕ, ◌+◌, ◌≤◌, Bool, false, not, if◌then◌else◌, List, [], ◌∷◌, ◌++◌, length, filter, Option, None, Some, nat_lt, slice_get, get_or, ◌<◌, Vec, vec_len, vec_capacity}
 use Rattle.std.specs.declared.alloc.Global.{Global}
 use Rattle.std.specs.List.{AllByRecursion, HoldsAt}
 use Rattle.std.specs.Ordering.{nat_cmp, ordering_then, is_lt}
@@ -50,24 +50,19 @@ earlier_of first line [] = first
 earlier_of None line (h ∷ hs) = Some (line, h)
 earlier_of (Some first) line (h ∷ hs) = if nat_lt h.moment first.1.moment then Some (line, h) else Some first
 
--- the first timer of no line falls due before e, the lines counted from this one on
-abbrev pub IsFirstAfter : Expiry → ℕ → List Held → Type 0
-IsFirstAfter e line [] = Unit {0}
-IsFirstAfter e line (h ∷ hs) = is_before (expiry_on line h) e ≡ false
+-- this timer is the first of a line
+abbrev pub IsAtFront : List Line → ℕ → Held → Type 0
+IsAtFront lines line held = HoldsAt (λ v. slice_get v.items 0 ≡ Some held) lines line
 
-abbrev pub AreFirstAfter : Expiry → ℕ → List Line → Type 0
-AreFirstAfter e line [] = Unit {0}
-AreFirstAfter e line (v ∷ vs) = IsFirstAfter e line v.items × AreFirstAfter e (line + 1) vs
+-- the line of the first n whose first timer, held, is the first of all
+pub record IsFirstLine (n : ℕ) (lines : List Line) (line : ℕ) (held : Held) : Type 0 where
+  pub in_range : line < n
+  pub front : IsAtFront lines line held
+  pub least : (k : ℕ) (other : Held) → k < n → IsAtFront lines k other → is_before (expiry_on k other) (expiry_on line held) ≡ false
 
--- the line whose first timer, held, is the first of all
-pub record IsFirstLine (lines : List Line) (line : ℕ) (held : Held) : Type 0 where
-  pub in_range : line < length lines
-  pub front : HoldsAt (λ v. slice_get v.items 0 ≡ Some held) lines line
-  pub least : AreFirstAfter (expiry_on line held) 0 lines
-
-abbrev pub IsFirst : List Line → Option (ℕ × Held) → Type 0
-IsFirst lines None = AllByRecursion (λ v. v.items ≡ []) lines
-IsFirst lines (Some first) = IsFirstLine lines first.0 first.1
+abbrev pub IsFirst : ℕ → List Line → Option (ℕ × Held) → Type 0
+IsFirst n lines None = (k : ℕ) (d : Line) → k < n → (get_or lines k d).items ≡ []
+IsFirst n lines (Some first) = IsFirstLine n lines first.0 first.1
 
 -- a line keeps its timers in order, and has room for as many as it has places
 pub record IsLineKept (places : ℕ) (v : Line) : Type 0 where

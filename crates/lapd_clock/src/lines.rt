@@ -1,13 +1,13 @@
 //! Which line's timer falls due first.
 
-ghost use Rattle.std.specs.Prelude.{◌≡◌};
+ghost use Rattle.std.specs.Prelude.{◌≡◌, length};
 ghost use Rattle.lapd_clock.specs.Places.{earlier_of, IsFirst};
 
 use crate::line::Held;
 
 /// The line whose first timer falls due before those of all others, and that timer.
 pub(crate) fn first_of(lines: &[Vec<Held>]) -> Option<(usize, Held)>
-    ensures { IsFirst lines.now result }
+    ensures { IsFirst (length lines.now) lines.now result }
 {
     let mut first = None;
     for (line, running) in lines.iter().enumerate() {

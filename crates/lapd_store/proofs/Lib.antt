@@ -5,6 +5,7 @@ pub mod Focus
 pub mod Ownership
 pub mod Queues
 pub mod StoreLemmas
+mod Pointers
 mod Memory
 mod Sharing
 mod Values

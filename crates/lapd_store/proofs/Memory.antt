@@ -1,14 +1,6 @@
 -- What the walks of the functions on pointers share: octets taken out of a row, put back, or seen.
 use Rattle.lapd_store.proofs.Vocabulary.{◌≡◌, ℕ, zero, suc, ◌+◌, ◌<◌, ◌≤◌, List, [], ◌∷◌, ◌++◌, map, length, take, drop, set, replicate, Option, Some, None, refl, sym, ap, subst, ◌∙◌, arith, take-append-drop, full_share, u8, octet, octets, octet_lent, lent}
-use seplogic.Ra.Ura.{Ura}
-use base.Logic.{ent, sep, wand, via, snd∗, id⊢, mono_r, apply∗}
-use base.Fml.{Lft, froom}
-use mir.Syntax.{ty_int, w8, ty_array}
-use mir.Val.{vint}
-use types.Logic.{Logic, sem}
-use types.Kit.{‵, raw, ◌⊛◌, ◌$◌, ◌∵◌, !, qed, by, move, keep, use1, use2, split, fjoin, rewrite, frame, assume, done}
-use denote.Plain.{uint_out}
-use denote.Slice.{elements_shared}
+use Rattle.lapd_store.proofs.Pointers.{Ura, ent, sep, wand, via, snd∗, id⊢, mono_r, apply∗, Lft, froom, ty_int, w8, ty_array, vint, Logic, sem, ‵, raw, ◌⊛◌, ◌$◌, ◌∵◌, !, qed, by, move, keep, use1, use2, split, fjoin, rewrite, frame, assume, done, uint_out, elements_shared}
 
 module _ {M : Type 1} {𝓤 : Ura M} (𝓛 : Logic 𝓤) (b : ℕ) where
   open 𝓛 use {H}

@@ -1,18 +1,7 @@
 -- A `&` to a region's memory is made of one to each octet that was written.
 use Rattle.lapd_store.proofs.Vocabulary.{u8, octet, octets, octet_lent, lent, octets_own, octets_lent}
 use Rattle.std.specs.Prelude.{ℕ, ◌+◌, List, [], ◌∷◌, Option, Some, None, refl}
-use seplogic.Ra.Ura.{Ura}
-use base.Fml.{Lft, Incl, ftrue, ffalse}
-use types.Logic.{Logic}
-use denote.Param.Laws.{Laws, of_field}
-use denote.Param.Shared.{copy_shared}
-use denote.RawPtr.{Ptr, block_ptr, null_ptr}
-use denote.Sharing.{ShrLaws, said}
-use denote.SharingLaws.{beside_shr_laws, nothing_shr_laws, said_shr_laws}
-use denote.Shares.{Shares-less}
-use denote.Struct.Field.{u8-field}
-use denote.Struct.Laws.{u8-laws, u8-copy}
-use denote.Struct.Lending.{Lends, Lends-both, Lends-nothing, Lends-false}
+use Rattle.lapd_store.proofs.Pointers.{Ura, Lft, Incl, ftrue, ffalse, Logic, Laws, of_field, copy_shared, Ptr, block_ptr, null_ptr, ShrLaws, said, beside_shr_laws, nothing_shr_laws, said_shr_laws, Shares-less, u8-field, u8-laws, u8-copy, Lends, Lends-both, Lends-nothing, Lends-false}
 
 abbrev byte_laws : Laws u8
 byte_laws = of_field u8-field u8-laws refl (copy_shared u8-field u8-copy)

@@ -1,20 +1,6 @@
 -- The machine values of the structs that stand for memory: what is owned tells them, and is made of nothing.
 use Rattle.lapd_store.proofs.Vocabulary.{◌≡◌, ℕ, zero, suc, List, [], ◌∷◌, ◌++◌, T, refl, lit<, ◌∙◌}
-use seplogic.Ra.Ura.{Ura}
-use base.Logic.{ent, emp, sep}
-use base.Fml.{Fml}
-use mir.Syntax.{Ty, ty_ptr, ty_struct, tcons, tnil}
-use mir.Val.{Val, vstruct, vcons, vnil, of_list, has_ty, WT}
-use types.Logic.{Logic, sem}
-use types.Kit.{‵, ◌$◌, ◌∵◌, !, qed, move, fjoin, feq_i, fpack, done}
-use denote.RattleType.{RattleType, Valss}
-use denote.RawPtr.{Ptr, RawPtr, block_ptr, null_ptr, ptr_val}
-use denote.Builtin.{unit}
-use denote.Signature.{Slot, plain}
-use denote.Shadow.{shadow, makes_shadow}
-use denote.Steps.{nothing}
-use denote.Struct.Struct.{Struct, within}
-use denote.Struct.Tuple.{Tuple, tuple_type}
+use Rattle.lapd_store.proofs.Pointers.{Ura, ent, emp, sep, Fml, Ty, ty_ptr, ty_struct, tcons, tnil, Val, vstruct, vcons, vnil, of_list, has_ty, WT, Logic, sem, ‵, ◌$◌, ◌∵◌, !, qed, move, fjoin, feq_i, fpack, done, RattleType, Valss, Ptr, RawPtr, block_ptr, null_ptr, ptr_val, unit, Slot, plain, shadow, makes_shadow, nothing, Struct, within, Tuple, tuple_type}
 use denote.Struct.Declared as Declared
 
 -- a machine value of its type

@@ -4,6 +4,7 @@ pub mod Lists
 pub mod Tables
 pub mod Memories
 pub mod SoundWords
+mod Walk
 pub mod Served
 pub mod Counted
 pub mod Pigeonholes

@@ -1,6 +1,6 @@
 -- The assignments that are remembered: after one more, and after a TEI left.
-use Rattle.lapd_tei.proofs.Vocabulary.{◌≡◌, ℕ, ◌-◌, ◌≤◌, ◌==◌, Bool, true, false, cond, List, [], ◌∷◌, ◌++◌, length, drop, set, Option, Some, None, subst, ◌∙◌, refl, sym, ap, arith, length-drop, AllByRecursion, filter, find, option_map, false≢true, All-nil, All-cons, All-append, All-drop, recursion_from_All, none-some, same_Some, Places, is_on, place_of, free_place, Remembered, latest, freed, is_of_other, is_for, tei_in, remembered_in, IsSoundTable, IsSoundMemory, same_ri, same_tei}
-use Rattle.lapd_tei.proofs.Lists.{All-filter_by, IsDistinct-push, IsDistinct-drop, IsDistinct-filter, none-found}
+use Rattle.lapd_tei.proofs.Vocabulary.{◌≡◌, ℕ, ◌-◌, ◌≤◌, ◌==◌, true, false, List, [], ◌∷◌, ◌++◌, length, drop, set, Option, Some, None, subst, ◌∙◌, refl, sym, ap, arith, length-drop, AllByRecursion, filter, find, option_map, false≢true, All-nil, All-cons, All-append, All-drop, recursion_from_All, none-some, same_Some, Places, is_on, place_of, free_place, Remembered, latest, freed, is_of_other, is_for, tei_in, remembered_in, IsSoundTable, IsSoundMemory, same_ri, same_tei, length-filter, count_by-le-length, All-get_or}
+use Rattle.lapd_tei.proofs.Lists.{All-filter_by, IsDistinct-push, IsDistinct-drop, IsDistinct-filter, none-found, found}
 use Rattle.lapd_tei.proofs.Tables.{on-put, on-freed, on-range}
 
 pub memory-put : (places : Places) (remembered : List Remembered) (place tei : ℕ) → free_place places ≡ Some place → IsSoundMemory places remembered → IsSoundMemory (set places place (Some tei)) remembered
@@ -55,17 +55,9 @@ memory-remember before places remembered ri tei old sound new off on =
 other_leaves : (tei : ℕ) (r : Remembered) → is_of_other tei r ≡ true → (r.tei == tei) ≡ false
 other_leaves tei r e = grind arith
 
-fewer : (p : Remembered → Bool) (remembered : List Remembered) → length (filter p remembered) ≤ length remembered
-fewer p [] = omega arith
-fewer p (r ∷ remembered) =
-    elim (p r) as (λ b. length (cond b (r ∷ filter p remembered) (filter p remembered)) ≤ length (r ∷ remembered)) [
-      | true ↦ omega (arith, fewer p remembered)
-      | false ↦ omega (arith, fewer p remembered)
-    ]
-
 pub memory-freed : (places : Places) (remembered : List Remembered) (tei : ℕ) → IsSoundMemory places remembered → IsSoundMemory (freed places (place_of tei places)) (filter (is_of_other tei) remembered)
 memory-freed places remembered tei sound = record {
-  few = omega (arith, fewer (is_of_other tei) remembered, sound.few);
+  few = omega (arith, length-filter (is_of_other tei) remembered, count_by-le-length (is_of_other tei) remembered, sound.few);
   one_ri = IsDistinct-filter same_ri (is_of_other tei) remembered sound.one_ri;
   one_tei = IsDistinct-filter same_tei (is_of_other tei) remembered sound.one_tei;
   on_line = All-filter_by (is_of_other tei) (stays_on places) (stays_on (freed places (place_of tei places))) (λ r e on. on-freed places tei r.tei (other_leaves tei r e) on) remembered sound.on_line;
@@ -76,18 +68,11 @@ found_one : (o : Option Remembered) (tei : ℕ) → option_map tei_in o ≡ Some
 found_one None tei e = absurd (none-some tei e)
 found_one (Some r) tei e = (r, refl, same_Some r.tei tei e)
 
-found_in : (places : Places) (p : Remembered → Bool) (remembered : List Remembered) (r : Remembered) → AllByRecursion (stays_on places) remembered → find p remembered ≡ Some r → stays_on places r
-found_in places p [] r all e = absurd (none-some r e)
-found_in places p (one ∷ remembered) r all e =
-    elim (p one) as (λ b. p one ≡ b → stays_on places r) [
-      | true ↦ λ is. subst (stays_on places) (same_Some one r (sym (ap (λ b. cond b (Some one) (find p remembered)) is) ∙ e)) all.0
-      | false ↦ λ is. found_in places p remembered r all.1 (sym (ap (λ b. cond b (Some one) (find p remembered)) is) ∙ e)
-    ] refl
-
 pub remembered-on : (places : Places) (remembered : List Remembered) (ri tei : ℕ) → IsSoundMemory places remembered → remembered_in ri remembered ≡ Some tei → is_on tei places ≡ true
 remembered-on places remembered ri tei sound e =
-    let (r, found, same) = found_one (find (is_for ri) remembered) tei e in
-    subst (λ n. is_on n places ≡ true) same (found_in places (is_for ri) remembered r (recursion_from_All (stays_on places) remembered sound.on_line) found)
+    let (r, is, same) = found_one (find (is_for ri) remembered) tei e in
+    let there = found (is_for ri) remembered r is in
+    subst (λ n. is_on n places ≡ true) same (subst (stays_on places) there.at (All-get_or (stays_on places) remembered there.place r there.within sound.on_line))
 
 pub remembered-range : (places : Places) (remembered : List Remembered) (ri tei : ℕ) → IsSoundTable places → IsSoundMemory places remembered → remembered_in ri remembered ≡ Some tei → tei ≤ 127
 remembered-range places remembered ri tei table sound e = omega (arith, on-range places tei table (remembered-on places remembered ri tei sound e))

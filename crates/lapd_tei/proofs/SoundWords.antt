@@ -1,6 +1,6 @@
 -- What the words of the table keep.
-use Rattle.lapd_tei.proofs.Vocabulary.{◌≡◌, ℕ, zero, suc, ◌+◌, ◌≤◌, nat_le, true, false, cond, List, [], ◌∷◌, ◌++◌, length, drop, set, replicate, Option, Some, None, IfSome, refl, arith, length-append, length-drop, IsDistinct, nat_tests, All-nil, All-cons, All-append, All-drop, none-some, Message, action_of, Places, is_on, place_of, free_place, Check, Period, First, Second, no_room, with_message, freed, counted, responses, is_checked, IsAt, IsSoundTable, IsSoundMemory, IsSoundCheck, IsSoundQueue}
-use Rattle.lapd_tei.proofs.Tables.{on-put, on-freed}
+use Rattle.lapd_tei.proofs.Vocabulary.{◌≡◌, ℕ, zero, suc, ◌+◌, ◌≤◌, nat_le, true, false, cond, List, [], ◌∷◌, ◌++◌, length, drop, set, replicate, Option, Some, None, IfSome, refl, arith, length-append, length-drop, IsDistinct, nat_tests, All-nil, All-cons, All-append, All-drop, none-some, Message, action_of, Places, is_on, place_of, free_place, Check, Period, First, Second, no_room, with_message, freed, counted, responses, is_checked, IsAt, IsSoundTable, IsSoundMemory, IsSoundCheck, IsSoundQueue, IsSound, Management, sym, subst}
+use Rattle.lapd_tei.proofs.Tables.{on-put, on-freed, on-range}
 
 has_room : (n : ℕ) → nat_le 4 n ≡ false → n + 1 ≤ 4
 has_room n e = grind (arith, nat_tests)
@@ -17,6 +17,20 @@ queue-sent message waiting sound low =
         actions = All-append names_one waiting (message ∷ []) sound.actions (All-cons names_one message [] low (All-nil names_one));
       }
     ] refl
+
+-- a message is sent, and the table stays
+pub sound_sent : (m : Management) (message : Message) (check : Option Check) (waiting : List Message) → IsSound m → action_of message ≤ 127 → IfSome check (IsSoundCheck m.places)
+    → waiting ≡ with_message message m.waiting → IsSound (record m { check = check; waiting = waiting })
+sound_sent m message check waiting sound low checked sent = record {
+  table = sound.table;
+  memory = sound.memory;
+  checked = checked;
+  queue = subst IsSoundQueue (sym sent) (queue-sent message m.waiting sound.queue low);
+}
+
+-- a TEI that is on the line can be named in a message
+pub on_low : (m now : Management) (tei : ℕ) → m ≡ now → IsSound m → is_on tei now.places ≡ true → tei ≤ 127
+on_low m now tei is sound on = omega (arith, on-range m.places tei sound.table (subst (λ n. is_on tei n.places ≡ true) (sym is) on))
 
 pub queue-rest : (waiting : List Message) → IsSoundQueue waiting → IsSoundQueue (drop 1 waiting)
 queue-rest waiting sound = record {

@@ -1,6 +1,6 @@
 -- The table of the TEIs: what stands where, after a TEI came and after one left.
-use Rattle.lapd_tei.proofs.Vocabulary.{◌≡◌, ℕ, zero, suc, ◌<◌, ◌≤◌, ◌⊎◌, inl, inr, ◌==◌, ◌||◌, Bool, true, false, not, [], ◌∷◌, length, set, get_or, Option, Some, None, subst, ◌∙◌, refl, sym, ap, arith, false≢true, cases_order, nat_tests, get_or-set_same, get_or-set_other, position-Some, none-some, same_Some, Places, is_free, has, is_on, is_off, place_of, free_place, free_tei, automatic, freed, IsAt, IsSoundTable, IsLowestFree}
-use Rattle.lapd_tei.proofs.Lists.{found-passes, first-found}
+use Rattle.lapd_tei.proofs.Vocabulary.{◌≡◌, ℕ, zero, suc, ◌<◌, ◌≤◌, ◌⊎◌, inl, inr, ◌==◌, Bool, true, false, not, [], ◌∷◌, length, set, get_or, Option, Some, None, subst, ◌∙◌, refl, sym, ap, arith, false≢true, cases_order, nat_tests, get_or-set_same, get_or-set_other, position-Some, none-some, same_Some, Places, is_free, has, is_on, is_off, place_of, free_place, free_tei, automatic, freed, IsAt, IsSoundTable, IsLowestFree, ◌+◌, ◌-◌, list_any_at, Any-from_list_any, get_or_default, length-range_with_len, get_or-range_with_len}
+use Rattle.lapd_tei.proofs.Lists.{found}
 
 same_number : (a b : ℕ) → (a == b) ≡ true → a ≡ b
 same_number a b e = grind (arith, nat_tests)
@@ -8,48 +8,33 @@ same_number a b e = grind (arith, nat_tests)
 is_same : (a b : ℕ) → a ≡ b → (a == b) ≡ true
 is_same a b e = grind (arith, nat_tests)
 
--- a TEI that is at a place is on the line, and the other way round
-pub is_on-at : (places : Places) (i tei : ℕ) → IsAt places i tei → is_on tei places ≡ true
-is_on-at [] i tei e = absurd (none-some tei e)
-is_on-at (None ∷ places) zero tei e = absurd (none-some tei e)
-is_on-at (Some own ∷ places) zero tei e = ap (λ b. b || is_on tei places) (is_same own tei (same_Some own tei e))
-is_on-at (None ∷ places) (suc i) tei e = is_on-at places i tei e
-is_on-at (Some own ∷ places) (suc i) tei e = ap (λ b. (own == tei) || b) (is_on-at places i tei e) ∙ or_true (own == tei)
-  where
-    or_true : (b : Bool) → (b || true) ≡ true
-    or_true true = refl
-    or_true false = refl
-
-later : (o : Option ℕ) (places : Places) (tei : ℕ) → (i : ℕ) × IsAt places i tei → (i : ℕ) × IsAt (o ∷ places) i tei
-later o places tei found = (suc found.0, found.1)
-
-pub at-is_on : (places : Places) (tei : ℕ) → is_on tei places ≡ true → (i : ℕ) × IsAt places i tei
-at-is_on [] tei e = absurd (false≢true e)
-at-is_on (None ∷ places) tei e = later None places tei (at-is_on places tei e)
-at-is_on (Some own ∷ places) tei e =
-    elim (own == tei) as (λ b. (own == tei) ≡ b → (i : ℕ) × IsAt (Some own ∷ places) i tei) [
-      | true ↦ λ is. (0, ap Some (same_number own tei is))
-      | false ↦ λ is. later (Some own) places tei (at-is_on places tei (sym (ap (λ b. b || is_on tei places) is) ∙ e))
-    ] refl
-
--- a TEI that is not on the line is at no place
-pub at-off : (places : Places) (i tei : ℕ) → is_on tei places ≡ false → IsAt places i tei → ⊥
-at-off places i tei off e = false≢true (sym off ∙ is_on-at places i tei e)
-
 -- a place that has a TEI is one of the table's
 pub at-within : (places : Places) (i tei : ℕ) → IsAt places i tei → i < length places
 at-within [] i tei e = absurd (none-some tei e)
 at-within (o ∷ places) zero tei e = omega arith
 at-within (o ∷ places) (suc i) tei e = omega (arith, at-within places i tei e)
 
--- the place that is found is free, or has the TEI
-nobody : (o : Option ℕ) → is_free o ≡ true → o ≡ None
-nobody None e = refl
-nobody (Some own) e = absurd (false≢true e)
+-- a TEI that is at a place is on the line, and the other way round
+pub is_on-at : (places : Places) (i tei : ℕ) → IsAt places i tei → is_on tei places ≡ true
+is_on-at places i tei e = list_any_at (has tei) places i None (at-within places i tei e) (ap (has tei) e ∙ is_same tei tei refl)
 
 holder : (tei : ℕ) (o : Option ℕ) → has tei o ≡ true → o ≡ Some tei
 holder tei None e = absurd (false≢true e)
 holder tei (Some own) e = ap Some (same_number own tei e)
+
+pub at-is_on : (places : Places) (tei : ℕ) → is_on tei places ≡ true → (i : ℕ) × IsAt places i tei
+at-is_on places tei e =
+    let there = Any-from_list_any (has tei) places e in
+    (there.0, get_or_default places there.0 None there.1 there.2 ∙ there.3 ∙ holder tei there.1 there.4)
+
+-- a TEI that is not on the line is at no place
+pub at-off : (places : Places) (i tei : ℕ) → is_on tei places ≡ false → IsAt places i tei → ⊥
+at-off places i tei off e = false≢true (sym off ∙ is_on-at places i tei e)
+
+-- the place that is found is free, or has the TEI
+nobody : (o : Option ℕ) → is_free o ≡ true → o ≡ None
+nobody None e = refl
+nobody (Some own) e = absurd (false≢true e)
 
 pub free_place-is : (places : Places) (place : ℕ) → free_place places ≡ Some place → (place < length places) × (get_or places place None ≡ None)
 free_place-is places place e =
@@ -151,10 +136,15 @@ not_true false e = refl
 
 pub free_tei-is : (places : Places) (tei : ℕ) → free_tei places ≡ Some tei → IsLowestFree places tei
 free_tei-is places tei e =
-    let first = first-found (is_off places) 64 63 tei e in
+    let first = found (is_off places) automatic tei e in
+    let place : first.place < 63 = omega (arith, first.within, length-range_with_len 64 63) in
+    let is : 64 + first.place ≡ tei = sym (get_or-range_with_len 64 63 first.place tei place) ∙ first.at in
     record {
-      least = first.least;
-      most = omega (arith, first.within);
-      off = not_true _ (found-passes (is_off places) automatic tei e);
-      lower = λ other l h. not_not _ (first.before other l h);
+      least = omega (arith, is);
+      most = omega (arith, is, place);
+      off = not_true _ first.passes;
+      lower = λ other l h.
+          let k = other - 64 in
+          let there : get_or automatic k tei ≡ other = get_or-range_with_len 64 63 k tei (omega (arith, is, place)) ∙ omega (arith, l) in
+          not_not _ (ap (is_off places) (sym there) ∙ first.before k (omega (arith, is, l)));
     }

@@ -1,14 +1,16 @@
 -- The words with which the proofs of this crate speak, from where they are defined.
 pub use Rattle.std.proofs.Common.{Bool, IfSome, IsSome, List, None, Option, Some, [], ap, arith, cond, drop, false, get_or, inl, inr, is_some, length, length-append, length-drop, nat_le, not, refl, replicate, rules, set, subst, suc, sym, take, true, zero, ℕ, ◌&&◌, ◌++◌, ◌+◌, ◌-◌, ◌<◌, ◌==◌, ◌||◌, ◌∙◌, ◌∷◌, ◌≡◌, ◌≤◌, ◌⊎◌}
+pub use Rattle.std.proofs.lemmas.List.Sums.{count_by-le-length, fails_before_first, length-filter, passes_at_first}
+pub use Rattle.std.proofs.lemmas.List.FromFn.{get_or-range_with_len, length-range_with_len}
+pub use Rattle.std.proofs.lemmas.List.Folds.{Any-from_list_any, find_at, list_any_at}
 pub use Rattle.std.proofs.lemmas.Bool.{cases_order, false≢true}
 pub use Rattle.std.proofs.lemmas.Bool.Decides.{nat_tests}
-pub use Rattle.std.proofs.lemmas.List.{get_or-set_other, get_or-set_same, take-replicate}
-pub use Rattle.std.proofs.lemmas.List.Elements.{All-append, All-cons, All-drop, All-from_recursion, All-nil, recursion_from_All}
+pub use Rattle.std.proofs.lemmas.List.{get_or-set_other, get_or-set_same, get_or_default, take-replicate}
+pub use Rattle.std.proofs.lemmas.List.Elements.{All-append, All-cons, All-drop, All-from_recursion, All-get_or, All-nil, recursion_from_All}
 pub use Rattle.std.proofs.lemmas.List.Quantifiers.{position-Some}
-pub use Rattle.std.proofs.lemmas.Option.{none-some, same_Some}
-pub use Rattle.std.specs.List.{All, AllByRecursion, filter, find, range_with_len}
+pub use Rattle.std.proofs.lemmas.Option.{get_or_from_slice_get, none-some, same_Some, slice_get_within}
+pub use Rattle.std.specs.List.{All, AllByRecursion, filter, find, position_or_len, range_with_len}
 unfoldable pub use Rattle.std.specs.List.{IsDistinct}
-pub use Rattle.std.specs.List.Retain.{RetainsInTurn}
 pub use Rattle.std.specs.Option.{option_map}
 pub use Rattle.lapd_frame.specs.declared.refusals.Refusal.{Refusal}
 pub use Rattle.lapd_frame.specs.declared.refusals.Refusal.TheVariants.{NoLink, TeiTaken}
@@ -21,3 +23,4 @@ pub use Rattle.lapd_tei.specs.Rows.{assign, assign_new, count, counted, doubled,
 pub use Rattle.lapd_tei.specs.Sound.{IsAt, IsSound, IsSoundCheck, IsSoundMemory, IsSoundQueue, IsSoundTable, same_ri, same_tei}
 pub use Rattle.lapd_tei.specs.Table.{Places, automatic, free_place, free_tei, has, is_free, is_off, is_on, place_of}
 pub use Rattle.lapd_tei.specs.Words.{Course, Step, begin_check, begun, check_is, end_check, freed, is_of_other, latest, leave, left, lose_one, lost_after, no_room, send, unserved, with_message}
+pub use Rattle.lapd_tei.specs.Outcome.{management_of}

@@ -14,6 +14,7 @@ pub fn sound_throughout()
 /// In sound management, and for events whose requests name TEIs of at most 126: the change that is told
 /// of an event is the change of the table, and a TEI that came was not on the line and took the lowest
 /// free place. A law about the definitions in `specs/`; the call does nothing.
+#[tactic(auto, using(crate::proofs::LawLemmas::changes_are_told))]
 pub fn changes_are_told()
     ensures { ChangesAreTold }
 {}
@@ -30,6 +31,7 @@ pub fn lowest_is_assigned()
 
 /// An event lets at most one message more wait and loses at most one; a pull lets one fewer wait, or
 /// finds none. A law about the definitions in `specs/`; the call does nothing.
+#[tactic(auto, using(crate::proofs::LawLemmas::one_more_waits, crate::proofs::LawLemmas::one_is_lost))]
 pub fn one_more_waits()
     ensures more { OneMoreWaits }
     ensures lost { OneIsLost }
@@ -38,6 +40,7 @@ pub fn one_more_waits()
 
 /// A message that is not served changes nothing, and nothing else is told of it. A law about the
 /// definitions in `specs/`; the call does nothing.
+#[tactic(auto, using(crate::proofs::LawLemmas::unserved_changes_nothing))]
 pub fn unserved_changes_nothing()
     ensures { UnservedChangesNothing }
 {}
@@ -46,6 +49,7 @@ pub fn unserved_changes_nothing()
 /// event has one order at most, a Start of T201 after which a check runs or a Stop after which none does,
 /// and none where T201 goes on as it was; after its own expiry it is started anew, or no check runs. A law
 /// about the definitions in `specs/`; the call does nothing.
+#[tactic(auto, using(crate::proofs::Followed::t201_follows, crate::proofs::Followed::expired_t201_follows))]
 pub fn orders_follow_the_check()
     ensures each { T201Follows }
     ensures expired { ExpiredT201Follows }

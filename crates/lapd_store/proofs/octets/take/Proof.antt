@@ -1,34 +1,8 @@
 -- `take` is given a block and cuts it into octets that were not written.
 use Rattle.lapd_store.proofs.Vocabulary.{◌≡◌, ℕ, ◌*◌, ◌^◌, ◌<◌, List, [], ◌∷◌, ◌++◌, replicate, None, true, false, refl, ◌∙◌, arith, lit<, w64, Ok, Err, proved_at, leaves, Al, seen, Takes, at_takes, Answered, Answer-typed, Takes-goes, Takes-gives, answers, after, head, arm_body, first_Good, ok_of, err_of, block_of, octets}
 use Rattle.std.specs.contracts.alloc.AllocError as error
-use base.Logic.{SProp, emp, id⊢}
-use base.Fml.{Lft, Share, ftrue, flft}
-use contract.BorrowLft.{◌⊑◌, ⊑_trans}
-use contract.Monad.{fact, fact_i}
-use contract.Running.{tables}
-use denote.Laws.{Is}
-use denote.Param.{param, bounded, layout}
-use denote.RattleType.{RattleType, owns}
-use denote.RawPtr.{Ptr, block_ptr}
-use denote.Signature.{types_at, type_at}
-use denote.Steps.{nothing, heard, owned}
+use Rattle.lapd_store.proofs.Pointers.{SProp, emp, id⊢, Lft, Share, ftrue, flft, ◌⊑◌, ⊑_trans, fact, fact_i, tables, Is, param, bounded, layout, RattleType, owns, Ptr, block_ptr, types_at, type_at, nothing, heard, owned, Struct, Struct-Makes, Tuple, calls_at, alive, framed, Stays, stay_dropped, Goes-dropped, walk_of, inst_fn, Ty, Fn, Args, Body, a_type, dcons, dnil, Val, vint, vptr, vstruct, vcons, vnil, capped_is, Env, WpFn, Wp, after_seq, at_return, alloc_all, pass_all, free_all, look_at, get, get_in, get_tag, sets, sets_last, lands_as, env, Post as After, any_q, ‵, raw, ◌⊛◌, later, prop, at_ret, ◌$◌, ◌∵◌, !, qed, by, move, drop, use0, use1, use2, use3, split, join, regoal, fsplit, fjoin, await, live, vrt, in_variant, whole, agg, stop, fld, lit, of_opd, no_more, and_then, first, switches_on, exec, returns, enter}
 use denote.Struct.Declared as Declared
-use denote.Struct.Struct.{Struct, Struct-Makes}
-use denote.Struct.Tuple.{Tuple}
-use denote.Triple.Call.{calls_at}
-use denote.Triple.Entry.{alive}
-use denote.Triple.Table.{framed}
-use denote.Triple.Walked.{Stays, stay_dropped, Goes-dropped, walk_of}
-use mir.MapTy.{inst_fn}
-use mir.Syntax.{Ty, Fn, Args, Body, a_type, dcons, dnil}
-use mir.Val.{Val, vint, vptr, vstruct, vcons, vnil}
-use prog.Capped.{capped_is}
-use prog.Wp.{Env, WpFn, Wp, after_seq, at_return}
-use types.ByLocal.{alloc_all, pass_all, free_all, look_at, get, get_in, get_tag, sets, sets_last, lands_as, env}
-use types.Kit.{Post as After, any_q, ‵, raw, ◌⊛◌, later, prop, at_ret, ◌$◌, ◌∵◌, !, qed, by, move, drop, use0, use1, use2, use3, split, join, regoal, fsplit, fjoin, await}
-use types.Match.{live, vrt, in_variant}
-use types.Part.{whole, agg}
-use types.Run.{stop, fld, lit, of_opd, no_more, and_then, first, switches_on, exec, returns, enter}
 use Rattle.lapd_store.specs.contracts.octets.Base as begin
 use Rattle.lapd_store.specs.contracts.octets.Octets as octs
 use Rattle.lapd_store.specs.contracts.octets.Deed as deed

@@ -1,6 +1,5 @@
 -- A `&` to the octets reaches each that was written.
-use base.Fml.{Incl-refl}
-use denote.Struct.Lending.{of_Lends}
+use Rattle.lapd_store.proofs.Pointers.{Incl-refl, of_Lends}
 use Rattle.lapd_store.specs.contracts.octets.Octets as C
 use Rattle.lapd_store.proofs.octets.Octets.TheLaw.Statement.{statement}
 use Rattle.lapd_store.proofs.Sharing.{octets_lent_laws, Lends-octets}

@@ -1,17 +1,12 @@
 -- Hand-written answers for `Teis::ask_again`.
-use Rattle.lapd_tei.proofs.Vocabulary.{◌≡◌, IfSome, Some, sym, subst, ap, ◌∙◌, arith, IsSoundCheck, IsSoundQueue}
-use Rattle.lapd_tei.proofs.Tables.{on-range}
-use Rattle.lapd_tei.proofs.SoundWords.{queue-sent, check-again}
+use Rattle.lapd_tei.proofs.Vocabulary.{◌≡◌, IfSome, Some, refl, subst, ap, ◌∙◌, IdentityCheckRequest, IsSoundCheck, management_of}
+use Rattle.lapd_tei.proofs.SoundWords.{sound_sent, on_low, check-again}
 use Rattle.lapd_tei.proofs.teis.Teis.ask_again.Goals as goal
 
 pub invariant_of-self : goal.invariant_of-self
 invariant_of-self c =
-    let sound = c.self.invariant in
-    let runs : c.self.inside.check ≡ Some c.args.check = ap (λ m. m.check) c.self.view_is ∙ c.requires in
-    let checked : IsSoundCheck c.self.inside.table c.args.check = subst (λ check. IfSome check (IsSoundCheck c.self.inside.table)) runs sound.checked in
-    record {
-      table = sound.table;
-      memory = sound.memory;
-      checked = check-again _ c.args.check checked;
-      queue = subst IsSoundQueue (sym c.send-lost.ensures.waits) (queue-sent _ _ sound.queue (omega (arith, on-range _ _ sound.table checked.on_line)));
-    }
+    let m = management_of c.self.inside in
+    let runs : m.check ≡ Some c.args.check = ap (λ m. m.check) c.self.view_is ∙ c.requires in
+    let checked : IsSoundCheck m.places c.args.check = subst (λ check. IfSome check (IsSoundCheck m.places)) runs c.self.invariant.checked in
+    sound_sent m (IdentityCheckRequest c.args.check.tei) _ _ c.self.invariant (on_low m m c.args.check.tei refl c.self.invariant checked.on_line)
+    (check-again m.places c.args.check checked) c.send-lost.ensures.waits

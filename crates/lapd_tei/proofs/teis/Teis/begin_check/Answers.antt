@@ -1,16 +1,10 @@
 -- Hand-written answers for `Teis::begin_check`.
-use Rattle.lapd_tei.proofs.Vocabulary.{◌≡◌, true, sym, subst, arith, is_on, IsSoundCheck, IsSoundQueue}
-use Rattle.lapd_tei.proofs.Tables.{on-range}
-use Rattle.lapd_tei.proofs.SoundWords.{queue-sent, check-begun}
+use Rattle.lapd_tei.proofs.Vocabulary.{◌≡◌, true, sym, subst, is_on, IdentityCheckRequest, IsSoundCheck, management_of}
+use Rattle.lapd_tei.proofs.SoundWords.{sound_sent, on_low, check-begun}
 use Rattle.lapd_tei.proofs.teis.Teis.begin_check.Goals as goal
 
 pub invariant_of-self : goal.invariant_of-self
 invariant_of-self c =
-    let sound = c.self.invariant in
     let on : is_on c.args.tei c.self.inside.table ≡ true = subst (λ m. is_on c.args.tei m.places ≡ true) (sym c.self.view_is) c.requires in
-    record {
-      table = sound.table;
-      memory = sound.memory;
-      checked = subst (IsSoundCheck c.self.inside.table) (sym c.begun.ensures) (check-begun _ c.args.tei on);
-      queue = subst IsSoundQueue (sym c.send-lost.ensures.waits) (queue-sent _ _ sound.queue (omega (arith, on-range _ _ sound.table on)));
-    }
+    sound_sent (management_of c.self.inside) (IdentityCheckRequest c.args.tei) _ _ c.self.invariant (on_low _ _ c.args.tei c.self.view_is c.self.invariant c.requires)
+    (subst (IsSoundCheck c.self.inside.table) (sym c.begun.ensures) (check-begun _ c.args.tei on)) c.send-lost.ensures.waits

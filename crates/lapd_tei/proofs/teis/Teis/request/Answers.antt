@@ -1,30 +1,18 @@
 -- Hand-written answers for `Teis::request`.
-use Rattle.lapd_tei.proofs.Vocabulary.{IfSome, sym, subst, ◌∙◌, arith, IsSoundTable, IsSoundMemory, IsSoundCheck, IsSoundQueue}
+use Rattle.lapd_tei.proofs.Vocabulary.{IfSome, sym, subst, ◌∙◌, arith, IsSoundTable, IsSoundMemory, IsSoundCheck, IsSoundQueue, IdentityDenied, management_of}
 use Rattle.lapd_tei.proofs.Tables.{table-put, on-newcomer, free_tei-is}
 use Rattle.lapd_tei.proofs.Memories.{memory-put, memory-remember, remembered-range}
-use Rattle.lapd_tei.proofs.SoundWords.{queue-sent, check-put}
+use Rattle.lapd_tei.proofs.SoundWords.{sound_sent, queue-sent, check-put}
 use Rattle.lapd_tei.proofs.teis.Teis.request.Goals as goal
 
 pub invariant_of-self : goal.invariant_of-self
 invariant_of-self c =
     let sound = c.self.invariant in
-    record {
-      table = sound.table;
-      memory = sound.memory;
-      checked = sound.checked;
-      queue = subst IsSoundQueue (sym c.send.ensures.waits)
-          (queue-sent _ _ sound.queue (remembered-range _ _ c.args.ri _ sound.table sound.memory (sym c.tei_for.ensures ∙ c.in-Some.is)));
-    }
+    sound_sent (management_of c.self.inside) _ _ _ sound (remembered-range _ _ c.args.ri _ sound.table sound.memory (sym c.tei_for.ensures ∙ c.in-Some.is)) sound.checked c.send.ensures.waits
 
 pub invariant_of-self-in_default-free_tei : goal.invariant_of-self-in_default-free_tei
 invariant_of-self-in_default-free_tei c =
-    let sound = c.self.invariant in
-    record {
-      table = sound.table;
-      memory = sound.memory;
-      checked = sound.checked;
-      queue = subst IsSoundQueue (sym c.send-in_default-free_tei.ensures.waits) (queue-sent _ _ sound.queue (omega arith));
-    }
+    sound_sent (management_of c.self.inside) (IdentityDenied c.args.ri) _ _ c.self.invariant (omega arith) c.self.invariant.checked c.send-in_default-free_tei.ensures.waits
 
 pub invariant_of-self-2 : goal.invariant_of-self-2
 invariant_of-self-2 c =

@@ -1,27 +1,12 @@
 -- Hand-written answers for `Teis::take_off`.
-use Rattle.lapd_tei.proofs.Vocabulary.{◌≡◌, true, sym, subst, arith, is_on, IsSoundQueue}
-use Rattle.lapd_tei.proofs.Tables.{on-range}
-use Rattle.lapd_tei.proofs.SoundWords.{queue-sent}
+use Rattle.lapd_tei.proofs.Vocabulary.{None, IdentityRemove, management_of}
+use Rattle.lapd_tei.proofs.SoundWords.{sound_sent, on_low}
 use Rattle.lapd_tei.proofs.teis.Teis.take_off.Goals as goal
 
 pub invariant_of-self : goal.invariant_of-self
 invariant_of-self c =
-    let sound = c.self.invariant in
-    let on : is_on c.args.tei c.self.inside.table ≡ true = subst (λ m. is_on c.args.tei m.places ≡ true) (sym c.self.view_is) c.requires in
-    record {
-      table = sound.table;
-      memory = sound.memory;
-      checked = tt;
-      queue = subst IsSoundQueue (sym c.send-lost.ensures.waits) (queue-sent _ _ sound.queue (omega (arith, on-range _ _ sound.table on)));
-    }
+    sound_sent (management_of c.self.inside) (IdentityRemove c.args.tei) None _ c.self.invariant (on_low _ _ c.args.tei c.self.view_is c.self.invariant c.requires) tt c.send-lost.ensures.waits
 
 pub invariant_of-self-else-is_checked : goal.invariant_of-self-else-is_checked
 invariant_of-self-else-is_checked c =
-    let sound = c.self.invariant in
-    let on : is_on c.args.tei c.self.inside.table ≡ true = subst (λ m. is_on c.args.tei m.places ≡ true) (sym c.self.view_is) c.requires in
-    record {
-      table = sound.table;
-      memory = sound.memory;
-      checked = sound.checked;
-      queue = subst IsSoundQueue (sym c.send-lost.ensures.waits) (queue-sent _ _ sound.queue (omega (arith, on-range _ _ sound.table on)));
-    }
+    sound_sent (management_of c.self.inside) (IdentityRemove c.args.tei) _ _ c.self.invariant (on_low _ _ c.args.tei c.self.view_is c.self.invariant c.requires) c.self.invariant.checked c.send-lost.ensures.waits

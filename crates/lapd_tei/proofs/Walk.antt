@@ -1,0 +1,111 @@
+-- Every event ends in one of a few ways: the rows of the table are walked once, for any claim.
+use Rattle.lapd_tei.proofs.Vocabulary.{◌≡◌, ℕ, ◌==◌, ◌&&◌, nat_le, Bool, true, false, not, cond, is_some, Option, Some, None, refl, sym, arith, nat_tests, none-some, Refusal, NoLink, TeiTaken, Heard, IdentityAssigned, IdentityDenied, IdentityRemove, IdentityRequest, IdentityVerify, IdentityCheckResponse, heard_in, is_on, free_place, free_tei, Management, Check, Period, First, Second, Course, Step, begun, no_room, leave, check_is, begin_check, end_check, lose_one, send, unserved, assign, assign_new, remembered_in, may_be_checked, counted, responses, doubled, count, respond, serve, expire, expire_period, expire_check, is_unanswered, removed, join_at, put_on, is_checked, take_off, nothing_happens, Event, message, expiry, remove, check, refusal_if, refusal, unless_refused, step, course}
+use Rattle.lapd_tei.specs.Events.{assign as assigning}
+use Rattle.lapd_tei.proofs.Tables.{not_not}
+
+-- What a claim has to say of each way in which a message of a terminal ends,
+pub record OfMessages (m : Management) (E : Course → Type 0) : Type 0 where
+  pub is_unserved : E (unserved (begun m))
+  pub is_lost : E (lose_one (begun m))
+  pub is_denied : (ri : ℕ) → E (send (IdentityDenied ri) (begun m))
+  pub comes_again : (ri tei : ℕ) → remembered_in ri m.remembered ≡ Some tei → E (send (IdentityAssigned ri tei) (begun m))
+  pub is_new : (ri place tei : ℕ) → remembered_in ri m.remembered ≡ None → free_place m.places ≡ Some place → free_tei m.places ≡ Some tei
+      → E (assign_new ri (Some place) (Some tei) (begun m))
+  pub begins : (tei : ℕ) → is_on tei m.places ≡ true → E (begin_check tei (begun m))
+  pub is_counted : (own : Check) → m.check ≡ Some own → nat_le 2 (responses (counted own)) ≡ false → E (check_is (Some (counted own)) (begun m))
+  pub is_doubled : (own : Check) (tei : ℕ) → m.check ≡ Some own → own.tei ≡ tei → E (doubled tei (begun m))
+
+-- of each in which an expiry of T201 does,
+pub record OfExpiries (m : Management) (E : Course → Type 0) : Type 0 where
+  pub is_idle : m.check ≡ None → E (begun m)
+  pub asks_again : (own : Check) → m.check ≡ Some own → E (expire_period own First (begun m))
+  pub is_removed : (own : Check) → m.check ≡ Some own → E (removed own.tei (begun m))
+  pub ends : (own : Check) → m.check ≡ Some own → E (end_check (begun m))
+
+-- and of all
+pub record OfEvents (e : Event) (m : Management) (E : Course → Type 0) : Type 0 where
+  pub messages : OfMessages m E
+  pub expiries : OfExpiries m E
+  pub is_refused : E (begun m)
+  pub joins : (tei place : ℕ) → e ≡ assigning tei → is_on tei m.places ≡ false → free_place m.places ≡ Some place → E (join_at tei (Some place) (begun m))
+  pub leaves_checked : (tei : ℕ) → is_on tei m.places ≡ true → E (leave tei (end_check (send (IdentityRemove tei) (begun m))))
+  pub leaves : (tei : ℕ) → is_on tei m.places ≡ true → is_checked tei m.check ≡ false → E (leave tei (send (IdentityRemove tei) (begun m)))
+
+same_number : (a b : ℕ) → (a == b) ≡ true → a ≡ b
+same_number a b e = grind (arith, nat_tests)
+
+first_true : (a b : Bool) → (a && b) ≡ true → a ≡ true
+first_true true b e = refl
+first_true false b e = e
+
+-- a test that does not refuse
+not_refused : (b : Bool) (why : Refusal) (others : Option Refusal) → refusal_if b why others ≡ None → b ≡ false
+not_refused true why others e = absurd (none-some why (sym e))
+not_refused false why others e = refl
+
+module _ (m : Management) (E : Course → Type 0) where
+  either : (b : Bool) (f g : Step) (c : Course) → (b ≡ true → E (f c)) → (b ≡ false → E (g c)) → E ((cond b f g) c)
+  either true f g c x y = x refl
+  either false f g c x y = y refl
+
+  unless : (o : Option Refusal) (does : Step) → E (begun m) → (o ≡ None → E (does (begun m))) → E (unless_refused o does m)
+  unless None does x y = y refl
+  unless (Some why) does x y = x
+
+  of_new : OfMessages m E → (ri : ℕ) (place tei : Option ℕ) → remembered_in ri m.remembered ≡ None → free_place m.places ≡ place → free_tei m.places ≡ tei → E (assign_new ri place tei (begun m))
+  of_new w ri (Some place) (Some tei) new at free = w.is_new ri place tei new at free
+  of_new w ri (Some place) None new at free = w.is_denied ri
+  of_new w ri None tei new at free = w.is_denied ri
+
+  of_assign : OfMessages m E → (ri : ℕ) (o : Option ℕ) → remembered_in ri m.remembered ≡ o → E (assign ri o (begun m))
+  of_assign w ri (Some tei) is = w.comes_again ri tei is
+  of_assign w ri None is = of_new w ri (free_place m.places) (free_tei m.places) is refl refl
+
+  of_respond : OfMessages m E → (tei : ℕ) (o : Option Check) → m.check ≡ o → E (respond tei o (begun m))
+  of_respond w tei None is = w.is_unserved
+  of_respond w tei (Some own) is =
+      either (own.tei == tei) (count tei (counted own)) unserved (begun m)
+      (λ same. either (nat_le 2 (responses (counted own))) (doubled tei) (check_is (Some (counted own))) (begun m)
+      (λ _. w.is_doubled own tei is (same_number own.tei tei same)) (λ few. w.is_counted own is few)) (λ _. w.is_unserved)
+
+  pub of_serve : OfMessages m E → (o : Option Heard) → E (serve o (begun m))
+  of_serve w None = w.is_unserved
+  of_serve w (Some (IdentityRequest ri)) =
+      either (no_room m.waiting) lose_one (assign ri (remembered_in ri m.remembered)) (begun m) (λ _. w.is_lost) (λ _. of_assign w ri (remembered_in ri m.remembered) refl)
+  of_serve w (Some (IdentityVerify tei)) =
+      either (may_be_checked tei m) (begin_check tei) unserved (begun m) (λ may. w.begins tei (first_true (is_on tei m.places) (not (is_some m.check)) may)) (λ _. w.is_unserved)
+  of_serve w (Some (IdentityCheckResponse tei)) = of_respond w tei m.check refl
+
+  of_period : OfExpiries m E → (own : Check) (period : Period) → m.check ≡ Some own → E (expire_period own period (begun m))
+  of_period w own First is = w.asks_again own is
+  of_period w own Second is = either (is_unanswered own) (removed own.tei) end_check (begun m) (λ _. w.is_removed own is) (λ _. w.ends own is)
+
+  of_expire_check : OfExpiries m E → (o : Option Check) → m.check ≡ o → E (expire_check o (begun m))
+  of_expire_check w None is = w.is_idle is
+  of_expire_check w (Some own) is = of_period w own own.period is
+
+  pub of_expire : OfExpiries m E → E (expire (begun m))
+  of_expire w = of_expire_check w m.check refl
+
+  of_join_at : (tei : ℕ) → OfEvents (assigning tei) m E → (o : Option ℕ) → is_on tei m.places ≡ false → free_place m.places ≡ o → E (join_at tei o (begun m))
+  of_join_at tei w None off at = w.is_refused
+  of_join_at tei w (Some place) off at = w.joins tei place refl off at
+
+  of_take_off : (tei : ℕ) → OfEvents (remove tei) m E → is_on tei m.places ≡ true → E (take_off tei (begun m))
+  of_take_off tei w on =
+      elim (is_checked tei m.check) as (λ b. is_checked tei m.check ≡ b → E (leave tei ((cond b end_check nothing_happens) (send (IdentityRemove tei) (begun m))))) [
+        | true ↦ λ _. w.leaves_checked tei on
+        | false ↦ λ other. w.leaves tei on other
+      ] refl
+
+  -- what is said of each way holds of every event
+  pub of_event : (e : Event) → OfEvents e m E → E (course e m)
+  unfolding course refusal
+  of_event (message octets) w = of_serve w.messages (heard_in octets)
+  of_event expiry w = of_expire w.expiries
+  of_event (assigning tei) w =
+      unless (refusal (assigning tei) m) (put_on tei) w.is_refused (λ o. of_join_at tei w (free_place m.places) (not_refused (is_on tei m.places) TeiTaken _ o) refl)
+  of_event (remove tei) w =
+      unless (refusal (remove tei) m) (take_off tei) w.is_refused (λ o. of_take_off tei w (not_not _ (not_refused (not (is_on tei m.places)) NoLink _ o)))
+  of_event (check tei) w =
+      unless (refusal (check tei) m) (step (check tei)) w.is_refused (λ o. w.messages.begins tei (not_not _ (not_refused (not (is_on tei m.places)) NoLink _ o)))

@@ -6,7 +6,7 @@ use Rattle.model_link.specs.Established
 use Rattle.model_link.specs.TimerRecovery
 use Rattle.model_link.specs.Machine
 use Rattle.model_link.proofs.Leads.{Leads}
-use Rattle.model_link.proofs.Counting.{On, counted, done}
+use Rattle.model_link.proofs.Counting.{On, Counted, counted, done}
 use Rattle.model_link.proofs.Kept.{Fits, Kept}
 use Rattle.model_link.proofs.Rows.{row_in_4, row_in_5, row_in_6, row_in_7, row_in_8, malformed_row, expired_row, establish_row, release_row, set_busy_row, clear_busy_row}
 
@@ -15,44 +15,17 @@ undelivered : {r r' : ℕ} {contents : Option (List ℕ)} {zeroed : Bool} → do
 undelivered (inl h) = h.delivered
 undelivered (inr h) = h.delivered
 
+first : {r r' : ℕ} {contents : Option (List ℕ)} {zeroed : Bool} → Counted r None r' contents zeroed → done r None r' contents zeroed
+first h = inl h
+
+anew : {r r' : ℕ} {contents : Option (List ℕ)} {zeroed : Bool} → done r None r' contents zeroed → done r None 0 contents true
+anew h = inr (record { number = refl; delivered = undelivered h; begins = refl })
+
+none-taken : {r r' : ℕ} {contents : Option (List ℕ)} {zeroed : Bool} → ⊥ → done r None r' contents zeroed
+none-taken may = absurd may
+
 words : (t : Terms) (r : ℕ) → Kept t (Unit {0}) (Unit {0}) ⊥ (On (counted r None)) (λ p q c. On (done r None) c) (On (done r None))
-words t r = record {
-  begins = λ c h. inl h;
-  ends = λ p q c h. h;
-  unsent = λ p q c h. h;
-  untold = λ p q c h. h;
-  error = λ p q e c h. h;
-  establish_indication = λ p q c h. h;
-  establish_confirm = λ p q c h. h;
-  release_indication = λ p q c h. h;
-  release_confirm = λ p q c h. h;
-  xid = λ p q c h. h;
-  taken = λ may p q octets c h. absurd may;
-  unit = λ may octets c h. inl h;
-  unserved = λ c h. inl h;
-  send = λ p q f c h. h;
-  peer_busy = λ p q b c h. h;
-  busy = λ p q b c h. h;
-  rejecting = λ p q c h. h;
-  settled = λ p q c h. h;
-  owing = λ p q c off h. h;
-  flags = λ p q c h. h;
-  asked = λ p q b c h. h;
-  repeats = λ p q n c h. h;
-  repeated = λ p q c h. h;
-  enter = λ p q state c h. h;
-  start = λ p q timer c h. h;
-  no_timer = λ p q c h. h;
-  zero = λ may p q c h. inr (record { number = refl; delivered = undelivered h; begins = refl });
-  begin_anew = λ may p q c h. inr (record { number = refl; delivered = undelivered h; begins = refl });
-  discard = λ p q c h. h;
-  acknowledge = λ p q n c h. h;
-  send_again = λ p q n c h. h;
-  transfer = λ p q octets c h. h;
-  give = λ p q f o c h. h;
-  sent_one = λ p q c h. h;
-  waiting_rest = λ p q fs c h. h;
-}
+words t r = search (first, anew, none-taken) depth 12 fits 4000
 
 -- any frame where no I-frame is served
 down : (control : Control) → Fits (Unit {0}) (Unit {0}) (Unit {0}) control

@@ -7,7 +7,7 @@ use Rattle.model_link.specs.Machine
 use Rattle.model_link.specs.Events
 use Rattle.model_link.specs.Words
 use Rattle.model_link.proofs.Leads.{Leads}
-use Rattle.model_link.proofs.Telling.{Purse, no_more, another, how_many, Telling, HasTold, ToldWithin, untold, note_tells, words}
+use Rattle.model_link.proofs.Telling.{Purse, no_more, another, how_many, Telling, HasTold, ToldWithin, untold, note-told, words}
 use Rattle.model_link.proofs.Kept.{Fits}
 use Rattle.model_link.proofs.Rows.{row_in_7, row_in_8, frame_row, malformed_row, expired_row, granted_row, event_row}
 
@@ -49,11 +49,11 @@ module _ (t : Terms) where
   granted_tells request = granted_row (words t) request
 
   pub cleared_tells : (here : State) → Leads (Telling 1 (another no_more)) (Machine.told_of_clearing here t) (Telling 1 no_more)
-  cleared_tells TeiAssigned = record { leads = λ c h. untold 1 no_more c.notes c.delivered c.unit h }
-  cleared_tells AwaitingEstablishment = note_tells 1 no_more _ refl refl
-  cleared_tells AwaitingRelease = note_tells 1 no_more _ refl refl
-  cleared_tells Established = note_tells 1 no_more _ refl refl
-  cleared_tells TimerRecovery = note_tells 1 no_more _ refl refl
+  cleared_tells TeiAssigned = search (untold)
+  cleared_tells AwaitingEstablishment = search (note-told)
+  cleared_tells AwaitingRelease = search (note-told)
+  cleared_tells Established = search (note-told)
+  cleared_tells TimerRecovery = search (note-told)
 
   -- Each event.
   begins : (p : Purse) (total : ℕ) → how_many p ≤ total → (l : Link) → Telling total p (begun l)

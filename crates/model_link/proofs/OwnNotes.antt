@@ -1,7 +1,6 @@
 -- The notes that an event tells are of its own link.
 pub use Rattle.model_link.specs.Notes.{IsOwn}
 use Rattle.model_link.proofs.Vocabulary.{◌≡◌, ℕ, Bool, true, false, cond, List, [], ◌∷◌, Option, Some, None, refl, All, All-nil, All-push, Refusal, ControlFrame, Terms, Link, Course, begun}
-use Rattle.lapd_frame.specs.declared.notes.Note.TheVariants as notes
 use Rattle.model_link.specs.Requests
 use Rattle.model_link.specs.Machine
 use Rattle.model_link.specs.Events

@@ -1,11 +1,9 @@
 -- What an event tells: at most two notes, and a note of data exactly where contents are delivered.
 pub use Rattle.model_link.proofs.Kept.{Purse, no_more, another}
 unfoldable pub use Rattle.model_link.proofs.Kept.{how_many}
-use Rattle.model_link.proofs.Vocabulary.{◌≡◌, ℕ, ◌+◌, ◌≤◌, Bool, true, false, ◌||◌, List, [], ◌∷◌, ◌++◌, length, Option, None, Some, is_some, refl, ◌∙◌, arith, length-append, list_any, list_any-append, Note, Terms, Course, is_data, is_unit}
+use Rattle.model_link.proofs.Vocabulary.{◌≡◌, ℕ, ◌+◌, ◌≤◌, false, List, [], ◌∷◌, ◌++◌, length, Option, None, Some, is_some, ◌∙◌, arith, length-append, list_any, list_any-append, Note, Terms, Course, is_data, is_unit}
 use Rattle.std.proofs.Math.Bool.{or-false, or-true}
 use Rattle.lapd_frame.specs.declared.notes.Note.TheVariants as notes
-use Rattle.model_link.specs.Words
-use Rattle.model_link.proofs.Leads.{Leads}
 use Rattle.model_link.proofs.Kept.{two, Kept}
 
 pub record Tells (total : ℕ) (p : Purse) (notes : List Note) (delivered unit : Option (List ℕ)) : Type 0 where
@@ -60,7 +58,7 @@ module _ (total : ℕ) (p : Purse) where
       let more : length ns + (1 + how_many p) ≤ total = h.count in
       record { count = omega arith; data_told = h.data_told; no_unit = h.no_unit; no_note = h.no_note }
 
-  enough : (ns : List Note) (d u : Option (List ℕ)) → Tells total p ns d u → ToldWithin total ns d u
+  pub enough : (ns : List Note) (d u : Option (List ℕ)) → Tells total p ns d u → ToldWithin total ns d u
   enough ns d u h = record { count = omega (arith, h.count); data_told = h.data_told; no_unit = h.no_unit; no_note = h.no_note }
 
 -- Every word but those of UI tells at most one note.

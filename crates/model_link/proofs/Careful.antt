@@ -156,45 +156,4 @@ module _ {t : Terms} {Units Anew Taken : Type 0} {S : Course → Type 0} {P : Pu
   gives-information p q c h = k.sent_one p q _ (k.give p q _ _ c h)
 
   pub plainly : Careful t Units Anew Taken (Unit {0}) (Unit {0}) (Unit {0}) (λ state here. Unit {0}) S P E
-  plainly = record {
-    is_in = λ state. tt;
-    begins = k.begins;
-    ends = k.ends;
-    unsent = k.unsent;
-    untold = k.untold;
-    error = k.error;
-    establish_indication = k.establish_indication;
-    establish_confirm = k.establish_confirm;
-    release_indication = k.release_indication;
-    release_confirm = k.release_confirm;
-    xid = k.xid;
-    taken = k.taken;
-    unit = k.unit;
-    unserved = k.unserved;
-    send = λ p q f c w h. k.send p q f c h;
-    peer_busy = k.peer_busy;
-    busy = k.busy;
-    rejecting = k.rejecting;
-    settled = k.settled;
-    owing = owes;
-    flags = k.flags;
-    repeats = k.repeats;
-    repeated = k.repeated;
-    start = k.start;
-    no_timer = k.no_timer;
-    enter_4 = λ p q c i h. enters p q TeiAssigned c h;
-    enter_5 = λ p q b c i h. asks p q b c h;
-    enter_6 = λ p q c i h. enters p q AwaitingRelease c h;
-    enter_7 = λ p q c h. enters p q Established c h;
-    enter_8 = λ w p q c i h. enters p q TimerRecovery c h;
-    zero = k.zero;
-    begin_anew = begins-anew;
-    discard = k.discard;
-    acknowledge = λ p q n here c from to i up h. k.acknowledge p q n c h;
-    again = λ w p q n c from to h. goes-back p q n T203 c h;
-    recovered = λ p q n timer c from to i h. recovers p q n timer c h;
-    transfer = λ w p q octets full c e h. transfers p q octets c h;
-    give_waiting = λ o p q f fs c e h. gives p q f fs c h;
-    give_information = λ o p q c e h. gives-information p q c h;
-    give_acknowledgement = λ o p q c h. k.give p q _ None c h;
-  }
+  plainly = search (k.begins, k.ends, k.unsent, k.untold, k.error, k.establish_indication, k.establish_confirm, k.release_indication, k.release_confirm, k.xid, k.taken, k.unit, k.unserved, k.send, k.peer_busy, k.busy, k.rejecting, k.settled, owes, k.flags, k.repeats, k.repeated, k.start, k.no_timer, enters, asks, k.zero, begins-anew, k.discard, k.acknowledge, goes-back, recovers, transfers, gives, gives-information, k.give) depth 12 fits 4000

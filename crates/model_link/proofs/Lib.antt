@@ -4,6 +4,7 @@ pub mod Leads
 pub mod Waits
 pub mod Kept
 pub mod Careful
+pub mod FrameRows
 pub mod Rows
 pub mod Unserved
 pub mod SoundRows

@@ -9,7 +9,8 @@ use Rattle.model_link.specs.Machine
 use Rattle.model_link.proofs.Kept.{Purse, no_more, another, two, any_control}
 unfoldable use Rattle.model_link.proofs.Kept.{how_many}
 use Rattle.model_link.proofs.Careful.{anything, any_contents, Careful}
-use Rattle.model_link.proofs.Rows.{frame_by, malformed_by, expired_by, granted_by}
+use Rattle.model_link.proofs.FrameRows.{frame_by}
+use Rattle.model_link.proofs.Rows.{malformed_by, expired_by, granted_by}
 use Rattle.model_link.proofs.SoundRows.{is_in}
 use Rattle.model_link.proofs.SoundEvents.{sound-stands, sound-after}
 use Rattle.model_link.proofs.Owes.{owed, Owes, Within, costs}

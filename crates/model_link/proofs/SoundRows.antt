@@ -1,5 +1,5 @@
 -- Every word of the tables keeps a link sound, over the plain values of which soundness speaks.
-pub use Rattle.model_link.proofs.Rows.{named-within}
+pub use Rattle.model_link.proofs.FrameRows.{named-within}
 use Rattle.model_link.proofs.Vocabulary.{◌≡◌, ℕ, ◌+◌, ◌-◌, ◌<◌, ◌≤◌, inl, inr, Bool, true, false, cond, not, ◌&&◌, IsTrue, List, [], ◌∷◌, ◌++◌, length, take, drop, Option, Some, None, refl, sym, ap, subst, ◌∙◌, true≢false, arith, length-append, length-drop, length-take-le, All, nat_lt, nat_le, ltb-true, ltb-false, leb-false, and_parts, All-push, All-nil, All-tail, All-take, All-drop, Refusal, WrongState, TooLong, QueueFull, State, TeiAssigned, AwaitingEstablishment, AwaitingRelease, Established, TimerRecovery, ControlFrame, Terms, is_multiple_frame, IsWaitingFrame, Course, ◌then◌, LinkTimer, data_in_7_8}
 use Rattle.model_link.specs.Events
 use Rattle.model_link.specs.Words

@@ -4,7 +4,7 @@ use Rattle.model_link.specs.Events
 use Rattle.model_link.specs.Words
 use Rattle.model_link.specs.Offers
 use Rattle.model_link.specs.Machine
-use Rattle.model_link.proofs.Waits.{frame_without_information, waits}
+use Rattle.model_link.proofs.Waits.{frame_without_information, may_wait}
 
 -- a control frame goes alone
 alone : (t : Terms) (f : ControlFrame) → IsWaitingFrame t f → IsGiven t f None
@@ -31,7 +31,7 @@ module _ (t : Terms) (r : IsInRange t) (l : Link) (h : IsSound t l) where
       }
 
   acknowledgement : IsGiven t (Words.response (ReceiveReady (seq l.r) false)) None
-  acknowledgement = alone t (Words.response (ReceiveReady (seq l.r) false)) (waits t (Words.response (ReceiveReady (seq l.r) false)) r.tei refl refl (omega arith) refl)
+  acknowledgement = alone t _ ((may_wait t (Words.response (ReceiveReady (seq l.r) false)) refl refl (omega arith) refl).waits r.tei)
 
   either : (b : Bool) (u v : Course) → Gives u.sent → Gives v.sent → Gives (cond b u v).sent
   either true u v x y = x

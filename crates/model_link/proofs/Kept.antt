@@ -78,7 +78,7 @@ pub record Kept (t : Terms) (Units Anew Taken : Type 0) (S : Course → Type 0) 
   pub waiting_rest : (p q : Purse) (fs : List ControlFrame) (c : Course) → P p q c → P p q (changed (Offers.with_waiting_rest fs) c)
 
 -- A claim of all frames.
-any_control : (control : Control) → Fits (Unit {0}) (Unit {0}) (Unit {0}) control
+pub any_control : (control : Control) → Fits (Unit {0}) (Unit {0}) (Unit {0}) control
 any_control (Ua true) = tt
 any_control (Ua false) = tt
 any_control other = tt

@@ -1,214 +1,142 @@
--- What a link owes the line, and how each word lets it rise: a purse holds what may still be spent.
-use Rattle.model_link.proofs.Vocabulary.{ℕ, ◌+◌, ◌≤◌, Bool, true, false, cond, List, [], ◌∷◌, ◌++◌, length, is_some, le_refl, arith, length-append, seq, Reject, Sabme, Disc, Ua, Dm, Note, LinkTimer, ControlFrame, Terms, Link, unsent, may_send, window_back, IsInRange, Course, Step, ◌then◌}
+-- What a link owes the line, and how each word lets it rise: a purse holds the frames that may still be sent.
+use Rattle.model_link.proofs.Vocabulary.{◌≡◌, ℕ, ◌+◌, ◌-◌, ◌≤◌, Bool, true, false, cond, IsTrue, List, [], ◌∷◌, ◌++◌, length, take, drop, Option, is_some, refl, ap, arith, length-append, length-take-le, length-drop, State, TeiAssigned, AwaitingEstablishment, AwaitingRelease, Established, TimerRecovery, LinkTimer, T203, ControlFrame, Terms, may_send, window_back, data_in_7_8, is_multiple_frame, IsInRange, Sent, Course, ◌then◌, changed}
 use Rattle.model_link.specs.Words
-use Rattle.model_link.proofs.Leads.{Leads, then_leads}
-use Rattle.model_link.proofs.Numbers.{Claim, Bound, note_keeps, deliver_keeps, deliver_unit_keeps, refuse_keeps, peer_busy_keeps, own_busy_keeps, rejecting_keeps, pending_keeps, repeats_keeps, repeated_keeps, flags_keeps, start_keeps, no_timer_keeps, count_keeps, ua_keeps, dm_keeps, sabme_keeps, disc_keeps, enquire_keeps, answer_keeps, report_keeps, reject_keeps}
-
--- What may still be spent: frames, and windows of k.
-pub data Purse : Type 0 where
-  empty : Purse
-  coin : Purse → Purse
-  window : Purse → Purse
-
-unfoldable pub worth : ℕ → Purse → ℕ
-worth k empty = 0
-worth k (coin p) = 1 + worth k p
-worth k (window p) = k + worth k p
+use Rattle.model_link.specs.Offers
+use Rattle.model_link.proofs.Waits.{Waits}
+use Rattle.model_link.proofs.Kept.{Purse, another, two}
+unfoldable use Rattle.model_link.proofs.Kept.{how_many}
+use Rattle.model_link.proofs.Careful.{Careful}
+use Rattle.model_link.proofs.SoundRows.{is_in, Standing, Stands, stand}
 
 -- What an event under way has sent, and what the link may still send.
 abbrev pub owed : Terms → Course → ℕ
 owed t c = cond {A = ℕ} (is_some c.sent) 1 0 + may_send t c.link
 
-pub record Owes (t : Terms) (total : ℕ) (X : Claim) (p : Purse) (c : Course) : Type 0 where
-  pub bound : Bound t X c
-  pub within : owed t c + worth t.k p ≤ total
+pub record Owing (t : Terms) (total extra : ℕ) (p : Purse) (sent : Option Sent) (contents : List (List ℕ)) (a s : ℕ) (state : State) (asked : Bool) (ws : List ControlFrame) (own pending : Bool) : Type 0 where
+  pub stands : Standing t t.queue contents a s state asked ws own pending
+  pub within : cond {A = ℕ} (is_some sent) 1 0 + (length ws + (length contents - s) + cond {A = ℕ} pending 1 0 + window_back state t.k) + how_many p + extra ≤ total
 
--- a step that costs nothing, one that costs a frame, and one that costs a window
-pub free : {t : Terms} {total : ℕ} {X Y : Claim} {p : Purse} {f : Step} → Leads (Bound t X) f (Bound t Y)
-    → ((c : Course) → Bound t X c → owed t (f c) ≤ owed t c) → Leads (Owes t total X p) f (Owes t total Y p)
-free {t} {f} x y =
-    record {
-      leads = λ c h.
-          let less : owed t (f c) ≤ owed t c = y c h.bound in
-          record { bound = x.leads c h.bound; within = omega (arith, less, h.within) };
-    }
-
-pub paid : {t : Terms} {total : ℕ} {X Y : Claim} {p : Purse} {f : Step} → Leads (Bound t X) f (Bound t Y)
-    → ((c : Course) → Bound t X c → owed t (f c) ≤ 1 + owed t c) → Leads (Owes t total X (coin p)) f (Owes t total Y p)
-unfolding worth
-paid {t} {p = p} {f} x y =
-    record {
-      leads = λ c h.
-          let less : owed t (f c) ≤ 1 + owed t c = y c h.bound in
-          let here : owed t c + (1 + worth t.k p) ≤ _ = h.within in
-          record { bound = x.leads c h.bound; within = omega (arith, less, here) };
-    }
+abbrev pub Owes : Terms → ℕ → ℕ → Purse → Course → Type 0
+Owes t total extra p c = Owing t total extra p c.sent c.link.contents c.link.a c.link.s c.link.state c.link.asked c.link.waiting c.link.own_busy c.link.pending
 
 -- What is wanted in the end.
-abbrev pub Within : Terms → ℕ → Course → Type 0
-Within t total c = owed t c ≤ total
+pub record Within (t : Terms) (total : ℕ) (c : Course) : Type 0 where
+  pub within : owed t c ≤ total
 
--- a step that spends, and then the rest
-pub spending_then : {t : Terms} {total : ℕ} {X : Claim} {p : Purse} {R : Course → Type 0} {f g : Step}
-    → Leads (Owes t total X (coin p)) f (Owes t total X p) → Leads (Owes t total X p) g R → Leads (Owes t total X (coin p)) (f then g) R
-spending_then x y = then_leads x y
+-- an acknowledgement that was owed is no longer; one that is owed from now on is a frame; a frame that waits is one
+bit-high : (b : Bool) → cond {A = ℕ} b 1 0 ≤ 1
+bit-high true = omega arith
+bit-high false = omega arith
 
--- what need not be spent
-pub loosen : {t : Terms} {total : ℕ} {X : Claim} {p : Purse} {R : Course → Type 0} {f : Step}
-    → Leads (Owes t total X p) f R → Leads (Owes t total X (coin p)) f R
-unfolding worth
-loosen {t} {p = p} x =
-    record {
-      leads = λ c h.
-          let here : owed t c + (1 + worth t.k p) ≤ _ = h.within in
-          x.leads c (record { bound = h.bound; within = omega (arith, here) });
-    }
+one-more : (b : Bool) (ws : List ControlFrame) (f : ControlFrame) → length (cond b (ws ++ f ∷ []) ws) ≤ 1 + length ws
+one-more true ws f = simp length-append (omega arith)
+one-more false ws f = omega arith
 
-pub unspent : {t : Terms} {total : ℕ} {X : Claim} {p : Purse} {f : Step}
-    → Leads (Owes t total X (coin p)) f (Owes t total X (coin p)) → Leads (Owes t total X (coin p)) f (Owes t total X p)
-unfolding worth
-unspent {t} {p = p} {f} x =
-    record {
-      leads = λ c h.
-          let after = x.leads c h in
-          let here : owed t (f c) + (1 + worth t.k p) ≤ _ = after.within in
-          record { bound = after.bound; within = omega (arith, here) };
-    }
+-- acknowledged, and to be sent again from the same number on: a window more may be unsent
+resent : (len a s m k : ℕ) → a ≤ m → s ≤ a + k → s ≤ len → m ≤ s → len - m ≤ k + (len - s)
+resent len a s m k from within all to = omega arith
 
--- the last step
-pub free_ends : {t : Terms} {total : ℕ} {X : Claim} {p : Purse} {f : Step}
-    → Leads (Owes t total X p) f (Owes t total X p) → Leads (Owes t total X p) f (Within t total)
-free_ends {t} {p = p} {f} x =
-    record {
-      leads = λ c h.
-          let here : owed t (f c) + worth t.k p ≤ _ = (x.leads c h).within in
-          omega (arith, here);
-    }
+module _ (t : Terms) (r : IsInRange t) (total extra : ℕ) (Window : Type 0) (pays : Window → extra ≡ t.k) where
+  abbrev sound : Careful t (Unit {0}) (Unit {0}) (Unit {0}) (Unit {0}) (Unit {0}) (Unit {0}) is_in (Stands t t.queue) (λ p q c. Stands t t.queue c) (Stands t t.queue)
+  sound = stand t r.tei t.queue (Unit {0}) (λ x. refl)
 
-pub paid_ends : {t : Terms} {total : ℕ} {X : Claim} {p : Purse} {f : Step}
-    → Leads (Owes t total X (coin p)) f (Owes t total X p) → Leads (Owes t total X (coin p)) f (Within t total)
-paid_ends {t} {p = p} {f} x =
-    record {
-      leads = λ c h.
-          let here : owed t (f c) + worth t.k p ≤ _ = (x.leads c h).within in
-          omega (arith, here);
-    }
+  -- the last word, and any that lets rise what is owed by no more than it spends
+  done : (p : Purse) (c : Course) → Owes t total extra p c → Within t total c
+  done p c h = record { within = omega (arith, h.within) }
 
--- A last step of which nothing but the cost is wanted.
-pub ends : {t : Terms} {total : ℕ} {X : Claim} {p : Purse} {f : Step}
-    → ((c : Course) → Bound t X c → owed t (f c) ≤ owed t c) → Leads (Owes t total X p) f (Within t total)
-ends {t} {p = p} {f} y =
-    record {
-      leads = λ c h.
-          let less : owed t (f c) ≤ owed t c = y c h.bound in
-          let here : owed t c + worth t.k p ≤ _ = h.within in
-          omega (arith, less, here);
-    }
+  spends : (p p' : Purse) (c c' : Course) → Stands t t.queue c' → owed t c' + how_many p' ≤ owed t c + how_many p → Owes t total extra p c → Owes t total extra p' c'
+  spends p p' c c' x less h = record { stands = x; within = omega (arith, less, h.within) }
 
--- The words that cost nothing.
-module _ (t : Terms) (total : ℕ) (X : Claim) (p : Purse) where
-  pub note_free : (n : Note) → Leads (Owes t total X p) (Words.note n) (Owes t total X p)
-  note_free n = free (note_keeps t X n) (λ c h. le_refl (owed t c))
+  saves : (p : Purse) (c : Course) → Owes t total extra (another p) c → Owes t total extra p c
+  unfolding how_many
+  saves p c h = spends (another p) p c c h.stands (omega arith) h
 
-  pub deliver_free : (octets : List ℕ) → Leads (Owes t total X p) (Words.deliver t octets) (Owes t total X p)
-  deliver_free octets = free (deliver_keeps t X octets) (λ c h. le_refl (owed t c))
+  sends : (p : Purse) (f : ControlFrame) (c : Course) → Waits t f → Owes t total extra (another p) c → Owes t total extra p (Words.send t f c)
+  unfolding how_many
+  sends p f c w h = spends (another p) p c (Words.send t f c) (sound.send p p f c w h.stands) (let more = one-more (Words.has_room t c.link) c.link.waiting f in omega (arith, more)) h
 
-  pub deliver_unit_free : (octets : List ℕ) → Leads (Owes t total X p) (Words.deliver_unit t octets) (Owes t total X p)
-  deliver_unit_free octets = free (deliver_unit_keeps t X octets) (λ c h. le_refl (owed t c))
+  settles : (p : Purse) (c : Course) → Owes t total extra p c → Owes t total extra p (Words.pending_is false c)
+  settles p c h = spends p p c (Words.pending_is false c) (sound.settled p p c h.stands) (omega arith) h
 
-  pub refuse_free : Leads (Owes t total X p) (Words.leave_unserved) (Owes t total X p)
-  refuse_free = free (refuse_keeps t X) (λ c h. le_refl (owed t c))
+  flags : (p : Purse) (c : Course) → Owes t total extra p c → Owes t total extra p (Words.clear_flags c)
+  flags p c h = spends p p c (Words.clear_flags c) (sound.flags p p c h.stands) (omega arith) h
 
-  pub peer_busy_free : (b : Bool) → Leads (Owes t total X p) (Words.peer_busy_is b) (Owes t total X p)
-  peer_busy_free b = free (peer_busy_keeps t X b) (λ c h. le_refl (owed t c))
+  reports : (p : Purse) (b : Bool) (c : Course) → Owes t total extra (another p) c → Owes t total extra p (Words.report_ready t (Words.own_busy_is b c))
+  unfolding how_many
+  reports p b c h =
+      spends (another p) p c (Words.report_ready t (Words.own_busy_is b c)) (sound.busy p p b c h.stands)
+      (let more = one-more (Words.has_room t c.link) c.link.waiting (Words.response (Words.ready_to_receive false (Words.with_own_busy b c.link))) in omega (arith, more)) h
 
-  pub own_busy_free : (b : Bool) → Leads (Owes t total X p) (Words.own_busy_is b) (Owes t total X p)
-  own_busy_free b = free (own_busy_keeps t X b) (λ c h. le_refl (owed t c))
+  owes : (p : Purse) (c : Course) → c.link.own_busy ≡ false → Owes t total extra (another p) c → Owes t total extra p (Words.pending_is true c)
+  unfolding how_many
+  owes p c off h = spends (another p) p c (Words.pending_is true c) (sound.owing p p c off h.stands) (omega arith) h
 
-  pub rejecting_free : (b : Bool) → Leads (Owes t total X p) (Words.rejecting_is b) (Owes t total X p)
-  rejecting_free b = free (rejecting_keeps t X b) (λ c h. le_refl (owed t c))
+  zeroes : (p : Purse) (c : Course) → Owes t total extra p c → Owes t total extra p (Words.zero_numbers c)
+  zeroes p c h =
+      let e : length (drop c.link.s c.link.contents) ≡ length c.link.contents - c.link.s = length-drop c.link.s c.link.contents in
+      spends p p c (Words.zero_numbers c) (sound.zero tt p p c h.stands) (omega (arith, e)) h
 
-  pub repeats_free : (n : ℕ) → Leads (Owes t total X p) (Words.repeats_are n) (Owes t total X p)
-  repeats_free n = free (repeats_keeps t X n) (λ c h. le_refl (owed t c))
+  discards : (p : Purse) (c : Course) → Owes t total extra p c → Owes t total extra p (Words.discard c)
+  discards p c h =
+      let order : c.link.a ≤ c.link.s = h.stands.ordered in
+      let all : c.link.s ≤ length c.link.contents = h.stands.accepted in
+      let e : length (take c.link.a c.link.contents) ≡ c.link.a = length-take-le c.link.a c.link.contents (omega arith) in
+      spends p p c (Words.discard c) (sound.discard p p c h.stands) (omega (arith, e)) h
 
-  pub repeated_free : Leads (Owes t total X p) (Words.repeated) (Owes t total X p)
-  repeated_free = free (repeated_keeps t X) (λ c h. le_refl (owed t c))
+  acknowledges : (p : Purse) (n : ℕ) (here : State) (c : Course) → c.link.a ≤ n → n ≤ c.link.s → c.link.state ≡ here → IsTrue (is_multiple_frame here)
+      → Owes t total extra p c → Owes t total extra p (Words.acknowledge n c)
+  acknowledges p n here c from to e up h = spends p p c (Words.acknowledge n c) (sound.acknowledge p p n here c from to e up h.stands) (omega arith) h
 
-  pub start_free : (timer : LinkTimer) → Leads (Owes t total X p) (Words.start timer) (Owes t total X p)
-  start_free timer = free (start_keeps t X timer) (λ c h. le_refl (owed t c))
+  -- the states that are entered last
+  enters-4 : (p : Purse) (c : Course) → Owes t total extra p c → Within t total (Words.enter TeiAssigned c)
+  enters-4 p c h = record { within = omega (arith, h.within) }
 
-  pub no_timer_free : Leads (Owes t total X p) (Words.no_timer) (Owes t total X p)
-  no_timer_free = free (no_timer_keeps t X) (λ c h. le_refl (owed t c))
+  enters-5 : (p : Purse) (b : Bool) (c : Course) → Owes t total extra p c → Within t total ((Words.asked_is b then Words.enter AwaitingEstablishment) c)
+  enters-5 p b c h = record { within = omega (arith, h.within) }
 
-  pub count_free : Leads (Owes t total X p) (Words.count_received) (Owes t total X p)
-  count_free = free (count_keeps t X) (λ c h. le_refl (owed t c))
+  enters-6 : (p : Purse) (c : Course) → Owes t total extra p c → Within t total (Words.enter AwaitingRelease c)
+  enters-6 p c h = record { within = omega (arith, h.within) }
 
-  -- an acknowledgement that was owed is no longer
-  unowed : (ring unsent back : ℕ) (b : Bool) (n : ℕ) → n + (ring + unsent + 0 + back) ≤ n + (ring + unsent + cond b 1 0 + back)
-  unowed ring unsent back true n = omega arith
-  unowed ring unsent back false n = omega arith
+  enters-7 : (p : Purse) (c : Course) → Owes t total extra p c → Within t total (Words.enter Established c)
+  enters-7 p c h = record { within = omega (arith, h.within) }
 
-  owed_then : (c : Course) → owed t (Words.pending_is false c) ≤ owed t c
-  owed_then c = unowed (length c.link.waiting) (unsent c.link) (window_back c.link.state t.k) c.link.pending (cond {A = ℕ} (is_some c.sent) 1 0)
+  -- the window is what state 8 may bring back
+  enters-8 : (p : Purse) (c : Course) → Window → Owes t total extra p c → Within t total (Words.enter TimerRecovery c)
+  enters-8 p c w h = let paid = pays w in record { within = omega (arith, paid, h.within) }
 
-  pub unpending_free : Leads (Owes t total X p) (Words.pending_is false) (Owes t total X p)
-  unpending_free = free (pending_keeps t X false) (λ c h. owed_then c)
+  begins : (p : Purse) (c : Course) → Owes t total extra p c → Within t total (Words.begin_anew c)
+  begins p c h = record { within = omega (arith, h.within) }
 
-  pub flags_free : Leads (Owes t total X p) Words.clear_flags (Owes t total X p)
-  flags_free = free (flags_keeps t X) (λ c h. owed_then c)
+  again : (p : Purse) (n : ℕ) (c : Course) → Window → c.link.a ≤ n → n ≤ c.link.s → Owes t total extra p c
+      → Within t total ((Words.send_again_from n then Words.start T203) c)
+  again p n c w from to h =
+      let paid = pays w in
+      let more = resent (length c.link.contents) c.link.a c.link.s n t.k from h.stands.within h.stands.accepted to in
+      record { within = omega (arith, paid, more, h.within) }
 
-  -- one that is owed from now on costs a frame
-  nowed : (ring unsent back : ℕ) (b : Bool) (n : ℕ) → n + (ring + unsent + 1 + back) ≤ 1 + (n + (ring + unsent + cond b 1 0 + back))
-  nowed ring unsent back true n = omega arith
-  nowed ring unsent back false n = omega arith
+  -- the way back from state 8 to state 7 costs a window, and pays it
+  recovers : (p : Purse) (n : ℕ) (timer : LinkTimer) (c : Course) → c.link.a ≤ n → n ≤ c.link.s → c.link.state ≡ TimerRecovery → Owes t total extra p c
+      → Within t total ((Words.send_again_from n then Words.start timer then Words.enter Established) c)
+  recovers p n timer c from to e h =
+      let more = resent (length c.link.contents) c.link.a c.link.s n t.k from h.stands.within h.stands.accepted to in
+      let back : window_back c.link.state t.k ≡ t.k = ap (λ state. window_back state t.k) e in
+      record { within = omega (arith, more, back, h.within) }
 
-  pub pending_paid : Leads (Owes t total X (coin p)) (Words.pending_is true) (Owes t total X p)
-  pending_paid =
-      paid (pending_keeps t X true)
-      (λ c h. nowed (length c.link.waiting) (unsent c.link) (window_back c.link.state t.k) c.link.pending (cond {A = ℕ} (is_some c.sent) 1 0))
+  transfers : (p : Purse) (octets : List ℕ) (c : Course) → Owes t total extra (another p) c → Within t total (data_in_7_8 octets c)
+  unfolding how_many
+  transfers p octets c h =
+      let size : length (c.link.contents ++ octets ∷ []) ≡ length c.link.contents + 1 = length-append c.link.contents (octets ∷ []) in
+      record { within = omega (arith, size, h.within) }
 
-  -- so does a control frame
-  one-more : (b : Bool) (ws : List ControlFrame) (f : ControlFrame) → length (cond b (ws ++ f ∷ []) ws) ≤ 1 + length ws
-  one-more true ws f = simp length-append (omega arith)
-  one-more false ws f = omega arith
+  -- no offer is one of these events
+  gives-waiting : (f : ControlFrame) (fs : List ControlFrame) (c : Course) → ⊥ → Within t total (Offers.give_waiting f fs c)
+  gives-waiting f fs c o = absurd o
 
-  sending : (f : ControlFrame) (c : Course) → owed t (Words.send t f c) ≤ 1 + owed t c
-  sending f c = let more = one-more (Words.has_room t c.link) c.link.waiting f in omega (arith, more)
+  gives-information : (p : Purse) (c : Course) → ⊥ → Owes t total extra p ((Offers.give_information then changed Offers.with_one_sent) c)
+  gives-information p c o = absurd o
 
-  pub send_paid : (f : ControlFrame) → Leads (Bound t X) (Words.send t f) (Bound t X)
-      → Leads (Owes t total X (coin p)) (Words.send t f) (Owes t total X p)
-  send_paid f x = paid x (λ c h. sending f c)
+  gives-acknowledgement : (p : Purse) (c : Course) → ⊥ → Owes t total extra p (Offers.give_acknowledgement c)
+  gives-acknowledgement p c o = absurd o
 
-  -- what is sent depends on V(R) and own busy at that moment
-  moment_paid : (f : Link → ControlFrame) → Leads (Bound t X) (λ c. (Words.send t (f c.link) then Words.pending_is false) c) (Bound t X)
-      → Leads (Owes t total X (coin p)) (λ c. (Words.send t (f c.link) then Words.pending_is false) c) (Owes t total X p)
-  moment_paid f x =
-      paid x (λ c h.
-      let one : owed t (Words.send t (f c.link) c) ≤ 1 + owed t c = sending (f c.link) c in
-      let two : owed t ((Words.send t (f c.link) then Words.pending_is false) c) ≤ owed t (Words.send t (f c.link) c) = owed_then (Words.send t (f c.link) c) in
-      omega (arith, one, two))
-
-module _ (t : Terms) (r : IsInRange t) (total : ℕ) (X : Claim) (p : Purse) where
-  pub ua_paid : (f : Bool) → Leads (Owes t total X (coin p)) (Words.send t (Words.response (Ua f))) (Owes t total X p)
-  ua_paid f = send_paid t total X p (Words.response (Ua f)) (ua_keeps t r.tei X f)
-
-  pub dm_paid : (f : Bool) → Leads (Owes t total X (coin p)) (Words.send t (Words.response (Dm f))) (Owes t total X p)
-  dm_paid f = send_paid t total X p (Words.response (Dm f)) (dm_keeps t r.tei X f)
-
-  pub sabme_paid : (b : Bool) → Leads (Owes t total X (coin p)) (Words.send t (Words.command (Sabme b))) (Owes t total X p)
-  sabme_paid b = send_paid t total X p (Words.command (Sabme b)) (sabme_keeps t r.tei X b)
-
-  pub disc_paid : (b : Bool) → Leads (Owes t total X (coin p)) (Words.send t (Words.command (Disc b))) (Owes t total X p)
-  disc_paid b = send_paid t total X p (Words.command (Disc b)) (disc_keeps t r.tei X b)
-
-  pub enquire_paid : Leads (Owes t total X (coin p)) (Words.enquire t) (Owes t total X p)
-  enquire_paid = moment_paid t total X p (λ l. Words.command (Words.ready_to_receive true l)) (enquire_keeps t r.tei X)
-
-  pub answer_paid : Leads (Owes t total X (coin p)) (Words.answer t) (Owes t total X p)
-  answer_paid = moment_paid t total X p (λ l. Words.response (Words.ready_to_receive true l)) (answer_keeps t r.tei X)
-
-  pub report_paid : Leads (Owes t total X (coin p)) (Words.report_ready t) (Owes t total X p)
-  report_paid = moment_paid t total X p (λ l. Words.response (Words.ready_to_receive false l)) (report_keeps t r.tei X)
-
-  pub reject_paid : (f : Bool) → Leads (Owes t total X (coin p)) (Words.reject t f) (Owes t total X p)
-  reject_paid f = moment_paid t total X p (λ l. Words.response (Reject (seq l.r) f)) (reject_keeps t r.tei X f)
+  pub costs : Careful t (Unit {0}) (Unit {0}) (Unit {0}) Window (Unit {0}) ⊥ is_in (Owes t total extra two) (λ p q c. Owes t total extra p c) (Within t total)
+  costs = search (done, saves, sends, settles, flags, reports, owes, zeroes, discards, acknowledges, enters-4, enters-5, enters-6, enters-7, enters-8, begins, again, recovers, transfers, gives-waiting, gives-information, gives-acknowledgement) depth 12 fits 4000

@@ -1,7 +1,6 @@
 -- The notes that an event tells are of its own link.
 pub use Rattle.model_link.specs.Notes.{IsOwn}
 use Rattle.model_link.proofs.Vocabulary.{◌≡◌, ℕ, Bool, true, false, cond, List, [], ◌∷◌, Option, Some, None, refl, All, All-nil, All-push, Refusal, ControlFrame, Terms, Link, Course, begun}
-use Rattle.lapd_frame.specs.declared.notes.Note.TheVariants as notes
 use Rattle.model_link.specs.Requests
 use Rattle.model_link.specs.Machine
 use Rattle.model_link.specs.Events
@@ -14,43 +13,7 @@ abbrev pub Own : Terms → Course → Type 0
 Own t c = All (IsOwn t) c.notes
 
 words : (t : Terms) → Kept t (Unit {0}) (Unit {0}) (Unit {0}) (Own t) (λ p q c. Own t c) (Own t)
-words t = record {
-  begins = λ c h. h;
-  ends = λ p q c h. h;
-  unsent = λ p q c h. h;
-  untold = λ p q c h. h;
-  error = λ p q e c h. All-push (IsOwn t) c.notes (notes.Error t.service t.tei e) h (refl, refl);
-  establish_indication = λ p q c h. All-push (IsOwn t) c.notes (notes.EstablishIndication t.service t.tei) h (refl, refl);
-  establish_confirm = λ p q c h. All-push (IsOwn t) c.notes (notes.EstablishConfirm t.service t.tei) h (refl, refl);
-  release_indication = λ p q c h. All-push (IsOwn t) c.notes (notes.ReleaseIndication t.service t.tei) h (refl, refl);
-  release_confirm = λ p q c h. All-push (IsOwn t) c.notes (notes.ReleaseConfirm t.service t.tei) h (refl, refl);
-  xid = λ p q c h. All-push (IsOwn t) c.notes (notes.Xid t.service t.tei) h (refl, refl);
-  taken = λ may p q octets c h. All-push (IsOwn t) c.notes (notes.Data t.service t.tei) h (refl, refl);
-  unit = λ may octets c h. All-push (IsOwn t) c.notes (notes.Unit t.service t.tei) h (refl, refl);
-  unserved = λ c h. h;
-  send = λ p q f c h. h;
-  peer_busy = λ p q b c h. h;
-  busy = λ p q b c h. h;
-  rejecting = λ p q c h. h;
-  settled = λ p q c h. h;
-  owing = λ p q c off h. h;
-  flags = λ p q c h. h;
-  asked = λ p q b c h. h;
-  repeats = λ p q n c h. h;
-  repeated = λ p q c h. h;
-  enter = λ p q state c h. h;
-  start = λ p q timer c h. h;
-  no_timer = λ p q c h. h;
-  zero = λ may p q c h. h;
-  begin_anew = λ may p q c h. h;
-  discard = λ p q c h. h;
-  acknowledge = λ p q n c h. h;
-  send_again = λ p q n c h. h;
-  transfer = λ p q octets c h. h;
-  give = λ p q f o c h. h;
-  sent_one = λ p q c h. h;
-  waiting_rest = λ p q fs c h. h;
-}
+words t = search (All-push) depth 12 fits 4000
 
 pub notes-own : (t : Terms) (e : Events.Event) (l : Link) → Own t (Machine.course t e l)
 notes-own t e l = (every_event (words t) e).leads (begun l) (All-nil (IsOwn t))

@@ -1,230 +1,213 @@
--- Each row of the tables leads from a sound link to a sound link: acknowledgements, and the rows by state.
-use Rattle.model_link.proofs.Vocabulary.{◌≡◌, ℕ, ◌+◌, ◌≤◌, Bool, true, false, ◌&&◌, cond, List, length, Option, Some, None, refl, arith, nat_le, leb-true, Seq, seq, named, distance_of, Control, Information, ReceiveReady, ReceiveNotReady, Reject, Sabme, Disc, Ui, Ua, Dm, Frmr, Xid, ErrorCode, TeiAssigned, AwaitingRelease, LinkTimer, T200, T203, ControlFrame, Terms, is_peer_busy, Course, Step, ◌then◌, frame_in_4, establish_in_4, frame_in_5, t200_in_5, frame_in_6, t200_in_6}
-use Rattle.lapd_frame.specs.declared.notes.ErrorCode.TheVariants as code
+-- Every word of the tables keeps a link sound, over the plain values of which soundness speaks.
+pub use Rattle.model_link.proofs.FrameRows.{named-within}
+use Rattle.model_link.proofs.Vocabulary.{◌≡◌, ℕ, ◌+◌, ◌-◌, ◌<◌, ◌≤◌, inl, inr, Bool, true, false, cond, not, ◌&&◌, IsTrue, List, [], ◌∷◌, ◌++◌, length, take, drop, Option, Some, None, refl, sym, ap, subst, ◌∙◌, true≢false, arith, length-append, length-drop, length-take-le, All, nat_lt, nat_le, ltb-true, ltb-false, leb-false, and_parts, All-push, All-nil, All-tail, All-take, All-drop, Refusal, WrongState, TooLong, QueueFull, State, TeiAssigned, AwaitingEstablishment, AwaitingRelease, Established, TimerRecovery, ControlFrame, Terms, is_multiple_frame, IsWaitingFrame, Course, ◌then◌, LinkTimer, data_in_7_8}
+use Rattle.model_link.specs.Events
 use Rattle.model_link.specs.Words
-use Rattle.model_link.specs.MultipleFrame
-use Rattle.model_link.specs.Established
-use Rattle.model_link.specs.TimerRecovery
-use Rattle.model_link.proofs.Leads.{Leads, then_leads, keeping_then, nothing_leads, depending_leads, bit_leads, to_less}
-use Rattle.model_link.proofs.Numbers.{Bounded, Claim, Bound, note_keeps, deliver_keeps, deliver_unit_keeps, refuse_keeps, peer_busy_keeps, own_busy_keeps, rejecting_keeps, pending_keeps, repeats_keeps, repeated_keeps, flags_keeps, start_keeps, no_timer_keeps, count_keeps, ua_keeps, dm_keeps, sabme_keeps, disc_keeps, enquire_keeps, answer_keeps, report_keeps, reject_keeps}
-use Rattle.model_link.proofs.Settled.{anything, multiple, names, down, awaiting, settled, weaker, multiple_ends, names_ends, down_ends, awaiting_ends, enter_4, enter_5, enter_6, down_enter_4, enter_7, enter_8, unasked_enter_5, down_asked, discard_then, zero_then}
+use Rattle.model_link.specs.Requests
+use Rattle.model_link.specs.Offers
+use Rattle.model_link.proofs.Waits.{Waits, ready_waits}
+use Rattle.model_link.proofs.Careful.{is_at_rest, idle, Careful}
 
-ruleset words = (keeping_then, nothing_leads, depending_leads, bit_leads, note_keeps, deliver_keeps, deliver_unit_keeps, refuse_keeps, peer_busy_keeps, own_busy_keeps, rejecting_keeps, pending_keeps, repeats_keeps, repeated_keeps, flags_keeps, start_keeps, no_timer_keeps, count_keeps, ua_keeps, dm_keeps, sabme_keeps, disc_keeps, enquire_keeps, answer_keeps, report_keeps, reject_keeps)
+-- What is settled of the number of contents in each state.
+abbrev pub settled : ℕ → ℕ → State → Bool → Type 0
+settled a n TeiAssigned asked = n ≡ a
+settled a n AwaitingEstablishment asked = IsTrue asked → n ≡ a
+settled a n AwaitingRelease asked = n ≡ a
+settled a n Established asked = Unit {0}
+settled a n TimerRecovery asked = Unit {0}
 
-ruleset entries = (words, enter_4, enter_5, enter_6, down_enter_4, enter_7, enter_8, unasked_enter_5, down_asked, discard_then, zero_then)
+-- What is sound of a link whose queue holds q contents at most.
+pub record Standing (t : Terms) (q : ℕ) (contents : List (List ℕ)) (a s : ℕ) (state : State) (asked : Bool) (waiting : List ControlFrame) (own pending : Bool) : Type 0 where
+  pub ordered : a ≤ s
+  pub accepted : s ≤ length contents
+  pub within : s ≤ a + t.k
+  pub settles : settled a (length contents) state asked
+  pub queue : length contents ≤ a + q
+  pub ring : length waiting ≤ t.control
+  pub quiet : IsTrue own → pending ≡ false
+  pub sizes : All (λ octets. length octets ≤ t.n201) contents
+  pub frames : All (IsWaitingFrame t) waiting
 
--- what `named` finds lies between V(A) and V(S)
-below-named : (b : Bool) (n m : ℕ) → cond b (Some n) None ≡ Some m → (b ≡ true) × (n ≡ m)
-below-named true n m e = (refl, cc)
-below-named false n m e = absurd (cc)
+abbrev pub Stands : Terms → ℕ → Course → Type 0
+Stands t q c = Standing t q c.link.contents c.link.a c.link.s c.link.state c.link.asked c.link.waiting c.link.own_busy c.link.pending
 
-pub named-within : (a s m : ℕ) (nr : Seq) → named a s nr ≡ Some m → (a ≤ m) × (m ≤ s)
-unfolding named
-named-within a s m nr e =
-    let h = below-named (nat_le (a + distance_of (seq a) nr) s) (a + distance_of (seq a) nr) m e in
-    let low : a + distance_of (seq a) nr ≤ s = leb-true (a + distance_of (seq a) nr) s h.0 in
-    let same : a + distance_of (seq a) nr ≡ m = h.1 in
-    (omega arith, omega arith)
+-- nothing queued is settled in every state, and anything in states 7 and 8
+settles-none : (a n : ℕ) (state : State) (asked : Bool) → n ≡ a → settled a n state asked
+settles-none a n TeiAssigned asked h = h
+settles-none a n AwaitingEstablishment asked h = λ e. h
+settles-none a n AwaitingRelease asked h = h
+settles-none a n Established asked h = tt
+settles-none a n TimerRecovery asked h = tt
 
-module _ (t : Terms) (r : t.tei ≤ 126) where
-  pub re_establish_leads : (X : Claim) → Leads (Bound t X) (Words.re_establish t) (Bound t settled)
-  re_establish_leads X = search entries depth 12
+settles-multiple : (a n : ℕ) (state : State) (asked : Bool) → IsTrue (is_multiple_frame state) → settled a n state asked
+settles-multiple a n TeiAssigned asked h = absurd (true≢false (sym h))
+settles-multiple a n AwaitingEstablishment asked h = absurd (true≢false (sym h))
+settles-multiple a n AwaitingRelease asked h = absurd (true≢false (sym h))
+settles-multiple a n Established asked h = tt
+settles-multiple a n TimerRecovery asked h = tt
 
-  -- an N(R) that names m
-  acknowledging : (contents : List (List ℕ)) (a s m : ℕ) (ws : List ControlFrame) → a ≤ m → m ≤ s → Bounded t contents a s ws → Bounded t contents m s ws
-  acknowledging contents a s m ws from to h =
+-- in a state in which nothing is queued
+at-rest : (a n : ℕ) (here : State) (asked : Bool) → is_at_rest here ≡ true → settled a n here asked → n ≡ a
+at-rest a n TeiAssigned asked e h = h
+at-rest a n AwaitingEstablishment asked e h = absurd (true≢false (sym e))
+at-rest a n AwaitingRelease asked e h = h
+at-rest a n Established asked e h = absurd (true≢false (sym e))
+at-rest a n TimerRecovery asked e h = absurd (true≢false (sym e))
+
+abbrev pub is_in : State → State → Type 0
+is_in state here = state ≡ here
+
+module _ {t : Terms} {q : ℕ} {contents : List (List ℕ)} {a s : ℕ} {state : State} {asked : Bool} {ws : List ControlFrame} {own pending : Bool} (h : Standing t q contents a s state asked ws own pending) where
+  -- flags
+  flagged : (own' pending' : Bool) → (IsTrue own' → pending' ≡ false) → Standing t q contents a s state asked ws own' pending'
+  flagged own' pending' x = record { ordered = h.ordered; accepted = h.accepted; within = h.within; settles = h.settles; queue = h.queue; ring = h.ring; quiet = x; sizes = h.sizes; frames = h.frames }
+
+  silent : (own' : Bool) → Standing t q contents a s state asked ws own' false
+  silent own' = flagged own' false (λ on. refl)
+
+  owes : own ≡ false → Standing t q contents a s state asked ws own true
+  owes off = flagged own true (λ on. absurd (true≢false (sym on ∙ off)))
+
+  -- a state is entered: the link is in one in which nothing is queued, or nothing is now
+  entering : (state' : State) (asked' : Bool) → settled a (length contents) state' asked' → Standing t q contents a s state' asked' ws own pending
+  entering state' asked' x = record { ordered = h.ordered; accepted = h.accepted; within = h.within; settles = x; queue = h.queue; ring = h.ring; quiet = h.quiet; sizes = h.sizes; frames = h.frames }
+
+  none-queued : idle is_in a s (length contents) state → length contents ≡ a
+  none-queued (inl few) = let low : a ≤ s = h.ordered in let all : s ≤ length contents = h.accepted in omega arith
+  none-queued (inr (here, e, r)) = at-rest a (length contents) here asked r (subst (λ y. settled a (length contents) y asked) e h.settles)
+
+  resting : (here : State) → idle is_in a s (length contents) state → Standing t q contents a s here asked ws own pending
+  resting here i = entering here asked (settles-none a (length contents) here asked (none-queued i))
+
+  asking : (b : Bool) → (IsTrue b → idle is_in a s (length contents) state) → Standing t q contents a s AwaitingEstablishment b ws own pending
+  asking b i = entering AwaitingEstablishment b (λ on. none-queued (i on))
+
+  up : (here : State) → IsTrue (is_multiple_frame here) → Standing t q contents a s here asked ws own pending
+  up here m = entering here asked (settles-multiple a (length contents) here asked m)
+
+  -- other control frames wait
+  waiting : (ws' : List ControlFrame) → length ws' ≤ t.control → All (IsWaitingFrame t) ws' → Standing t q contents a s state asked ws' own pending
+  waiting ws' x y = record { ordered = h.ordered; accepted = h.accepted; within = h.within; settles = h.settles; queue = h.queue; ring = x; quiet = h.quiet; sizes = h.sizes; frames = y }
+
+  one-more : (b : Bool) (f : ControlFrame) → nat_lt (length ws) t.control ≡ b → IsWaitingFrame t f
+      → Standing t q contents a s state asked (cond b (ws ++ f ∷ []) ws) own pending
+  one-more true f e w =
+      let small : length ws < t.control = ltb-true (length ws) t.control e in
+      waiting (ws ++ f ∷ []) (simp length-append (omega arith)) (All-push (IsWaitingFrame t) ws f h.frames w)
+  one-more false f e w = h
+
+  sending : (f : ControlFrame) → t.tei ≤ 126 → Waits t f
+      → Standing t q contents a s state asked (cond (nat_lt (length ws) t.control) (ws ++ f ∷ []) ws) own pending
+  sending f r w = one-more (nat_lt (length ws) t.control) f refl (w.waits r)
+
+  gone : (f : ControlFrame) (fs : List ControlFrame) → ws ≡ f ∷ fs → Standing t q contents a s state asked fs own pending
+  gone f fs e =
+      let whole : length ws ≤ t.control = h.ring in
+      let size : length ws ≡ length (f ∷ fs) = ap length e in
+      waiting fs (omega arith) (All-tail (IsWaitingFrame t) f fs (subst (All (IsWaitingFrame t)) e h.frames))
+
+  -- other numbers and other contents
+  numbered : (contents' : List (List ℕ)) (a' s' : ℕ) → a' ≤ s' → s' ≤ length contents' → s' ≤ a' + t.k → length contents' ≤ a' + q
+      → settled a' (length contents') state asked → All (λ octets. length octets ≤ t.n201) contents' → Standing t q contents' a' s' state asked ws own pending
+  numbered contents' a' s' ordered accepted within queue settles sizes =
+      record { ordered = ordered; accepted = accepted; within = within; settles = settles; queue = queue; ring = h.ring; quiet = h.quiet; sizes = sizes; frames = h.frames }
+
+  acknowledging : (i : ℕ) (here : State) → a ≤ i → i ≤ s → state ≡ here → IsTrue (is_multiple_frame here) → Standing t q contents i s state asked ws own pending
+  acknowledging i here from to e m =
       let within : s ≤ a + t.k = h.within in
-      let room : length contents ≤ a + t.queue = h.queue in
-      record {
-        ordered = to;
-        accepted = h.accepted;
-        within = omega arith;
-        queue = omega arith;
-        ring = h.ring;
-        sizes = h.sizes;
-        frames = h.frames;
-      }
+      let room : length contents ≤ a + q = h.queue in
+      numbered contents i s to h.accepted (omega arith) (omega arith) (settles-multiple i (length contents) state asked (ap is_multiple_frame e ∙ m)) h.sizes
 
-  pub acknowledge_keeps : (m : ℕ) → Leads (Bound t (names m)) (Words.acknowledge m) (Bound t (names m))
-  acknowledge_keeps m =
-      record {
-        leads = λ c h. record {
-          bounded = acknowledging c.link.contents c.link.a c.link.s m c.link.waiting h.claim.from h.claim.to h.bounded;
-          claim = record { from = omega arith; to = h.claim.to; state_is = h.claim.state_is };
-        };
-      }
-
-  going_back : (contents : List (List ℕ)) (a s m : ℕ) (ws : List ControlFrame) → a ≤ m → m ≤ s → Bounded t contents a s ws → Bounded t contents a m ws
-  going_back contents a s m ws from to h =
+  going-back : (i : ℕ) → a ≤ i → i ≤ s → Standing t q contents a i state asked ws own pending
+  going-back i from to =
       let within : s ≤ a + t.k = h.within in
       let all : s ≤ length contents = h.accepted in
-      record {
-        ordered = from;
-        accepted = omega arith;
-        within = omega arith;
-        queue = h.queue;
-        ring = h.ring;
-        sizes = h.sizes;
-        frames = h.frames;
-      }
+      numbered contents a i from (omega arith) (omega arith) h.queue h.settles h.sizes
 
-  pub send_again_keeps : (m : ℕ) → Leads (Bound t (names m)) (Words.send_again_from m) (Bound t (names m))
-  send_again_keeps m =
-      record {
-        leads = λ c h. record {
-          bounded = going_back c.link.contents c.link.a c.link.s m c.link.waiting h.claim.from h.claim.to h.bounded;
-          claim = record { from = h.claim.from; to = omega arith; state_is = h.claim.state_is };
-        };
-      }
+  discarding : Standing t q (take a contents) a a state asked ws own pending
+  discarding =
+      let low : a ≤ s = h.ordered in
+      let all : s ≤ length contents = h.accepted in
+      let e : length (take a contents) ≡ a = length-take-le a contents (omega arith) in
+      numbered (take a contents) a a (omega arith) (omega arith) (omega arith) (omega arith) (settles-none a (length (take a contents)) state asked e)
+      (All-take (λ octets. length octets ≤ t.n201) a contents h.sizes)
 
-  -- by the N(R): an invalid one, or the one number that it names
-  by-number : (nr : Seq) (f : ℕ → Step) → ((m : ℕ) → Leads (Bound t (names m)) (f m) (Bound t settled))
-      → (c : Course) → Bound t multiple c → (o : Option ℕ) → named c.link.a c.link.s nr ≡ o
-      → Bound t settled (elim o [ None ↦ (Words.error t code.J then Words.re_establish t) c | Some n ↦ f n c ])
-  by-number nr f x c h None e = (keeping_then (note_keeps t multiple _) (re_establish_leads multiple)).leads c h
-  by-number nr f x c h (Some m) e =
-      let between = named-within c.link.a c.link.s m nr e in
-      (x m).leads c (record { bounded = h.bounded; claim = record { from = between.0; to = between.1; state_is = h.claim } })
+  -- what is not sent stays settled
+  settles-rest : (here : State) (n : ℕ) → n ≡ length contents - s → settled a (length contents) here asked → settled 0 n here asked
+  settles-rest TeiAssigned n e x = let low : a ≤ s = h.ordered in omega (arith, x)
+  settles-rest AwaitingEstablishment n e x = λ on. let low : a ≤ s = h.ordered in let none : length contents ≡ a = x on in omega arith
+  settles-rest AwaitingRelease n e x = let low : a ≤ s = h.ordered in omega (arith, x)
+  settles-rest Established n e x = tt
+  settles-rest TimerRecovery n e x = tt
 
-  pub number_leads : (nr : Seq) {f : ℕ → Step} → ((m : ℕ) → Leads (Bound t (names m)) (f m) (Bound t settled))
-      → Leads (Bound t multiple) (Words.by_number t nr f) (Bound t settled)
-  number_leads nr {f} x = record { leads = λ c h. by-number nr f x c h (named c.link.a c.link.s nr) refl }
+  zeroing : Standing t q (drop s contents) 0 0 state asked ws own pending
+  zeroing =
+      let low : a ≤ s = h.ordered in
+      let room : length contents ≤ a + q = h.queue in
+      let e : length (drop s contents) ≡ length contents - s = length-drop s contents in
+      numbered (drop s contents) 0 0 (omega arith) (omega arith) (omega arith) (omega arith) (settles-rest state (length (drop s contents)) e h.settles)
+      (All-drop (λ octets. length octets ≤ t.n201) s contents h.sizes)
 
-ruleset ends = (entries, multiple_ends, names_ends, down_ends, awaiting_ends)
+  -- contents that are not refused go to the queue
+  queueing : (octets : List ℕ) → IsTrue (is_multiple_frame state) → length octets ≤ t.n201 → length (drop a contents) < q
+      → Standing t q (contents ++ octets ∷ []) a s state asked ws own pending
+  queueing octets m small free =
+      let low : a ≤ s = h.ordered in
+      let all : s ≤ length contents = h.accepted in
+      let e : length (drop a contents) ≡ length contents - a = length-drop a contents in
+      let more : length (contents ++ octets ∷ []) ≡ length contents + 1 = length-append contents (octets ∷ []) in
+      numbered (contents ++ octets ∷ []) a s low (omega arith) h.within (omega arith) (settles-multiple a (length (contents ++ octets ∷ [])) state asked m)
+      (All-push (λ os. length os ≤ t.n201) contents octets h.sizes small)
 
-module _ (t : Terms) (r : t.tei ≤ 126) where
-  -- a row that goes on whatever it has led to
-  anything_ends : {X : Claim} {f : Step} → Leads (Bound t X) f (Bound t X) → Leads (Bound t X) f (Bound t anything)
-  anything_ends {X} x = to_less (weaker t X anything (λ a s n state asked h. tt)) x
+  -- one that is not sent goes, within the window
+  sent : (here : State) (busy : Bool) → (Offers.is_established here && not busy && nat_lt (s - a) t.k && nat_lt s (length contents)) ≡ true
+      → Standing t q contents a (s + 1) state asked ws own pending
+  sent here busy e =
+      let parts = and_parts (Offers.is_established here && not busy && nat_lt (s - a) t.k) (nat_lt s (length contents)) e in
+      let inner = and_parts (Offers.is_established here && not busy) (nat_lt (s - a) t.k) parts.0 in
+      let low : a ≤ s = h.ordered in
+      let some : s < length contents = ltb-true s (length contents) parts.1 in
+      let free : s - a < t.k = ltb-true (s - a) t.k inner.1 in
+      numbered contents a (s + 1) (omega arith) (omega arith) (omega arith) h.queue h.settles h.sizes
 
-  through_anything : {X : Claim} {R : Course → Type 0} {f g : Step} → Leads (Bound t X) f (Bound t anything) → Leads (Bound t anything) g R → Leads (Bound t X) (f then g) R
-  through_anything x y = then_leads x y
+-- contents that are not refused find room
+not-refused : (b : Bool) (o : Option Refusal) (w : Refusal) → cond b o (Some w) ≡ None → (b ≡ true) × (o ≡ None)
+not-refused true o w e = (refl, e)
+not-refused false o w e = absurd (cc)
 
-  -- state 4
-  pub frames_in_4 : (octets : List ℕ) (control : Control) → Leads (Bound t (down TeiAssigned)) (frame_in_4 t octets control) (Bound t settled)
-  frames_in_4 octets (Sabme p) = search ends depth 12 fits 4000
-  frames_in_4 octets (Ua true) = search ends depth 12 fits 4000
-  frames_in_4 octets (Ua false) = search ends depth 12 fits 4000
-  frames_in_4 octets other = search ends depth 12 fits 4000
+not-first : (b : Bool) (o : Option Refusal) (w : Refusal) → cond b (Some w) o ≡ None → (b ≡ false) × (o ≡ None)
+not-first true o w e = absurd (cc)
+not-first false o w e = (refl, e)
 
-  pub establish_leads : Leads (Bound t (down TeiAssigned)) (establish_in_4 t) (Bound t settled)
-  establish_leads = search ends depth 12 fits 4000
+module _ (t : Terms) (r : t.tei ≤ 126) (q : ℕ) (Queued : Type 0) (room : Queued → q ≡ t.queue) where
+  transfers : Queued → (octets : List ℕ) (full : Bool) (c : Course) → Requests.refusal t c.link full (Events.Data octets) ≡ None
+      → Stands t q c → Stands t q (data_in_7_8 octets c)
+  transfers may octets full c e h =
+      let same = room may in
+      let parts = not-refused (is_multiple_frame c.link.state) _ WrongState e in
+      let small = not-first (nat_lt t.n201 (length octets)) _ TooLong parts.1 in
+      let free = not-first (nat_le t.queue (length (drop c.link.a c.link.contents))) _ QueueFull small.1 in
+      queueing h octets parts.0 (ltb-false t.n201 (length octets) small.0) (omega (arith, same, leb-false t.queue (length (drop c.link.a c.link.contents)) free.0))
 
-  -- state 5
-  pub frames_in_5 : (octets : List ℕ) (control : Control) → Leads (Bound t awaiting) (frame_in_5 t octets control) (Bound t settled)
-  frames_in_5 octets (Ua true) = search (ends, through_anything, anything_ends) depth 12 fits 4000
-  frames_in_5 octets (Ua false) = search ends depth 12 fits 4000
-  frames_in_5 octets (Dm true) = search ends depth 12 fits 4000
-  frames_in_5 octets (Dm false) = search ends depth 12 fits 4000
-  frames_in_5 octets other = search ends depth 12 fits 4000
+  reports : (b : Bool) (c : Course) → Stands t q c → Stands t q (Words.report_ready t (Words.own_busy_is b c))
+  reports b c h = sending (silent h b) _ r (ready_waits t false false (Words.with_own_busy b c.link))
 
-  pub t200_leads_5 : Leads (Bound t awaiting) (t200_in_5 t) (Bound t settled)
-  t200_leads_5 = search ends depth 12 fits 4000
+  pub begins : (c : Course) → Stands t q (Words.begin_anew c)
+  begins c = record {
+    ordered = omega arith;
+    accepted = omega arith;
+    within = omega arith;
+    settles = refl;
+    queue = omega arith;
+    ring = omega arith;
+    quiet = λ on. refl;
+    sizes = All-nil (λ octets. length octets ≤ t.n201);
+    frames = All-nil (IsWaitingFrame t);
+  }
 
-  -- state 6
-  pub frames_in_6 : (octets : List ℕ) (control : Control) → Leads (Bound t (down AwaitingRelease)) (frame_in_6 t octets control) (Bound t settled)
-  frames_in_6 octets (Ua true) = search ends depth 12 fits 4000
-  frames_in_6 octets (Ua false) = search ends depth 12 fits 4000
-  frames_in_6 octets (Dm true) = search ends depth 12 fits 4000
-  frames_in_6 octets (Dm false) = search ends depth 12 fits 4000
-  frames_in_6 octets other = search ends depth 12 fits 4000
+  recovers : (i : ℕ) (timer : LinkTimer) (c : Course) → c.link.a ≤ i → i ≤ c.link.s → Stands t q c
+      → Stands t q ((Words.send_again_from i then Words.start timer then Words.enter Established) c)
+  recovers i timer c from to h = up (going-back h i from to) Established refl
 
-  pub t200_leads_6 : Leads (Bound t (down AwaitingRelease)) (t200_in_6 t) (Bound t settled)
-  t200_leads_6 = search ends depth 12 fits 4000
-
-  -- states 7 and 8
-  sabme_leads : (p : Bool) → Leads (Bound t multiple) (MultipleFrame.sabme_in_7_8 t p) (Bound t settled)
-  sabme_leads p = search (ends, through_anything, anything_ends) depth 12 fits 4000
-
-  disc_leads : (p : Bool) → Leads (Bound t multiple) (MultipleFrame.disc_in_7_8 t p) (Bound t settled)
-  disc_leads p = search ends depth 12 fits 4000
-
-  pub failed_leads : (e : ErrorCode) → Leads (Bound t multiple) (MultipleFrame.failed t e) (Bound t settled)
-  failed_leads e = keeping_then (note_keeps t multiple _) (re_establish_leads t r multiple)
-
-  contents_lead : (ns : Seq) (p : Bool) (octets : List ℕ) → Leads (Bound t multiple) (MultipleFrame.contents_in_7_8 t ns p octets) (Bound t multiple)
-  contents_lead ns p octets = search words depth 12 fits 4000
-
-  information_leads : (ns nr : Seq) (p : Bool) (octets : List ℕ) (f : ℕ → Step)
-      → ((m : ℕ) → Leads (Bound t (names m)) (f m) (Bound t settled))
-      → Leads (Bound t multiple) (MultipleFrame.information_in_7_8 t ns nr p octets f) (Bound t settled)
-  information_leads ns nr p octets f x = bit_leads _ (failed_leads code.O) (keeping_then (contents_lead ns p octets) (number_leads t r nr x))
-
-  answered : {X : Claim} (b pf : Bool) → Leads (Bound t X) (MultipleFrame.answered t b pf) (Bound t X)
-  answered b pf = bit_leads (b && pf) (answer_keeps t r _) nothing_leads
-
-  supervisory_leads : (own : MultipleFrame.Particulars) (busy b pf : Bool) (nr : Seq) (effect : Bool → ℕ → Step)
-      → ((final : Bool) → Leads (Bound t multiple) (own.told_of final) (Bound t multiple))
-      → ((final : Bool) (m : ℕ) → Leads (Bound t (names m)) (effect final m) (Bound t settled))
-      → Leads (Bound t multiple) (MultipleFrame.supervisory t own busy b pf nr effect) (Bound t settled)
-  supervisory_leads own busy b pf nr effect y x =
-      keeping_then (peer_busy_keeps t _ busy)
-      (keeping_then (answered b pf) (keeping_then (y (MultipleFrame.is_final b pf)) (number_leads t r nr (x (MultipleFrame.is_final b pf)))))
-
-  unsolicited : (final : Bool) → Leads (Bound t multiple) (Established.unsolicited t final) (Bound t multiple)
-  unsolicited final = bit_leads final (note_keeps t multiple _) nothing_leads
-
-  acknowledges : (m : ℕ) (timer : LinkTimer) → Leads (Bound t (names m)) (Words.acknowledge m then Words.start timer) (Bound t settled)
-  acknowledges m timer = names_ends t (keeping_then (acknowledge_keeps t r m) (start_keeps t _ timer))
-
-  acknowledged_7 : (m : ℕ) → Leads (Bound t (names m)) (Established.acknowledged_in_7 m) (Bound t settled)
-  acknowledged_7 m =
-      depending_leads (Established.is_all_sent m) (acknowledges m T203)
-      (depending_leads (Established.is_beyond_acknowledged m) (acknowledges m T200) (names_ends t nothing_leads))
-
-  sent_again_7 : (m : ℕ) → Leads (Bound t (names m)) (Established.acknowledged_by_rej_in_7 m) (Bound t settled)
-  sent_again_7 m = names_ends t (keeping_then (acknowledge_keeps t r m) (keeping_then (send_again_keeps t r m) (start_keeps t _ T203)))
-
-  recovered_8 : (timer : LinkTimer) (final : Bool) (m : ℕ) → Leads (Bound t (names m)) (TimerRecovery.acknowledged_in_8 timer final m) (Bound t settled)
-  recovered_8 timer final m = search (ends, acknowledge_keeps, send_again_keeps) depth 12 fits 4000
-
-  pub frames_in_7 : (is_command : Bool) (octets : List ℕ) (control : Control)
-      → Leads (Bound t multiple) (Established.frame_in_7 t is_command octets control) (Bound t settled)
-  frames_in_7 b octets (Information ns nr p) = information_leads ns nr p octets Established.acknowledged_by_information_in_7 (λ m. depending_leads is_peer_busy (names_ends t (acknowledge_keeps t r m)) (acknowledged_7 m))
-  frames_in_7 b octets (ReceiveReady nr pf) =
-      supervisory_leads (Established.particulars_in_7 t) false b pf nr (Established.either_way Established.acknowledged_in_7) unsolicited (λ final m. acknowledged_7 m)
-  frames_in_7 b octets (ReceiveNotReady nr pf) =
-      supervisory_leads (Established.particulars_in_7 t) true b pf nr (Established.either_way Established.acknowledged_by_rnr_in_7) unsolicited (λ final m. acknowledges m T200)
-  frames_in_7 b octets (Reject nr pf) =
-      supervisory_leads (Established.particulars_in_7 t) false b pf nr (Established.either_way Established.acknowledged_by_rej_in_7) unsolicited (λ final m. sent_again_7 m)
-  frames_in_7 b octets (Sabme p) = sabme_leads p
-  frames_in_7 b octets (Disc p) = disc_leads p
-  frames_in_7 b octets (Ua f) = search ends depth 12 fits 4000
-  frames_in_7 b octets (Dm true) = search ends depth 12 fits 4000
-  frames_in_7 b octets (Dm false) = failed_leads code.E
-  frames_in_7 b octets (Frmr f) = failed_leads code.K
-  frames_in_7 b octets (Ui p) = search ends depth 12 fits 4000
-  frames_in_7 b octets (Xid pf) = search ends depth 12 fits 4000
-
-  pub timer_leads_7 : Leads (Bound t multiple) (Established.timer_in_7 t) (Bound t settled)
-  timer_leads_7 = search ends depth 12 fits 4000
-
-  pub frames_in_8 : (is_command : Bool) (octets : List ℕ) (control : Control)
-      → Leads (Bound t multiple) (TimerRecovery.frame_in_8 t is_command octets control) (Bound t settled)
-  frames_in_8 b octets (Information ns nr p) = information_leads ns nr p octets Words.acknowledge (λ m. names_ends t (acknowledge_keeps t r m))
-  frames_in_8 b octets (ReceiveReady nr pf) =
-      supervisory_leads (TimerRecovery.particulars_in_8 t) false b pf nr (TimerRecovery.acknowledged_in_8 T203) (λ final. nothing_leads) (recovered_8 T203)
-  frames_in_8 b octets (ReceiveNotReady nr pf) =
-      supervisory_leads (TimerRecovery.particulars_in_8 t) true b pf nr (TimerRecovery.acknowledged_in_8 T200) (λ final. nothing_leads) (recovered_8 T200)
-  frames_in_8 b octets (Reject nr pf) =
-      supervisory_leads (TimerRecovery.particulars_in_8 t) false b pf nr (TimerRecovery.acknowledged_in_8 T203) (λ final. nothing_leads) (recovered_8 T203)
-  frames_in_8 b octets (Sabme p) = sabme_leads p
-  frames_in_8 b octets (Disc p) = disc_leads p
-  frames_in_8 b octets (Ua f) = search ends depth 12 fits 4000
-  frames_in_8 b octets (Dm true) = failed_leads code.B
-  frames_in_8 b octets (Dm false) = failed_leads code.E
-  frames_in_8 b octets (Frmr f) = failed_leads code.K
-  frames_in_8 b octets (Ui p) = search ends depth 12 fits 4000
-  frames_in_8 b octets (Xid pf) = search ends depth 12 fits 4000
-
-  pub t200_leads_8 : Leads (Bound t multiple) (TimerRecovery.t200_in_8 t) (Bound t settled)
-  t200_leads_8 = search (ends, failed_leads) depth 12 fits 4000
-
-  pub release_leads : Leads (Bound t multiple) (MultipleFrame.release_in_7_8 t) (Bound t settled)
-  release_leads = search ends depth 12 fits 4000
-
-  pub set_busy_leads : Leads (Bound t multiple) (MultipleFrame.set_busy_in_7_8 t) (Bound t settled)
-  set_busy_leads = search ends depth 12 fits 4000
-
-  pub clear_busy_leads : Leads (Bound t multiple) (MultipleFrame.clear_busy_in_7_8 t) (Bound t settled)
-  clear_busy_leads = search ends depth 12 fits 4000
+  pub stand : Careful t (Unit {0}) (Unit {0}) (Unit {0}) (Unit {0}) Queued (Unit {0}) is_in (Stands t q) (λ p p' c. Stands t q c) (Stands t q)
+  stand = search (silent, owes, resting, asking, up, sending, r, gone, acknowledging, going-back, recovers, discarding, zeroing, transfers, sent, reports, begins) depth 12 fits 4000

@@ -5,8 +5,9 @@ use Rattle.model_link.specs.MultipleFrame
 use Rattle.model_link.specs.Established
 use Rattle.model_link.specs.TimerRecovery
 use Rattle.model_link.specs.Machine
-use Rattle.model_link.proofs.Counting.{On, done, words, acknowledge_counts}
-use Rattle.model_link.proofs.CountRows.{frames_in_7, frames_in_8}
+use Rattle.model_link.proofs.Counting.{On, done, undelivered, words}
+use Rattle.model_link.proofs.Leads.{depending_leads}
+use Rattle.model_link.proofs.Rows.{frame_row}
 use Rattle.model_link.proofs.Delivering.{begins}
 use Rattle.model_link.proofs.Lines.{Means}
 use Rattle.model_link.proofs.Facing.{UpBy, information_7_up, acknowledge_up, rr_7, rnr_7, rej_7, rr_8, rnr_8, rej_8}
@@ -71,8 +72,7 @@ module _ (t : Terms) (l : Link) where
 
   -- a supervisory frame delivers nothing
   pub none-delivered : (c : Course) → On (done l.r None) c → c.delivered ≡ None
-  none-delivered c (inl h) = h.delivered
-  none-delivered c (inr h) = h.delivered
+  none-delivered c h = undelivered h
 
   supervisory : (control : Control) (octets : List ℕ) (nr : Seq) (m : ℕ) (c : Course) → nr ≡ seq m → UpBy l nr l.r c → On (done l.r None) c → Taken l m control octets c
   supervisory control octets nr m c e h d =
@@ -85,13 +85,13 @@ module _ (t : Terms) (l : Link) where
 
   frames-7 : (b : Bool) (octets : List ℕ) (m : ℕ) (control : Control) → Means m control → Taken l m control octets (Established.frame_in_7 t b octets control (begun l))
   frames-7 b octets m (Information ns nr p) e =
-      information ns nr p octets m _ e (information_took t l ns nr p octets Established.acknowledged_by_information_in_7 (λ Q n. search words) (λ r n low. information_7_up l r l.a n low))
+      information ns nr p octets m _ e (information_took t l ns nr p octets Established.acknowledged_by_information_in_7 (λ Q n. search (depending_leads)) (λ r n low. information_7_up l r l.a n low))
   frames-7 b octets m (ReceiveReady nr pf) e =
-      supervisory (ReceiveReady nr pf) octets nr m _ e ((rr_7 t l l.r b octets nr pf).leads (begun l) (at-first t l)) ((frames_in_7 t l.r b octets (ReceiveReady nr pf) refl).leads (begun l) (begins t l))
+      supervisory (ReceiveReady nr pf) octets nr m _ e ((rr_7 t l l.r b octets nr pf).leads (begun l) (at-first t l)) ((frame_row (words t l.r) Established b octets (ReceiveReady nr pf) tt).leads (begun l) (begins t l))
   frames-7 b octets m (ReceiveNotReady nr pf) e =
-      supervisory (ReceiveNotReady nr pf) octets nr m _ e ((rnr_7 t l l.r b octets nr pf).leads (begun l) (at-first t l)) ((frames_in_7 t l.r b octets (ReceiveNotReady nr pf) refl).leads (begun l) (begins t l))
+      supervisory (ReceiveNotReady nr pf) octets nr m _ e ((rnr_7 t l l.r b octets nr pf).leads (begun l) (at-first t l)) ((frame_row (words t l.r) Established b octets (ReceiveNotReady nr pf) tt).leads (begun l) (begins t l))
   frames-7 b octets m (Reject nr pf) e =
-      supervisory (Reject nr pf) octets nr m _ e ((rej_7 t l l.r b octets nr pf).leads (begun l) (at-first t l)) ((frames_in_7 t l.r b octets (Reject nr pf) refl).leads (begun l) (begins t l))
+      supervisory (Reject nr pf) octets nr m _ e ((rej_7 t l l.r b octets nr pf).leads (begun l) (at-first t l)) ((frame_row (words t l.r) Established b octets (Reject nr pf) tt).leads (begun l) (begins t l))
   frames-7 b octets m (Sabme p) e = absurd e
   frames-7 b octets m (Disc p) e = absurd e
   frames-7 b octets m (Ui p) e = absurd e
@@ -102,13 +102,13 @@ module _ (t : Terms) (l : Link) where
 
   frames-8 : (b : Bool) (octets : List ℕ) (m : ℕ) (control : Control) → Means m control → Taken l m control octets (TimerRecovery.frame_in_8 t b octets control (begun l))
   frames-8 b octets m (Information ns nr p) e =
-      information ns nr p octets m _ e (information_took t l ns nr p octets Words.acknowledge (λ Q n. acknowledge_counts Q n) (λ r n low. acknowledge_up l r n))
+      information ns nr p octets m _ e (information_took t l ns nr p octets Words.acknowledge (λ Q n. record { leads = λ c h. h }) (λ r n low. acknowledge_up l r n))
   frames-8 b octets m (ReceiveReady nr pf) e =
-      supervisory (ReceiveReady nr pf) octets nr m _ e ((rr_8 t l l.r b octets nr pf).leads (begun l) (at-first t l)) ((frames_in_8 t l.r b octets (ReceiveReady nr pf) refl).leads (begun l) (begins t l))
+      supervisory (ReceiveReady nr pf) octets nr m _ e ((rr_8 t l l.r b octets nr pf).leads (begun l) (at-first t l)) ((frame_row (words t l.r) TimerRecovery b octets (ReceiveReady nr pf) tt).leads (begun l) (begins t l))
   frames-8 b octets m (ReceiveNotReady nr pf) e =
-      supervisory (ReceiveNotReady nr pf) octets nr m _ e ((rnr_8 t l l.r b octets nr pf).leads (begun l) (at-first t l)) ((frames_in_8 t l.r b octets (ReceiveNotReady nr pf) refl).leads (begun l) (begins t l))
+      supervisory (ReceiveNotReady nr pf) octets nr m _ e ((rnr_8 t l l.r b octets nr pf).leads (begun l) (at-first t l)) ((frame_row (words t l.r) TimerRecovery b octets (ReceiveNotReady nr pf) tt).leads (begun l) (begins t l))
   frames-8 b octets m (Reject nr pf) e =
-      supervisory (Reject nr pf) octets nr m _ e ((rej_8 t l l.r b octets nr pf).leads (begun l) (at-first t l)) ((frames_in_8 t l.r b octets (Reject nr pf) refl).leads (begun l) (begins t l))
+      supervisory (Reject nr pf) octets nr m _ e ((rej_8 t l l.r b octets nr pf).leads (begun l) (at-first t l)) ((frame_row (words t l.r) TimerRecovery b octets (Reject nr pf) tt).leads (begun l) (begins t l))
   frames-8 b octets m (Sabme p) e = absurd e
   frames-8 b octets m (Disc p) e = absurd e
   frames-8 b octets m (Ui p) e = absurd e

@@ -1,15 +1,16 @@
 -- Each row of the tables tells at most two notes.
-use Rattle.model_link.proofs.Vocabulary.{◌≡◌, ℕ, ◌+◌, ◌≤◌, zero-add, Bool, true, false, cond, not, ◌&&◌, List, [], ◌∷◌, ◌++◌, length, Option, Some, None, is_some, ◌⊎◌, inl, inr, refl, sym, ap, ◌∙◌, arith, length-append, Control, Ui, Ua, Note, ErrorCode, State, TeiAssigned, AwaitingEstablishment, AwaitingRelease, Established, TimerRecovery, LinkTimer, T200, T203, Terms, Link, Course, begun, Step, by_bit, frame_in_4, frame_in_5, frame_in_6, list_any, Timer, Order, Start, Stop, is_data, is_unit, runs, timer_at, order_for, orders_for, starts}
+use Rattle.model_link.proofs.Vocabulary.{◌≡◌, ℕ, ◌+◌, ◌≤◌, zero-add, Bool, true, false, cond, not, ◌&&◌, List, [], ◌∷◌, ◌++◌, length, Option, Some, None, is_some, ◌⊎◌, inl, inr, refl, sym, ap, ◌∙◌, arith, length-append, Control, Ui, Ua, Note, ErrorCode, State, TeiAssigned, AwaitingEstablishment, AwaitingRelease, Established, TimerRecovery, LinkTimer, T200, T203, Terms, Link, Course, begun, by_bit, frame_in_4, frame_in_5, frame_in_6, list_any, Timer, Order, Start, Stop, is_data, is_unit, runs, timer_at, order_for, orders_for, starts}
 use Rattle.model_link.specs.Requests
 use Rattle.model_link.specs.Established
 use Rattle.model_link.specs.TimerRecovery
 use Rattle.model_link.specs.Machine
 use Rattle.model_link.specs.Events
 use Rattle.model_link.specs.Words
-use Rattle.model_link.proofs.Leads.{Leads}
-use Rattle.model_link.proofs.Telling.{Purse, no_more, another, how_many, Telling, HasTold, ToldWithin, untold, note_tells, words}
-use Rattle.model_link.proofs.Kept.{Fits}
-use Rattle.model_link.proofs.Rows.{row_in_7, row_in_8, frame_row, malformed_row, expired_row, granted_row, event_row}
+use Rattle.model_link.proofs.Leads.{Leads, from_more}
+use Rattle.model_link.proofs.Telling.{Purse, no_more, another, how_many, Telling, HasTold, ToldWithin, untold, note-told, enough, words}
+use Rattle.model_link.proofs.Kept.{two, Fits, FitsEvent}
+use Rattle.model_link.proofs.Careful.{Careful, plainly, anything}
+use Rattle.model_link.proofs.Rows.{malformed_by, expired_by, release_by, set_busy_by, clear_busy_by, frame_row, event_row}
 
 -- any frame but a UI
 abbrev IsNoUnit : Control → Type 0
@@ -24,44 +25,50 @@ fits (Ua false) h = tt
 fits other h = tt
 
 module _ (t : Terms) where
+  told : Careful t ⊥ (Unit {0}) (Unit {0}) (Unit {0}) (Unit {0}) (Unit {0}) (λ state here. Unit {0}) (Telling 2 two) (λ p q c. Telling 2 q c) (HasTold 2)
+  told = plainly (words t)
+
+  frames_in : (here : State) (b : Bool) (octets : List ℕ) (control : Control) → IsNoUnit control → Leads (Telling 2 two) (Machine.frame_in here t b octets control) (HasTold 2)
+  frames_in here b octets control h = frame_row (words t) here b octets control (fits control h)
+
   pub frames_in_4 : (octets : List ℕ) (control : Control) → IsNoUnit control → Leads (Telling 2 (another (another no_more))) (frame_in_4 t octets control) (HasTold 2)
-  frames_in_4 octets control h = frame_row (words t) TeiAssigned false octets control (fits control h)
+  frames_in_4 octets control h = frames_in TeiAssigned false octets control h
 
   pub frames_in_5 : (octets : List ℕ) (control : Control) → IsNoUnit control → Leads (Telling 2 (another (another no_more))) (frame_in_5 t octets control) (HasTold 2)
-  frames_in_5 octets control h = frame_row (words t) AwaitingEstablishment false octets control (fits control h)
+  frames_in_5 octets control h = frames_in AwaitingEstablishment false octets control h
 
   pub frames_in_6 : (octets : List ℕ) (control : Control) → IsNoUnit control → Leads (Telling 2 (another (another no_more))) (frame_in_6 t octets control) (HasTold 2)
-  frames_in_6 octets control h = frame_row (words t) AwaitingRelease false octets control (fits control h)
+  frames_in_6 octets control h = frames_in AwaitingRelease false octets control h
 
   pub frames_in_7 : (b : Bool) (octets : List ℕ) (control : Control) → IsNoUnit control → Leads (Telling 2 (another (another no_more))) (Established.frame_in_7 t b octets control) (HasTold 2)
-  frames_in_7 b octets control h = row_in_7 (words t) b octets control (fits control h)
+  frames_in_7 b octets control h = frames_in Established b octets control h
 
   pub frames_in_8 : (b : Bool) (octets : List ℕ) (control : Control) → IsNoUnit control → Leads (Telling 2 (another (another no_more))) (TimerRecovery.frame_in_8 t b octets control) (HasTold 2)
-  frames_in_8 b octets control h = row_in_8 (words t) b octets control (fits control h)
+  frames_in_8 b octets control h = frames_in TimerRecovery b octets control h
 
   pub expired_tells : (here : State) (timer : LinkTimer) → Leads (Telling 2 (another (another no_more))) (Machine.expired_in here timer t) (HasTold 2)
-  expired_tells here timer = expired_row (words t) here timer
+  expired_tells here timer = from_more (λ c h. record { known = (tt, tt); holds = h }) (expired_by told here timer)
 
   pub malformed_tells : (here : State) (e : ErrorCode) → Leads (Telling 2 (another (another no_more))) (Machine.malformed_in here t e) (HasTold 2)
-  malformed_tells here e = malformed_row (words t) here e
+  malformed_tells here e = from_more (λ c h. record { known = tt; holds = h }) (malformed_by told {X = anything} here e)
 
   pub granted_tells : (request : Events.Request) → Leads (Telling 2 (another (another no_more))) (λ c. Requests.granted t request c) (HasTold 2)
-  granted_tells request = granted_row (words t) request
+  granted_tells Events.Establish = search (enough)
+  granted_tells Events.Release = record { leads = λ c h. (release_by told c.link.state).leads c (record { known = tt; holds = h }) }
+  granted_tells (Events.Data octets) = search (enough)
+  granted_tells Events.SetBusy = set_busy_by told
+  granted_tells Events.ClearBusy = clear_busy_by told
 
   pub cleared_tells : (here : State) → Leads (Telling 1 (another no_more)) (Machine.told_of_clearing here t) (Telling 1 no_more)
-  cleared_tells TeiAssigned = record { leads = λ c h. untold 1 no_more c.notes c.delivered c.unit h }
-  cleared_tells AwaitingEstablishment = note_tells 1 no_more _ refl refl
-  cleared_tells AwaitingRelease = note_tells 1 no_more _ refl refl
-  cleared_tells Established = note_tells 1 no_more _ refl refl
-  cleared_tells TimerRecovery = note_tells 1 no_more _ refl refl
+  cleared_tells TeiAssigned = search (untold)
+  cleared_tells AwaitingEstablishment = search (note-told)
+  cleared_tells AwaitingRelease = search (note-told)
+  cleared_tells Established = search (note-told)
+  cleared_tells TimerRecovery = search (note-told)
 
   -- Each event.
   begins : (p : Purse) (total : ℕ) → how_many p ≤ total → (l : Link) → Telling total p (begun l)
   begins p total room l = record { count = omega (arith, room); data_told = refl; no_unit = refl; no_note = refl }
-
-  two : {f : Step} (l : Link) → Leads (Telling 2 (another (another no_more))) f (HasTold 2) → HasTold 2 (f (begun l))
-  unfolding how_many
-  two l x = x.leads (begun l) (begins (another (another no_more)) 2 (omega arith) l)
 
   -- what is told: notes of data where contents are delivered, and unit data only where none are
   TellsOf : Course → Type 0
@@ -83,12 +90,14 @@ module _ (t : Terms) where
   unit-tells Established b octets p l = units _ octets l
   unit-tells TimerRecovery b octets p l = units _ octets l
 
+  tells : (e : Events.Event) → FitsEvent ⊥ (Unit {0}) (Unit {0}) e → (l : Link) → TellsOf (Machine.course t e l)
+  unfolding TellsOf how_many
+  tells e may l = from-told ((event_row (words t) e may).leads (begun l) (begins two 2 (omega arith) l))
+
   frame-tells : (b : Bool) (octets : List ℕ) (control : Control) (l : Link) → TellsOf (Machine.frame_step t b octets control (begun l))
-  unfolding TellsOf
+  unfolding TellsOf how_many
   frame-tells b octets (Ui p) l = unit-tells l.state b octets p l
-  frame-tells b octets (Ua true) l = from-told (two l (frame_row (words t) l.state b octets (Ua true) tt))
-  frame-tells b octets (Ua false) l = from-told (two l (frame_row (words t) l.state b octets (Ua false) tt))
-  frame-tells b octets other l = from-told (two l (frame_row (words t) l.state b octets other tt))
+  frame-tells b octets other l = from-told ((frames_in l.state b octets other tt).leads (begun l) (begins two 2 (omega arith) l))
 
   -- the TEI leaves the line: one note
   clears : (here : State) (l : Link) → Telling 1 no_more (Machine.told_of_clearing here t (begun l))
@@ -104,13 +113,8 @@ module _ (t : Terms) where
       × (list_any is_unit (Machine.told t e l).notes ≡ is_some (Machine.told t e l).unit)
   unfolding TellsOf
   event-tells (Events.received (Events.frame f)) l = frame-tells f.address.command f.info f.control l
-  event-tells (Events.received Events.undefined) l = from-told (two l (event_row (words t) (Events.received Events.undefined) tt))
-  event-tells (Events.received Events.wrong_size) l = from-told (two l (event_row (words t) (Events.received Events.wrong_size) tt))
-  event-tells (Events.received Events.overlong) l = from-told (two l (event_row (words t) (Events.received Events.overlong) tt))
-  event-tells (Events.expired timer) l = from-told (two l (event_row (words t) (Events.expired timer) tt))
-  event-tells (Events.requested request full) l = from-told (two l (event_row (words t) (Events.requested request full) tt))
-  event-tells Events.offer l = from-told (two l (event_row (words t) Events.offer tt))
-  event-tells Events.cleared l = let one = (clears l.state l).count in (omega (arith, one), (clears l.state l).data_told, inr (clears l.state l).no_unit, (clears l.state l).no_note ∙ sym (ap is_some (clears l.state l).no_unit))
+  event-tells (Events.received other) l = tells (Events.received other) tt l
+  event-tells other l = tells other tt l
 
 -- At most one order for each timer, and at a clear only for the one that runs.
 one-order : (a b : Bool) (x y : Order) → length (cond a (x ∷ []) (cond b (y ∷ []) [])) ≤ 1

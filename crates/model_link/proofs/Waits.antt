@@ -12,35 +12,36 @@ frame_without_information t f r kind size =
     let sapi : sapi_of t.service < 64 = sapi-small t.service in
     record { sapi = sapi; tei = omega arith; kind = kind; size = size }
 
-pub waits : (t : Terms) (f : ControlFrame) → t.tei ≤ 126 → IsTrue (allows (row f.control).kind f.command) → IsTrue (takes (row f.control).info 0)
-    → length (spelling Network (frame_of t f)) ≤ 4 → is_information f.control ≡ false → IsWaitingFrame t f
-waits t f r kind size small without =
-    record { is_frame = frame_without_information t f r kind size; octets = small; without_contents = without }
+-- A frame that may wait, for any TEI of a terminal.
+pub record Waits (t : Terms) (f : ControlFrame) : Type 0 where
+  pub waits : t.tei ≤ 126 → IsWaitingFrame t f
 
-module _ (t : Terms) (r : t.tei ≤ 126) where
-  pub ua_waits : (f : Bool) → IsWaitingFrame t (response (Ua f))
-  ua_waits f = waits t (response (Ua f)) r refl refl (omega arith) refl
+pub may_wait : (t : Terms) (f : ControlFrame) → IsTrue (allows (row f.control).kind f.command) → IsTrue (takes (row f.control).info 0)
+    → length (spelling Network (frame_of t f)) ≤ 4 → is_information f.control ≡ false → Waits t f
+may_wait t f kind size small without =
+    record { waits = λ r. record { is_frame = frame_without_information t f r kind size; octets = small; without_contents = without } }
 
-  pub dm_waits : (f : Bool) → IsWaitingFrame t (response (Dm f))
-  dm_waits f = waits t (response (Dm f)) r refl refl (omega arith) refl
+module _ (t : Terms) where
+  pub ua_waits : (f : Bool) → Waits t (response (Ua f))
+  ua_waits f = may_wait t (response (Ua f)) refl refl (omega arith) refl
 
-  pub sabme_waits : (p : Bool) → IsWaitingFrame t (command (Sabme p))
-  sabme_waits p = waits t (command (Sabme p)) r refl refl (omega arith) refl
+  pub dm_waits : (f : Bool) → Waits t (response (Dm f))
+  dm_waits f = may_wait t (response (Dm f)) refl refl (omega arith) refl
 
-  pub disc_waits : (p : Bool) → IsWaitingFrame t (command (Disc p))
-  disc_waits p = waits t (command (Disc p)) r refl refl (omega arith) refl
+  pub sabme_waits : (p : Bool) → Waits t (command (Sabme p))
+  sabme_waits p = may_wait t (command (Sabme p)) refl refl (omega arith) refl
 
-  pub rej_waits : (n : Seq) (f : Bool) → IsWaitingFrame t (response (Reject n f))
-  rej_waits n f = waits t (response (Reject n f)) r refl refl (omega arith) refl
+  pub disc_waits : (p : Bool) → Waits t (command (Disc p))
+  disc_waits p = may_wait t (command (Disc p)) refl refl (omega arith) refl
+
+  pub rej_waits : (n : Seq) (f : Bool) → Waits t (response (Reject n f))
+  rej_waits n f = may_wait t (response (Reject n f)) refl refl (omega arith) refl
 
   -- RR or RNR, as a command and as a response
   ready_among : (b busy pf : Bool) (n : Seq)
-      → IsWaitingFrame t (record { command = b; control = cond busy (ReceiveNotReady n pf) (ReceiveReady n pf) })
-  ready_among b true pf n = waits t (record { command = b; control = ReceiveNotReady n pf }) r refl refl (omega arith) refl
-  ready_among b false pf n = waits t (record { command = b; control = ReceiveReady n pf }) r refl refl (omega arith) refl
+      → Waits t (record { command = b; control = cond busy (ReceiveNotReady n pf) (ReceiveReady n pf) })
+  ready_among b true pf n = may_wait t (record { command = b; control = ReceiveNotReady n pf }) refl refl (omega arith) refl
+  ready_among b false pf n = may_wait t (record { command = b; control = ReceiveReady n pf }) refl refl (omega arith) refl
 
-  pub ready_command_waits : (pf : Bool) (l : Link) → IsWaitingFrame t (command (ready_to_receive pf l))
-  ready_command_waits pf l = ready_among true l.own_busy pf (seq l.r)
-
-  pub ready_response_waits : (pf : Bool) (l : Link) → IsWaitingFrame t (response (ready_to_receive pf l))
-  ready_response_waits pf l = ready_among false l.own_busy pf (seq l.r)
+  pub ready_waits : (b pf : Bool) (l : Link) → Waits t (record { command = b; control = ready_to_receive pf l })
+  ready_waits b pf l = ready_among b l.own_busy pf (seq l.r)

@@ -1,5 +1,5 @@
 -- Octets that are heard as one thing on a line are one event of it.
-use Rattle.model_line.proofs.Vocabulary.{◌≡◌, ℕ, zero, suc, List, [], ◌∷◌, ◌++◌, length, map, replicate, slice_get, Option, Some, None, option_to_list, refl, ap, sym, subst, ◌∙◌, append_assoc, append-nil, append_cancel_left, option_map_or, heard_in, AreOctets, one_event_an_octet, Config, Event, octet, Answer, told, nothing, at_none, of_aim, Line, gained, aim_of_heard, Fault, IsIdle, line_octets, came, fault_octets, cause_of, after_events, answers_to, receiving, of_heard, AreOneEvent, AreHeardAs, FramesComeWhole}
+use Rattle.model_line.proofs.Vocabulary.{◌≡◌, ℕ, suc, List, [], ◌∷◌, ◌++◌, length, map, replicate, slice_get, Option, Some, None, option_to_list, refl, ap, sym, ◌∙◌, append_assoc, append-nil, append_cancel_left, option_map_or, heard_in, one_event_an_octet, Config, octet, told, nothing, at_none, of_aim, Line, gained, aim_of_heard, line_octets, came, fault_octets, cause_of, after_events, answers_to, receiving, of_heard, AreOneEvent, AreHeardAs, FramesComeWhole}
 use Rattle.model_bits.specs.Stream as stream
 use Rattle.model_line.specs.Machine as lines
 use Rattle.model_line.proofs.FramesHeard.{frames_are_heard}

@@ -1,5 +1,5 @@
 -- What the octets between two flags are judged to be, where they end in their check.
-use Rattle.model_line.proofs.Vocabulary.{◌≡◌, ℕ, suc, ◌+◌, ◌-◌, ◌/◌, ◌%◌, ◌^◌, ◌*◌, ◌<◌, ◌≤◌, Bool, true, false, not, ◌&&◌, ◌||◌, List, [], ◌∷◌, ◌++◌, length, take, None, Some, cond, nat_eq, nat_lt, slice_index, refl, ap, sym, ◌∙◌, subst, arith, ⊎_elim, length-append, take_at, le-ltb, lt-ltb, ltb-true, ne_eqb, or_from, and_left, cases_lt, All-nil, All-cons, All-append, bits, number_of, stuffed, octets_sent, AreOctets, check, is_good, overlong, dropped, is_short, judged, gap_event, room_for, frame_text, bits-append, bits-two_octets, low_bits-number_of_n, number_of-lt, octets_sent-stuffed, length-check, is_good-check, check_octets, is_too_short, came, Ragged, Fcs}
+use Rattle.model_line.proofs.Vocabulary.{◌≡◌, ℕ, ◌+◌, ◌-◌, ◌/◌, ◌%◌, ◌^◌, ◌<◌, ◌≤◌, Bool, true, false, not, ◌&&◌, List, [], ◌∷◌, ◌++◌, length, take, None, Some, cond, nat_eq, nat_lt, slice_index, refl, ap, sym, ◌∙◌, subst, arith, ⊎_elim, length-append, take_at, le-ltb, lt-ltb, ltb-true, ne_eqb, or_from, and_left, cases_lt, All-nil, All-cons, All-append, bits, number_of, stuffed, octets_sent, AreOctets, check, is_good, overlong, dropped, is_short, judged, gap_event, room_for, frame_text, bits-append, bits-two_octets, low_bits-number_of_n, number_of-lt, octets_sent-stuffed, length-check, is_good-check, check_octets, is_too_short, came, Ragged, Fcs}
 use Rattle.model_bits.proofs.RoundTripFrame.{checked}
 use Rattle.model_bits.specs.Stream.{Event, frame}
 use Rattle.model_bits.specs.declared.heard.Cause.TheVariants.{Short}

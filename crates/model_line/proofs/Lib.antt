@@ -2,6 +2,7 @@
 pub mod Vocabulary
 pub mod Ranges
 pub mod Numbers
+pub mod SoundParts
 pub mod LinksSound
 pub mod AimsSound
 pub mod Sides

@@ -1,5 +1,5 @@
 -- What an event delivers at a link of a line: the next eligible I-frame's contents, or none; or its numbers begin anew.
-use Rattle.model_line.proofs.Vocabulary.{◌≡◌, ◌≢◌, ℕ, ◌+◌, ◌*◌, ◌<◌, Bool, true, false, cond, ◌==◌, List, [], ◌∷◌, length, get_or, set, Option, Some, None, is_some, refl, ap, sym, ◌∙◌, subst, inl, inr, ⊎_elim, arith, eqb-true, eq-eqb, true≢false, length-set, All, list_any, option_or, option_map_or, get_or-set_same, get_or-set_other, All-head, All-tail, Note, Service, Call, Packet, Terms, Link, fresh, is_data, done, delivery, counted_on, event-delivers, IsOwn, notes-own, event-tells, Moves, Management, IsAt, Places, Change, Gained, Left, Config, Answer, LineTold, told, nothing, same_service, arrived_aimed, arrived, is_change_at, restarts_aimed, restarts, is_data_of, delivered_in, delivered_at, delivered, Line, link_number, service_at, place_at, tei_at, link_at, link_in, terms, link_count, Aim, at_none, at_link, at_management, at_units, told_of_link, told_of_management, of_change, of_aim, IsSound}
+use Rattle.model_line.proofs.Vocabulary.{◌≡◌, ◌≢◌, ℕ, ◌<◌, Bool, true, false, cond, ◌==◌, List, [], ◌∷◌, length, get_or, set, Option, Some, None, is_some, refl, ap, sym, ◌∙◌, subst, inl, inr, ⊎_elim, arith, eqb-true, eq-eqb, true≢false, All, list_any, option_or, option_map_or, get_or-set_same, get_or-set_other, All-head, All-tail, Note, Service, Call, Packet, Terms, Link, fresh, is_data, done, delivery, counted_on, event-delivers, IsOwn, notes-own, event-tells, Moves, Management, IsAt, Places, Change, Gained, Left, Config, Answer, LineTold, told, nothing, same_service, arrived_aimed, arrived, is_change_at, restarts_aimed, restarts, is_data_of, delivered_in, delivered_at, delivered, Line, link_number, service_at, place_at, tei_at, link_at, link_in, terms, link_count, Aim, at_none, at_link, at_management, at_units, told_of_link, told_of_management, of_change, of_aim, IsSound}
 use Rattle.lapd_frame.specs.declared.notes.Note.TheVariants as notes
 use Rattle.model_link.specs.Deliveries as arrivals
 use Rattle.model_link.specs.Events as link
@@ -7,15 +7,12 @@ use Rattle.model_link.specs.Machine as links
 use Rattle.lapd_tei.specs.Events as teis
 use Rattle.lapd_tei.proofs.LawLemmas as tei_laws
 use Rattle.model_line.proofs.AimsSound.{IsProper}
+use Rattle.model_line.proofs.LinksSound.{begin_here, begin_away}
 use Rattle.model_line.proofs.Numbers.{place_at-number, service_at-number, at_place}
 
 -- Notes of data.
 
 data_is_own : (t : Terms) (n : Note) (service : Service) (tei : ℕ) → IsOwn t n → is_data_of service tei n ≡ true → (service ≡ t.service) × (tei ≡ t.tei)
-data_is_own t (notes.EstablishIndication s n) service tei own e = cc
-data_is_own t (notes.EstablishConfirm s n) service tei own e = cc
-data_is_own t (notes.ReleaseIndication s n) service tei own e = cc
-data_is_own t (notes.ReleaseConfirm s n) service tei own e = cc
 data_is_own t (notes.Data s n) service tei own e = go s n service own e
   where
     go : (s : Service) (n : ℕ) (service : Service) → (s ≡ t.service) × (n ≡ t.tei)
@@ -24,12 +21,7 @@ data_is_own t (notes.Data s n) service tei own e = go s n service own e
     go Packet n Packet own e = (own.0, sym (eqb-true n tei e) ∙ own.1)
     go Call n Packet own e = cc
     go Packet n Call own e = cc
-data_is_own t (notes.Unit s n) service tei own e = cc
-data_is_own t (notes.Error s n k) service tei own e = cc
-data_is_own t (notes.Assigned n) service tei own e = cc
-data_is_own t (notes.Removed n) service tei own e = cc
-data_is_own t (notes.Doubled n) service tei own e = cc
-data_is_own t (notes.Xid s n) service tei own e = cc
+data_is_own t other service tei own e = cc
 
 -- a note of data of the link itself, and any of data
 same_of_itself : (s : Service) → same_service s s ≡ true
@@ -37,19 +29,10 @@ same_of_itself Call = refl
 same_of_itself Packet = refl
 
 own_is_data : (t : Terms) (n : Note) → IsOwn t n → is_data_of t.service t.tei n ≡ is_data n
-own_is_data t (notes.EstablishIndication s n) own = refl
-own_is_data t (notes.EstablishConfirm s n) own = refl
-own_is_data t (notes.ReleaseIndication s n) own = refl
-own_is_data t (notes.ReleaseConfirm s n) own = refl
 own_is_data t (notes.Data s n) own =
     ap (λ x. cond (same_service x t.service) (n == t.tei) false) own.0
     ∙ ap (λ b. cond b (n == t.tei) false) (same_of_itself t.service) ∙ eq-eqb n t.tei own.1
-own_is_data t (notes.Unit s n) own = refl
-own_is_data t (notes.Error s n k) own = refl
-own_is_data t (notes.Assigned n) own = refl
-own_is_data t (notes.Removed n) own = refl
-own_is_data t (notes.Doubled n) own = refl
-own_is_data t (notes.Xid s n) own = refl
+own_is_data t other own = refl
 
 own_data : (t : Terms) (ns : List Note) → All (IsOwn t) ns → list_any (is_data_of t.service t.tei) ns ≡ list_any is_data ns
 own_data t [] all = refl
@@ -111,27 +94,6 @@ number_is number =
     (λ call. call ∙ ap (link_number (place_at number)) (sym (ap service_at call ∙ service_at-number (place_at number) Call)))
     (λ packet. packet ∙ ap (link_number (place_at number)) (sym (ap service_at packet ∙ service_at-number (place_at number) Packet)))
     (at_place number (place_at number) refl)
-
--- both links of a place begin
-begin_here : (all : List Link) (place number : ℕ) → place_at number ≡ place → 2 * place + 1 < length all
-    → get_or (set (set all (link_number place Call) fresh) (link_number place Packet) fresh) number fresh ≡ fresh
-begin_here all place number here few =
-    let one = set all (link_number place Call) fresh in
-    ⊎_elim
-    (λ call.
-    ap (λ i. get_or (set one (link_number place Packet) fresh) i fresh) call
-    ∙ get_or-set_other one (link_number place Packet) (link_number place Call) fresh fresh (λ e. omega (arith, e))
-    ∙ get_or-set_same all (link_number place Call) fresh fresh (omega (arith, few)))
-    (λ packet.
-    ap (λ i. get_or (set one (link_number place Packet) fresh) i fresh) packet
-    ∙ get_or-set_same one (link_number place Packet) fresh fresh (omega (arith, few, length-set all (link_number place Call) fresh)))
-    (at_place number place here)
-
-begin_away : (all : List Link) (place number : ℕ) → place_at number ≢ place
-    → get_or (set (set all (link_number place Call) fresh) (link_number place Packet) fresh) number fresh ≡ get_or all number fresh
-begin_away all place number away =
-    get_or-set_other (set all (link_number place Call) fresh) (link_number place Packet) number fresh fresh (λ e. away (ap place_at e ∙ place_at-number place Packet))
-    ∙ get_or-set_other all (link_number place Call) number fresh fresh (λ e. away (ap place_at e ∙ place_at-number place Call))
 
 -- What an event is to one link, by V(R) before and after it.
 abbrev pub Part : ℕ → Option arrivals.Arrived → ℕ → Option (List ℕ) → Bool → Type 0

@@ -31,17 +31,8 @@ module _ (c : Config) (l : Line) (P : Aim → Type 0) (none : (cause : Cause) �
       go false group = to_service_aims address.tei what (service_of address.sapi)
 
   message_aims : (k : Control) (info : List ℕ) → P (message_of k info)
-  message_aims (control.Information ns nr p) info = none _
-  message_aims (control.ReceiveReady nr pf) info = none _
-  message_aims (control.ReceiveNotReady nr pf) info = none _
-  message_aims (control.Reject nr pf) info = none _
-  message_aims (control.Sabme p) info = none _
-  message_aims (control.Disc p) info = none _
   message_aims (control.Ui p) info = to_management info
-  message_aims (control.Ua f) info = none _
-  message_aims (control.Dm f) info = none _
-  message_aims (control.Frmr f) info = none _
-  message_aims (control.Xid pf) info = none _
+  message_aims other info = none _
 
   reading_aims : (r : Result Parts ReadFault) → P (aim_of_reading c l r)
   reading_aims (Ok parts) =

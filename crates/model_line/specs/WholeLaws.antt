@@ -1,5 +1,5 @@
 -- What is heard in the octets that frames and faults mean, and what comes of them and of pulls.
-use Rattle.std.specs.Prelude.{◌≡◌, ℕ, List, [], ◌∷◌, ◌++◌, Some}
+use Rattle.std.specs.Prelude.{◌≡◌, ℕ, ◌+◌, ◌*◌, ◌≤◌, ◌<◌, List, [], ◌∷◌, ◌++◌, length, replicate, Some, None}
 use Rattle.model_bits.specs.StuffingLaws.{AreOctets}
 use Rattle.model_bits.specs.Stream.{Event, dropped, heard_in}
 use Rattle.model_line.specs.declared.faults.Fault.{Fault}

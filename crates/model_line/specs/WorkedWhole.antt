@@ -1,5 +1,5 @@
 -- Worked values of whole frames: each computes.
-use Rattle.std.specs.Prelude.{◌≡◌, [], ◌∷◌, ◌++◌, refl}
+use Rattle.std.specs.Prelude.{◌≡◌, ◌+◌, [], ◌∷◌, ◌++◌, refl}
 use Rattle.model_bits.specs.Bits.{low_bits}
 use Rattle.model_bits.specs.Stream.{frame, overlong, dropped, heard_in}
 use Rattle.model_bits.specs.declared.heard.Cause.TheVariants as cause

@@ -8,6 +8,7 @@ pub mod AimsSound
 pub mod Sides
 pub mod ProperAims
 pub mod Offered
+pub mod PullWalk
 pub mod PullSound
 pub mod TextGoesOn
 pub mod LineSound

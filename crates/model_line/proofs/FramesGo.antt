@@ -86,9 +86,9 @@ goes_after c (suc n) l t is many =
     let g = gives c l (omega (arith, many)) in
     let given = l.given ++ g.octet ∷ [] in
     let next = giving given l in
-    let still : taken c next ≡ Some (taken_moved l.received given t) =
-    taken_same c l.received given l ∙ ap (option_map (taken_moved l.received given)) is in
-    let more = goes_after c n next (taken_moved l.received given t) still (omega (arith, many, eight_fewer l g.octet)) in
+    let still : taken c next ≡ Some (taken_moved l.received l.items given t) =
+    taken_same c l.received l.items given l ∙ ap (option_map (taken_moved l.received l.items given)) is in
+    let more = goes_after c n next (taken_moved l.received l.items given t) still (omega (arith, many, eight_fewer l g.octet)) in
     let items = l.items ++ frame t.frame ∷ [] in
     record {
       front = g.octet ∷ more.front;

@@ -11,6 +11,7 @@ pub mod Offered
 pub mod PullWalk
 pub mod PullSound
 pub mod TextGoesOn
+pub mod EventWalk
 pub mod LineSound
 pub mod StoredBounds
 pub mod AimsRise

@@ -1,15 +1,16 @@
 -- A line is sound as it begins, and each event keeps it so.
 use Rattle.model_line.proofs.Vocabulary.{◌≡◌, ℕ, ◌+◌, ◌≤◌, Bool, true, false, [], ◌∷◌, ◌++◌, length, replicate, get_or, nat_lt, Option, Some, None, IfSome, refl, ap, sym, ◌∙◌, subst, cond, arith, append-nil, ltb-false, get_or-replicate, length-replicate, All-nil, All-cons, All-append, flag, item_octets, Item, idle, frame, fresh, sound-empty, Config, Event, octet, expiry, request, pull, Line, link_count, place_at, fresh_line, after, unless_refused, aim_of_octet, with_received, aim_of_expiry, Taken, taken, is_due, with_item, with_due, refusal, aim_of_request, IsInRange, IsSoundAt, IsSound, IsUnitData, IsTextOf}
+use Rattle.model_line.specs.Machine.{aim_of}
 use Rattle.model_line.proofs.AimsSound.{aim_sound}
 use Rattle.model_line.proofs.Numbers.{place_within}
-use Rattle.model_line.proofs.ProperAims.{octet_proper, expiry_proper, request_proper}
+use Rattle.model_line.proofs.EventWalk.{meeting, by_part, meeting_sound, meeting_proper}
 use Rattle.model_line.proofs.PullSound.{TakesSoundly, taken_sound}
 use Rattle.model_line.proofs.SoundParts.{with_text}
 use Rattle.model_line.proofs.TextGoesOn.{IsReady, left_is, one_given, one_item, text_of_ready}
 
 -- what is received changes nothing else
 pub received_sound : (c : Config) (value : ℕ) (l : Line) → IsSound c l → IsSound c (with_received value l)
-received_sound c value l s = with_text c l s (l.received ++ value ∷ []) l.items l.given s.sizes s.text
+received_sound c value l s = meeting_sound c (octet value) l s
 
 -- The item that is due is on the line.
 pub record IsDueGiven (c : Config) (l : Line) : Type 0 where
@@ -38,15 +39,11 @@ pub with_due_given : (c : Config) → IsInRange c → (l : Line) → IsSound c l
 with_due_given c ranged l s = due_given c l s (is_due l) refl (taken c l) (taken_sound c ranged l s)
 
 pub after_sound : (c : Config) → IsInRange c → (e : Event) (l : Line) → IsSound c l → IsSound c (after c e l)
-unfolding after
-after_sound c ranged (octet value) l s =
-    aim_sound c ranged (with_received value l) (aim_of_octet c value l) (received_sound c value l s) (octet_proper c l value)
-after_sound c ranged (expiry timer) l s = aim_sound c ranged l (aim_of_expiry timer l) s (expiry_proper c l timer)
-after_sound c ranged (request r) l s =
-    aim_sound c ranged l (unless_refused (refusal c false r l) (aim_of_request r l)) s (request_proper c l r)
-after_sound c ranged pull l s =
+after_sound c ranged e l s =
     let due = with_due_given c ranged l s in
-    with_text c (with_due c l) due.sound _ _ _ due.sound.sizes (one_given (with_due c l) due.ready)
+    by_part c l (λ what m. IsSound c m)
+    (λ what. aim_sound c ranged (meeting what l) (aim_of c what l) (meeting_sound c what l s) (meeting_proper c what l))
+    (with_text c (with_due c l) due.sound _ _ _ due.sound.sizes (one_given (with_due c l) due.ready)) e
 
 pub fresh_sound : (c : Config) → IsInRange c → IsSound c (fresh_line c)
 fresh_sound c ranged = record {

@@ -6,52 +6,18 @@ use Rattle.lapd_frame.specs.declared.controls.Control.TheVariants as control
 use Rattle.model_link.specs.Events as link
 use Rattle.model_link.specs.Rises as rises
 use Rattle.model_line.proofs.LineRises.{brings}
-use Rattle.model_line.proofs.Sides.{side_aims}
+use Rattle.model_line.proofs.ProperAims.{AreFor, reading_aims}
 use Rattle.model_line.proofs.Rejects.{NoReject, three_no_reject}
 
 module _ (c : Config) (l : Line) where
-  place_no_reject : (service : Service) (tei : ℕ) (what : link.Received) (o : Option ℕ) → ((x : Link) → rises.rejects (link.received what) x ≡ false)
-      → rejects_aimed l (at_place service tei what o) ≡ false
-  place_no_reject service tei what None q = refl
-  place_no_reject service tei what (Some place) q = q _
-
-  service_no_reject : (tei : ℕ) (what : link.Received) (o : Option Service) → ((x : Link) → rises.rejects (link.received what) x ≡ false)
-      → rejects_aimed l (to_service l tei what o) ≡ false
-  service_no_reject tei what None q = refl
-  service_no_reject tei what (Some service) q = place_no_reject service tei what (place_in l tei) q
-
-  addressed_no_reject : (address : Address) (what : link.Received) (message : Aim) → ((x : Link) → rises.rejects (link.received what) x ≡ false)
-      → rejects_aimed l message ≡ false → rejects_aimed l (addressed l address what message) ≡ false
-  addressed_no_reject address what message q m = go (address.sapi == management_sapi) (address.tei == group_tei)
-    where
-      go : (known group : Bool) → rejects_aimed l (cond known (cond group message (drop_for Tei)) (to_service l address.tei what (service_of address.sapi))) ≡ false
-      go true true = m
-      go true false = refl
-      go false group = service_no_reject address.tei what (service_of address.sapi) q
-
-  message_no_reject : (k : Control) (info : List ℕ) → rejects_aimed l (message_of k info) ≡ false
-  message_no_reject (control.Information ns nr p) info = refl
-  message_no_reject (control.ReceiveReady nr pf) info = refl
-  message_no_reject (control.ReceiveNotReady nr pf) info = refl
-  message_no_reject (control.Reject nr pf) info = refl
-  message_no_reject (control.Sabme p) info = refl
-  message_no_reject (control.Disc p) info = refl
-  message_no_reject (control.Ui p) info = refl
-  message_no_reject (control.Ua f) info = refl
-  message_no_reject (control.Dm f) info = refl
-  message_no_reject (control.Frmr f) info = refl
-  message_no_reject (control.Xid pf) info = refl
+  is_no_reject : (r : Result Parts ReadFault) → NoReject r → AreFor (λ what. (x : Link) → rises.rejects (link.received what) x ≡ false) r
+  is_no_reject (Ok parts) h = λ x. ap (λ o. rises.is_valid_reject o x) h
+  is_no_reject (Err fault) h = ((λ x. refl), (λ x. refl))
 
   reading_no_reject : (r : Result Parts ReadFault) → NoReject r → rejects_aimed l (aim_of_reading c l r) ≡ false
-  reading_no_reject (Ok parts) h =
-      side_aims c parts (λ aim. rejects_aimed l aim ≡ false) refl (λ service to. refl)
-      (addressed l parts.address (link.frame parts) (message_of parts.control parts.info))
-      (addressed_no_reject parts.address (link.frame parts) (message_of parts.control parts.info)
-      (λ x. ap (λ o. rises.is_valid_reject o x) h) (message_no_reject parts.control parts.info))
-  reading_no_reject (Err BadExtension) h = refl
-  reading_no_reject (Err (Undefined address)) h = addressed_no_reject address link.undefined (drop_for Unserved) (λ x. refl) refl
-  reading_no_reject (Err (WrongSize address)) h = addressed_no_reject address link.wrong_size (drop_for Unserved) (λ x. refl) refl
-  reading_no_reject (Err Short) h = refl
+  reading_no_reject r h =
+      reading_aims c l (λ aim. rejects_aimed l aim ≡ false) (λ cause. refl) (λ what. (x : Link) → rises.rejects (link.received what) x ≡ false)
+      (λ service tei place what none at. none _) (λ info. refl) (λ parts service to. refl) r (is_no_reject r h)
 
   at_most_one : (b : Bool) → one b ≤ 1
   at_most_one true = omega arith

@@ -14,10 +14,11 @@ pub mod TextGoesOn
 pub mod EventWalk
 pub mod LineSound
 pub mod StoredBounds
+pub mod Sums
 pub mod AimsRise
 pub mod LineRises
-pub mod PullRises
 pub mod EventsRise
+pub mod PullRises
 pub mod ByEvent
 pub mod Numbered
 pub mod NumberedEvents

@@ -4,9 +4,10 @@ use Rattle.model_link.specs.Events as link
 use Rattle.model_link.specs.Machine as links
 use Rattle.model_link.specs.Rises as rises
 use Rattle.model_link.specs.Sound as link_sounds
-use Rattle.model_line.proofs.AimsRise.{one_changed}
+use Rattle.model_line.proofs.AimsRise.{may_send_of}
 use Rattle.model_line.proofs.PullWalk.{taken_walk, due_walk}
 use Rattle.model_line.proofs.Ranges.{terms_in_range}
+use Rattle.model_line.proofs.Sums.{one_changed}
 
 -- One frame fewer may be sent, or two: a link's frame makes an acknowledgement that it owes needless.
 abbrev pub TakesOne : Config → Line → Taken → Type 0
@@ -40,7 +41,7 @@ module _ (c : Config) (ranged : IsInRange c) (l : Line) (s : IsSound c l) where
       let range = terms_in_range c ranged (service_at n) tei (s.management.table.range (place_at n) tei at) in
       let own = event-rises t range (link_at n l) sound link.offer in
       let least = offer-falls t range (link_at n l) sound in
-      let sums = one_changed c l.links n (links.after t link.offer (link_at n l)) s.count few in
+      let sums = one_changed c (may_send_of c) l.links n (links.after t link.offer (link_at n l)) s.count few in
       let sent = gives t (link_at n l) g e in
       (omega (arith, own, sums, sent), omega (arith, least, sums, sent))
 

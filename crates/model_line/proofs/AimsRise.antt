@@ -1,12 +1,11 @@
 -- By how much an aim lets rise what a line may still send.
-use Rattle.model_line.proofs.Vocabulary.{◌≡◌, ℕ, ◌+◌, ◌≤◌, refl, arith, Service, Link, event-rises, Config, may_send, Line, fresh_line, link_count, terms, Aim, of_aim, IsInRange, IsSound}
+use Rattle.model_line.proofs.Vocabulary.{◌≡◌, ℕ, refl, arith, Service, Link, event-rises, Config, may_send, fresh_line, link_count, terms, IsInRange}
 use Rattle.model_link.specs.Events as link
 use Rattle.model_link.specs.Rises as rises
 use Rattle.lapd_tei.specs.Machine as tei
 use Rattle.lapd_tei.proofs.LawLemmas as tei_lemmas
-use Rattle.model_line.proofs.AimsSound.{IsProper}
 use Rattle.model_line.proofs.Ranges.{terms_in_range}
-use Rattle.model_line.proofs.Sums.{Rise, price_at as price_in, aim_rises as aim_rises_in, all_begin}
+use Rattle.model_line.proofs.Sums.{Rise, all_begin}
 
 -- What a link may send, of whatever TEI.
 abbrev pub may_send_of : Config → Service → Link → ℕ

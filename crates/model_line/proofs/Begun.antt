@@ -1,5 +1,5 @@
 -- The latest frame of a line is the one that a pull began last.
-use Rattle.model_line.proofs.Vocabulary.{◌≡◌, Bool, true, false, Option, Some, None, refl, ap, cond, option_map_or, latest_frame, idle, frame, latest-push, Change, Gained, Left, Config, frame_taken, LatestIsBegun, Aim, at_none, at_link, at_management, at_units, of_aim, of_change, octet, expiry, request, pull, LineTold, aim_of_expiry, Line, after, unless_refused, aim_of_octet, with_received, Taken, taken, is_due, with_item, refusal, aim_of_request}
+use Rattle.model_line.proofs.Vocabulary.{◌≡◌, Bool, true, false, Option, Some, None, refl, ap, cond, option_map_or, latest_frame, idle, frame, latest-push, Config, frame_taken, LatestIsBegun, Aim, of_aim, octet, expiry, request, pull, aim_of_expiry, Line, after, unless_refused, aim_of_octet, with_received, Taken, taken, is_due, with_item, refusal, aim_of_request}
 use Rattle.model_line.proofs.FramesReceived.{aim_rests}
 
 -- A pull adds what is due.

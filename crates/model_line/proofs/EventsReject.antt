@@ -1,5 +1,5 @@
 -- Each event that brings an REJ with a valid N(R) is heard as a frame of four octets.
-use Rattle.model_line.proofs.Vocabulary.{◌≡◌, ℕ, ◌+◌, ◌≤◌, true, false, refl, ap, sym, subst, arith, count_by, false≢true, Timer, Config, Event, octet, expiry, request, pull, one, is_long_frame, long_frames_heard, rejects, rejects_aimed, aim_of_expiry, IsRejectHeard, Line, takes_slot, unless_refused, refusal, Request, aim_of_request, IsInRange, IsSound}
+use Rattle.model_line.proofs.Vocabulary.{◌≡◌, ◌+◌, ◌≤◌, true, false, refl, ap, sym, subst, arith, count_by, false≢true, Timer, Config, Event, octet, expiry, request, pull, one, is_long_frame, long_frames_heard, rejects, rejects_aimed, aim_of_expiry, IsRejectHeard, Line, takes_slot, unless_refused, refusal, Request, aim_of_request, IsInRange, IsSound}
 use Rattle.model_bits.specs.Stream as stream
 use Rattle.model_line.proofs.EventWalk.{meeting}
 use Rattle.model_line.proofs.FramesReceived.{after_received}

@@ -1,9 +1,7 @@
 -- What is heard is the same to a line whatever it has received, and leaves what it has received.
-use Rattle.model_line.proofs.Vocabulary.{◌≡◌, ℕ, List, Option, Some, None, Result, Ok, Err, refl, ap, if◌then◌else◌, Tei, Address, ReadFault, BadExtension, Undefined, WrongSize, Short, Long, Service, Parts, reading, long_reading, service_of, Change, Gained, Left, Config, LineTold, Line, Item, Event, expiry, request, pull, sym, ◌∙◌, Effect, Aim, at_none, at_link, at_management, at_units, told_of_management, of_change, of_aim, aim_of_expiry, drop_for, group_tei, management_sapi, to_service, addressed, message_of, aim_of_reading, unless_at_link, aim_of_long, heard_side, aim_of_heard, at_side, Taken, taken, is_due, with_item, with_due, refusal, aim_of_request, receiving, NothingElseIsReceived}
-use Rattle.std.specs.Prelude.{◌==◌, Bool, true, false}
+use Rattle.model_line.proofs.Vocabulary.{◌≡◌, ℕ, List, Option, Some, None, refl, ap, if◌then◌else◌, Change, Gained, Left, Config, LineTold, Line, Item, Event, expiry, request, pull, sym, ◌∙◌, Effect, Aim, at_none, at_link, at_management, at_units, told_of_management, of_change, of_aim, aim_of_heard, Taken, taken, is_due, with_item, with_due, receiving, NothingElseIsReceived}
+use Rattle.std.specs.Prelude.{Bool, true, false}
 use Rattle.model_bits.specs.Stream as stream
-use Rattle.lapd_frame.specs.declared.overlong.Long.TheVariants as long
-use Rattle.model_link.specs.Events as link
 use Rattle.lapd_tei.specs.Events as teis
 use Rattle.model_line.specs.Machine as lines
 use Rattle.model_line.proofs.EventWalk.{meeting, by_part}
@@ -11,35 +9,8 @@ use Rattle.model_line.proofs.FramesTaken.{moved, taken_keeps}
 
 -- ---- what is heard is the same event of a part
 
-module _ (c : Config) (r : List ℕ) (l : Line) where
-  service_same : (tei : ℕ) (what : link.Received) (o : Option Service) → to_service (receiving r l) tei what o ≡ to_service l tei what o
-  service_same tei what None = refl
-  service_same tei what (Some service) = refl
-
-  address_same : (a : Address) (what : link.Received) (managed : Aim) → addressed (receiving r l) a what managed ≡ addressed l a what managed
-  address_same a what managed =
-      ap (λ x. if a.sapi == management_sapi then (if a.tei == group_tei then managed else drop_for Tei) else x)
-      (service_same a.tei what (service_of a.sapi))
-
-  reading_same : (o : Result Parts ReadFault) → aim_of_reading c (receiving r l) o ≡ aim_of_reading c l o
-  reading_same (Ok parts) = ap (at_side c parts) (address_same parts.address (link.frame parts) (message_of parts.control parts.info))
-  reading_same (Err BadExtension) = refl
-  reading_same (Err (Undefined a)) = address_same a link.undefined _
-  reading_same (Err (WrongSize a)) = address_same a link.wrong_size _
-  reading_same (Err Short) = refl
-
-  long_same : (o : Result Long ReadFault) → aim_of_long (receiving r l) o ≡ aim_of_long l o
-  long_same (Ok (long.Information a)) = address_same a link.overlong _
-  long_same (Ok (long.Unnumbered a)) = ap unless_at_link (address_same a link.overlong _)
-  long_same (Err BadExtension) = refl
-  long_same (Err (Undefined a)) = address_same a link.undefined _
-  long_same (Err (WrongSize a)) = address_same a link.wrong_size _
-  long_same (Err Short) = refl
-
-  pub heard_same : (e : stream.Event) → aim_of_heard c (receiving r l) e ≡ aim_of_heard c l e
-  heard_same (stream.frame octets) = reading_same (reading (heard_side c) octets)
-  heard_same (stream.overlong head) = long_same (long_reading (heard_side c) head)
-  heard_same (stream.dropped cause) = refl
+pub heard_same : (c : Config) (r : List ℕ) (l : Line) (e : stream.Event) → aim_of_heard c (receiving r l) e ≡ aim_of_heard c l e
+heard_same c r l e = refl
 
 -- ---- and no part knows what was received, put on the line, or given
 

@@ -1,5 +1,5 @@
 -- What a pull takes is the same whatever the line has received and given.
-use Rattle.model_line.proofs.Vocabulary.{◌≡◌, ℕ, List, [], ◌∷◌, Item, Option, Some, None, option_map, refl, ap, sym, ◌∙◌, option_or, unwrap_or, Given, Config, Line, UnitData, terms_at, link_at, Taken, with_message, message_taken, with_unit, unit_taken, with_given_frame, link_taken, first_taken, round, taken}
+use Rattle.model_line.proofs.Vocabulary.{◌≡◌, ℕ, List, [], ◌∷◌, Item, Option, Some, None, option_map, refl, ap, sym, ◌∙◌, option_or, unwrap_or, Config, Line, terms_at, link_at, Taken, with_message, message_taken, with_unit, unit_taken, with_given_frame, link_taken, first_taken, round, taken}
 use Rattle.std.specs.Prelude.{slice_get}
 use Rattle.model_link.specs.Machine as links
 use Rattle.lapd_tei.specs.Events as teis

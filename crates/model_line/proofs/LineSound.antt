@@ -1,9 +1,10 @@
 -- A line is sound as it begins, and each event keeps it so.
-use Rattle.model_line.proofs.Vocabulary.{◌≡◌, ℕ, ◌+◌, ◌≤◌, Bool, true, false, [], ◌∷◌, ◌++◌, length, replicate, get_or, nat_lt, Option, Some, None, IfSome, refl, ap, sym, ◌∙◌, subst, cond, arith, append-nil, ltb-false, get_or-replicate, length-replicate, All-nil, All-cons, All-append, flag, item_octets, Item, idle, frame, fresh, sound-empty, Config, Event, octet, expiry, request, pull, Line, link_count, place_at, fresh_line, after, unless_refused, aim_of_octet, with_received, aim_of_expiry, Taken, taken, is_due, with_item, with_due, refusal, aim_of_request, IsInRange, IsSoundAt, IsSound, IsUnitData, IsTextOf}
+use Rattle.model_line.proofs.Vocabulary.{◌≡◌, ℕ, ◌+◌, ◌≤◌, Bool, true, false, [], ◌∷◌, ◌++◌, length, replicate, get_or, nat_lt, Option, Some, None, IfSome, refl, ap, sym, ◌∙◌, subst, cond, arith, append-nil, ltb-false, get_or-replicate, length-replicate, All-nil, All-cons, All-append, flag, item_octets, Item, idle, frame, fresh, sound-empty, Config, Event, octet, Line, link_count, place_at, fresh_line, after, with_received, Taken, taken, is_due, with_item, with_due, IsInRange, IsSoundAt, IsSound, IsUnitData, IsTextOf}
 use Rattle.model_line.specs.Machine.{aim_of}
 use Rattle.model_line.proofs.AimsSound.{aim_sound}
 use Rattle.model_line.proofs.Numbers.{place_within}
-use Rattle.model_line.proofs.EventWalk.{meeting, by_part, meeting_sound, meeting_proper}
+use Rattle.model_line.proofs.EventWalk.{meeting, by_part, meeting_sound}
+use Rattle.model_line.proofs.ProperAims.{event_proper}
 use Rattle.model_line.proofs.PullSound.{TakesSoundly, taken_sound}
 use Rattle.model_line.proofs.SoundParts.{with_text}
 use Rattle.model_line.proofs.TextGoesOn.{IsReady, left_is, one_given, one_item, text_of_ready}
@@ -42,7 +43,7 @@ pub after_sound : (c : Config) → IsInRange c → (e : Event) (l : Line) → Is
 after_sound c ranged e l s =
     let due = with_due_given c ranged l s in
     by_part c l (λ what m. IsSound c m)
-    (λ what. aim_sound c ranged (meeting what l) (aim_of c what l) (meeting_sound c what l s) (meeting_proper c what l))
+    (λ what. aim_sound c ranged (meeting what l) (aim_of c what l) (meeting_sound c what l s) (event_proper c l what))
     (with_text c (with_due c l) due.sound _ _ _ due.sound.sizes (one_given (with_due c l) due.ready)) e
 
 pub fresh_sound : (c : Config) → IsInRange c → IsSound c (fresh_line c)

@@ -1,6 +1,5 @@
 -- What holds of each aim that events can have holds of the aim of every event.
-use Rattle.model_line.proofs.Vocabulary.{◌≡◌, ℕ, ◌≤◌, ◌<◌, Bool, true, false, ◌==◌, ◌&&◌, not, List, length, nat_lt, Option, Some, None, is_some, Result, Ok, Err, IfSome, refl, sym, subst, cond, option_map_or, ltb-false, leb-false, Cause, Tei, Unserved, Address, Control, ReadFault, BadExtension, Undefined, WrongSize, Short, Long, Refusal, Service, Timer, T200, T203, T201, Parts, reading, long_reading, service_of, LinkTimer, place_of-is, IsAt, Config, Event, octet, expiry, request, pull, nothing, Line, UnitData, place_in, takes_slot, Request, Establish, Release, Data, Unit, Assign, Remove, Check, SetBusy, ClearBusy, Aim, at_none, at_link, at_management, at_units, gained, management_sapi, group_tei, drop_for, at_place, to_service, addressed, message_of, aim_of_reading, unless_at_link, aim_of_long, heard_side, aim_of_heard, aim_of_octet, group_told, IsToGroup, at_timer, aim_of_expiry, at_requested, aim_of_request, carries_contents, refusal, unless_refused, IsUnitData}
-use Rattle.std.proofs.Math.Bool.{and-false}
+use Rattle.model_line.proofs.Vocabulary.{◌≡◌, ℕ, ◌<◌, Bool, true, false, ◌==◌, ◌&&◌, not, List, length, Option, Some, None, is_some, Result, Ok, Err, refl, cond, option_map_or, ltb-false, leb-false, Cause, Tei, Unserved, Address, Control, ReadFault, BadExtension, Undefined, WrongSize, Short, Long, Refusal, Service, Timer, T200, T203, T201, Parts, reading, long_reading, service_of, LinkTimer, place_of-is, IsAt, Config, Event, octet, expiry, request, pull, nothing, Line, UnitData, place_in, takes_slot, Request, Establish, Release, Data, Unit, Assign, Remove, Check, SetBusy, ClearBusy, Aim, at_none, at_link, at_management, at_units, gained, management_sapi, group_tei, drop_for, at_place, to_service, addressed, message_of, aim_of_reading, unless_at_link, aim_of_long, heard_side, aim_of_heard, aim_of_octet, group_told, IsToGroup, at_timer, aim_of_expiry, at_requested, aim_of_request, carries_contents, refusal, unless_refused, IsUnitData}
 use Rattle.model_bits.specs.Stream as stream
 use Rattle.lapd_frame.specs.declared.controls.Control.TheVariants as control
 use Rattle.lapd_frame.specs.declared.overlong.Long.TheVariants as long
@@ -108,7 +107,7 @@ skipped false why o e = (refl, e)
 
 module _ (c : Config) (l : Line) (P : Bool → Aim → Type 0) (none : (takes : Bool) → P takes (at_none nothing))
     (to_link : (service : Service) (tei place : ℕ) (what : link.Request) → IsAt l.management.places place tei
-        → P (brings_data (link.requested what false)) (at_link service tei place (link.requested what false)))
+    → P (brings_data (link.requested what false)) (at_link service tei place (link.requested what false)))
     (to_management : (e : teis.Event) → tei_laws.IsInRange e → P false (at_management e))
     (to_units : (unit : UnitData) → IsUnitData c unit → length l.units < c.unit_queue → P true (at_units unit)) where
   requested_aims : (service : Service) (tei : ℕ) (what : link.Request) (o : Option ℕ) → place_in l tei ≡ o

@@ -1,5 +1,5 @@
 -- A frame that a pull takes is no longer among those that may be sent.
-use Rattle.model_line.proofs.Vocabulary.{◌≡◌, ℕ, ◌+◌, ◌*◌, ◌≤◌, ◌<◌, List, ◌∷◌, length, drop, Option, Some, None, is_some, IfSome, refl, ap, cond, arith, Link, Sent, Given, Terms, event-rises, offer-falls, frame_of, Message, IsAt, Config, one, may_send, Line, UnitData, link_count, service_at, place_at, terms, link_at, Taken, with_message, with_unit, with_given_frame, taken, begun, with_due, after_pull, IsInRange, IsSound}
+use Rattle.model_line.proofs.Vocabulary.{◌≡◌, ℕ, ◌+◌, ◌*◌, ◌≤◌, ◌<◌, List, ◌∷◌, length, drop, Option, Some, None, is_some, refl, ap, cond, arith, Link, Sent, Given, Terms, event-rises, offer-falls, frame_of, Message, IsAt, Config, one, may_send, Line, UnitData, link_count, service_at, place_at, terms, link_at, Taken, with_message, with_unit, with_given_frame, begun, after_pull, IsInRange, IsSound}
 use Rattle.model_link.specs.Events as link
 use Rattle.model_link.specs.Machine as links
 use Rattle.model_link.specs.Rises as rises

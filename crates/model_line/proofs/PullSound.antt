@@ -1,6 +1,6 @@
 -- What a pull takes leaves a line sound, and is a frame of at most the longest length.
 pub use Rattle.model_line.proofs.PullWalk.{round_below}
-use Rattle.model_line.proofs.Vocabulary.{◌≡◌, ℕ, ◌+◌, ◌≤◌, ◌<◌, List, ◌∷◌, length, set, drop, Option, Some, IfSome, refl, sym, ◌∙◌, subst, arith, length-set, length-drop, All, All-head, All-drop, Side, Given, sound-after, frame_of, Message, IdentityAssigned, IdentityDenied, IdentityCheckRequest, IdentityRemove, IsAt, sound-after_offer, Config, Line, UnitData, link_count, service_at, place_at, tei_at, terms, link_at, Taken, with_message, with_unit, with_given_frame, link_taken, taken, IsInRange, IsSoundAt, IsSound, IsUnitData}
+use Rattle.model_line.proofs.Vocabulary.{◌≡◌, ℕ, ◌+◌, ◌≤◌, ◌<◌, List, ◌∷◌, length, set, drop, Some, IfSome, refl, sym, ◌∙◌, subst, arith, length-set, length-drop, All, All-head, All-drop, Side, Given, sound-after, frame_of, Message, IdentityAssigned, IdentityDenied, IdentityCheckRequest, IdentityRemove, IsAt, sound-after_offer, Config, Line, UnitData, link_count, service_at, place_at, tei_at, terms, link_at, Taken, with_message, with_unit, with_given_frame, link_taken, taken, IsInRange, IsSoundAt, IsSound, IsUnitData}
 use Rattle.model_link.specs.Events as link
 use Rattle.model_link.specs.Machine as links
 use Rattle.model_link.specs.Sound as link_sounds

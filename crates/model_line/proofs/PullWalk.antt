@@ -29,7 +29,7 @@ module _ (c : Config) (l : Line) (s : IsSound c l) (P : Taken → Type 0)
     (message : (m : Message) (ms : List Message) → l.management.waiting ≡ m ∷ ms → P (with_message l (frame_of c.side m)))
     (unit : (u : UnitData) (us : List UnitData) → l.units ≡ u ∷ us → P (with_unit c l u))
     (by_link : (n tei : ℕ) → n < link_count c → IsAt l.management.places (place_at n) tei → link_sound.IsSound (terms c (service_at n) tei) (link_at n l)
-        → (g : Given) → links.given (terms c (service_at n) tei) (link_at n l) ≡ Some g → P (with_given_frame c l n (terms c (service_at n) tei) g)) where
+    → (g : Given) → links.given (terms c (service_at n) tei) (link_at n l) ≡ Some g → P (with_given_frame c l n (terms c (service_at n) tei) g)) where
   message_walk : (ms : List Message) → l.management.waiting ≡ ms → IfSome (option_map (with_message l) (option_map (frame_of c.side) (slice_get ms 0))) P
   message_walk [] e = tt
   message_walk (m ∷ ms) e = message m ms e

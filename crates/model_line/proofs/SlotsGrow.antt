@@ -1,12 +1,12 @@
 -- By how many slots a line's contents grow.
-use Rattle.model_line.proofs.Vocabulary.{◌≡◌, ℕ, ◌+◌, ◌≤◌, Bool, true, false, List, length, Option, Some, is_some, IfSome, refl, cond, arith, length-drop, Service, Link, queue_of, queue-after, IsAt, Config, Event, one, Line, fresh_line, link_count, service_at, place_at, link_at, terms, after, takes_slot, Aim, Taken, taken, with_due, IsInRange, IsSound, slots_of}
+use Rattle.model_line.proofs.Vocabulary.{◌≡◌, ℕ, ◌+◌, ◌≤◌, Bool, true, false, length, is_some, IfSome, refl, cond, arith, length-drop, Service, Link, queue_of, queue-after, Config, Event, one, Line, fresh_line, link_count, service_at, place_at, link_at, terms, after, takes_slot, Taken, taken, with_due, IsInRange, IsSound, slots_of}
 use Rattle.model_link.specs.Events as link
 use Rattle.model_link.specs.Machine as links
 use Rattle.model_link.specs.Rises as rises
 use Rattle.model_link.specs.Requests as requests
 use Rattle.model_line.specs.Machine.{aim_of}
-use Rattle.model_line.proofs.EventWalk.{meeting, by_part, meeting_sound, meeting_proper}
-use Rattle.model_line.proofs.ProperAims.{brings_data, event_aims}
+use Rattle.model_line.proofs.EventWalk.{meeting, by_part, meeting_sound}
+use Rattle.model_line.proofs.ProperAims.{brings_data, event_aims, event_proper}
 use Rattle.model_line.proofs.PullWalk.{taken_walk, due_walk}
 use Rattle.model_line.proofs.Sums.{Rise, price_at, aim_rises, one_changed, all_begin}
 
@@ -62,7 +62,7 @@ slots_grow c e l ranged s =
     by_part c l (λ what m. slots_of c m ≤ slots_of c l + one (takes_slot c what l))
     (λ what. omega (
       arith,
-      aim_rises (grows c) (meeting what l) (aim_of c what l) ranged (meeting_sound c what l s) (meeting_proper c what l),
+      aim_rises (grows c) (meeting what l) (aim_of c what l) ranged (meeting_sound c what l s) (event_proper c l what),
       event_takes c l (meeting what l) what,
     ))
     (omega (arith, pull_grows c l s)) e

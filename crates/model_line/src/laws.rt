@@ -20,12 +20,14 @@ pub fn lines_rise()
 
 /// Where the answer to an octet names a cause, whichever, the cause is all that it says, the line is afterwards what it
 /// was but for the octet received, and so what may be sent stays as it is.
+#[tactic(auto, using(crate::proofs::Drops::drops_change_nothing))]
 pub fn drops_change_nothing()
     ensures { DropsChangeNothing }
 {}
 
 /// The latest frame that was put on a line is the one that a pull began last: each pull that begins a frame makes it that
 /// frame, and nothing else changes it.
+#[tactic(auto, using(crate::proofs::Begun::latest_is_begun))]
 pub fn latest_is_begun()
     ensures { LatestIsBegun }
 {}

@@ -24,14 +24,12 @@ module _ (c : Config) (l : Line) where
 
   frame_counted : (octets : List ℕ) → 3 ≤ length octets
       → one (rejects_aimed l (aim_of_reading c l (reading (heard_side c) octets))) ≤ cond {A = ℕ} (nat_le 4 (length octets)) 1 0
-  frame_counted [] h = absurd (omega (arith, h))
-  frame_counted (a ∷ []) h = absurd (omega (arith, h))
-  frame_counted (a ∷ b ∷ []) h = absurd (omega (arith, h))
   frame_counted (a ∷ b ∷ third ∷ []) h = omega (arith, ap one (reading_no_reject (reading (heard_side c) (a ∷ b ∷ third ∷ [])) (three_no_reject (heard_side c) a b third)))
   frame_counted (a ∷ b ∷ third ∷ d ∷ rest) h =
       let long : nat_le 4 (length (a ∷ b ∷ third ∷ d ∷ rest)) ≡ true = le-leb 4 (length (a ∷ b ∷ third ∷ d ∷ rest)) (omega arith) in
       subst (λ x. one (rejects_aimed l (aim_of_reading c l (reading (heard_side c) (a ∷ b ∷ third ∷ d ∷ rest)))) ≤ cond {A = ℕ} x 1 0) (sym long)
       (at_most_one (rejects_aimed l (aim_of_reading c l (reading (heard_side c) (a ∷ b ∷ third ∷ d ∷ rest)))))
+  frame_counted short h = absurd (omega (arith, h))
 
   event_counted : (o : Option Event) → IfSome o IsWhole
       → one (rejects_aimed l (option_map_or (aim_of_heard c l) o (at_none nothing))) ≤ count_by is_long_frame (option_to_list o)

@@ -1,5 +1,5 @@
 -- The pulls up to the one that begins the next frame.
-use Rattle.model_line.proofs.Vocabulary.{pulls_for, after_events, answers_to, giving, octet_alone, pulls_to_begin, ◌≡◌, ℕ, zero, suc, ◌-◌, ◌/◌, ◌≤◌, ◌<◌, Bool, true, false, List, [], ◌∷◌, ◌++◌, length, map, replicate, Option, Some, None, option_map, is_some, refl, ap, sym, ◌∙◌, arith, append_assoc, length-append, add-one, option_map_or, lt-ltb, le-ltb, bits, frame, line_text, length-bits, Config, pull, pulled, Line, Taken, taken, left_of, is_due, with_item, with_due, with_octet, next_octet, begun, orders_of, FramesGoWhole}
+use Rattle.model_line.proofs.Vocabulary.{pulls_for, after_events, answers_to, giving, octet_alone, pulls_to_begin, ◌≡◌, ℕ, zero, suc, ◌-◌, ◌/◌, ◌≤◌, ◌<◌, Bool, true, false, List, [], ◌∷◌, ◌++◌, length, map, replicate, Option, Some, None, option_map, is_some, refl, ap, sym, ◌∙◌, arith, append_assoc, length-append, add-one, option_map_or, lt-ltb, le-ltb, bits, frame, line_text, length-bits, Config, pull, pulled, Line, Taken, taken, left_of, is_due, with_item, with_octet, next_octet, orders_of, FramesGoWhole}
 use Rattle.std.proofs.lemmas.List.{length-drop}
 use Rattle.std.specs.Prelude.{if◌then◌else◌}
 use Rattle.model_line.specs.Machine as lines

@@ -1,18 +1,12 @@
 -- What is heard is the same to a line whatever it has received, and leaves what it has received.
-use Rattle.model_line.proofs.Vocabulary.{◌≡◌, ℕ, List, Option, Some, None, refl, ap, if◌then◌else◌, Change, Gained, Left, Config, LineTold, Line, Item, Event, expiry, request, pull, sym, ◌∙◌, Effect, Aim, at_none, at_link, at_management, at_units, told_of_management, of_change, of_aim, aim_of_heard, Taken, taken, is_due, with_item, with_due, receiving, NothingElseIsReceived}
+use Rattle.model_line.proofs.Vocabulary.{◌≡◌, ℕ, List, Option, Some, None, refl, ap, if◌then◌else◌, Change, Gained, Left, Config, LineTold, Line, Item, Event, expiry, request, pull, sym, ◌∙◌, Effect, Aim, at_none, at_link, at_management, at_units, told_of_management, of_change, of_aim, Taken, taken, is_due, with_item, with_due, receiving, NothingElseIsReceived}
 use Rattle.std.specs.Prelude.{Bool, true, false}
-use Rattle.model_bits.specs.Stream as stream
 use Rattle.lapd_tei.specs.Events as teis
 use Rattle.model_line.specs.Machine as lines
 use Rattle.model_line.proofs.EventWalk.{meeting, by_part}
 use Rattle.model_line.proofs.FramesTaken.{moved, taken_keeps}
 
--- ---- what is heard is the same event of a part
-
-pub heard_same : (c : Config) (r : List ℕ) (l : Line) (e : stream.Event) → aim_of_heard c (receiving r l) e ≡ aim_of_heard c l e
-heard_same c r l e = refl
-
--- ---- and no part knows what was received, put on the line, or given
+-- ---- no part knows what was received, put on the line, or given
 
 abbrev pub effect_moved : List ℕ → List Item → List ℕ → Effect → Effect
 effect_moved r i g out = record { line = moved r i g out.line; told = out.told }

@@ -1,5 +1,5 @@
 -- What an octet brings, and what it costs.
-use Rattle.model_line.proofs.Vocabulary.{◌≡◌, ℕ, ◌+◌, ◌*◌, ◌≤◌, Bool, true, false, List, [], ◌∷◌, ◌++◌, length, slice_get, max, Option, Some, None, option_to_list, refl, ap, ◌∙◌, cond, arith, count_by, option_map_or, sum_by-append, one_event_an_octet, Service, Call, Packet, Config, octet, one, is_frame, frames_heard, is_long_frame, long_frames_heard, rejects, rejects_aimed, Line, window, link_in, gained, aim_of_heard, aim_of_octet, with_received, Aim, at_none, at_link, of_aim, nothing, IsInRange}
+use Rattle.model_line.proofs.Vocabulary.{◌≡◌, ℕ, ◌+◌, ◌*◌, ◌≤◌, Bool, true, false, List, [], ◌∷◌, ◌++◌, length, slice_get, max, Option, Some, None, option_to_list, refl, ap, sym, ◌∙◌, cond, arith, count_by, option_map_or, sum_by-append, one_event_an_octet, Service, Call, Packet, Config, octet, one, is_frame, frames_heard, is_long_frame, long_frames_heard, rejects, rejects_aimed, Line, window, link_in, gained, aim_of_heard, aim_of_octet, with_received, Aim, at_none, at_link, of_aim, nothing, IsInRange}
 use Rattle.model_line.specs.Counts.{hears}
 use Rattle.model_bits.specs.Stream as stream
 use Rattle.model_link.specs.Events as link
@@ -11,6 +11,19 @@ use Rattle.model_line.proofs.Sums.{price_at}
 
 -- ---- what an octet brings
 
+next_of : {X : Type 0} (xs : List X) (o : Option X) → slice_get (xs ++ option_to_list o) (length xs) ≡ o
+next_of [] None = refl
+next_of [] (Some x) = refl
+next_of (y ∷ xs) o = next_of xs o
+
+pub heard_with : (n201 : ℕ) (received : List ℕ) (value : ℕ)
+    → stream.heard_in n201 (received ++ value ∷ []) ≡ stream.heard_in n201 received ++ option_to_list (gained n201 received value)
+heard_with n201 received value =
+    let heard = stream.heard_in n201 received in
+    let one = one_event_an_octet n201 received value in
+    let is : gained n201 received value ≡ one.0 = ap (λ xs. slice_get xs (length heard)) one.1 ∙ next_of heard one.0 in
+    one.1 ∙ ap (λ e. heard ++ option_to_list e) (sym is)
+
 pub record Brings (c : Config) (l : Line) (value : ℕ) : Type 0 where
   pub event : Option stream.Event
   pub heard : stream.heard_in c.n201 (l.received ++ value ∷ []) ≡ stream.heard_in c.n201 l.received ++ option_to_list event
@@ -18,24 +31,20 @@ pub record Brings (c : Config) (l : Line) (value : ℕ) : Type 0 where
   pub frames : frames_heard c (with_received value l) ≡ frames_heard c l + count_by is_frame (option_to_list event)
   pub long_frames : long_frames_heard c (with_received value l) ≡ long_frames_heard c l + count_by is_long_frame (option_to_list event)
 
-next_of : {X : Type 0} (xs : List X) (o : Option X) → slice_get (xs ++ option_to_list o) (length xs) ≡ o
-next_of [] None = refl
-next_of [] (Some x) = refl
-next_of (y ∷ xs) o = next_of xs o
-
 count_both : {X : Type 0} (p : X → Bool) (xs ys : List X) → count_by p (xs ++ ys) ≡ count_by p xs + count_by p ys
 count_both p xs ys = sum_by-append (λ x. cond (p x) 1 0) xs ys
 
 pub brings : (c : Config) (l : Line) (value : ℕ) → Brings c l value
 brings c l value =
     let heard = stream.heard_in c.n201 l.received in
-    let one_more = one_event_an_octet c.n201 l.received value in
+    let event = gained c.n201 l.received value in
+    let one_more = heard_with c.n201 l.received value in
     record {
-      event = one_more.0;
-      heard = one_more.1;
-      gains = ap (λ xs. slice_get xs (length heard)) one_more.1 ∙ next_of heard one_more.0;
-      frames = ap (count_by is_frame) one_more.1 ∙ count_both is_frame heard (option_to_list one_more.0);
-      long_frames = ap (count_by is_long_frame) one_more.1 ∙ count_both is_long_frame heard (option_to_list one_more.0);
+      event = event;
+      heard = one_more;
+      gains = refl;
+      frames = ap (count_by is_frame) one_more ∙ count_both is_frame heard (option_to_list event);
+      long_frames = ap (count_by is_long_frame) one_more ∙ count_both is_long_frame heard (option_to_list event);
     }
 
 -- ---- the price of what is heard

@@ -23,7 +23,7 @@ event_within card e h within =
     let x = lines.after card.config e.what l in
     omega (
       arith,
-      event_rises card.config e.what l h.config (line_sound card e.line h within),
+      event_rises card.config h.config l (line_sound card e.line h within) e.what,
       one_line (line.may_send card.config) card e.line x h within,
     ))
 

@@ -1,4 +1,4 @@
--- By how much each event lets rise what may be sent.
+-- By how much each event raises what may be sent.
 use Rattle.model_card.proofs.Vocabulary.{◌≡◌, ℕ, ◌+◌, ◌*◌, ◌≤◌, ◌<◌, Bool, true, false, length, nat_le, Option, Some, None, ap, sym, ◌∙◌, cond, arith, sum_by, count_by, option_map_or, false≢true, Timer, octet, expiry, request, pull, Config, Line, refusal, Request, counted_one, falls_by_pull, expiry_none, request_none, brings, octet_rejects, RisesByOctet, RisesByExpiry, RisesByRequest, FallsByPull, RisesBy, IsPriced, Card, line_at, window, at, FramesByEvent, IsSound}
 use Rattle.std.proofs.Common.{option_to_list}
 use Rattle.model_bits.specs.Stream as stream
@@ -51,7 +51,7 @@ requests card number r s within =
     let e = at number (request r) in
     let l = line_at number card in
     let rise = event_within card e (has_lines card s) within in
-    let none = no_reject (window card.config) (line.rejects card.config e.what l) (request_none l r (refusal card.config false r l)) in
+    let none = no_reject (window card.config) (line.rejects card.config e.what l) (request_none card.config l r) in
     omega (arith, rise, none)
 
 -- a pull finds room, and is one of its line

@@ -1,5 +1,5 @@
 -- Happenings at a card as its events.
-use Rattle.model_card.proofs.Vocabulary.{◌≡◌, ◌≢◌, ℕ, zero, suc, ◌+◌, ◌<◌, Bool, true, false, ◌&&◌, List, [], ◌∷◌, ◌++◌, length, replicate, get_or, set, is_some, if◌then◌else◌, refl, ap, sym, subst, ◌∙◌, arith, ⊎_elim, All, map, cases_eq, set-get_or, set-set, get_or-set_same, get_or-set_other, length-replicate, All-nil, All-cons, All-head, All-tail, All-append, AreOctets, Config, Line, fresh_line, taken, Card, fresh, line_at, is_full, Event, at, after, answer, wants_room, lines_after, Moment, moments, after_all, AreAtLines, IsAtLine, Fault, IsIdle, line_octets, came, fault_octets, cause_of, after_events, answers_to, pulls_to_begin, pulls_for, Happening, comes, failed, goes, expires, asks, line_of, events_at, events_of, spelled, IsWhole, HappensAt, HappenAt, AreIdle, answer_in, IsAtLineAlone, with_line, HappeningsAreEvents, LinesStayIdle, FramesAreOfLines, frames_are_heard, frames_come_whole, nothing_else_is_received}
+use Rattle.model_card.proofs.Vocabulary.{get_or-replicate, ◌≡◌, ◌≢◌, ℕ, zero, suc, ◌+◌, ◌<◌, Bool, true, false, ◌&&◌, List, [], ◌∷◌, ◌++◌, length, replicate, get_or, set, is_some, if◌then◌else◌, refl, ap, sym, subst, ◌∙◌, arith, ⊎_elim, All, map, cases_eq, set-get_or, set-set, get_or-set_same, get_or-set_other, length-replicate, All-nil, All-cons, All-head, All-tail, All-append, AreOctets, Config, Line, fresh_line, taken, Card, fresh, line_at, is_full, Event, at, after, answer, wants_room, lines_after, Moment, moments, after_all, AreAtLines, IsAtLine, Fault, IsIdle, line_octets, came, fault_octets, cause_of, after_events, answers_to, pulls_to_begin, pulls_for, Happening, comes, failed, goes, expires, asks, line_of, events_at, events_of, spelled, IsWhole, HappensAt, HappenAt, AreIdle, answer_in, IsAtLineAlone, with_line, HappeningsAreEvents, LinesStayIdle, FramesAreOfLines, frames_are_heard, frames_come_whole, nothing_else_is_received}
 use Rattle.std.proofs.lemmas.List.{length-set}
 use Rattle.model_line.specs.Event as line_event
 use Rattle.model_line.specs.Machine as lines
@@ -177,16 +177,11 @@ stay_idle m (x ∷ happenings) idle h =
     subst AreIdle (sym (after_all-append m (events_of m x) (spelled next happenings)))
     (stay_idle next happenings (happening_idle m x idle (All-head (HappensAt m) x happenings h)) rest)
 
-fresh_lines : (c : Config) (n number : ℕ) → get_or (replicate n (fresh_line c)) number (fresh_line c) ≡ fresh_line c
-fresh_lines c zero number = refl
-fresh_lines c (suc n) zero = refl
-fresh_lines c (suc n) (suc number) = fresh_lines c n number
-
 pub lines_stay_idle : LinesStayIdle
 lines_stay_idle = record {
   begins = λ c. record {
     count = length-replicate c.lines (fresh_line c);
-    each = λ number h. subst (λ l. IsIdle l.received) (sym (fresh_lines c c.lines number)) frames_are_heard.begins;
+    each = λ number h. subst (λ l. IsIdle l.received) (sym (get_or-replicate c.lines number (fresh_line c) (fresh_line c) h)) frames_are_heard.begins;
   };
   always = stay_idle;
 }

@@ -2,6 +2,7 @@
 use Rattle.model_card.proofs.Vocabulary.{◌≡◌, ℕ, suc, ◌+◌, ◌*◌, ◌≤◌, List, [], ◌∷◌, length, refl, sym, subst, arith, sum_by, All, All-head, All-tail, sum_by-cons, mul-le-mul_left, Config, Line, slots_of, stored_in, stored_few, Card, used, Event, StoredWithinLimit, after, after_all, IsSound, limit_in, stored, limit}
 use Rattle.model_line.specs.Sound as line
 use Rattle.model_card.proofs.CardSound.{always_sound}
+use Rattle.model_card.proofs.Happening.{config_stays}
 
 stored_by_lines : (c : Config) (ls : List Line) → All (line.IsSound c) ls
     → sum_by (stored_in c) ls ≤ length ls * limit_in c + sum_by (slots_of c) ls * c.n201
@@ -28,12 +29,6 @@ stored_now card s =
     let all = stored_by_lines card.config card.lines s.lines in
     let most = within_limit (length card.lines) (limit_in card.config) (used card) card.config.slots card.config.n201 card.config.lines s.count s.slots in
     omega (arith, all, most)
-
--- an event leaves the configuration as it is
-config_stays : (card : Card) (events : List Event) → (after_all card events).config ≡ card.config
-unfolding after_all
-config_stays card [] = refl
-config_stays card (e ∷ events) = config_stays (after e card) events
 
 pub stored_within_limit : StoredWithinLimit
 stored_within_limit = record {

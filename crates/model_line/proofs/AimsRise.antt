@@ -1,4 +1,4 @@
--- By how much an aim lets rise what a line may still send.
+-- By how much an aim raises what a line may still send.
 use Rattle.model_line.proofs.Vocabulary.{◌≡◌, ℕ, refl, arith, Service, Link, event-rises, Config, may_send, fresh_line, link_count, terms, IsInRange}
 use Rattle.model_link.specs.Events as link
 use Rattle.model_link.specs.Rises as rises

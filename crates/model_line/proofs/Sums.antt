@@ -1,4 +1,4 @@
--- Sums over the parts of a line, and by how much what an event is to a part lets them rise.
+-- Sums over the parts of a line, and by how much an event of a part raises them.
 use Rattle.model_line.proofs.Vocabulary.{◌≡◌, ℕ, zero, suc, ◌+◌, ◌≤◌, ◌<◌, List, [], ◌∷◌, length, get_or, set, Option, Some, None, refl, ap, ◌∙◌, arith, length-append, length-set, ⊎_elim, replicate, sum_by, range_with_len, cases_lt, get_or-set_same, get_or-set_other, get_or-replicate, get_or_past, length-replicate, sum_by-cons, Service, Call, Packet, Link, fresh, Moves, Management, IsAt, Change, Gained, Left, at-within, Config, LineTold, Line, fresh_line, link_number, link_count, service_at, link_in, terms, Aim, at_none, at_link, at_management, at_units, of_link, of_change, told_of_management, of_aim, IsInRange, IsSound, sum_of_links}
 use Rattle.model_link.specs.Events as link
 use Rattle.model_link.specs.Machine as links

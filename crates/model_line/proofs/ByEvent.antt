@@ -1,10 +1,10 @@
 -- What single events bring: frames by octets alone, and a pull.
-use Rattle.model_line.proofs.Vocabulary.{◌≡◌, ℕ, ◌+◌, ◌≤◌, Bool, true, false, Option, Some, None, option_to_list, refl, ap, sym, ◌∙◌, cond, arith, option_map_or, false≢true, count_by, Config, Event, octet, expiry, request, pull, one, is_frame, frames_heard, IsHeardCounted, HearsOne, FallsByPull, Line, after, answer, takes_slot, IsInRange, IsSound}
+use Rattle.model_line.proofs.Vocabulary.{gained, ◌≡◌, ℕ, ◌+◌, ◌≤◌, Bool, true, false, Option, Some, None, option_to_list, refl, ap, sym, ◌∙◌, cond, arith, option_map_or, false≢true, count_by, Config, Event, octet, expiry, request, pull, one, is_frame, frames_heard, IsHeardCounted, HearsOne, FallsByPull, Line, after, answer, takes_slot, IsInRange, IsSound}
 use Rattle.model_bits.specs.Stream as stream
 use Rattle.model_line.specs.Counts.{hears, is_octet}
 use Rattle.model_line.proofs.EventWalk.{meeting}
 use Rattle.model_line.proofs.FramesReceived.{after_received}
-use Rattle.model_line.proofs.LineRises.{brings}
+use Rattle.model_line.proofs.LineRises.{counted_with}
 use Rattle.model_line.proofs.PullRises.{pull_falls}
 
 -- the frames heard grow by that which an octet ends
@@ -18,9 +18,7 @@ counted_one p (Some x) = go (p x)
 
 met_counted : (c : Config) (e : Event) (l : Line) → frames_heard c (meeting e l) ≡ frames_heard c l + one (hears c e l)
 met_counted c (octet value) l =
-    let b = brings c l value in
-    let same = counted_one is_frame b.event ∙ ap (λ o. one (option_map_or is_frame o false)) (sym b.gains) in
-    omega (arith, b.frames, same)
+    omega (arith, counted_with is_frame c.n201 l.received value, counted_one is_frame (gained c.n201 l.received value))
 met_counted c (expiry timer) l = omega arith
 met_counted c (request r) l = omega arith
 met_counted c pull l = omega arith

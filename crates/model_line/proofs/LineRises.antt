@@ -24,6 +24,11 @@ heard_with n201 received value =
     let is : gained n201 received value ≡ one.0 = ap (λ xs. slice_get xs (length heard)) one.1 ∙ next_of heard one.0 in
     one.1 ∙ ap (λ e. heard ++ option_to_list e) (sym is)
 
+pub counted_with : (p : stream.Event → Bool) (n201 : ℕ) (received : List ℕ) (value : ℕ)
+    → count_by p (stream.heard_in n201 (received ++ value ∷ [])) ≡ count_by p (stream.heard_in n201 received) + count_by p (option_to_list (gained n201 received value))
+counted_with p n201 received value =
+    ap (count_by p) (heard_with n201 received value) ∙ sum_by-append (λ x. cond (p x) 1 0) (stream.heard_in n201 received) (option_to_list (gained n201 received value))
+
 pub record Brings (c : Config) (l : Line) (value : ℕ) : Type 0 where
   pub event : Option stream.Event
   pub heard : stream.heard_in c.n201 (l.received ++ value ∷ []) ≡ stream.heard_in c.n201 l.received ++ option_to_list event
@@ -31,21 +36,14 @@ pub record Brings (c : Config) (l : Line) (value : ℕ) : Type 0 where
   pub frames : frames_heard c (with_received value l) ≡ frames_heard c l + count_by is_frame (option_to_list event)
   pub long_frames : long_frames_heard c (with_received value l) ≡ long_frames_heard c l + count_by is_long_frame (option_to_list event)
 
-count_both : {X : Type 0} (p : X → Bool) (xs ys : List X) → count_by p (xs ++ ys) ≡ count_by p xs + count_by p ys
-count_both p xs ys = sum_by-append (λ x. cond (p x) 1 0) xs ys
-
 pub brings : (c : Config) (l : Line) (value : ℕ) → Brings c l value
-brings c l value =
-    let heard = stream.heard_in c.n201 l.received in
-    let event = gained c.n201 l.received value in
-    let one_more = heard_with c.n201 l.received value in
-    record {
-      event = event;
-      heard = one_more;
-      gains = refl;
-      frames = ap (count_by is_frame) one_more ∙ count_both is_frame heard (option_to_list event);
-      long_frames = ap (count_by is_long_frame) one_more ∙ count_both is_long_frame heard (option_to_list event);
-    }
+brings c l value = record {
+  event = gained c.n201 l.received value;
+  heard = heard_with c.n201 l.received value;
+  gains = refl;
+  frames = counted_with is_frame c.n201 l.received value;
+  long_frames = counted_with is_long_frame c.n201 l.received value;
+}
 
 -- ---- the price of what is heard
 

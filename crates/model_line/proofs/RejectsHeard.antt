@@ -1,10 +1,10 @@
 -- Each REJ with a valid N(R) is a frame of four octets that is heard; and frames take their octets of the stream.
-use Rattle.model_line.proofs.Vocabulary.{◌≡◌, ℕ, ◌+◌, ◌*◌, ◌-◌, ◌≤◌, Bool, true, false, List, [], ◌∷◌, ◌++◌, length, take, nat_le, Option, Some, None, option_to_list, Result, Ok, Err, IfSome, refl, ap, sym, ◌∙◌, subst, cond, arith, count_by, sum_by, All, option_map_or, le-leb, leb-true, length-take-le, sum_by-cons, All-head, All-tail, overlong, dropped, room_for, IsWhole, heard_within_stream, IsWeight, weight_of_heard, judged_as, ReadFault, Parts, reading, Link, Config, nothing, one, is_frame, frames_heard, is_long_frame, long_frames_heard, rejects_aimed, Line, aim_of_reading, heard_side, aim_of_heard, aim_of_octet, with_received, at_none}
+use Rattle.model_line.proofs.Vocabulary.{gained, ◌≡◌, ℕ, ◌+◌, ◌*◌, ◌-◌, ◌≤◌, Bool, true, false, List, [], ◌∷◌, ◌++◌, length, take, nat_le, Option, Some, None, option_to_list, Result, Ok, Err, IfSome, refl, ap, sym, ◌∙◌, subst, cond, arith, count_by, sum_by, All, option_map_or, le-leb, leb-true, length-take-le, sum_by-cons, All-head, All-tail, overlong, dropped, room_for, IsWhole, heard_within_stream, IsWeight, weight_of_heard, judged_as, ReadFault, Parts, reading, Link, Config, nothing, one, is_frame, frames_heard, is_long_frame, long_frames_heard, rejects_aimed, Line, aim_of_reading, heard_side, aim_of_heard, aim_of_octet, with_received, at_none}
 use Rattle.model_bits.specs.Stream as stream
 use Rattle.model_bits.specs.Stream.{Event, frame}
 use Rattle.model_link.specs.Events as link
 use Rattle.model_link.specs.Rises as rises
-use Rattle.model_line.proofs.LineRises.{brings}
+use Rattle.model_line.proofs.LineRises.{heard_with, counted_with}
 use Rattle.model_line.proofs.ProperAims.{AreFor, reading_aims}
 use Rattle.model_line.proofs.Rejects.{NoReject, three_no_reject}
 
@@ -26,9 +26,7 @@ module _ (c : Config) (l : Line) where
       → one (rejects_aimed l (aim_of_reading c l (reading (heard_side c) octets))) ≤ cond {A = ℕ} (nat_le 4 (length octets)) 1 0
   frame_counted (a ∷ b ∷ third ∷ []) h = omega (arith, ap one (reading_no_reject (reading (heard_side c) (a ∷ b ∷ third ∷ [])) (three_no_reject (heard_side c) a b third)))
   frame_counted (a ∷ b ∷ third ∷ d ∷ rest) h =
-      let long : nat_le 4 (length (a ∷ b ∷ third ∷ d ∷ rest)) ≡ true = le-leb 4 (length (a ∷ b ∷ third ∷ d ∷ rest)) (omega arith) in
-      subst (λ x. one (rejects_aimed l (aim_of_reading c l (reading (heard_side c) (a ∷ b ∷ third ∷ d ∷ rest)))) ≤ cond {A = ℕ} x 1 0) (sym long)
-      (at_most_one (rejects_aimed l (aim_of_reading c l (reading (heard_side c) (a ∷ b ∷ third ∷ d ∷ rest)))))
+      rw (le-leb 4 (length (a ∷ b ∷ third ∷ d ∷ rest)) (omega arith)) (at_most_one (rejects_aimed l (aim_of_reading c l (reading (heard_side c) (a ∷ b ∷ third ∷ d ∷ rest)))))
   frame_counted short h = absurd (omega (arith, h))
 
   event_counted : (o : Option Event) → IfSome o IsWhole
@@ -47,25 +45,24 @@ latest P (y ∷ xs) o all = latest P xs o (All-tail P y (xs ++ option_to_list o)
 pub octet_rejects : (c : Config) (value : ℕ) (l : Line)
     → one (rejects_aimed l (aim_of_octet c value l)) + long_frames_heard c l ≤ long_frames_heard c (with_received value l)
 octet_rejects c value l =
-    let b = brings c l value in
-    let all = heard_within_stream.whole c.n201 (l.received ++ value ∷ []) in
-    let whole = latest IsWhole (stream.heard_in c.n201 l.received) b.event (subst (All IsWhole) b.heard all) in
-    let counted = event_counted c l b.event whole in
-    let here : one (rejects_aimed l (aim_of_octet c value l)) ≤ count_by is_long_frame (option_to_list b.event) =
-    subst (λ o. one (rejects_aimed l (option_map_or (aim_of_heard c l) o (at_none nothing))) ≤ count_by is_long_frame (option_to_list b.event)) (sym b.gains) counted in
-    omega (arith, here, b.long_frames)
+    let event = gained c.n201 l.received value in
+    let all = subst (All IsWhole) (heard_with c.n201 l.received value) (heard_within_stream.whole c.n201 (l.received ++ value ∷ [])) in
+    omega (
+      arith,
+      event_counted c l event (latest IsWhole (stream.heard_in c.n201 l.received) event all),
+      counted_with is_long_frame c.n201 l.received value,
+    )
 
 -- ---- frames take their octets of the stream
 
 scaled_sum : (p : Event → Bool) (n : ℕ) (es : List Event) → n * count_by p es ≡ sum_by (λ e. cond (p e) n 0) es
 scaled_sum p n [] = omega arith
 scaled_sum p n (e ∷ es) =
-    go (p e) (count_by p (e ∷ es)) (sum_by-cons (λ x. cond (p x) 1 0) e es) (scaled_sum p n es) ∙ sym (sum_by-cons (λ x. cond (p x) n 0) e es)
+    rw (sum_by-cons (λ x. cond (p x) 1 0) e es, sum_by-cons (λ x. cond (p x) n 0) e es) (go (p e) (scaled_sum p n es))
   where
-    go : (b : Bool) (count : ℕ) → count ≡ cond b 1 0 + count_by p es → n * count_by p es ≡ sum_by (λ x. cond (p x) n 0) es
-        → n * count ≡ cond b n 0 + sum_by (λ x. cond (p x) n 0) es
-    go true count e rest = subst (λ k. n * k ≡ n + sum_by (λ x. cond (p x) n 0) es) (sym e) (omega (arith, rest))
-    go false count e rest = subst (λ k. n * k ≡ 0 + sum_by (λ x. cond (p x) n 0) es) (sym e) (omega (arith, rest))
+    go : (b : Bool) → n * count_by p es ≡ sum_by (λ x. cond (p x) n 0) es → n * (cond b 1 0 + count_by p es) ≡ cond b n 0 + sum_by (λ x. cond (p x) n 0) es
+    go true rest = omega (arith, rest)
+    go false rest = omega (arith, rest)
 
 frame_weight : (n201 : ℕ) → IsWeight (room_for n201) (λ e. cond (is_frame e) 6 0)
 frame_weight n201 = record {

@@ -64,19 +64,13 @@ held_few c l s = omega (arith, received_few c l, sent_few c l s, waiting_few c l
 
 -- ---- contents
 
--- two terms that are each at most m times others
-pub both_scaled : (m f g f' g' sum whole : ℕ) → sum ≡ f + f' → whole ≡ g + g' → f ≤ g * m → f' ≤ g' * m → sum ≤ whole * m
-both_scaled m f g f' g' sum whole first second below below' =
-    subst (λ x. sum ≤ x * m) (sym second) (omega (arith, first, below, below'))
-
--- a sum of such terms
+-- a sum of terms that are each at most m times others
 scaled : (f g : ℕ → ℕ) (m a n : ℕ) → ((j : ℕ) → j < a + n → f j ≤ g j * m) → sum_by f (range_with_len a n) ≤ sum_by g (range_with_len a n) * m
 scaled f g m a zero below = omega arith
 scaled f g m a (suc n) below =
     let head = below a (omega arith) in
     let rest = scaled f g m (a + 1) n (λ j few. below j (omega (arith, few))) in
-    both_scaled m (f a) (g a) (sum_by f (range_with_len (a + 1) n)) (sum_by g (range_with_len (a + 1) n)) _ _
-    (sum_by-cons f a (range_with_len (a + 1) n)) (sum_by-cons g a (range_with_len (a + 1) n)) head rest
+    rw (sum_by-cons f a (range_with_len (a + 1) n), sum_by-cons g a (range_with_len (a + 1) n)) (omega (arith, head, rest))
 
 queue_octets : (c : Config) (l : Line) → IsSound c l → (n : ℕ) → n < link_count c → octets_by_link l n ≤ slots_by_link l n * c.n201
 queue_octets c l s n few =
@@ -95,8 +89,7 @@ unit_octets c us all = sum_by-le unit_length c.n201 us (short us all)
 pub octets_few : (c : Config) (l : Line) → IsSound c l → octets_of c l ≤ slots_of c l * c.n201
 octets_few c l s =
     let queues = scaled (octets_by_link l) (slots_by_link l) c.n201 0 (link_count c) (λ n few. queue_octets c l s n (omega (arith, few))) in
-    both_scaled c.n201 (sum_by unit_length l.units) (length l.units) (sum_of_links c (octets_by_link l)) (sum_of_links c (slots_by_link l)) _ _
-    refl refl (unit_octets c l.units s.units) queues
+    omega (arith, unit_octets c l.units s.units, queues)
 
 pub stored_few : (c : Config) (l : Line) → IsSound c l
     → stored_in c l ≤ (2 * c.n201 + 10 + 8 * c.control * c.terminals + 32 + 12) + slots_of c l * c.n201

@@ -23,50 +23,21 @@ event_within card e h within =
     let x = lines.after card.config e.what l in
     omega (
       arith,
-      event_rises card.config e.what l h.config (line_sound card e.line h within),
+      event_rises card.config h.config l (line_sound card e.line h within) e.what,
       one_line (line.may_send card.config) card e.line x h within,
     ))
 
--- The bound over a run, by its counts.
-record Within (k w w' s f a x j : ℕ) : Type 0 where
-  bound : s + w' ≤ w + 2 * f + a + (k + 1) * x + k * j
-
-both : (k w w1 w2 s1 f1 a1 x1 j1 s2 f2 a2 x2 j2 : ℕ)
-    → s1 + w1 ≤ w + 2 * f1 + a1 + (k + 1) * x1 + k * j1 → Within k w1 w2 s2 f2 a2 x2 j2
-    → Within k w w2 (s1 + s2) (f1 + f2) (a1 + a2) (x1 + x2) (j1 + j2)
-both k w w1 w2 s1 f1 a1 x1 j1 s2 f2 a2 x2 j2 first rest = record { bound = omega (arith, first, rest.bound) }
-
-counted : (k w w' s f a x j s' f' a' x' j' : ℕ) → s' ≡ s → f' ≡ f → a' ≡ a → x' ≡ x → j' ≡ j
-    → Within k w w' s f a x j → Within k w w' s' f' a' x' j'
-counted k w w' s f a x j s' f' a' x' j' es ef ea ex ej h =
-    subst (λ y. Within k w w' y f' a' x' j') (sym es)
-    (subst (λ y. Within k w w' s y a' x' j') (sym ef)
-    (subst (λ y. Within k w w' s f y x' j') (sym ea)
-    (subst (λ y. Within k w w' s f a y j') (sym ex) (subst (λ y. Within k w w' s f a x y) (sym ej) h))))
-
-run_within : (card : Card) (events : List Event) → HasLines card → AreAtLines card events
-    → let ms = moments card events in
-    Within (window card.config) (may_send card) (may_send (after_all card events)) (sent ms) (heard ms) (accepted ms) (expired ms) (rejected ms)
-unfolding moments after_all
-run_within card [] h within = record { bound = omega arith }
-run_within card (e ∷ events) h within =
-    let k = window card.config in
-    let next = after e card in
-    let l = line_at e.line card in
-    let m : Moment = record { card = card; event = e; answer = answer e card } in
-    let ms = moments next events in
-    let end = after_all next events in
-    let here = All-head (IsAtLine card) e events within in
-    let rest = run_within next events (after_lines e card h here) (All-tail (IsAtLine card) e events within) in
-    counted k (may_send card) (may_send end) _ _ _ _ _ _ _ _ _ _
-    (count_cons is_sent m ms) (count_cons is_heard m ms) (count_cons is_accepted m ms) (count_cons is_running_expiry m ms) (count_cons is_reject m ms)
-    (both k (may_send card) (may_send next) (may_send end)
-    (line.one (line.is_begun (answer e card))) (line.one (line.hears card.config e.what l)) (line.one (line.is_accepted e.what (answer e card)))
-    (line.one (line.is_running_expiry e.what l)) (line.one (line.rejects card.config e.what l))
-    (sent ms) (heard ms) (accepted ms) (expired ms) (rejected ms) (event_within card e h here) rest)
-
+-- a run
 pub amortised : (card : Card) (events : List Event) → HasLines card → AreAtLines card events → IsAmortised card events
-amortised card events h within = (run_within card events h within).bound
+unfolding moments after_all
+amortised card [] h within = omega arith
+amortised card (e ∷ events) h within =
+    let m : Moment = record { card = card; event = e; answer = answer e card } in
+    let ms = moments (after e card) events in
+    let here = All-head (IsAtLine card) e events within in
+    let rest = amortised (after e card) events (after_lines e card h here) (All-tail (IsAtLine card) e events within) in
+    rw (count_cons is_sent m ms, count_cons is_heard m ms, count_cons is_accepted m ms, count_cons is_running_expiry m ms, count_cons is_reject m ms)
+    (omega (arith, event_within card e h here, rest))
 
 pub frames_amortised : FramesAmortised
 frames_amortised card events s within = amortised card events (has_lines card s) within

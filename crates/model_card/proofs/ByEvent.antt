@@ -1,4 +1,4 @@
--- By how much each event lets rise what may be sent.
+-- By how much each event raises what may be sent.
 use Rattle.model_card.proofs.Vocabulary.{◌≡◌, ℕ, ◌+◌, ◌*◌, ◌≤◌, ◌<◌, Bool, true, false, length, nat_le, Option, Some, None, ap, sym, ◌∙◌, cond, arith, sum_by, count_by, option_map_or, false≢true, Timer, octet, expiry, request, pull, Config, Line, refusal, Request, counted_one, falls_by_pull, expiry_none, request_none, brings, octet_rejects, RisesByOctet, RisesByExpiry, RisesByRequest, FallsByPull, RisesBy, IsPriced, Card, line_at, window, at, FramesByEvent, IsSound}
 use Rattle.std.proofs.Common.{option_to_list}
 use Rattle.model_bits.specs.Stream as stream
@@ -32,31 +32,25 @@ line_rejects c value l =
     let heard = counted_one line.is_frame b.event ∙ ap (λ o. line.one (option_map_or line.is_frame o false)) (sym b.gains) in
     omega (arith, octet_rejects c value l, b.long_frames, long_is_frame b.event, heard)
 
-octets : (card : Card) (number value : ℕ) → IsSound card → number < card.config.lines → RisesByOctet number value card
-octets card number value s within =
+-- any event; a pull finds room, and is one of its line
+any_event : (card : Card) (number : ℕ) (what : line_event.Event) → IsSound card → number < card.config.lines → RisesBy number what card
+any_event card number (octet value) s within =
     let e = at number (octet value) in
     let heard = event_heard card e (has_lines card s) within in
     let rise = event_within card e (has_lines card s) within in
     (heard, line_rejects card.config value (line_at number card), omega (arith, rise))
-
-expiries : (card : Card) (number : ℕ) (timer : Timer) → IsSound card → number < card.config.lines → RisesByExpiry number timer card
-expiries card number timer s within =
+any_event card number (expiry timer) s within =
     let e = at number (expiry timer) in
     let rise = event_within card e (has_lines card s) within in
     let none = no_reject (window card.config) (line.rejects card.config e.what (line_at number card)) (expiry_none (line_at number card) timer) in
     omega (arith, rise, none)
-
-requests : (card : Card) (number : ℕ) (r : Request) → IsSound card → number < card.config.lines → RisesByRequest number r card
-requests card number r s within =
+any_event card number (request r) s within =
     let e = at number (request r) in
     let l = line_at number card in
     let rise = event_within card e (has_lines card s) within in
-    let none = no_reject (window card.config) (line.rejects card.config e.what l) (request_none l r (refusal card.config false r l)) in
+    let none = no_reject (window card.config) (line.rejects card.config e.what l) (request_none card.config l r) in
     omega (arith, rise, none)
-
--- a pull finds room, and is one of its line
-pulls : (card : Card) (number : ℕ) → IsSound card → number < card.config.lines → FallsByPull number card
-pulls card number s within =
+any_event card number pull s within =
     let e = at number pull in
     by_room (λ ls a.
     (line.one (line.is_begun a) + sum_by (line.may_send card.config) ls ≤ sum_by (line.may_send card.config) card.lines)
@@ -68,18 +62,11 @@ pulls card number s within =
     let sums = one_line (line.may_send card.config) card number (lines.after card.config pull l) (has_lines card s) within in
     (omega (arith, falls.0, sums), omega (arith, falls.1, sums)))
 
--- any event
-any_event : (card : Card) (number : ℕ) (what : line_event.Event) → IsSound card → number < card.config.lines → RisesBy number what card
-any_event card number (octet value) s within = octets card number value s within
-any_event card number (expiry timer) s within = expiries card number timer s within
-any_event card number (request r) s within = requests card number r s within
-any_event card number pull s within = pulls card number s within
-
 pub frames_by_event : FramesByEvent
 frames_by_event = record {
-  octets = octets;
-  expiries = expiries;
-  requests = requests;
-  pulls = pulls;
+  octets = λ card number value. any_event card number (octet value);
+  expiries = λ card number timer. any_event card number (expiry timer);
+  requests = λ card number r. any_event card number (request r);
+  pulls = λ card number. any_event card number pull;
   in_runs = each_moment IsPriced (λ card e s within. any_event card e.line e.what s within);
 }

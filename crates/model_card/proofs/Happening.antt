@@ -1,8 +1,11 @@
 -- Happenings at a card as its events.
-use Rattle.model_card.proofs.Vocabulary.{◌≡◌, ◌≢◌, ℕ, zero, suc, ◌+◌, ◌<◌, Bool, true, false, ◌&&◌, List, [], ◌∷◌, ◌++◌, length, replicate, get_or, set, is_some, if◌then◌else◌, refl, ap, sym, subst, ◌∙◌, arith, ⊎_elim, All, map, cases_eq, set-get_or, set-set, get_or-set_same, get_or-set_other, length-replicate, All-nil, All-cons, All-head, All-tail, All-append, AreOctets, Config, Line, fresh_line, taken, Card, fresh, line_at, is_full, Event, at, after, answer, wants_room, lines_after, Moment, moments, after_all, AreAtLines, IsAtLine, Fault, IsIdle, line_octets, came, fault_octets, cause_of, after_events, answers_to, pulls_to_begin, pulls_for, Happening, comes, failed, goes, expires, asks, line_of, events_at, events_of, spelled, IsWhole, HappensAt, HappenAt, AreIdle, answer_in, IsAtLineAlone, with_line, HappeningsAreEvents, LinesStayIdle, FramesAreOfLines, frames_are_heard, frames_come_whole, nothing_else_is_received}
+use Rattle.model_card.proofs.Vocabulary.{get_or-replicate, ◌≡◌, ◌≢◌, ℕ, zero, suc, ◌+◌, ◌<◌, Bool, true, false, ◌&&◌, List, [], ◌∷◌, ◌++◌, length, replicate, get_or, set, is_some, if◌then◌else◌, refl, ap, sym, subst, ◌∙◌, arith, ⊎_elim, All, map, cases_eq, set-get_or, set-set, get_or-set_same, get_or-set_other, length-replicate, All-nil, All-cons, All-head, All-tail, All-append, AreOctets, Config, Line, fresh_line, taken, Card, fresh, line_at, is_full, Event, at, after, answer, wants_room, lines_after, Moment, moments, after_all, AreAtLines, IsAtLine, Fault, IsIdle, line_octets, came, fault_octets, cause_of, after_events, answers_to, pulls_to_begin, pulls_for, Happening, comes, failed, goes, expires, asks, line_of, events_at, events_of, spelled, IsWhole, HappensAt, HappenAt, AreIdle, answer_in, IsAtLineAlone, with_line, HappeningsAreEvents, LinesStayIdle, FramesAreOfLines, frames_are_heard, frames_come_whole, nothing_else_is_received}
 use Rattle.std.proofs.lemmas.List.{length-set}
+use Rattle.model_bits.specs.Stream as stream
 use Rattle.model_line.specs.Event as line_event
 use Rattle.model_line.specs.Machine as lines
+use Rattle.model_line.specs.WholeAtLine.{AreOneEvent}
+use Rattle.model_line.specs.WholeLaws.{AreHeardAs}
 
 -- ---- events name lines, and leave the configuration
 
@@ -38,10 +41,8 @@ IsBare (line_event.request r) = ⊥
 
 takes_none : (c : Config) (e : line_event.Event) (l : Line) → IsBare e → lines.takes_slot c e l ≡ false
 unfolding lines.takes_slot
-takes_none c (line_event.octet value) l h = refl
-takes_none c line_event.pull l h = refl
-takes_none c (line_event.expiry timer) l h = absurd h
 takes_none c (line_event.request r) l h = absurd h
+takes_none c other l h = refl
 
 wants_none : (m : Card) (number : ℕ) (e : line_event.Event) → IsBare e → wants_room (at number e) m ≡ false
 wants_none m number e h = ap (λ b. b && is_full m) (takes_none m.config e (line_at number m) h)
@@ -137,21 +138,23 @@ one_idle m number e idle h keeps = go (wants_room (at number e) m)
     go true = idle
     go false = line_idle m number (lines.after m.config e (line_at number m)) idle h (subst IsIdle (sym keeps) (idle.each number h))
 
+-- octets that are one event
+octets_idle : (m : Card) (number : ℕ) (octets : List ℕ) (e : stream.Event) → AreIdle m → number < m.config.lines
+    → AreOneEvent m.config (line_at number m) octets e → AreHeardAs m.config.n201 (line_at number m).received octets e
+    → IsAtLineAlone m number (map line_event.octet octets) → AreIdle (after_all m (map (at number) (map line_event.octet octets)))
+octets_idle m number octets e idle h one heard alone =
+    subst AreIdle (sym alone.card)
+    (line_idle m number (after_events m.config (map line_event.octet octets) (line_at number m)) idle h (subst (λ x. IsIdle x.received) (sym one.line) heard.idle))
+
 happening_idle : (m : Card) (x : Happening) → AreIdle m → HappensAt m x → AreIdle (after_all m (events_of m x))
 happening_idle m (comes number octets) idle h =
     let l = line_at number m in
-    let line = frames_come_whole.frames m.config l octets (idle.each number h.0) h.1 in
-    let heard = frames_are_heard.frames m.config.n201 l.received octets (idle.each number h.0) h.1 in
-    let alone = frames_are_of_lines.frames m number octets idle.count h.0 in
-    subst AreIdle (sym alone.card)
-    (line_idle m number (after_events m.config (map line_event.octet (line_octets octets)) l) idle h.0 (subst (λ x. IsIdle x.received) (sym line.line) heard.idle))
+    octets_idle m number (line_octets octets) (came m.config.n201 octets) idle h.0 (frames_come_whole.frames m.config l octets (idle.each number h.0) h.1)
+    (frames_are_heard.frames m.config.n201 l.received octets (idle.each number h.0) h.1) (frames_are_of_lines.frames m number octets idle.count h.0)
 happening_idle m (failed number fault) idle h =
     let l = line_at number m in
-    let line = frames_come_whole.faults m.config l fault (idle.each number h.0) in
-    let heard = frames_are_heard.faults m.config.n201 l.received fault (idle.each number h.0) in
-    let alone = frames_are_of_lines.faults m number fault idle.count h.0 in
-    subst AreIdle (sym alone.card)
-    (line_idle m number (after_events m.config (map line_event.octet (fault_octets fault)) l) idle h.0 (subst (λ x. IsIdle x.received) (sym line.line) heard.idle))
+    octets_idle m number (fault_octets fault) (stream.dropped (cause_of fault)) idle h.0 (frames_come_whole.faults m.config l fault (idle.each number h.0))
+    (frames_are_heard.faults m.config.n201 l.received fault (idle.each number h.0)) (frames_are_of_lines.faults m number fault idle.count h.0)
 happening_idle m (goes number) idle h =
     let l = line_at number m in
     let alone = frames_are_of_lines.calls m number idle.count h.0 in
@@ -177,16 +180,11 @@ stay_idle m (x ∷ happenings) idle h =
     subst AreIdle (sym (after_all-append m (events_of m x) (spelled next happenings)))
     (stay_idle next happenings (happening_idle m x idle (All-head (HappensAt m) x happenings h)) rest)
 
-fresh_lines : (c : Config) (n number : ℕ) → get_or (replicate n (fresh_line c)) number (fresh_line c) ≡ fresh_line c
-fresh_lines c zero number = refl
-fresh_lines c (suc n) zero = refl
-fresh_lines c (suc n) (suc number) = fresh_lines c n number
-
 pub lines_stay_idle : LinesStayIdle
 lines_stay_idle = record {
   begins = λ c. record {
     count = length-replicate c.lines (fresh_line c);
-    each = λ number h. subst (λ l. IsIdle l.received) (sym (fresh_lines c c.lines number)) frames_are_heard.begins;
+    each = λ number h. subst (λ l. IsIdle l.received) (sym (get_or-replicate c.lines number (fresh_line c) (fresh_line c) h)) frames_are_heard.begins;
   };
   always = stay_idle;
 }

@@ -36,11 +36,7 @@ run_long card (e ∷ events) h within =
 -- frames take their octets
 sum_within : (f g : Line → ℕ) (n : ℕ) (ls : List Line) → ((l : Line) → n * f l ≤ g l) → n * sum_by f ls ≤ sum_by g ls
 sum_within f g n [] h = omega arith
-sum_within f g n (l ∷ ls) h =
-    go (sum_by f (l ∷ ls)) (sum_by-cons f l ls) (h l) (sum_within f g n ls h)
-  where
-    go : (total : ℕ) → total ≡ f l + sum_by f ls → n * f l ≤ g l → n * sum_by f ls ≤ sum_by g ls → n * total ≤ sum_by g (l ∷ ls)
-    go total e head rest = subst (λ k. n * k ≤ sum_by g (l ∷ ls)) (sym e) (omega (arith, head, rest, sum_by-cons g l ls))
+sum_within f g n (l ∷ ls) h = rw (sum_by-cons f l ls) (omega (arith, h l, sum_within f g n ls h, sum_by-cons g l ls))
 
 frames_few : (card : Card) → 6 * frames_heard card ≤ octets_received card
 frames_few card = sum_within (line.frames_heard card.config) octets_of_line 6 card.lines (λ l. frames_within card.config l)

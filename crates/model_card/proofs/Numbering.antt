@@ -4,7 +4,7 @@ use Rattle.model_link.specs.Link.{fresh as fresh_link}
 use Rattle.model_line.specs.Deliveries as line
 use Rattle.model_line.specs.Machine as lines
 use Rattle.model_card.proofs.NumberedForms.{numbered-whole}
-use Rattle.model_card.proofs.Steps.{HasLines, has_lines, by_room, line_sound, after_lines}
+use Rattle.model_card.proofs.Steps.{HasLines, has_lines, by_line, line_sound, after_lines}
 
 -- How many of the shares deliver.
 abbrev one_if : Option (List ℕ) → ℕ
@@ -92,72 +92,23 @@ history-keeps name card e h seen kept = go (restarts name m) refl seen
               ∙ ap (λ n. h.first + n) (sym (delivered-push h.shares share));
         }
 
-first_of_both : (x y : Bool) → (x && y) ≡ true → x ≡ true
-first_of_both true y e = refl
-first_of_both false y e = e
-
 -- every event is seen
 event-seen : (name : LinkName) (card : Card) (e : Event) → HasLines card → IsAtLine card e → name.line < card.config.lines
     → name.number < link_count card.config → SeenBy name card e
 unfolding SeenBy
 event-seen name card e h here within few =
-    by_room (λ ls a.
-    let share = cond (e.line == name.line) (record {
-      arrived = line.arrived card.config name.number e.what (line_at name.line card);
-      delivered = line.delivered name.number (line_at name.line card) a;
-    }) no_share in
-    Part (received_by name card) share.arrived (link_at name.number (get_or ls name.line (fresh_line card.config))).r share.delivered
-    ((e.line == name.line) && line.restarts card.config name.number e.what (line_at name.line card))) e card
-    (λ full. by_full (e.line == name.line) refl (wanted full))
-    (λ served. by_line (e.line == name.line) refl)
-  where
-    l : Line
-    l = line_at name.line card
-
-    next : List Line
-    next = set card.lines e.line (lines.after card.config e.what (line_at e.line card))
-
-    own : Line
-    own = lines.after card.config e.what (line_at e.line card)
-
-    a : Answer
-    a = lines.answer card.config e.what (line_at e.line card)
-
-    wanted : wants_room e card ≡ true → lines.takes_slot card.config e.what (line_at e.line card) ≡ true
-    wanted = first_of_both (lines.takes_slot card.config e.what (line_at e.line card)) _
-
-    by_full : (b : Bool) → (e.line == name.line) ≡ b → lines.takes_slot card.config e.what (line_at e.line card) ≡ true
-        → let share = cond b (record { arrived = line.arrived card.config name.number e.what l; delivered = line.delivered name.number l (refused PoolFull) }) no_share in
-        Part (received_by name card) share.arrived (received_by name card) share.delivered (b && line.restarts card.config name.number e.what l)
-    by_full false other takes = brings_none (received_by name card) (received_by name card) None None false refl refl refl refl
-    by_full true same takes =
-        let is : e.line ≡ name.line = eqb-true e.line name.line same in
-        let nothing = slot_brings_nothing card.config name.number e.what l (subst (λ n. lines.takes_slot card.config e.what (line_at n card) ≡ true) is takes) in
-        brings_none (received_by name card) (received_by name card) (line.arrived card.config name.number e.what l)
-        (line.delivered name.number l (refused PoolFull)) (line.restarts card.config name.number e.what l) nothing.arrives refl
-        (none_at name.number l (refused PoolFull) (λ service tei. refl)) nothing.goes_on
-
-    by_line : (b : Bool) → (e.line == name.line) ≡ b
-        → let share = cond b (record { arrived = line.arrived card.config name.number e.what l; delivered = line.delivered name.number l a }) no_share in
-        Part (received_by name card) share.arrived (link_at name.number (get_or next name.line (fresh_line card.config))).r share.delivered
-        (b && line.restarts card.config name.number e.what l)
-    by_line false other =
-        let apart : name.line ≢ e.line = λ same. true≢false (sym (eq-eqb e.line name.line (sym same)) ∙ other) in
-        brings_none (received_by name card) (link_at name.number (get_or next name.line (fresh_line card.config))).r None None false refl
-        (ap (λ (x : Line). (link_at name.number x).r) (get_or-set_other card.lines e.line name.line own (fresh_line card.config) apart)) refl refl
-    by_line true same =
-        let is : e.line ≡ name.line = eqb-true e.line name.line same in
-        let now : get_or next e.line (fresh_line card.config) ≡ own =
-        get_or-set_same card.lines e.line own (fresh_line card.config) (omega (arith, h.count, here)) in
-        let parts = event_parts card.config e.what (line_at e.line card) name.number (line_sound card e.line h here) few in
-        subst (λ n.
-        Part (link_at name.number (line_at n card)).r (line.arrived card.config name.number e.what (line_at n card))
-        (link_at name.number (get_or next n (fresh_line card.config))).r (line.delivered name.number (line_at n card) a)
-        (line.restarts card.config name.number e.what (line_at n card))) is
-        (subst (λ (x : Line).
-        Part (link_at name.number (line_at e.line card)).r (line.arrived card.config name.number e.what (line_at e.line card))
-        (link_at name.number x).r (line.delivered name.number (line_at e.line card) a)
-        (line.restarts card.config name.number e.what (line_at e.line card))) (sym now) parts)
+    let l = line_at name.line card in
+    let brought = line.arrived card.config name.number e.what l in
+    let anew = line.restarts card.config name.number e.what l in
+    by_line card e name.line h here (λ at m a.
+    let share = cond at (record { arrived = brought; delivered = line.delivered name.number l a }) no_share in
+    Part (received_by name card) share.arrived (link_at name.number m).r share.delivered (at && anew))
+    (λ a. brings_none (received_by name card) (received_by name card) None None false refl refl refl refl)
+    (λ takes.
+    let nothing = slot_brings_nothing card.config name.number l e.what takes in
+    brings_none (received_by name card) (received_by name card) brought (line.delivered name.number l (refused PoolFull)) anew nothing.arrives refl
+    (none_at name.number l (refused PoolFull) (λ service tei. refl)) nothing.goes_on)
+    (λ is w. event_parts card.config e.what l name.number (line_sound card name.line h within) few)
 
 -- A run.
 run-keeps : (name : LinkName) (card : Card) (events : List Event) (h : History) → HasLines card → AreAtLines card events

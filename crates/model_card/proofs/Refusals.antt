@@ -29,17 +29,11 @@ no_pool full None = refl
 no_pool full (Some why) = refl
 
 refusal_with_pool : (c : Config) (full : Bool) (r : Request) (l : Line) → refusal c full r l ≡ with_pool (carries_contents r) full (refusal c false r l)
-refusal_with_pool c full (Establish service tei) l = no_pool full (refusal c false (Establish service tei) l)
-refusal_with_pool c full (Release service tei) l = no_pool full (refusal c false (Release service tei) l)
 refusal_with_pool c full (Data service tei contents) l =
     last_row full (bad_tei tei ∷ no_link tei l ∷ wrong_state service tei (link.Data contents) l ∷ too_long c contents ∷ queue_full c service tei l ∷ [])
 refusal_with_pool c full (Unit service tei contents) l =
     last_row full (bad_tei_or_group c tei ∷ no_link_nor_group tei l ∷ too_long c contents ∷ unit_queue_full c l ∷ [])
-refusal_with_pool c full (Assign tei) l = no_pool full (refusal c false (Assign tei) l)
-refusal_with_pool c full (Remove tei) l = no_pool full (refusal c false (Remove tei) l)
-refusal_with_pool c full (Check tei) l = no_pool full (refusal c false (Check tei) l)
-refusal_with_pool c full (SetBusy service tei) l = no_pool full (refusal c false (SetBusy service tei) l)
-refusal_with_pool c full (ClearBusy service tei) l = no_pool full (refusal c false (ClearBusy service tei) l)
+refusal_with_pool c full other l = no_pool full (refusal c false other l)
 
 -- The answer to a request, by what refuses it.
 abbrev answer_by : Option Refusal → Effect → Answer

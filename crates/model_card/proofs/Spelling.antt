@@ -1,10 +1,6 @@
 -- What happenings are, and lists of them.
 use Rattle.model_card.proofs.Vocabulary.{◌≡◌, List, [], ◌∷◌, ◌++◌, refl, ap, sym, ◌∙◌, append_assoc, append-nil, Card, Event, after, after_all, Happening, comes, failed, goes, expires, asks, events_of, spelled, HappeningsAreSpelled}
-
-after-both : (m : Card) (front behind : List Event) → after_all m (front ++ behind) ≡ after_all (after_all m front) behind
-unfolding after_all
-after-both m [] behind = refl
-after-both m (e ∷ front) behind = after-both (after e m) front behind
+use Rattle.model_card.proofs.Happening.{after_all-append}
 
 joined : (m : Card) (front behind : List Happening) → spelled m (front ++ behind) ≡ spelled m front ++ spelled (after_all m (spelled m front)) behind
 unfolding after_all
@@ -14,7 +10,7 @@ joined m (h ∷ front) behind =
     let next = after_all m events in
     ap (λ es. events ++ es) (joined next front behind)
     ∙ sym (append_assoc events (spelled next front) (spelled (after_all next (spelled next front)) behind))
-    ∙ ap (λ card. (events ++ spelled next front) ++ spelled card behind) (sym (after-both m events (spelled next front)))
+    ∙ ap (λ card. (events ++ spelled next front) ++ spelled card behind) (sym (after_all-append m events (spelled next front)))
 
 pub happenings_are_spelled : HappeningsAreSpelled
 happenings_are_spelled = record {

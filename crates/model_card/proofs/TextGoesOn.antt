@@ -1,10 +1,10 @@
 -- Pulls of a line go on with its text, and no other event puts anything on the line.
-use Rattle.model_card.proofs.Vocabulary.{◌≡◌, ◌≢◌, ℕ, ◌<◌, ◌==◌, ◌&&◌, Bool, true, false, List, [], ◌∷◌, ◌++◌, get_or, set, Option, Some, None, option_map, IfSome, refl, ap, sym, ◌∙◌, subst, cond, arith, append_assoc, append-nil, eqb-true, eq-eqb, true≢false, option_to_list, get_or-set_same, get_or-set_other, All-head, All-tail, Item, idle, frame, Refusal, Change, Gained, Left, Config, LineTold, octet, expiry, request, pull, Line, fresh_line, unless_refused, unless_refused_told, aim_of_octet, with_received, aim_of_expiry, Aim, at_none, at_link, at_management, at_units, Effect, of_aim, of_change, told_of_management, Taken, taken, is_due, with_item, next_octet, refusal, aim_of_request, TakesSoundly, taken_sound, Event, Card, line_at, TextGoesOn, wants_room, after, answer, octet_in, frame_taken, frame_in, octets_pulled, frames_begun, frames_among, moments, after_all, IsAtLine, AreAtLines}
+use Rattle.model_card.proofs.Vocabulary.{aim_rests, ◌≡◌, ◌≢◌, ℕ, ◌<◌, ◌==◌, ◌&&◌, Bool, true, false, List, [], ◌∷◌, ◌++◌, get_or, set, Option, Some, None, option_map, IfSome, refl, ap, sym, ◌∙◌, subst, cond, arith, append_assoc, append-nil, eqb-true, eq-eqb, true≢false, option_to_list, get_or-set_same, get_or-set_other, All-head, All-tail, Item, idle, frame, Refusal, Change, Gained, Left, Config, LineTold, octet, expiry, request, pull, Line, fresh_line, unless_refused, unless_refused_told, aim_of_octet, with_received, aim_of_expiry, Aim, at_none, at_link, at_management, at_units, Effect, of_aim, of_change, told_of_management, Taken, taken, is_due, with_item, next_octet, refusal, aim_of_request, TakesSoundly, taken_sound, Event, Card, line_at, TextGoesOn, wants_room, after, answer, octet_in, frame_taken, frame_in, octets_pulled, frames_begun, frames_among, moments, after_all, IsAtLine, AreAtLines}
 use Rattle.lapd_tei.specs.Events as teis
 use Rattle.model_line.specs.Event.{Event as LineEvent}
 use Rattle.model_line.specs.Machine as lines
 use Rattle.model_line.specs.Sound as line
-use Rattle.model_card.proofs.Steps.{HasLines, has_lines, by_room, line_sound, after_lines}
+use Rattle.model_card.proofs.Steps.{HasLines, has_lines, by_line, line_sound, after_lines}
 
 -- What comes to the items of a line and to the octets given of it.
 record Adds (before after : Line) (octets : List ℕ) (frames : List (List ℕ)) : Type 0 where
@@ -35,20 +35,8 @@ adds_both {a} {b} {c} {os} {ps} {fs} {gs} x y = record {
 }
 
 -- What an event is to the parts of a line leaves its items.
-changed_adds : (c : Config) (o : Option Change) (t : LineTold) (l : Line) → Adds l (of_change c o t l).line [] []
-changed_adds c None t l = adds_nothing l l refl refl
-changed_adds c (Some (Gained tei place)) t l = adds_nothing l _ refl refl
-changed_adds c (Some (Left tei place)) t l = adds_nothing l _ refl refl
-
 aim_adds : (c : Config) (aim : Aim) (l : Line) → Adds l (of_aim c aim l).line [] []
-aim_adds c (at_none t) l = adds_nothing l l refl refl
-aim_adds c (at_link service tei place e) l = adds_nothing l _ refl refl
-aim_adds c (at_management e) l =
-    let t = teis.told e l.management in
-    let on = record l { management = teis.after e l.management } in
-    let h = changed_adds c t.change (told_of_management t) on in
-    record { more = h.more; items = h.items; given = h.given; begun = h.begun }
-aim_adds c (at_units unit) l = adds_nothing l _ refl refl
+aim_adds c aim l = adds_nothing l (of_aim c aim l).line (ap (λ out. out.line.items) (aim_rests c aim l)) (ap (λ out. out.line.given) (aim_rests c aim l))
 
 -- A pull puts the item that is due on the line, and gives an octet.
 pull_adds : (c : Config) (l : Line) (due : Bool) (o : Option Taken) → IfSome o (TakesSoundly c l)
@@ -83,53 +71,21 @@ line_adds c ranged (request r) l s =
 line_adds c ranged pull l s = pull_adds c l (is_due l) (taken c l) (taken_sound c ranged l s)
 
 -- an event that finds the pool full is a request
-room_for_request : (c : Config) (e : LineEvent) (l : Line) (full : Bool) → (lines.takes_slot c e l && full) ≡ true → frame_in c e l ≡ []
+slot_for_request : (c : Config) (e : LineEvent) (l : Line) → lines.takes_slot c e l ≡ true → frame_in c e l ≡ []
 unfolding lines.takes_slot
-room_for_request c (octet value) l full h = refl
-room_for_request c (expiry timer) l full h = refl
-room_for_request c (request r) l full h = refl
-room_for_request c pull l full h = absurd (true≢false (sym h))
+slot_for_request c pull l h = absurd (true≢false (sym h))
+slot_for_request c other l h = refl
 
 -- An event at a card, seen by one of its lines.
-at_line : {X : Type 0} → Bool → List X → List X
-at_line here xs = cond here xs []
-
 event_adds : (card : Card) (e : Event) (number : ℕ) → HasLines card → IsAtLine card e → number < card.config.lines
     → Adds (line_at number card) (line_at number (after e card)) (cond (e.line == number) (octet_in (answer e card)) [])
     (cond (e.line == number) (frame_in card.config e.what (line_at number card)) [])
 event_adds card e number h here within =
-    by_room (λ ls a.
-    Adds (line_at number card) (get_or ls number (fresh_line card.config)) (cond (e.line == number) (octet_in a) [])
-    (cond (e.line == number) (frame_in card.config e.what (line_at number card)) [])) e card
-    (λ full. refused_adds (e.line == number) refl full)
-    (λ served. served_adds (e.line == number) refl)
-  where
-    l : Line
-    l = line_at number card
-
-    refused_adds : (b : Bool) → (e.line == number) ≡ b → wants_room e card ≡ true
-        → Adds l l (cond b [] []) (cond b (frame_in card.config e.what l) [])
-    refused_adds false same full = adds_nothing l l refl refl
-    refused_adds true same full =
-        let is_here : e.line ≡ number = eqb-true e.line number same in
-        let none = subst (λ n. frame_in card.config e.what (line_at n card) ≡ []) is_here (room_for_request card.config e.what (line_at e.line card) _ full) in
-        subst (λ fs. Adds l l [] fs) (sym none) (adds_nothing l l refl refl)
-
-    next : List Line
-    next = set card.lines e.line (lines.after card.config e.what (line_at e.line card))
-
-    served_adds : (b : Bool) → (e.line == number) ≡ b
-        → Adds l (get_or next number (fresh_line card.config)) (cond b (octet_in (lines.answer card.config e.what (line_at e.line card))) [])
-        (cond b (frame_in card.config e.what l) [])
-    served_adds false other =
-        let apart : number ≢ e.line = λ same. true≢false (sym (eq-eqb e.line number (sym same)) ∙ other) in
-        subst (λ x. Adds l x [] []) (sym (get_or-set_other card.lines e.line number _ (fresh_line card.config) apart)) (adds_nothing l l refl refl)
-    served_adds true same =
-        let is_here : e.line ≡ number = eqb-true e.line number same in
-        let now = get_or-set_same card.lines e.line (lines.after card.config e.what (line_at e.line card)) (fresh_line card.config) (omega (arith, h.count, here)) in
-        let own = line_adds card.config h.config e.what (line_at e.line card) (line_sound card e.line h here) in
-        subst (λ n. Adds (line_at n card) (get_or next n (fresh_line card.config)) (octet_in (lines.answer card.config e.what (line_at e.line card))) (frame_in card.config e.what (line_at n card))) is_here
-        (subst (λ x. Adds (line_at e.line card) x (octet_in (lines.answer card.config e.what (line_at e.line card))) (frame_in card.config e.what (line_at e.line card))) (sym now) own)
+    let l = line_at number card in
+    let frames = frame_in card.config e.what l in
+    by_line card e number h here (λ at m a. Adds l m (cond at (octet_in a) []) (cond at frames [])) (λ a. adds_nothing l l refl refl)
+    (λ takes. subst (λ fs. Adds l l [] fs) (sym (slot_for_request card.config e.what l takes)) (adds_nothing l l refl refl))
+    (λ is w. line_adds card.config h.config e.what l (line_sound card number h within))
 
 -- A run, with the card's lines after it.
 record Added (card end : Card) (number : ℕ) (octets : List ℕ) (frames : List (List ℕ)) : Type 0 where

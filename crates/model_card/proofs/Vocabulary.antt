@@ -40,13 +40,14 @@ pub use Rattle.model_card.specs.Said.{Means, gives, next_of, said}
 pub use Rattle.model_card.specs.Sound.{IsSound}
 pub use Rattle.model_card.specs.Stored.{limit, limit_in, stored}
 pub use Rattle.model_line.proofs.AimsRise.{fresh_may_send}
-pub use Rattle.model_line.proofs.ByEvent.{counted_one, event_rises, falls_by_pull, heard_counted, takes_no_frame}
+pub use Rattle.model_line.proofs.ByEvent.{counted_one, falls_by_pull, heard_counted, takes_no_frame}
 pub use Rattle.model_line.proofs.Drops.{named_cause, octet_leaves}
+pub use Rattle.model_line.proofs.EventsRise.{event_rises}
 pub use Rattle.model_line.proofs.EventsReject.{event_rejects, expiry_none, request_none, takes_no_reject}
 pub use Rattle.model_line.proofs.FramesCome.{frames_come_whole}
 pub use Rattle.model_line.proofs.FramesGo.{calls_for, frames_go_whole}
 pub use Rattle.model_line.proofs.FramesHeard.{frames_are_heard}
-pub use Rattle.model_line.proofs.FramesReceived.{nothing_else_is_received}
+pub use Rattle.model_line.proofs.FramesReceived.{aim_rests, nothing_else_is_received}
 pub use Rattle.model_line.proofs.LineRises.{brings}
 pub use Rattle.model_line.proofs.LineSound.{after_sound, fresh_sound}
 pub use Rattle.model_line.proofs.NotPool.{line_not_pool}

@@ -33,7 +33,7 @@ RisesByRequest number r m =
     let e = at number (request r) in
     may_send (after e m) ≤ may_send m + one (is_accepted e.what (answer e m))
 
--- A pull that begins a frame lets it fall by one, or by two where the frame makes an acknowledgement needless. Any
+-- A pull that begins a frame lowers it by one, or by two where the frame makes an acknowledgement needless. Any
 -- other pull leaves it as it is.
 abbrev pub FallsByPull : ℕ → Card → Type 0
 FallsByPull number m =

@@ -20,7 +20,7 @@ IsDropWithoutCost moment =
 abbrev pub AreDropsWithoutCost : Card → List Event → Type 0
 AreDropsWithoutCost m events = All IsDropWithoutCost (moments m events)
 
--- And the cause is all that is told, and the card is as it was, but for the octet received on its line.
+-- And the cause is all that is told, and the card is as it was, except for the octet received on its line.
 abbrev pub with_octet : ℕ → ℕ → Card → Card
 with_octet number value card = record card { lines = with_line number (with_received value (line_at number card)) card.lines }
 

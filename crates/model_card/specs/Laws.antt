@@ -101,7 +101,7 @@ pub record DeliveriesNumbered : Type 0 where
 abbrev pub TextGoesOn : Type 0
 TextGoesOn = (card : Card) (events : List Event) → IsSound card → AreAtLines card events → IsTextual card events
 
--- From a fresh card on, what a line answers but for a full pool is what it would answer on a card of its own, to the
+-- From a fresh card on, what a line answers except for a full pool is what it would answer on a card of its own, to the
 -- events at it that did not find the pool full.
 abbrev pub LinesIsolated : Type 0
 LinesIsolated = (c : Config) (events : List Event) → IsInRange c → AreAtLines (fresh c) events → IsIsolated c events

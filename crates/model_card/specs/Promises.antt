@@ -54,7 +54,7 @@ IsLinear c events =
     let k = window c in
     21 * sent ms ≤ (7 + 3 * k) * octets + 21 * accepted ms + 21 * (k + 1) * expired ms
 
--- On a card as it begins, what a line answers but for a full pool is what it would answer on a card of its own, to the
+-- On a card as it begins, what a line answers except for a full pool is what it would answer on a card of its own, to the
 -- events at it that did not find the pool full.
 abbrev pub IsIsolated : Config → List Event → Type 0
 IsIsolated c events =

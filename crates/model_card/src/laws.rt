@@ -4,22 +4,26 @@
 ghost use Rattle.model_card.specs.Laws.{CardsAreReached, CardsStaySound, DeliveriesNumbered, DropsChangeNothing, DropsCostNothing, FramesAmortised, FramesByEvent, FramesCounted, FramesLinear, LinesIsolated, PoolNeverFull, RefusedByTheTable, RunIsMoments, StoredWithinLimit, TextGoesOn};
 
 /// A run as one fold is its moments, one after the other.
+#[tactic(auto, using(crate::proofs::Fold::run_is_moments))]
 pub fn run_is_moments()
     ensures { RunIsMoments }
 {}
 
 /// A card is sound as it begins, and each event keeps it so: each line is, and no more slots are in use than there are.
+#[tactic(auto, using(crate::proofs::CardSound::cards_stay_sound))]
 pub fn cards_stay_sound()
     ensures { CardsStaySound }
 {}
 
 /// A card that begins is reached, and each event at a line of a card that is reached leads to another; and each card that
 /// is reached is sound.
+#[tactic(auto, using(crate::proofs::Reaching::cards_are_reached))]
 pub fn cards_are_reached()
     ensures { CardsAreReached }
 {}
 
 /// A sound card never stores more octets than its limit, which its configuration alone tells.
+#[tactic(auto, using(crate::proofs::Stored::stored_within_limit))]
 pub fn stored_within_limit()
     ensures { StoredWithinLimit }
 {}
@@ -28,12 +32,14 @@ pub fn stored_within_limit()
 /// those that could be sent before, two for each frame heard, one for each accepted request, k + 1 for each expiry
 /// of a running timer, and k for each REJ with a valid N(R), where k is the greater of both windows. So no terminal can
 /// make a card a source of frames.
+#[tactic(auto, using(crate::proofs::Amortised::frames_amortised))]
 pub fn frames_amortised()
     ensures { FramesAmortised }
 {}
 
 /// The frames heard in the moments of a run, as [`frames_amortised`] counts them, are those by which the frames heard in
 /// all octets received grow.
+#[tactic(auto, using(crate::proofs::Heard::frames_counted))]
 pub fn frames_counted()
     ensures { FramesCounted }
 {}
@@ -42,8 +48,9 @@ pub fn frames_counted()
 /// ends a frame which is heard (one octet ends one frame at most), and by k more where that is an REJ with a valid
 /// N(R); by k + 1 for an expiry of a running timer; by one for an accepted request. A drop by the deframer (abort,
 /// ragged, short, frame check), a refusal and an expiry of a timer that does not run let it rise by nothing. A frame
-/// that is dropped later is one that was heard: see [`drops_cost_nothing`]. A pull that begins a frame lets it
-/// fall by one or two, and any other pull leaves it as it is.
+/// that is dropped later is one that was heard: see [`drops_cost_nothing`]. A pull that begins a frame lowers
+/// it by one or two, and any other pull leaves it as it is.
+#[tactic(auto, using(crate::proofs::ByEvent::frames_by_event))]
 pub fn frames_by_event()
     ensures { FramesByEvent }
 {}
@@ -63,6 +70,7 @@ pub fn drops_change_nothing()
 
 /// A request is refused exactly where a row of the table of refusals holds, for the reason of the first that does. So
 /// it is refused for want of room exactly where its place is full; and then nothing changes.
+#[tactic(auto, using(crate::proofs::Refusals::refused_by_the_table))]
 pub fn refused_by_the_table()
     ensures { RefusedByTheTable }
 {}
@@ -71,6 +79,7 @@ pub fn refused_by_the_table()
 /// the line, closed by flags, whose frames are exactly those that the pulls began, in order. So what a line gives is
 /// flags and whole frames with bits stuffed (Q.921 clause 2), from the first octet on, and no other event, at this line
 /// or at another, puts a bit into it.
+#[tactic(auto, using(crate::proofs::TextGoesOn::text_goes_on))]
 pub fn text_goes_on()
     ensures { TextGoesOn }
 {}
@@ -81,13 +90,15 @@ pub fn text_goes_on()
 /// counts them (Q.921 clauses 3.5.2.4 to 3.5.2.6 and 5.6.2). An I-frame is eligible where it has at most N201 octets
 /// and meets state 7 or 8 with own busy off. An establishment is an event in which the tables set the link's numbers to
 /// zero, or the link is cleared. On a card that began fresh the first number is 0.
+#[tactic(auto, using(crate::proofs::Numbering::deliveries_numbered))]
 pub fn deliveries_numbered()
     ensures { DeliveriesNumbered }
 {}
 
-/// From a fresh card on, for each line: its answers but for a full pool, octets pulled among them, are those of a fresh
+/// From a fresh card on, for each line: its answers except for a full pool, octets pulled among them, are those of a fresh
 /// card of the same configuration on which only the events at that line happened, without the requests that found the
 /// pool full.
+#[tactic(auto, using(crate::proofs::Isolated::lines_isolated))]
 pub fn lines_isolated()
     ensures { LinesIsolated }
 {}
@@ -96,12 +107,14 @@ pub fn lines_isolated()
 /// one for each accepted request, k + 1 for each expiry of a running timer, and k for each REJ with a valid N(R); and
 /// they are linear in the octets received, the accepted requests and those expiries: each frame takes six octets of its
 /// line at least, and each REJ seven.
+#[tactic(auto, using(crate::proofs::Linear::frames_linear))]
 pub fn frames_linear()
     ensures { FramesLinear }
 {}
 
 /// From a fresh card on, no request finds the pool full where there are as many slots as all queues together have
 /// places: `lines * (2 * terminals * queue + unit_queue)` (profile). So on such a card no line affects another.
+#[tactic(auto, using(crate::proofs::NeverFull::pool_never_full))]
 pub fn pool_never_full()
     ensures { PoolNeverFull }
 {}

@@ -1,29 +1,13 @@
 -- What single events bring: frames by octets alone, and a pull.
-use Rattle.model_line.proofs.Vocabulary.{◌≡◌, ℕ, ◌+◌, ◌≤◌, Bool, true, false, Option, Some, None, option_to_list, refl, ap, sym, ◌∙◌, cond, arith, option_map_or, false≢true, count_by, Config, Event, octet, expiry, request, pull, one, is_frame, aim_of_expiry, Rises, IsHeardCounted, HearsOne, FallsByPull, Line, after, answer, takes_slot, unless_refused, aim_of_octet, with_received, refusal, aim_of_request, IsInRange, IsSound}
-use Rattle.model_line.specs.Counts.{hears}
-use Rattle.model_line.proofs.EventsRise.{heard_same, pull_heard, rises_by_totals}
-use Rattle.model_line.proofs.LineRises.{brings}
+use Rattle.model_line.proofs.Vocabulary.{gained, ◌≡◌, ℕ, ◌+◌, ◌≤◌, Bool, true, false, Option, Some, None, option_to_list, refl, ap, sym, ◌∙◌, cond, arith, option_map_or, false≢true, count_by, Config, Event, octet, expiry, request, pull, one, is_frame, frames_heard, IsHeardCounted, HearsOne, FallsByPull, Line, after, answer, takes_slot, IsInRange, IsSound}
+use Rattle.model_bits.specs.Stream as stream
+use Rattle.model_line.specs.Counts.{hears, is_octet}
+use Rattle.model_line.proofs.EventWalk.{meeting}
+use Rattle.model_line.proofs.FramesReceived.{after_received}
+use Rattle.model_line.proofs.LineRises.{counted_with}
 use Rattle.model_line.proofs.PullRises.{pull_falls}
 
--- one event or none has one frame at most
-one_at_most : {X : Type 0} (p : X → Bool) (o : Option X) → count_by p (option_to_list o) ≤ 1
-one_at_most p None = omega arith
-one_at_most p (Some x) = go (p x)
-  where
-    go : (b : Bool) → 0 + cond {A = ℕ} b 1 0 ≤ 1
-    go true = omega arith
-    go false = omega arith
-
-pub hears_one : (c : Config) (e : Event) (l : Line) → IsInRange c → IsSound c l → HearsOne c e l
-unfolding after
-hears_one c (octet value) l ranged s =
-    let b = brings c l value in
-    omega (arith, heard_same c (aim_of_octet c value l) (with_received value l), b.frames, one_at_most is_frame b.event)
-hears_one c (expiry timer) l ranged s = omega (arith, heard_same c (aim_of_expiry timer l) l)
-hears_one c (request r) l ranged s = omega (arith, heard_same c (unless_refused (refusal c false r l) (aim_of_request r l)) l)
-hears_one c pull l ranged s = omega (arith, pull_heard c ranged l s)
-
--- which is that which an octet ends
+-- the frames heard grow by that which an octet ends
 pub counted_one : {X : Type 0} (p : X → Bool) (o : Option X) → count_by p (option_to_list o) ≡ one (option_map_or p o false)
 counted_one p None = refl
 counted_one p (Some x) = go (p x)
@@ -32,27 +16,35 @@ counted_one p (Some x) = go (p x)
     go true = refl
     go false = refl
 
-pub heard_counted : (c : Config) (e : Event) (l : Line) → IsInRange c → IsSound c l → IsHeardCounted c e l
-unfolding after
-heard_counted c (octet value) l ranged s =
-    let b = brings c l value in
-    let same = counted_one is_frame b.event ∙ ap (λ o. one (option_map_or is_frame o false)) (sym b.gains) in
-    omega (arith, heard_same c (aim_of_octet c value l) (with_received value l), b.frames, same)
-heard_counted c (expiry timer) l ranged s = omega (arith, heard_same c (aim_of_expiry timer l) l)
-heard_counted c (request r) l ranged s = omega (arith, heard_same c (unless_refused (refusal c false r l) (aim_of_request r l)) l)
-heard_counted c pull l ranged s = omega (arith, pull_heard c ranged l s)
+met_counted : (c : Config) (e : Event) (l : Line) → frames_heard c (meeting e l) ≡ frames_heard c l + one (hears c e l)
+met_counted c (octet value) l =
+    omega (arith, counted_with is_frame c.n201 l.received value, counted_one is_frame (gained c.n201 l.received value))
+met_counted c (expiry timer) l = omega arith
+met_counted c (request r) l = omega arith
+met_counted c pull l = omega arith
 
--- so the bound by all frames heard is one by those of the event, and the other way round
-pub event_rises : (c : Config) (e : Event) (l : Line) → IsInRange c → IsSound c l → Rises c e l
-event_rises c e l ranged s = omega (arith, rises_by_totals c e l ranged s, heard_counted c e l ranged s)
+pub heard_counted : (c : Config) (e : Event) (l : Line) → IsInRange c → IsSound c l → IsHeardCounted c e l
+heard_counted c e l ranged s = ap (λ octets. count_by is_frame (stream.heard_in c.n201 octets)) (after_received c e l) ∙ met_counted c e l
+
+-- which is one at most
+one_at_most : (c : Config) (e : Event) (l : Line) → one (hears c e l) ≤ one (is_octet e)
+one_at_most c (octet value) l = go (hears c (octet value) l)
+  where
+    go : (b : Bool) → one b ≤ 1
+    go true = omega arith
+    go false = omega arith
+one_at_most c (expiry timer) l = omega arith
+one_at_most c (request r) l = omega arith
+one_at_most c pull l = omega arith
+
+pub hears_one : (c : Config) (e : Event) (l : Line) → IsInRange c → IsSound c l → HearsOne c e l
+hears_one c e l ranged s = omega (arith, heard_counted c e l ranged s, one_at_most c e l)
 
 -- a request that takes a slot is no frame
 pub takes_no_frame : (c : Config) (e : Event) (l : Line) → takes_slot c e l ≡ true → hears c e l ≡ false
 unfolding takes_slot
 takes_no_frame c (octet value) l takes = absurd (false≢true takes)
-takes_no_frame c (expiry timer) l takes = absurd (false≢true takes)
-takes_no_frame c (request r) l takes = refl
-takes_no_frame c pull l takes = absurd (false≢true takes)
+takes_no_frame c other l takes = refl
 
 pub falls_by_pull : (c : Config) (l : Line) → IsInRange c → IsSound c l → FallsByPull c l
 unfolding after answer

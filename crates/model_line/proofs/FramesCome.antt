@@ -1,9 +1,10 @@
 -- Octets that are heard as one thing on a line are one event of it.
-use Rattle.model_line.proofs.Vocabulary.{◌≡◌, ℕ, zero, suc, List, [], ◌∷◌, ◌++◌, length, map, replicate, slice_get, Option, Some, None, option_to_list, refl, ap, sym, subst, ◌∙◌, append_assoc, append-nil, append_cancel_left, option_map_or, heard_in, AreOctets, one_event_an_octet, Config, Event, octet, Answer, told, nothing, at_none, of_aim, Line, gained, aim_of_heard, Fault, IsIdle, line_octets, came, fault_octets, cause_of, after_events, answers_to, receiving, of_heard, AreOneEvent, AreHeardAs, FramesComeWhole}
+use Rattle.model_line.proofs.Vocabulary.{Answer, Effect, ◌≡◌, ℕ, suc, List, [], ◌∷◌, ◌++◌, map, replicate, Option, Some, None, option_to_list, refl, ap, sym, ◌∙◌, append_assoc, append-nil, append_cancel_left, option_map_or, heard_in, Config, octet, told, nothing, at_none, of_aim, Line, gained, aim_of_heard, line_octets, came, fault_octets, cause_of, after_events, answers_to, receiving, of_heard, AreOneEvent, AreHeardAs, FramesComeWhole}
 use Rattle.model_bits.specs.Stream as stream
 use Rattle.model_line.specs.Machine as lines
 use Rattle.model_line.proofs.FramesHeard.{frames_are_heard}
-use Rattle.model_line.proofs.FramesReceived.{heard_same, aim_same, effect_receiving}
+use Rattle.model_line.proofs.FramesReceived.{aim_same, effect_receiving}
+use Rattle.model_line.proofs.LineRises.{heard_with}
 
 -- ---- what is heard grows octet by octet
 
@@ -11,18 +12,6 @@ use Rattle.model_line.proofs.FramesReceived.{heard_same, aim_same, effect_receiv
 abbrev gained_all : ℕ → List ℕ → List ℕ → List stream.Event
 gained_all n201 received [] = []
 gained_all n201 received (o ∷ octets) = option_to_list (gained n201 received o) ++ gained_all n201 (received ++ o ∷ []) octets
-
-last_gained : {X : Type 0} (xs : List X) (o : Option X) → slice_get (xs ++ option_to_list o) (length xs) ≡ o
-last_gained [] None = refl
-last_gained [] (Some x) = refl
-last_gained (y ∷ xs) o = last_gained xs o
-
-heard_with : (n201 : ℕ) (received : List ℕ) (o : ℕ) → heard_in n201 (received ++ o ∷ []) ≡ heard_in n201 received ++ option_to_list (gained n201 received o)
-heard_with n201 received o =
-    let one = one_event_an_octet n201 received o in
-    let is : gained n201 received o ≡ one.0 =
-    ap (λ l. slice_get l (length (heard_in n201 received))) one.1 ∙ last_gained (heard_in n201 received) one.0 in
-    one.1 ∙ ap (λ e. heard_in n201 received ++ option_to_list e) (sym is)
 
 heard_with_all : (n201 : ℕ) (received octets : List ℕ) → heard_in n201 (received ++ octets) ≡ heard_in n201 received ++ gained_all n201 received octets
 heard_with_all n201 received [] =
@@ -51,57 +40,39 @@ is_told c o l e is =
     ∙ aim_same c aim received l in
     record { answer = ap (λ out. told out.told) same; line = ap (λ out. out.line) same }
 
--- ---- octets that bring nothing
+-- ---- octets that bring one event or none
 
-record EndNoFrame (c : Config) (l : Line) (octets : List ℕ) : Type 0 where
-  count : ℕ
-  answers : answers_to c (map octet octets) l ≡ replicate count (told nothing)
-  line : after_events c (map octet octets) l ≡ receiving (l.received ++ octets) l
+-- what comes of it, and the answers that say it, with those behind
+abbrev brought : Config → Option stream.Event → Line → Effect
+brought c e l = of_aim c (option_map_or (aim_of_heard c l) e (at_none nothing)) l
 
-no_frame : (c : Config) (l : Line) (octets : List ℕ) → gained_all c.n201 l.received octets ≡ [] → EndNoFrame c l octets
-no_frame c l [] none = record { count = 0; answers = refl; line = ap (λ r. receiving r l) (sym (append-nil l.received)) }
-no_frame c l (o ∷ octets) none = go (gained c.n201 l.received o) refl none (no_frame c (receiving (l.received ++ o ∷ []) l) octets)
-  where
-    go : (e : Option stream.Event) → gained c.n201 l.received o ≡ e
-        → option_to_list e ++ gained_all c.n201 (l.received ++ o ∷ []) octets ≡ []
-        → (gained_all c.n201 (l.received ++ o ∷ []) octets ≡ [] → EndNoFrame c (receiving (l.received ++ o ∷ []) l) octets)
-        → EndNoFrame c l (o ∷ octets)
-    go (Some x) is none rest = cc
-    go None is none rest =
-        let here = is_told c o l None is in
-        let more = rest none in
-        record {
-          count = suc more.count;
-          answers =
-              ap (λ a. a ∷ answers_to c (map octet octets) (lines.after c (octet o) l)) here.answer
-              ∙ ap (λ m. told nothing ∷ answers_to c (map octet octets) m) here.line
-              ∙ ap (λ a. told nothing ∷ a) more.answers;
-          line =
-              ap (after_events c (map octet octets)) here.line ∙ more.line
-              ∙ ap (λ r. receiving r l) (append_assoc l.received (o ∷ []) octets);
-        }
+abbrev said : Effect → ℕ → Option stream.Event → List Answer
+said out behind None = []
+said out behind (Some e) = told out.told ∷ replicate behind (told nothing)
 
--- ---- octets that bring one event
-
-of_heard_same : (c : Config) (e : stream.Event) (r : List ℕ) (l : Line) → of_heard c e (receiving r l) ≡ effect_receiving r (of_heard c e l)
-of_heard_same c e r l =
-    ap (λ aim. of_aim c aim (receiving r l)) (heard_same c r l e) ∙ aim_same c (aim_of_heard c l e) r l
+record Bring (c : Config) (l : Line) (octets : List ℕ) (e : Option stream.Event) : Type 0 where
+  before : ℕ
+  behind : ℕ
+  answers : answers_to c (map octet octets) l ≡ replicate before (told nothing) ++ said (brought c e l) behind e
+  line : after_events c (map octet octets) l ≡ receiving (l.received ++ octets) (brought c e l).line
 
 head_is : (x e : stream.Event) (more : List stream.Event) → x ∷ more ≡ e ∷ [] → (x ≡ e) × (more ≡ [])
 head_is x e more is = (cc, cc)
 
-one : (c : Config) (l : Line) (octets : List ℕ) (e : stream.Event) → gained_all c.n201 l.received octets ≡ e ∷ [] → AreOneEvent c l octets e
-one c l [] e is = cc
-one c l (o ∷ octets) e is = go (gained c.n201 l.received o) refl is (one c (receiving (l.received ++ o ∷ []) l) octets e)
+bring : (c : Config) (l : Line) (octets : List ℕ) (e : Option stream.Event) → gained_all c.n201 l.received octets ≡ option_to_list e → Bring c l octets e
+bring c l [] None is = record { before = 0; behind = 0; answers = refl; line = ap (λ r. receiving r l) (sym (append-nil l.received)) }
+bring c l [] (Some e) is = cc
+bring c l (o ∷ octets) e is = go (gained c.n201 l.received o) refl e is (λ m f. bring c m octets f)
   where
-    go : (g : Option stream.Event) → gained c.n201 l.received o ≡ g
-        → option_to_list g ++ gained_all c.n201 (l.received ++ o ∷ []) octets ≡ e ∷ []
-        → (gained_all c.n201 (l.received ++ o ∷ []) octets ≡ e ∷ [] → AreOneEvent c (receiving (l.received ++ o ∷ []) l) octets e)
-        → AreOneEvent c l (o ∷ octets) e
-    go None g is rest =
+    received : List ℕ
+    received = l.received ++ o ∷ []
+
+    go : (g : Option stream.Event) → gained c.n201 l.received o ≡ g → (e : Option stream.Event) → option_to_list g ++ gained_all c.n201 received octets ≡ option_to_list e
+        → ((m : Line) (f : Option stream.Event) → gained_all c.n201 m.received octets ≡ option_to_list f → Bring c m octets f) → Bring c l (o ∷ octets) e
+    go None g e is rest =
         let here = is_told c o l None g in
-        let more = rest is in
-        let same = of_heard_same c e (l.received ++ o ∷ []) l in
+        let more = rest (receiving received l) e is in
+        let same : brought c e (receiving received l) ≡ effect_receiving received (brought c e l) = aim_same c (option_map_or (aim_of_heard c l) e (at_none nothing)) received l in
         record {
           before = suc more.before;
           behind = more.behind;
@@ -109,28 +80,31 @@ one c l (o ∷ octets) e is = go (gained c.n201 l.received o) refl is (one c (re
               ap (λ a. a ∷ answers_to c (map octet octets) (lines.after c (octet o) l)) here.answer
               ∙ ap (λ m. told nothing ∷ answers_to c (map octet octets) m) here.line
               ∙ ap (λ a. told nothing ∷ a) more.answers
-              ∙ ap (λ out. told nothing ∷ (replicate more.before (told nothing) ++ told out.told ∷ replicate more.behind (told nothing))) same;
+              ∙ ap (λ out. told nothing ∷ (replicate more.before (told nothing) ++ said out more.behind e)) same;
           line =
               ap (after_events c (map octet octets)) here.line ∙ more.line
-              ∙ ap (λ out. receiving ((l.received ++ o ∷ []) ++ octets) out.line) same
-              ∙ ap (λ r. receiving r (of_heard c e l).line) (append_assoc l.received (o ∷ []) octets);
+              ∙ ap (λ out. receiving (received ++ octets) out.line) same
+              ∙ ap (λ r. receiving r (brought c e l).line) (append_assoc l.received (o ∷ []) octets);
         }
-    go (Some x) g is rest =
-        let both = head_is x e (gained_all c.n201 (l.received ++ o ∷ []) octets) is in
+    go (Some x) g (Some e) is rest =
+        let both = head_is x e (gained_all c.n201 received octets) is in
         let here = is_told c o l (Some e) (g ∙ ap Some both.0) in
-        let next = receiving (l.received ++ o ∷ []) (of_heard c e l).line in
-        let more = no_frame c next octets both.1 in
+        let more = rest (receiving received (of_heard c e l).line) None both.1 in
         record {
           before = 0;
-          behind = more.count;
+          behind = more.before;
           answers =
               ap (λ a. a ∷ answers_to c (map octet octets) (lines.after c (octet o) l)) here.answer
               ∙ ap (λ m. told (of_heard c e l).told ∷ answers_to c (map octet octets) m) here.line
-              ∙ ap (λ a. told (of_heard c e l).told ∷ a) more.answers;
+              ∙ ap (λ a. told (of_heard c e l).told ∷ a) (more.answers ∙ append-nil (replicate more.before (told nothing)));
           line =
               ap (after_events c (map octet octets)) here.line ∙ more.line
               ∙ ap (λ r. receiving r (of_heard c e l).line) (append_assoc l.received (o ∷ []) octets);
         }
+    go (Some x) g None is rest = cc
+
+one : (c : Config) (l : Line) (octets : List ℕ) (e : stream.Event) → gained_all c.n201 l.received octets ≡ e ∷ [] → AreOneEvent c l octets e
+one c l octets e is = let b = bring c l octets (Some e) is in record { before = b.before; behind = b.behind; answers = b.answers; line = b.line }
 
 heard_one : (c : Config) (l : Line) (octets : List ℕ) (e : stream.Event) → AreHeardAs c.n201 l.received octets e → AreOneEvent c l octets e
 heard_one c l octets e h =

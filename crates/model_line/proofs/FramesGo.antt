@@ -1,11 +1,19 @@
 -- The pulls up to the one that begins the next frame.
-use Rattle.model_line.proofs.Vocabulary.{pulls_for, after_events, answers_to, giving, octet_alone, pulls_to_begin, ◌≡◌, ℕ, zero, suc, ◌-◌, ◌/◌, ◌≤◌, ◌<◌, true, false, List, [], ◌∷◌, ◌++◌, length, map, replicate, Option, Some, None, option_map, is_some, refl, ap, sym, ◌∙◌, arith, append_assoc, length-append, add-one, option_map_or, lt-ltb, le-ltb, bits, frame, line_text, length-bits, Config, pull, pulled, Line, Taken, taken, left_of, is_due, with_item, with_due, with_octet, next_octet, begun, orders_of, FramesGoWhole}
+use Rattle.model_line.proofs.Vocabulary.{pulls_for, after_events, answers_to, giving, octet_alone, pulls_to_begin, ◌≡◌, ℕ, zero, suc, ◌-◌, ◌/◌, ◌≤◌, ◌<◌, Bool, true, false, List, [], ◌∷◌, ◌++◌, length, map, replicate, Option, Some, None, option_map, is_some, refl, ap, sym, ◌∙◌, arith, append_assoc, length-append, add-one, option_map_or, lt-ltb, le-ltb, bits, frame, line_text, length-bits, Config, pull, pulled, Line, Taken, taken, left_of, is_due, with_item, with_octet, next_octet, orders_of, FramesGoWhole}
 use Rattle.std.proofs.lemmas.List.{length-drop}
 use Rattle.std.specs.Prelude.{if◌then◌else◌}
 use Rattle.model_line.specs.Machine as lines
 use Rattle.model_line.proofs.FramesTaken.{taken_moved, taken_same, taken_keeps, taken_keeps_given}
 
 -- ---- one pull
+
+-- by whether an item is due, and what is taken
+pulled_as : (c : Config) (l : Line) (due : Bool) (o : Option Taken) → is_due l ≡ due → taken c l ≡ o
+    → let new = if due then with_item o l else l in
+    let began = if due then o else None in
+    (lines.answer c pull l ≡ pulled (next_octet new) (is_some began) (option_map_or orders_of began [])) × (lines.after c pull l ≡ with_octet new)
+unfolding lines.answer lines.after
+pulled_as c l due o e is = rw (e, is) (refl, refl)
 
 -- too few bits are left: the frame that is taken begins
 record Begins (c : Config) (l : Line) (t : Taken) : Type 0 where
@@ -14,19 +22,9 @@ record Begins (c : Config) (l : Line) (t : Taken) : Type 0 where
   line : lines.after c pull l ≡ record t.line { items = l.items ++ frame t.frame ∷ []; given = t.line.given ++ last ∷ [] }
 
 begins : (c : Config) (l : Line) (t : Taken) → taken c l ≡ Some t → length (left_of l) < 8 → Begins c l t
-unfolding lines.answer lines.after
 begins c l t is few =
-    let due : is_due l ≡ true = lt-ltb (length (left_of l)) 8 few in
-    let new = with_item (Some t) l in
-    let with_frame : with_due c l ≡ new = ap (λ b. if b then with_item (taken c l) l else l) due ∙ ap (λ o. with_item o l) is in
-    let began : begun c l ≡ Some t = ap (λ b. if b then taken c l else None) due ∙ is in
-    record {
-      last = next_octet new;
-      answer =
-          ap (λ m. pulled (next_octet m) (is_some (begun c l)) (option_map_or orders_of (begun c l) [])) with_frame
-          ∙ ap (λ o. pulled (next_octet new) (is_some o) (option_map_or orders_of o [])) began;
-      line = ap with_octet with_frame;
-    }
+    let pulls = pulled_as c l true (Some t) (lt-ltb (length (left_of l)) 8 few) is in
+    record { last = next_octet (with_item (Some t) l); answer = pulls.0; line = pulls.1 }
 
 -- else the next octet is given
 record Gives (c : Config) (l : Line) : Type 0 where
@@ -35,18 +33,9 @@ record Gives (c : Config) (l : Line) : Type 0 where
   line : lines.after c pull l ≡ giving (l.given ++ octet ∷ []) l
 
 gives : (c : Config) (l : Line) → 8 ≤ length (left_of l) → Gives c l
-unfolding lines.answer lines.after
 gives c l many =
-    let due : is_due l ≡ false = le-ltb (length (left_of l)) 8 many in
-    let same : with_due c l ≡ l = ap (λ b. if b then with_item (taken c l) l else l) due in
-    let began : begun c l ≡ None = ap (λ b. if b then taken c l else None) due in
-    record {
-      octet = next_octet l;
-      answer =
-          ap (λ m. pulled (next_octet m) (is_some (begun c l)) (option_map_or orders_of (begun c l) [])) same
-          ∙ ap (λ o. pulled (next_octet l) (is_some o) (option_map_or orders_of o [])) began;
-      line = ap with_octet same;
-    }
+    let pulls = pulled_as c l false (taken c l) (le-ltb (length (left_of l)) 8 many) refl in
+    record { octet = next_octet l; answer = pulls.0; line = pulls.1 }
 
 -- eight bits fewer are left then
 eight_fewer : (l : Line) (o : ℕ) → length (left_of (giving (l.given ++ o ∷ []) l)) ≡ length (left_of l) - 8
@@ -86,9 +75,9 @@ goes_after c (suc n) l t is many =
     let g = gives c l (omega (arith, many)) in
     let given = l.given ++ g.octet ∷ [] in
     let next = giving given l in
-    let still : taken c next ≡ Some (taken_moved l.received given t) =
-    taken_same c l.received given l ∙ ap (option_map (taken_moved l.received given)) is in
-    let more = goes_after c n next (taken_moved l.received given t) still (omega (arith, many, eight_fewer l g.octet)) in
+    let still : taken c next ≡ Some (taken_moved l.received l.items given t) =
+    taken_same c l.received l.items given l ∙ ap (option_map (taken_moved l.received l.items given)) is in
+    let more = goes_after c n next (taken_moved l.received l.items given t) still (omega (arith, many, eight_fewer l g.octet)) in
     let items = l.items ++ frame t.frame ∷ [] in
     record {
       front = g.octet ∷ more.front;

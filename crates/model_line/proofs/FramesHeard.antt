@@ -16,14 +16,7 @@ bits-octets_of (suc k) (b1 ∷ b2 ∷ b3 ∷ b4 ∷ b5 ∷ b6 ∷ b7 ∷ b8 ∷ 
     let eight = b1 ∷ b2 ∷ b3 ∷ b4 ∷ b5 ∷ b6 ∷ b7 ∷ b8 ∷ [] in
     ap (λ l. l ++ bits (octets_of b)) (low_bits-number_of_n 8 eight refl)
     ∙ ap (λ l. eight ++ l) (bits-octets_of k b (omega (arith, e)))
-bits-octets_of (suc k) [] e = absurd (omega (arith, e))
-bits-octets_of (suc k) (b1 ∷ []) e = absurd (omega (arith, e))
-bits-octets_of (suc k) (b1 ∷ b2 ∷ []) e = absurd (omega (arith, e))
-bits-octets_of (suc k) (b1 ∷ b2 ∷ b3 ∷ []) e = absurd (omega (arith, e))
-bits-octets_of (suc k) (b1 ∷ b2 ∷ b3 ∷ b4 ∷ []) e = absurd (omega (arith, e))
-bits-octets_of (suc k) (b1 ∷ b2 ∷ b3 ∷ b4 ∷ b5 ∷ []) e = absurd (omega (arith, e))
-bits-octets_of (suc k) (b1 ∷ b2 ∷ b3 ∷ b4 ∷ b5 ∷ b6 ∷ []) e = absurd (omega (arith, e))
-bits-octets_of (suc k) (b1 ∷ b2 ∷ b3 ∷ b4 ∷ b5 ∷ b6 ∷ b7 ∷ []) e = absurd (omega (arith, e))
+bits-octets_of (suc k) short e = absurd (omega (arith, e))
 
 -- the 1s fill the last octet, and are seven at least
 filling-fills : (n : ℕ) → n + filling n ≡ 8 * ((n + filling n) / 8)

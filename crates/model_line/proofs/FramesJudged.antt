@@ -1,5 +1,5 @@
 -- What the octets between two flags are judged to be, where they end in their check.
-use Rattle.model_line.proofs.Vocabulary.{◌≡◌, ℕ, suc, ◌+◌, ◌-◌, ◌/◌, ◌%◌, ◌^◌, ◌*◌, ◌<◌, ◌≤◌, Bool, true, false, not, ◌&&◌, ◌||◌, List, [], ◌∷◌, ◌++◌, length, take, None, Some, cond, nat_eq, nat_lt, slice_index, refl, ap, sym, ◌∙◌, subst, arith, ⊎_elim, length-append, take_at, le-ltb, lt-ltb, ltb-true, ne_eqb, or_from, and_left, cases_lt, All-nil, All-cons, All-append, bits, number_of, stuffed, octets_sent, AreOctets, check, is_good, overlong, dropped, is_short, judged, gap_event, room_for, frame_text, bits-append, bits-two_octets, low_bits-number_of_n, number_of-lt, octets_sent-stuffed, length-check, is_good-check, check_octets, is_too_short, came, Ragged, Fcs}
+use Rattle.model_line.proofs.Vocabulary.{◌≡◌, ℕ, ◌+◌, ◌-◌, ◌/◌, ◌%◌, ◌^◌, ◌<◌, ◌≤◌, Bool, true, false, not, ◌&&◌, List, [], ◌∷◌, ◌++◌, length, take, None, Some, cond, nat_eq, nat_lt, slice_index, refl, ap, sym, ◌∙◌, subst, arith, ⊎_elim, length-append, take_at, le-ltb, lt-ltb, ltb-true, ne_eqb, or_from, and_left, cases_lt, All-nil, All-cons, All-append, bits, number_of, stuffed, octets_sent, AreOctets, check, is_good, overlong, dropped, is_short, judged, gap_event, room_for, frame_text, bits-append, bits-two_octets, low_bits-number_of_n, number_of-lt, octets_sent-stuffed, length-check, is_good-check, check_octets, is_too_short, came, Ragged, Fcs}
 use Rattle.model_bits.proofs.RoundTripFrame.{checked}
 use Rattle.model_bits.specs.Stream.{Event, frame}
 use Rattle.model_bits.specs.declared.heard.Cause.TheVariants.{Short}
@@ -32,10 +32,6 @@ four_are_enough a b c d more =
 
 -- too short with the check is too short without
 short_with : (octets : List ℕ) (x y : ℕ) → is_short (octets ++ x ∷ y ∷ []) ≡ is_too_short octets
-short_with [] x y = refl
-short_with (a ∷ []) x y = refl
-short_with (a ∷ b ∷ []) x y = refl
-short_with (a ∷ b ∷ c ∷ []) x y = refl
 short_with (a ∷ b ∷ c ∷ d ∷ more) x y =
     let whole = a ∷ b ∷ c ∷ d ∷ (more ++ x ∷ y ∷ []) in
     let size = length-append more (x ∷ y ∷ []) in
@@ -44,14 +40,12 @@ short_with (a ∷ b ∷ c ∷ d ∷ more) x y =
     or_from (nat_lt (length whole) 5) (five && other) (le-ltb (length whole) 5 (omega (arith, size)))
     (and_left five other (ne_eqb (length whole) 5 (λ e. omega (arith, size, e))))
     ∙ sym (four_are_enough a b c d more)
+short_with short x y = refl
 
 -- the same first four octets
 four_with : (octets : List ℕ) (x y : ℕ) → 4 ≤ length octets → take 4 (octets ++ x ∷ y ∷ []) ≡ take 4 octets
-four_with [] x y h = absurd (omega arith)
-four_with (a ∷ []) x y h = absurd (omega arith)
-four_with (a ∷ b ∷ []) x y h = absurd (omega arith)
-four_with (a ∷ b ∷ c ∷ []) x y h = absurd (omega arith)
 four_with (a ∷ b ∷ c ∷ d ∷ more) x y h = refl
+four_with short x y h = absurd (omega arith)
 
 -- too long with the check is too long without
 long_with : (n201 m k : ℕ) → m ≡ k + 2 → nat_lt (n201 + 6) m ≡ nat_lt (n201 + 4) k

@@ -1,68 +1,41 @@
 -- What is heard is the same to a line whatever it has received, and leaves what it has received.
-use Rattle.model_line.proofs.Vocabulary.{◌≡◌, ℕ, List, Option, Some, None, Result, Ok, Err, refl, ap, if◌then◌else◌, Tei, Address, ReadFault, BadExtension, Undefined, WrongSize, Short, Long, Service, Parts, reading, long_reading, service_of, Change, Gained, Left, Config, LineTold, Line, Effect, Aim, at_none, at_link, at_management, at_units, told_of_management, of_change, of_aim, aim_of_expiry, drop_for, group_tei, management_sapi, to_service, addressed, message_of, aim_of_reading, unless_at_link, aim_of_long, heard_side, aim_of_heard, at_side, Taken, taken, is_due, with_item, with_due, refusal, aim_of_request, receiving, NothingElseIsReceived}
-use Rattle.std.specs.Prelude.{◌==◌, Bool, true, false}
-use Rattle.model_bits.specs.Stream as stream
-use Rattle.lapd_frame.specs.declared.overlong.Long.TheVariants as long
-use Rattle.model_link.specs.Events as link
+use Rattle.model_line.proofs.Vocabulary.{◌≡◌, ℕ, List, Option, Some, None, refl, ap, if◌then◌else◌, Change, Gained, Left, Config, LineTold, Line, Item, Event, expiry, request, pull, sym, ◌∙◌, Effect, Aim, at_none, at_link, at_management, at_units, told_of_management, of_change, of_aim, Taken, taken, is_due, with_item, with_due, receiving, NothingElseIsReceived}
+use Rattle.std.specs.Prelude.{Bool, true, false}
 use Rattle.lapd_tei.specs.Events as teis
 use Rattle.model_line.specs.Machine as lines
-use Rattle.model_line.proofs.FramesTaken.{taken_keeps}
+use Rattle.model_line.proofs.EventWalk.{meeting, by_part}
+use Rattle.model_line.proofs.FramesTaken.{moved, taken_keeps}
 
--- ---- what is heard is the same event of a part
+-- ---- no part knows what was received, put on the line, or given
 
-module _ (c : Config) (r : List ℕ) (l : Line) where
-  service_same : (tei : ℕ) (what : link.Received) (o : Option Service) → to_service (receiving r l) tei what o ≡ to_service l tei what o
-  service_same tei what None = refl
-  service_same tei what (Some service) = refl
+abbrev pub effect_moved : List ℕ → List Item → List ℕ → Effect → Effect
+effect_moved r i g out = record { line = moved r i g out.line; told = out.told }
 
-  address_same : (a : Address) (what : link.Received) (managed : Aim) → addressed (receiving r l) a what managed ≡ addressed l a what managed
-  address_same a what managed =
-      ap (λ x. if a.sapi == management_sapi then (if a.tei == group_tei then managed else drop_for Tei) else x)
-      (service_same a.tei what (service_of a.sapi))
+change_moved : (c : Config) (change : Option Change) (told : LineTold) (r : List ℕ) (i : List Item) (g : List ℕ) (l : Line)
+    → of_change c change told (moved r i g l) ≡ effect_moved r i g (of_change c change told l)
+change_moved c None told r i g l = refl
+change_moved c (Some (Gained tei place)) told r i g l = refl
+change_moved c (Some (Left tei place)) told r i g l = refl
 
-  reading_same : (o : Result Parts ReadFault) → aim_of_reading c (receiving r l) o ≡ aim_of_reading c l o
-  reading_same (Ok parts) = ap (at_side c parts) (address_same parts.address (link.frame parts) (message_of parts.control parts.info))
-  reading_same (Err BadExtension) = refl
-  reading_same (Err (Undefined a)) = address_same a link.undefined _
-  reading_same (Err (WrongSize a)) = address_same a link.wrong_size _
-  reading_same (Err Short) = refl
+aim_moved : (c : Config) (aim : Aim) (r : List ℕ) (i : List Item) (g : List ℕ) (l : Line) → of_aim c aim (moved r i g l) ≡ effect_moved r i g (of_aim c aim l)
+aim_moved c (at_none told) r i g l = refl
+aim_moved c (at_link service tei place event) r i g l = refl
+aim_moved c (at_management event) r i g l =
+    let t = teis.told event l.management in
+    change_moved c t.change (told_of_management t) r i g (record l { management = teis.after event l.management })
+aim_moved c (at_units unit) r i g l = refl
 
-  long_same : (o : Result Long ReadFault) → aim_of_long (receiving r l) o ≡ aim_of_long l o
-  long_same (Ok (long.Information a)) = address_same a link.overlong _
-  long_same (Ok (long.Unnumbered a)) = ap unless_at_link (address_same a link.overlong _)
-  long_same (Err BadExtension) = refl
-  long_same (Err (Undefined a)) = address_same a link.undefined _
-  long_same (Err (WrongSize a)) = address_same a link.wrong_size _
-  long_same (Err Short) = refl
-
-  pub heard_same : (e : stream.Event) → aim_of_heard c (receiving r l) e ≡ aim_of_heard c l e
-  heard_same (stream.frame octets) = reading_same (reading (heard_side c) octets)
-  heard_same (stream.overlong head) = long_same (long_reading (heard_side c) head)
-  heard_same (stream.dropped cause) = refl
-
--- ---- and no part knows what was received
+-- so they stay as they were
+pub aim_rests : (c : Config) (aim : Aim) (l : Line) → of_aim c aim l ≡ effect_moved l.received l.items l.given (of_aim c aim l)
+aim_rests c aim l = aim_moved c aim l.received l.items l.given l
 
 abbrev pub effect_receiving : List ℕ → Effect → Effect
 effect_receiving r out = record { line = receiving r out.line; told = out.told }
 
-change_same : (c : Config) (change : Option Change) (told : LineTold) (r : List ℕ) (l : Line) → of_change c change told (receiving r l) ≡ effect_receiving r (of_change c change told l)
-change_same c None told r l = refl
-change_same c (Some (Gained tei place)) told r l = refl
-change_same c (Some (Left tei place)) told r l = refl
-
 pub aim_same : (c : Config) (aim : Aim) (r : List ℕ) (l : Line) → of_aim c aim (receiving r l) ≡ effect_receiving r (of_aim c aim l)
-aim_same c (at_none told) r l = refl
-aim_same c (at_link service tei place event) r l = refl
-aim_same c (at_management event) r l =
-    let t = teis.told event l.management in
-    change_same c t.change (told_of_management t) r (record l { management = teis.after event l.management })
-aim_same c (at_units unit) r l = refl
+aim_same c aim r l = aim_moved c aim r l.items l.given l ∙ ap (effect_receiving r) (sym (aim_rests c aim l))
 
--- so it stays as it was
-pub aim_keeps : (c : Config) (aim : Aim) (l : Line) → (of_aim c aim l).line.received ≡ l.received
-aim_keeps c aim l = ap (λ out. out.line.received) (aim_same c aim l.received l)
-
--- ---- an expiry, a request, and a pull
+-- ---- an octet alone is received
 
 due_keeps : (c : Config) (l : Line) → (with_due c l).received ≡ l.received
 due_keeps c l = go (is_due l)
@@ -75,10 +48,14 @@ due_keeps c l = go (is_due l)
     go true = item_keeps (taken c l) refl
     go false = refl
 
+pub after_received : (c : Config) (e : Event) (l : Line) → (lines.after c e l).received ≡ (meeting e l).received
+after_received c e l =
+    by_part c l (λ what m. m.received ≡ (meeting what l).received) (λ what. ap (λ out. out.line.received) (aim_rests c (lines.aim_of c what l) (meeting what l)))
+    (due_keeps c l) e
+
 pub nothing_else_is_received : NothingElseIsReceived
-unfolding lines.after
 nothing_else_is_received = record {
-  expiries = λ c timer l. aim_keeps c (aim_of_expiry timer l) l;
-  requests = λ c r l. aim_keeps c (lines.unless_refused (refusal c false r l) (aim_of_request r l)) l;
-  pulls = due_keeps;
+  expiries = λ c timer l. after_received c (expiry timer) l;
+  requests = λ c r l. after_received c (request r) l;
+  pulls = λ c l. after_received c pull l;
 }

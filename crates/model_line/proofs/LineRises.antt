@@ -1,13 +1,33 @@
--- By how much an event lets rise what a line sends and may still send.
-use Rattle.model_line.proofs.Vocabulary.{◌≡◌, ℕ, ◌+◌, ◌*◌, ◌≤◌, Bool, true, false, List, [], ◌∷◌, ◌++◌, length, slice_get, max, Option, Some, None, option_to_list, refl, ap, sym, ◌∙◌, subst, cond, arith, count_by, option_map_or, sum_by-append, one_event_an_octet, Service, Call, Packet, Config, one, is_frame, frames_heard, is_long_frame, long_frames_heard, rejects_aimed, Line, window, link_in, gained, aim_of_heard, aim_of_octet, with_received, Aim, at_none, at_link, at_management, at_units, told_of_management, of_change, of_aim, LineTold, nothing, Change, Gained, Left}
+-- What an octet brings, and what it costs.
+use Rattle.model_line.proofs.Vocabulary.{◌≡◌, ℕ, ◌+◌, ◌*◌, ◌≤◌, Bool, true, false, List, [], ◌∷◌, ◌++◌, length, slice_get, max, Option, Some, None, option_to_list, refl, ap, sym, ◌∙◌, cond, arith, count_by, option_map_or, sum_by-append, one_event_an_octet, Service, Call, Packet, Config, octet, one, is_frame, frames_heard, is_long_frame, long_frames_heard, rejects, rejects_aimed, Line, window, link_in, gained, aim_of_heard, aim_of_octet, with_received, Aim, at_none, at_link, of_aim, nothing, IsInRange}
+use Rattle.model_line.specs.Counts.{hears}
 use Rattle.model_bits.specs.Stream as stream
 use Rattle.model_link.specs.Events as link
 use Rattle.model_link.specs.Rises as rises
-use Rattle.lapd_tei.specs.Events as teis
-use Rattle.model_line.proofs.AimsRise.{price_at}
+use Rattle.model_line.proofs.AimsRise.{sends}
+use Rattle.model_line.proofs.FramesReceived.{aim_rests}
 use Rattle.model_line.proofs.ProperAims.{heard_aims}
+use Rattle.model_line.proofs.Sums.{price_at}
 
 -- ---- what an octet brings
+
+next_of : {X : Type 0} (xs : List X) (o : Option X) → slice_get (xs ++ option_to_list o) (length xs) ≡ o
+next_of [] None = refl
+next_of [] (Some x) = refl
+next_of (y ∷ xs) o = next_of xs o
+
+pub heard_with : (n201 : ℕ) (received : List ℕ) (value : ℕ)
+    → stream.heard_in n201 (received ++ value ∷ []) ≡ stream.heard_in n201 received ++ option_to_list (gained n201 received value)
+heard_with n201 received value =
+    let heard = stream.heard_in n201 received in
+    let one = one_event_an_octet n201 received value in
+    let is : gained n201 received value ≡ one.0 = ap (λ xs. slice_get xs (length heard)) one.1 ∙ next_of heard one.0 in
+    one.1 ∙ ap (λ e. heard ++ option_to_list e) (sym is)
+
+pub counted_with : (p : stream.Event → Bool) (n201 : ℕ) (received : List ℕ) (value : ℕ)
+    → count_by p (stream.heard_in n201 (received ++ value ∷ [])) ≡ count_by p (stream.heard_in n201 received) + count_by p (option_to_list (gained n201 received value))
+counted_with p n201 received value =
+    ap (count_by p) (heard_with n201 received value) ∙ sum_by-append (λ x. cond (p x) 1 0) (stream.heard_in n201 received) (option_to_list (gained n201 received value))
 
 pub record Brings (c : Config) (l : Line) (value : ℕ) : Type 0 where
   pub event : Option stream.Event
@@ -16,79 +36,52 @@ pub record Brings (c : Config) (l : Line) (value : ℕ) : Type 0 where
   pub frames : frames_heard c (with_received value l) ≡ frames_heard c l + count_by is_frame (option_to_list event)
   pub long_frames : long_frames_heard c (with_received value l) ≡ long_frames_heard c l + count_by is_long_frame (option_to_list event)
 
-next_of : {X : Type 0} (xs : List X) (o : Option X) → slice_get (xs ++ option_to_list o) (length xs) ≡ o
-next_of [] None = refl
-next_of [] (Some x) = refl
-next_of (y ∷ xs) o = next_of xs o
-
-count_both : {X : Type 0} (p : X → Bool) (xs ys : List X) → count_by p (xs ++ ys) ≡ count_by p xs + count_by p ys
-count_both p xs ys = sum_by-append (λ x. cond (p x) 1 0) xs ys
-
 pub brings : (c : Config) (l : Line) (value : ℕ) → Brings c l value
-brings c l value =
-    let heard = stream.heard_in c.n201 l.received in
-    let one_more = one_event_an_octet c.n201 l.received value in
-    record {
-      event = one_more.0;
-      heard = one_more.1;
-      gains = ap (λ xs. slice_get xs (length heard)) one_more.1 ∙ next_of heard one_more.0;
-      frames = ap (count_by is_frame) one_more.1 ∙ count_both is_frame heard (option_to_list one_more.0);
-      long_frames = ap (count_by is_long_frame) one_more.1 ∙ count_both is_long_frame heard (option_to_list one_more.0);
-    }
+brings c l value = record {
+  event = gained c.n201 l.received value;
+  heard = heard_with c.n201 l.received value;
+  gains = refl;
+  frames = counted_with is_frame c.n201 l.received value;
+  long_frames = counted_with is_long_frame c.n201 l.received value;
+}
 
 -- ---- the price of what is heard
-
--- A frame costs two, and the window more where it is an REJ with a valid N(R).
-abbrev CostsAsFrame : Config → Line → Aim → Type 0
-CostsAsFrame c l aim = price_at c l aim ≤ 2 + max c.k c.k16 * one (rejects_aimed l aim)
 
 pub window_most : (c : Config) (service : Service) → window c service ≤ max c.k c.k16
 window_most c Call = omega arith
 window_most c Packet = omega arith
 
-received_costs : (c : Config) (l : Line) (service : Service) (tei place : ℕ) (what : link.Received)
-    → CostsAsFrame c l (at_link service tei place (link.received what))
-received_costs c l service tei place what = go (rises.rejects (link.received what) (link_in l service place))
-  where
-    go : (b : Bool) → 2 + cond b (window c service) 0 ≤ 2 + max c.k c.k16 * one b
-    go true = omega (arith, window_most c service)
-    go false = omega arith
+module _ (c : Config) (ranged : IsInRange c) (l : Line) where
+  abbrev price : Aim → ℕ
+  price aim = price_at (sends c ranged) l aim
 
-heard_costs : (c : Config) (l : Line) (e : stream.Event) → CostsAsFrame c l (aim_of_heard c l e)
-heard_costs c l e =
-    heard_aims c l (CostsAsFrame c l) (λ what. omega arith) (λ service tei place what at. received_costs c l service tei place what)
-    (λ info. omega arith) (λ parts service to. omega arith) e
+  -- A frame costs two, and the window more where it is an REJ with a valid N(R).
+  abbrev CostsAsFrame : Aim → Type 0
+  CostsAsFrame aim = price aim ≤ 2 + max c.k c.k16 * one (rejects_aimed l aim)
 
-event_costs : (c : Config) (l : Line) (o : Option stream.Event)
-    → let aim = option_map_or (aim_of_heard c l) o (at_none nothing) in
-    price_at c l aim ≤ 2 * count_by is_frame (option_to_list o) + max c.k c.k16 * one (rejects_aimed l aim)
-event_costs c l None = omega arith
-event_costs c l (Some (stream.frame octets)) = heard_costs c l (stream.frame octets)
-event_costs c l (Some (stream.overlong head)) = heard_costs c l (stream.overlong head)
-event_costs c l (Some (stream.dropped cause)) = omega arith
+  received_costs : (service : Service) (tei place : ℕ) (what : link.Received) → CostsAsFrame (at_link service tei place (link.received what))
+  received_costs service tei place what = go (rises.rejects (link.received what) (link_in l service place))
+    where
+      go : (b : Bool) → 2 + cond b (window c service) 0 ≤ 2 + max c.k c.k16 * one b
+      go true = omega (arith, window_most c service)
+      go false = omega arith
 
-pub octet_costs : (c : Config) (l : Line) (value : ℕ)
-    → price_at c l (aim_of_octet c value l) + 2 * frames_heard c l
-    ≤ 2 * frames_heard c (with_received value l) + max c.k c.k16 * one (rejects_aimed l (aim_of_octet c value l))
-octet_costs c l value =
-    let b = brings c l value in
-    let costs = event_costs c l b.event in
-    let at : Option stream.Event → Type 0 = λ o.
-    let aim = option_map_or (aim_of_heard c l) o (at_none nothing) in
-    price_at c l aim ≤ 2 * count_by is_frame (option_to_list b.event) + max c.k c.k16 * one (rejects_aimed l aim) in
-    let here : price_at c l (aim_of_octet c value l) ≤ 2 * count_by is_frame (option_to_list b.event) + max c.k c.k16 * one (rejects_aimed l (aim_of_octet c value l)) =
-    subst at (sym b.gains) costs in
-    omega (arith, here, b.frames)
+  heard_costs : (e : stream.Event) → CostsAsFrame (aim_of_heard c l e)
+  heard_costs e =
+      heard_aims c l CostsAsFrame (λ what. omega arith) (λ service tei place what at. received_costs service tei place what)
+      (λ info. omega arith) (λ parts service to. omega arith) e
+
+  event_costs : (o : Option stream.Event)
+      → let aim = option_map_or (aim_of_heard c l) o (at_none nothing) in
+      price aim ≤ 2 * one (option_map_or is_frame o false) + max c.k c.k16 * one (rejects_aimed l aim)
+  event_costs None = omega arith
+  event_costs (Some (stream.frame octets)) = omega (arith, heard_costs (stream.frame octets))
+  event_costs (Some (stream.overlong head)) = omega (arith, heard_costs (stream.overlong head))
+  event_costs (Some (stream.dropped cause)) = omega arith
+
+  pub octet_costs : (value : ℕ) → price (aim_of_octet c value l) ≤ 2 * one (hears c (octet value) l) + max c.k c.k16 * one (rejects c (octet value) l)
+  octet_costs value = event_costs (gained c.n201 l.received value)
 
 -- an octet adds no other octets
 pub aim_received : (c : Config) (aim : Aim) (l : Line) → (of_aim c aim l).line.received ≡ l.received
-aim_received c (at_none what) l = refl
-aim_received c (at_link service tei place event) l = refl
-aim_received c (at_management event) l =
-    go (teis.told event l.management).change (told_of_management (teis.told event l.management)) (record l { management = teis.after event l.management })
-  where
-    go : (change : Option Change) (told : LineTold) (m : Line) → (of_change c change told m).line.received ≡ m.received
-    go None told m = refl
-    go (Some (Gained tei place)) told m = refl
-    go (Some (Left tei place)) told m = refl
-aim_received c (at_units unit) l = refl
+aim_received c aim l = ap (λ out. out.line.received) (aim_rests c aim l)

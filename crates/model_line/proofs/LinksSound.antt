@@ -1,14 +1,36 @@
 -- What keeps the links of a line sound.
-use Rattle.model_line.proofs.Vocabulary.{◌≡◌, ◌≢◌, ℕ, ◌≤◌, ◌<◌, List, length, get_or, set, Option, Some, None, refl, ap, sym, ◌∙◌, subst, arith, ⊎_elim, length-set, cases_eq, get_or-set_same, get_or-set_other, Service, Call, Packet, Link, fresh, sound-after, sound-fresh, IsAt, Places, at-within, Config, Line, link_number, service_at, place_at, link_count, link_at, link_in, with_link, terms, of_link, IsInRange, IsSoundAt, IsSound}
+use Rattle.model_line.proofs.Vocabulary.{◌≡◌, ◌≢◌, ℕ, ◌+◌, ◌*◌, ◌≤◌, ◌<◌, List, length, get_or, set, Option, Some, None, refl, ap, sym, ◌∙◌, subst, arith, ⊎_elim, length-set, cases_eq, get_or-set_same, get_or-set_other, Service, Call, Packet, Link, fresh, sound-after, sound-fresh, IsAt, Places, at-within, Config, Line, link_number, service_at, place_at, link_count, link_at, link_in, with_link, terms, of_link, IsInRange, IsSoundAt, IsSound}
 use Rattle.model_link.specs.Events as link
 use Rattle.model_link.specs.Machine as links
 use Rattle.model_link.specs.Sound as link_sound
 use Rattle.model_line.proofs.Numbers.{place_at-number, service_at-number, number_within, at_place}
 use Rattle.model_line.proofs.Ranges.{terms_in_range}
+use Rattle.model_line.proofs.SoundParts.{with_links}
 
 -- The link of a number is sound, for the TEI that the table has at its place.
 abbrev pub SoundIn : Config → List Link → Places → ℕ → Type 0
 SoundIn c all places number = IsSoundAt c number (get_or all number fresh) (get_or places (place_at number) None)
+
+-- Both links of a place begin, and the others stay.
+pub begin_here : (all : List Link) (place number : ℕ) → place_at number ≡ place → 2 * place + 1 < length all
+    → get_or (set (set all (link_number place Call) fresh) (link_number place Packet) fresh) number fresh ≡ fresh
+begin_here all place number here few =
+    let one = set all (link_number place Call) fresh in
+    ⊎_elim
+    (λ call.
+    ap (λ i. get_or (set one (link_number place Packet) fresh) i fresh) call
+    ∙ get_or-set_other one (link_number place Packet) (link_number place Call) fresh fresh (λ e. omega (arith, e))
+    ∙ get_or-set_same all (link_number place Call) fresh fresh (omega (arith, few)))
+    (λ packet.
+    ap (λ i. get_or (set one (link_number place Packet) fresh) i fresh) packet
+    ∙ get_or-set_same one (link_number place Packet) fresh fresh (omega (arith, few, length-set all (link_number place Call) fresh)))
+    (at_place number place here)
+
+pub begin_away : (all : List Link) (place number : ℕ) → place_at number ≢ place
+    → get_or (set (set all (link_number place Call) fresh) (link_number place Packet) fresh) number fresh ≡ get_or all number fresh
+begin_away all place number away =
+    get_or-set_other (set all (link_number place Call) fresh) (link_number place Packet) number fresh fresh (λ e. away (ap place_at e ∙ place_at-number place Packet))
+    ∙ get_or-set_other all (link_number place Call) number fresh fresh (λ e. away (ap place_at e ∙ place_at-number place Call))
 
 module _ (c : Config) (ranged : IsInRange c) where
   -- a link of a TEI, and what it is at its number
@@ -47,17 +69,9 @@ module _ (c : Config) (ranged : IsInRange c) where
 
   pub with_link_sound : (l : Line) (number : ℕ) (x : Link) → IsSound c l → number < link_count c
       → IsSoundAt c number x (get_or l.management.places (place_at number) None) → IsSound c (with_link number x l)
-  with_link_sound l number x s few here = record {
-    management = s.management;
-    places = s.places;
-    count = length-set l.links number x ∙ s.count;
-    links = with_one l.links l.management.places number x (omega (arith, s.count, few)) here s.links;
-    units = s.units;
-    few_units = s.few_units;
-    turn = s.turn;
-    sizes = s.sizes;
-    text = s.text;
-  }
+  with_link_sound l number x s few here =
+      with_links c l s l.management (set l.links number x) l.turn s.management s.places (length-set l.links number x ∙ s.count) s.turn
+      (with_one l.links l.management.places number x (omega (arith, s.count, few)) here s.links)
 
   -- an event of a link
   pub link_event_sound : (l : Line) → IsSound c l → (service : Service) (tei place : ℕ) (e : link.Event) → IsAt l.management.places place tei
@@ -82,29 +96,10 @@ module _ (c : Config) (ranged : IsInRange c) where
       → ((n : ℕ) → n < link_count c → place_at n ≢ place → SoundIn c all places n)
       → (n : ℕ) → n < link_count c → SoundIn c (set (set all (link_number place Call) fresh) (link_number place Packet) fresh) places n
   with_both all places place size within fits others n few =
-      let call = link_number place Call in
-      let packet = link_number place Packet in
-      let one = set all call fresh in
-      let both = set one packet fresh in
-      let in_all : call < length all = omega (arith, size, within) in
-      let in_one : packet < length one = omega (arith, size, within, length-set all call fresh) in
+      let two : 2 * place + 1 < length all = omega (arith, size, within) in
       ⊎_elim
       (λ here.
-      let fits_here : (tei : ℕ) → get_or places (place_at n) None ≡ Some tei → tei ≤ 126 =
-      λ tei e. fits tei (ap (λ p. get_or places p None) (sym here) ∙ e) in
-      let begins : IsSoundAt c n fresh (get_or places (place_at n) None) = fresh_at n (get_or places (place_at n) None) fits_here in
-      let is_fresh : get_or both n fresh ≡ fresh =
-      ⊎_elim
-      (λ first.
-      ap (λ i. get_or both i fresh) first
-      ∙ get_or-set_other one packet call fresh fresh (λ e. omega (arith, e))
-      ∙ get_or-set_same all call fresh fresh in_all)
-      (λ second. ap (λ i. get_or both i fresh) second ∙ get_or-set_same one packet fresh fresh in_one)
-      (at_place n place here) in
-      subst (λ y. IsSoundAt c n y (get_or places (place_at n) None)) (sym is_fresh) begins)
-      (λ away.
-      let kept : get_or both n fresh ≡ get_or all n fresh =
-      get_or-set_other one packet n fresh fresh (λ e. away (ap place_at e ∙ place_at-number place Packet))
-      ∙ get_or-set_other all call n fresh fresh (λ e. away (ap place_at e ∙ place_at-number place Call)) in
-      subst (λ y. IsSoundAt c n y (get_or places (place_at n) None)) (sym kept) (others n few away))
+      subst (λ y. IsSoundAt c n y (get_or places (place_at n) None)) (sym (begin_here all place n here two))
+      (fresh_at n (get_or places (place_at n) None) (λ tei e. fits tei (ap (λ p. get_or places p None) (sym here) ∙ e))))
+      (λ away. subst (λ y. IsSoundAt c n y (get_or places (place_at n) None)) (sym (begin_away all place n away)) (others n few away))
       (cases_eq (place_at n) place)

@@ -1,5 +1,6 @@
 -- What an event delivers at a link of a line: the next eligible I-frame's contents, or none; or its numbers begin anew.
-use Rattle.model_line.proofs.Vocabulary.{◌≡◌, ◌≢◌, ℕ, ◌+◌, ◌*◌, ◌<◌, Bool, true, false, cond, ◌==◌, List, [], ◌∷◌, length, get_or, set, Option, Some, None, is_some, refl, ap, sym, ◌∙◌, subst, inl, inr, ⊎_elim, arith, eqb-true, eq-eqb, true≢false, length-set, All, list_any, option_or, option_map_or, get_or-set_same, get_or-set_other, All-head, All-tail, Note, Service, Call, Packet, Terms, Link, fresh, is_data, done, delivery, counted_on, event-delivers, IsOwn, notes-own, event-tells, Moves, Management, IsAt, Places, Change, Gained, Left, Config, Answer, LineTold, told, nothing, same_service, arrived_aimed, arrived, is_change_at, restarts_aimed, restarts, is_data_of, delivered_in, delivered_at, delivered, Line, link_number, service_at, place_at, tei_at, link_at, link_in, terms, link_count, Aim, at_none, at_link, at_management, at_units, told_of_link, told_of_management, of_change, of_aim, IsSound}
+use Rattle.model_line.proofs.Vocabulary.{◌&&◌, ◌≡◌, ◌≢◌, ℕ, ◌<◌, Bool, true, false, cond, ◌==◌, List, [], ◌∷◌, length, get_or, set, Option, Some, None, is_some, refl, ap, sym, ◌∙◌, subst, inl, inr, ⊎_elim, arith, eqb-true, eq-eqb, true≢false, All, list_any, option_or, option_map_or, get_or-set_same, get_or-set_other, All-head, All-tail, Note, Service, Call, Packet, Terms, Link, fresh, is_data, done, delivery, counted_on, event-delivers, IsOwn, notes-own, event-tells, Moves, Management, IsAt, Places, Change, Gained, Left, Config, Answer, LineTold, told, nothing, same_service, arrived_aimed, arrived, is_change_at, restarts_aimed, restarts, is_data_of, delivered_in, delivered_at, delivered, Line, link_number, service_at, place_at, tei_at, link_at, link_in, terms, link_count, Aim, at_none, at_link, at_management, at_units, told_of_link, told_of_management, of_change, of_aim, IsSound}
+use Rattle.std.proofs.Math.Bool.{and-false, and-true, and-or_distrib_right}
 use Rattle.lapd_frame.specs.declared.notes.Note.TheVariants as notes
 use Rattle.model_link.specs.Deliveries as arrivals
 use Rattle.model_link.specs.Events as link
@@ -7,66 +8,42 @@ use Rattle.model_link.specs.Machine as links
 use Rattle.lapd_tei.specs.Events as teis
 use Rattle.lapd_tei.proofs.LawLemmas as tei_laws
 use Rattle.model_line.proofs.AimsSound.{IsProper}
+use Rattle.model_line.proofs.LinksSound.{begin_here, begin_away}
 use Rattle.model_line.proofs.Numbers.{place_at-number, service_at-number, at_place}
 
 -- Notes of data.
 
-data_is_own : (t : Terms) (n : Note) (service : Service) (tei : ℕ) → IsOwn t n → is_data_of service tei n ≡ true → (service ≡ t.service) × (tei ≡ t.tei)
-data_is_own t (notes.EstablishIndication s n) service tei own e = cc
-data_is_own t (notes.EstablishConfirm s n) service tei own e = cc
-data_is_own t (notes.ReleaseIndication s n) service tei own e = cc
-data_is_own t (notes.ReleaseConfirm s n) service tei own e = cc
-data_is_own t (notes.Data s n) service tei own e = go s n service own e
+-- the link of a service with a TEI
+abbrev is_of : Terms → Service → ℕ → Bool
+is_of t service tei = cond (same_service t.service service) (t.tei == tei) false
+
+of_itself : (t : Terms) → is_of t t.service t.tei ≡ true
+of_itself t = go t.service
   where
-    go : (s : Service) (n : ℕ) (service : Service) → (s ≡ t.service) × (n ≡ t.tei)
-        → cond (same_service s service) (n == tei) false ≡ true → (service ≡ t.service) × (tei ≡ t.tei)
-    go Call n Call own e = (own.0, sym (eqb-true n tei e) ∙ own.1)
-    go Packet n Packet own e = (own.0, sym (eqb-true n tei e) ∙ own.1)
-    go Call n Packet own e = cc
-    go Packet n Call own e = cc
-data_is_own t (notes.Unit s n) service tei own e = cc
-data_is_own t (notes.Error s n k) service tei own e = cc
-data_is_own t (notes.Assigned n) service tei own e = cc
-data_is_own t (notes.Removed n) service tei own e = cc
-data_is_own t (notes.Doubled n) service tei own e = cc
-data_is_own t (notes.Xid s n) service tei own e = cc
+    go : (s : Service) → cond (same_service s s) (t.tei == t.tei) false ≡ true
+    go Call = eq-eqb t.tei t.tei refl
+    go Packet = eq-eqb t.tei t.tei refl
 
--- a note of data of the link itself, and any of data
-same_of_itself : (s : Service) → same_service s s ≡ true
-same_of_itself Call = refl
-same_of_itself Packet = refl
-
-own_is_data : (t : Terms) (n : Note) → IsOwn t n → is_data_of t.service t.tei n ≡ is_data n
-own_is_data t (notes.EstablishIndication s n) own = refl
-own_is_data t (notes.EstablishConfirm s n) own = refl
-own_is_data t (notes.ReleaseIndication s n) own = refl
-own_is_data t (notes.ReleaseConfirm s n) own = refl
-own_is_data t (notes.Data s n) own =
-    ap (λ x. cond (same_service x t.service) (n == t.tei) false) own.0
-    ∙ ap (λ b. cond b (n == t.tei) false) (same_of_itself t.service) ∙ eq-eqb n t.tei own.1
-own_is_data t (notes.Unit s n) own = refl
-own_is_data t (notes.Error s n k) own = refl
-own_is_data t (notes.Assigned n) own = refl
-own_is_data t (notes.Removed n) own = refl
-own_is_data t (notes.Doubled n) own = refl
-own_is_data t (notes.Xid s n) own = refl
-
-own_data : (t : Terms) (ns : List Note) → All (IsOwn t) ns → list_any (is_data_of t.service t.tei) ns ≡ list_any is_data ns
-own_data t [] all = refl
-own_data t (n ∷ ns) all =
-    let here = own_is_data t n (All-head (IsOwn t) n ns all) in
-    let rest = own_data t ns (All-tail (IsOwn t) n ns all) in
-    rw (here, rest) refl
-
-no_data_of_others : (t : Terms) (ns : List Note) (service : Service) (tei : ℕ) → ((service ≡ t.service) × (tei ≡ t.tei) → ⊥)
-    → All (IsOwn t) ns → list_any (is_data_of service tei) ns ≡ false
-no_data_of_others t [] service tei other all = refl
-no_data_of_others t (n ∷ ns) service tei other all =
-    go (is_data_of service tei n) refl (no_data_of_others t ns service tei other (All-tail (IsOwn t) n ns all))
+of_no_other : (t : Terms) (service : Service) (tei : ℕ) → ((service ≡ t.service) × (tei ≡ t.tei) → ⊥) → is_of t service tei ≡ false
+of_no_other t service tei other = go t.service service (t.tei == tei) refl other
   where
-    go : (b : Bool) → is_data_of service tei n ≡ b → list_any (is_data_of service tei) ns ≡ false → list_any (is_data_of service tei) (n ∷ ns) ≡ false
-    go true e rest = absurd (other (data_is_own t n service tei (All-head (IsOwn t) n ns all) e))
-    go false e rest = rw (e, rest) refl
+    go : (own by : Service) (b : Bool) → (t.tei == tei) ≡ b → ((by ≡ own) × (tei ≡ t.tei) → ⊥) → cond (same_service own by) b false ≡ false
+    go Call Call true e other = absurd (other (refl, sym (eqb-true t.tei tei e)))
+    go Packet Packet true e other = absurd (other (refl, sym (eqb-true t.tei tei e)))
+    go own by b e other = refl
+
+-- a link's own notes are of data of that link, or of no data
+data_of : (t : Terms) (n : Note) (service : Service) (tei : ℕ) → IsOwn t n → is_data_of service tei n ≡ (is_data n && is_of t service tei)
+data_of t (notes.Data s n) service tei own = rw (own.0, own.1) refl
+data_of t other service tei own = refl
+
+data_in : (t : Terms) (ns : List Note) (service : Service) (tei : ℕ) → All (IsOwn t) ns
+    → list_any (is_data_of service tei) ns ≡ (list_any is_data ns && is_of t service tei)
+data_in t [] service tei all = refl
+data_in t (n ∷ ns) service tei all =
+    let here = data_of t n service tei (All-head (IsOwn t) n ns all) in
+    let rest = data_in t ns service tei (All-tail (IsOwn t) n ns all) in
+    rw (here, rest) (sym (and-or_distrib_right (is_data n) (list_any is_data ns) (is_of t service tei)))
 
 -- Deliveries, as an answer tells them.
 
@@ -90,7 +67,8 @@ told_own : (t : Terms) (e : link.Event) (l : Link)
     → delivered_in t.service t.tei (told (told_of_link (links.told t e l))) ≡ (links.course t e l).delivered
 told_own t e l =
     let tells = event-tells t e l in
-    let has = own_data t (links.course t e l).notes (notes-own t e l) ∙ tells.1 in
+    let ns = (links.course t e l).notes in
+    let has = data_in t ns t.service t.tei (notes-own t e l) ∙ ap (λ b. list_any is_data ns && b) (of_itself t) ∙ and-true (list_any is_data ns) ∙ tells.1 in
     ap (λ b. cond b (option_or (links.course t e l).delivered (links.course t e l).unit) None) has ∙ go (links.course t e l).delivered (links.course t e l).unit
   where
     go : (d u : Option (List ℕ)) → cond (is_some d) (option_or d u) None ≡ d
@@ -100,8 +78,9 @@ told_own t e l =
 told_others : (t : Terms) (e : link.Event) (l : Link) (service : Service) (tei : ℕ) → ((service ≡ t.service) × (tei ≡ t.tei) → ⊥)
     → delivered_in service tei (told (told_of_link (links.told t e l))) ≡ None
 told_others t e l service tei other =
-    ap (λ b. cond b (option_or (links.course t e l).delivered (links.course t e l).unit) None)
-    (no_data_of_others t (links.course t e l).notes service tei other (notes-own t e l))
+    let ns = (links.course t e l).notes in
+    let none = data_in t ns service tei (notes-own t e l) ∙ ap (λ b. list_any is_data ns && b) (of_no_other t service tei other) ∙ and-false (list_any is_data ns) in
+    ap (λ b. cond b (option_or (links.course t e l).delivered (links.course t e l).unit) None) none
 
 -- Links by their numbers.
 
@@ -111,27 +90,6 @@ number_is number =
     (λ call. call ∙ ap (link_number (place_at number)) (sym (ap service_at call ∙ service_at-number (place_at number) Call)))
     (λ packet. packet ∙ ap (link_number (place_at number)) (sym (ap service_at packet ∙ service_at-number (place_at number) Packet)))
     (at_place number (place_at number) refl)
-
--- both links of a place begin
-begin_here : (all : List Link) (place number : ℕ) → place_at number ≡ place → 2 * place + 1 < length all
-    → get_or (set (set all (link_number place Call) fresh) (link_number place Packet) fresh) number fresh ≡ fresh
-begin_here all place number here few =
-    let one = set all (link_number place Call) fresh in
-    ⊎_elim
-    (λ call.
-    ap (λ i. get_or (set one (link_number place Packet) fresh) i fresh) call
-    ∙ get_or-set_other one (link_number place Packet) (link_number place Call) fresh fresh (λ e. omega (arith, e))
-    ∙ get_or-set_same all (link_number place Call) fresh fresh (omega (arith, few)))
-    (λ packet.
-    ap (λ i. get_or (set one (link_number place Packet) fresh) i fresh) packet
-    ∙ get_or-set_same one (link_number place Packet) fresh fresh (omega (arith, few, length-set all (link_number place Call) fresh)))
-    (at_place number place here)
-
-begin_away : (all : List Link) (place number : ℕ) → place_at number ≢ place
-    → get_or (set (set all (link_number place Call) fresh) (link_number place Packet) fresh) number fresh ≡ get_or all number fresh
-begin_away all place number away =
-    get_or-set_other (set all (link_number place Call) fresh) (link_number place Packet) number fresh fresh (λ e. away (ap place_at e ∙ place_at-number place Packet))
-    ∙ get_or-set_other all (link_number place Call) number fresh fresh (λ e. away (ap place_at e ∙ place_at-number place Call))
 
 -- What an event is to one link, by V(R) before and after it.
 abbrev pub Part : ℕ → Option arrivals.Arrived → ℕ → Option (List ℕ) → Bool → Type 0
@@ -186,9 +144,7 @@ module _ (c : Config) (l : Line) (s : IsSound c l) (received : List ℕ) (number
           ap (λ o. option_map_or (delivered_at (service_at (link_number place service)) a) o None) its
           ∙ ap (λ v. delivered_in v tei a) (service_at-number place service) ∙ told_own t e (link_in l service place) in
           subst (λ n. Part (link_at n l).r (arrivals.eligible t e (link_in l service place)) (get_or (set l.links (link_number place service) x) n fresh).r (delivered n l a) (arrivals.restarts t e (link_in l service place))) is
-          (subst (λ y. Part (link_in l service place).r (arrivals.eligible t e (link_in l service place)) y.r (delivered (link_number place service) l a) (arrivals.restarts t e (link_in l service place))) (sym there)
-          (subst (λ d. Part (link_in l service place).r (arrivals.eligible t e (link_in l service place)) x.r d (arrivals.restarts t e (link_in l service place))) (sym by_it)
-          (event-delivers t (link_in l service place) e)))
+          (rw (there, by_it) (event-delivers t (link_in l service place) e))
       go false other =
           let apart : number ≢ link_number place service = λ is. true≢false (sym (eq-eqb (link_number place service) number (sym is)) ∙ other) in
           let kept : get_or (set l.links (link_number place service) x) number fresh ≡ link_at number l =

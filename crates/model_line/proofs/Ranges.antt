@@ -1,5 +1,5 @@
 -- What the ranges of a configuration say.
-use Rattle.model_line.proofs.Vocabulary.{◌≡◌, ℕ, ◌≤◌, Bool, true, false, not, cond, Option, Some, None, max, refl, arith, and_parts, leb-true, Service, Call, Packet, Config, Field, is_within, terms, IsInRange}
+use Rattle.model_line.proofs.Vocabulary.{◌≡◌, ℕ, ◌≤◌, Bool, true, false, not, cond, Option, Some, None, max, refl, arith, and_parts, leb-true, Service, Call, Packet, Config, Field, is_within, window, terms, IsInRange}
 use Rattle.model_link.specs.Sound as links
 
 passed : (b : Bool) (f : Field) (o : Option Field) → cond (not b) (Some f) o ≡ None → (b ≡ true) × (o ≡ None)
@@ -52,32 +52,24 @@ ranges_of c h =
       n200 = within 0 10 c.n200 n200.0;
     }
 
+-- The window of each service.
+windowed : (c : Config) → Ranges c → (service : Service) → Within 1 127 (window c service) × (window c service ≤ c.queue)
+windowed c r Call = (r.k, omega (arith, r.queue.least))
+windowed c r Packet = (r.k16, omega (arith, r.queue.least))
+
 -- So the parameters of a link are in range.
 pub terms_in_range : (c : Config) → IsInRange c → (service : Service) (tei : ℕ) → tei ≤ 126 → links.IsInRange (terms c service tei)
-terms_in_range c h Call tei fits =
+terms_in_range c h service tei fits =
     let r = ranges_of c h in
+    let w = windowed c r service in
     record {
       tei = fits;
-      k_low = r.k.least;
-      k_high = r.k.most;
+      k_low = w.0.least;
+      k_high = w.0.most;
       n201_low = r.n201.least;
       n201_high = r.n201.most;
       n200 = r.n200.most;
-      queue_low = omega (arith, r.queue.least);
-      queue_high = r.queue.most;
-      control_low = r.control.least;
-      control_high = r.control.most;
-    }
-terms_in_range c h Packet tei fits =
-    let r = ranges_of c h in
-    record {
-      tei = fits;
-      k_low = r.k16.least;
-      k_high = r.k16.most;
-      n201_low = r.n201.least;
-      n201_high = r.n201.most;
-      n200 = r.n200.most;
-      queue_low = omega (arith, r.queue.least);
+      queue_low = w.1;
       queue_high = r.queue.most;
       control_low = r.control.least;
       control_high = r.control.most;

@@ -1,57 +1,22 @@
 -- Each REJ with a valid N(R) is a frame of four octets that is heard; and frames take their octets of the stream.
-use Rattle.model_line.proofs.Vocabulary.{◌≡◌, ℕ, ◌+◌, ◌*◌, ◌-◌, ◌≤◌, ◌==◌, Bool, true, false, List, [], ◌∷◌, ◌++◌, length, take, nat_le, Option, Some, None, option_to_list, Result, Ok, Err, IfSome, refl, ap, sym, ◌∙◌, subst, cond, arith, count_by, sum_by, All, option_map_or, le-leb, leb-true, length-take-le, sum_by-cons, All-head, All-tail, overlong, dropped, judged, room_for, IsWhole, heard_within_stream, IsWeight, weight_of_heard, judged_as, Address, Tei, Unserved, Control, ReadFault, BadExtension, Undefined, WrongSize, Short, Service, Parts, reading, service_of, Link, Config, nothing, one, is_frame, frames_heard, is_long_frame, long_frames_heard, rejects_aimed, Line, place_in, management_sapi, group_tei, drop_for, at_place, to_service, addressed, message_of, aim_of_reading, heard_side, aim_of_heard, aim_of_octet, with_received, Aim, at_none}
+use Rattle.model_line.proofs.Vocabulary.{gained, ◌≡◌, ℕ, ◌+◌, ◌*◌, ◌-◌, ◌≤◌, Bool, true, false, List, [], ◌∷◌, ◌++◌, length, take, nat_le, Option, Some, None, option_to_list, Result, Ok, Err, IfSome, refl, ap, sym, ◌∙◌, subst, cond, arith, count_by, sum_by, All, option_map_or, le-leb, leb-true, length-take-le, sum_by-cons, All-head, All-tail, overlong, dropped, room_for, IsWhole, heard_within_stream, IsWeight, weight_of_heard, judged_as, ReadFault, Parts, reading, Link, Config, nothing, one, is_frame, frames_heard, is_long_frame, long_frames_heard, rejects_aimed, Line, aim_of_reading, heard_side, aim_of_heard, aim_of_octet, with_received, at_none}
 use Rattle.model_bits.specs.Stream as stream
 use Rattle.model_bits.specs.Stream.{Event, frame}
-use Rattle.lapd_frame.specs.declared.controls.Control.TheVariants as control
 use Rattle.model_link.specs.Events as link
 use Rattle.model_link.specs.Rises as rises
-use Rattle.model_line.proofs.LineRises.{brings}
-use Rattle.model_line.proofs.Sides.{side_aims}
+use Rattle.model_line.proofs.LineRises.{heard_with, counted_with}
+use Rattle.model_line.proofs.ProperAims.{AreFor, reading_aims}
 use Rattle.model_line.proofs.Rejects.{NoReject, three_no_reject}
 
 module _ (c : Config) (l : Line) where
-  place_no_reject : (service : Service) (tei : ℕ) (what : link.Received) (o : Option ℕ) → ((x : Link) → rises.rejects (link.received what) x ≡ false)
-      → rejects_aimed l (at_place service tei what o) ≡ false
-  place_no_reject service tei what None q = refl
-  place_no_reject service tei what (Some place) q = q _
-
-  service_no_reject : (tei : ℕ) (what : link.Received) (o : Option Service) → ((x : Link) → rises.rejects (link.received what) x ≡ false)
-      → rejects_aimed l (to_service l tei what o) ≡ false
-  service_no_reject tei what None q = refl
-  service_no_reject tei what (Some service) q = place_no_reject service tei what (place_in l tei) q
-
-  addressed_no_reject : (address : Address) (what : link.Received) (message : Aim) → ((x : Link) → rises.rejects (link.received what) x ≡ false)
-      → rejects_aimed l message ≡ false → rejects_aimed l (addressed l address what message) ≡ false
-  addressed_no_reject address what message q m = go (address.sapi == management_sapi) (address.tei == group_tei)
-    where
-      go : (known group : Bool) → rejects_aimed l (cond known (cond group message (drop_for Tei)) (to_service l address.tei what (service_of address.sapi))) ≡ false
-      go true true = m
-      go true false = refl
-      go false group = service_no_reject address.tei what (service_of address.sapi) q
-
-  message_no_reject : (k : Control) (info : List ℕ) → rejects_aimed l (message_of k info) ≡ false
-  message_no_reject (control.Information ns nr p) info = refl
-  message_no_reject (control.ReceiveReady nr pf) info = refl
-  message_no_reject (control.ReceiveNotReady nr pf) info = refl
-  message_no_reject (control.Reject nr pf) info = refl
-  message_no_reject (control.Sabme p) info = refl
-  message_no_reject (control.Disc p) info = refl
-  message_no_reject (control.Ui p) info = refl
-  message_no_reject (control.Ua f) info = refl
-  message_no_reject (control.Dm f) info = refl
-  message_no_reject (control.Frmr f) info = refl
-  message_no_reject (control.Xid pf) info = refl
+  is_no_reject : (r : Result Parts ReadFault) → NoReject r → AreFor (λ what. (x : Link) → rises.rejects (link.received what) x ≡ false) r
+  is_no_reject (Ok parts) h = λ x. ap (λ o. rises.is_valid_reject o x) h
+  is_no_reject (Err fault) h = ((λ x. refl), (λ x. refl))
 
   reading_no_reject : (r : Result Parts ReadFault) → NoReject r → rejects_aimed l (aim_of_reading c l r) ≡ false
-  reading_no_reject (Ok parts) h =
-      side_aims c parts (λ aim. rejects_aimed l aim ≡ false) refl (λ service to. refl)
-      (addressed l parts.address (link.frame parts) (message_of parts.control parts.info))
-      (addressed_no_reject parts.address (link.frame parts) (message_of parts.control parts.info)
-      (λ x. ap (λ o. rises.is_valid_reject o x) h) (message_no_reject parts.control parts.info))
-  reading_no_reject (Err BadExtension) h = refl
-  reading_no_reject (Err (Undefined address)) h = addressed_no_reject address link.undefined (drop_for Unserved) (λ x. refl) refl
-  reading_no_reject (Err (WrongSize address)) h = addressed_no_reject address link.wrong_size (drop_for Unserved) (λ x. refl) refl
-  reading_no_reject (Err Short) h = refl
+  reading_no_reject r h =
+      reading_aims c l (λ aim. rejects_aimed l aim ≡ false) (λ cause. refl) (λ what. (x : Link) → rises.rejects (link.received what) x ≡ false)
+      (λ service tei place what none at. none _) (λ info. refl) (λ parts service to. refl) r (is_no_reject r h)
 
   at_most_one : (b : Bool) → one b ≤ 1
   at_most_one true = omega arith
@@ -59,14 +24,10 @@ module _ (c : Config) (l : Line) where
 
   frame_counted : (octets : List ℕ) → 3 ≤ length octets
       → one (rejects_aimed l (aim_of_reading c l (reading (heard_side c) octets))) ≤ cond {A = ℕ} (nat_le 4 (length octets)) 1 0
-  frame_counted [] h = absurd (omega (arith, h))
-  frame_counted (a ∷ []) h = absurd (omega (arith, h))
-  frame_counted (a ∷ b ∷ []) h = absurd (omega (arith, h))
   frame_counted (a ∷ b ∷ third ∷ []) h = omega (arith, ap one (reading_no_reject (reading (heard_side c) (a ∷ b ∷ third ∷ [])) (three_no_reject (heard_side c) a b third)))
   frame_counted (a ∷ b ∷ third ∷ d ∷ rest) h =
-      let long : nat_le 4 (length (a ∷ b ∷ third ∷ d ∷ rest)) ≡ true = le-leb 4 (length (a ∷ b ∷ third ∷ d ∷ rest)) (omega arith) in
-      subst (λ x. one (rejects_aimed l (aim_of_reading c l (reading (heard_side c) (a ∷ b ∷ third ∷ d ∷ rest)))) ≤ cond {A = ℕ} x 1 0) (sym long)
-      (at_most_one (rejects_aimed l (aim_of_reading c l (reading (heard_side c) (a ∷ b ∷ third ∷ d ∷ rest)))))
+      rw (le-leb 4 (length (a ∷ b ∷ third ∷ d ∷ rest)) (omega arith)) (at_most_one (rejects_aimed l (aim_of_reading c l (reading (heard_side c) (a ∷ b ∷ third ∷ d ∷ rest)))))
+  frame_counted short h = absurd (omega (arith, h))
 
   event_counted : (o : Option Event) → IfSome o IsWhole
       → one (rejects_aimed l (option_map_or (aim_of_heard c l) o (at_none nothing))) ≤ count_by is_long_frame (option_to_list o)
@@ -84,25 +45,24 @@ latest P (y ∷ xs) o all = latest P xs o (All-tail P y (xs ++ option_to_list o)
 pub octet_rejects : (c : Config) (value : ℕ) (l : Line)
     → one (rejects_aimed l (aim_of_octet c value l)) + long_frames_heard c l ≤ long_frames_heard c (with_received value l)
 octet_rejects c value l =
-    let b = brings c l value in
-    let all = heard_within_stream.whole c.n201 (l.received ++ value ∷ []) in
-    let whole = latest IsWhole (stream.heard_in c.n201 l.received) b.event (subst (All IsWhole) b.heard all) in
-    let counted = event_counted c l b.event whole in
-    let here : one (rejects_aimed l (aim_of_octet c value l)) ≤ count_by is_long_frame (option_to_list b.event) =
-    subst (λ o. one (rejects_aimed l (option_map_or (aim_of_heard c l) o (at_none nothing))) ≤ count_by is_long_frame (option_to_list b.event)) (sym b.gains) counted in
-    omega (arith, here, b.long_frames)
+    let event = gained c.n201 l.received value in
+    let all = subst (All IsWhole) (heard_with c.n201 l.received value) (heard_within_stream.whole c.n201 (l.received ++ value ∷ [])) in
+    omega (
+      arith,
+      event_counted c l event (latest IsWhole (stream.heard_in c.n201 l.received) event all),
+      counted_with is_long_frame c.n201 l.received value,
+    )
 
 -- ---- frames take their octets of the stream
 
 scaled_sum : (p : Event → Bool) (n : ℕ) (es : List Event) → n * count_by p es ≡ sum_by (λ e. cond (p e) n 0) es
 scaled_sum p n [] = omega arith
 scaled_sum p n (e ∷ es) =
-    go (p e) (count_by p (e ∷ es)) (sum_by-cons (λ x. cond (p x) 1 0) e es) (scaled_sum p n es) ∙ sym (sum_by-cons (λ x. cond (p x) n 0) e es)
+    rw (sum_by-cons (λ x. cond (p x) 1 0) e es, sum_by-cons (λ x. cond (p x) n 0) e es) (go (p e) (scaled_sum p n es))
   where
-    go : (b : Bool) (count : ℕ) → count ≡ cond b 1 0 + count_by p es → n * count_by p es ≡ sum_by (λ x. cond (p x) n 0) es
-        → n * count ≡ cond b n 0 + sum_by (λ x. cond (p x) n 0) es
-    go true count e rest = subst (λ k. n * k ≡ n + sum_by (λ x. cond (p x) n 0) es) (sym e) (omega (arith, rest))
-    go false count e rest = subst (λ k. n * k ≡ 0 + sum_by (λ x. cond (p x) n 0) es) (sym e) (omega (arith, rest))
+    go : (b : Bool) → n * count_by p es ≡ sum_by (λ x. cond (p x) n 0) es → n * (cond b 1 0 + count_by p es) ≡ cond b n 0 + sum_by (λ x. cond (p x) n 0) es
+    go true rest = omega (arith, rest)
+    go false rest = omega (arith, rest)
 
 frame_weight : (n201 : ℕ) → IsWeight (room_for n201) (λ e. cond (is_frame e) 6 0)
 frame_weight n201 = record {

@@ -1,18 +1,16 @@
 -- A line uses no more slots than its queues have places, and fewer where contents are accepted.
-use Rattle.model_line.proofs.Vocabulary.{◌≡◌, ℕ, zero, suc, ◌+◌, ◌*◌, ◌≤◌, ◌<◌, Bool, true, false, cond, not, ◌&&◌, List, [], ◌∷◌, length, Option, Some, None, is_some, refl, ap, sym, subst, ⊎_elim, arith, true≢false, sum_by, range_with_len, option_map_or, leb-false, cases_eq, sum_by-cons, Refusal, Service, Link, fresh, queue_of, serves, is_queue_full, place_of-is, at-within, Config, Event, octet, expiry, request, pull, Line, link_number, link_count, place_at, place_in, tei_at, link_at, link_in, terms, takes_slot, Row, first_that_holds, bad_tei, no_link, bad_tei_or_group, no_link_nor_group, wrong_state, too_long, queue_full, unit_queue_full, pool_full, refusal, Request, Establish, Release, Data, Unit, Assign, Remove, Check, SetBusy, ClearBusy, carries_contents, IsSoundAt, IsSound, slots_by_link, slots_of}
+use Rattle.model_line.proofs.Vocabulary.{◌≡◌, ℕ, zero, suc, ◌+◌, ◌*◌, ◌≤◌, ◌<◌, true, false, not, ◌&&◌, List, [], ◌∷◌, length, Option, Some, None, is_some, refl, ap, sym, ⊎_elim, arith, and_parts, true≢false, sum_by, range_with_len, option_map_or, leb-false, cases_eq, sum_by-cons, Refusal, Service, fresh, queue_of, serves, is_queue_full, place_of-is, at-within, Config, Event, request, Line, link_number, link_count, place_in, link_in, terms, takes_slot, Row, first_that_holds, bad_tei, no_link, bad_tei_or_group, no_link_nor_group, wrong_state, too_long, queue_full, unit_queue_full, pool_full, refusal, Request, Data, Unit, carries_contents, IsSound, slots_by_link, slots_of}
 use Rattle.model_link.specs.Events as link
 use Rattle.model_line.proofs.Numbers.{number_within, sum_bounded}
+use Rattle.model_line.proofs.ProperAims.{skipped}
+use Rattle.model_line.proofs.SoundParts.{any_link}
 
 -- All places of a line's queues.
 abbrev pub places_of : Config → ℕ
 places_of c = 2 * c.terminals * c.queue + c.unit_queue
 
 link_slots : (c : Config) (l : Line) → IsSound c l → (n : ℕ) → n < link_count c → slots_by_link l n ≤ c.queue
-link_slots c l s n few = go (tei_at (place_at n) l) (s.links n few)
-  where
-    go : (o : Option ℕ) → IsSoundAt c n (link_at n l) o → length (queue_of (link_at n l)) ≤ c.queue
-    go None is_fresh = subst (λ (x : Link). length (queue_of x) ≤ c.queue) (sym is_fresh) (omega arith)
-    go (Some tei) sound = sound.queue
+link_slots c l s n few = any_link c l s n few (λ t x. length (queue_of x) ≤ c.queue) (omega arith) (λ tei at sound. sound.queue)
 
 pub slots_few : (c : Config) (l : Line) → IsSound c l → slots_of c l ≤ places_of c
 slots_few c l s =
@@ -36,11 +34,7 @@ sum_below f a (suc n) i m from to below less =
 
 -- a row that does not hold is passed over
 passed : (row : Row) (rest : List Row) → first_that_holds (row ∷ rest) ≡ None → (row.holds ≡ false) × (first_that_holds rest ≡ None)
-passed row rest e = go row.holds e
-  where
-    go : (b : Bool) → cond b (Some row.why) (first_that_holds rest) ≡ None → (b ≡ false) × (first_that_holds rest ≡ None)
-    go true e = cc
-    go false e = (refl, e)
+passed row rest e = skipped row.holds row.why (first_that_holds rest) e
 
 -- data for a link whose queue has a place
 data_finds : (c : Config) (l : Line) (service : Service) (tei : ℕ) (contents : List ℕ) (o : Option ℕ) → IsSound c l → place_in l tei ≡ o
@@ -74,23 +68,13 @@ accepted_finds c (Unit service tei contents) l s carries e =
     let less : length l.units < c.unit_queue = leb-false c.unit_queue (length l.units) room.0 in
     let queues = sum_bounded (slots_by_link l) 0 (link_count c) c.queue (λ n few. link_slots c l s n (omega (arith, few))) in
     omega (arith, queues, less)
-accepted_finds c (Establish service tei) l s carries e = cc
-accepted_finds c (Release service tei) l s carries e = cc
-accepted_finds c (Assign tei) l s carries e = cc
-accepted_finds c (Remove tei) l s carries e = cc
-accepted_finds c (Check tei) l s carries e = cc
-accepted_finds c (SetBusy service tei) l s carries e = cc
-accepted_finds c (ClearBusy service tei) l s carries e = cc
+accepted_finds c other l s carries e = cc
 
 pub taker_finds : (c : Config) (e : Event) (l : Line) → IsSound c l → takes_slot c e l ≡ true → slots_of c l + 1 ≤ places_of c
 unfolding takes_slot
-taker_finds c (octet value) l s h = absurd (true≢false (sym h))
-taker_finds c (expiry timer) l s h = absurd (true≢false (sym h))
-taker_finds c pull l s h = absurd (true≢false (sym h))
-taker_finds c (request r) l s h = go (carries_contents r) (refusal c false r l) refl refl h
+taker_finds c (request r) l s h = go (refusal c false r l) refl h
   where
-    go : (b : Bool) (o : Option Refusal) → carries_contents r ≡ b → refusal c false r l ≡ o → (b && not (is_some o)) ≡ true → slots_of c l + 1 ≤ places_of c
-    go true None carries none h = accepted_finds c r l s carries none
-    go true (Some why) carries none h = absurd (true≢false (sym h))
-    go false None carries none h = absurd (true≢false (sym h))
-    go false (Some why) carries none h = absurd (true≢false (sym h))
+    go : (o : Option Refusal) → refusal c false r l ≡ o → (carries_contents r && not (is_some o)) ≡ true → slots_of c l + 1 ≤ places_of c
+    go None none h = accepted_finds c r l s (and_parts (carries_contents r) true h).0 none
+    go (Some why) none h = absurd (true≢false (sym (and_parts (carries_contents r) false h).1))
+taker_finds c other l s h = absurd (true≢false (sym h))

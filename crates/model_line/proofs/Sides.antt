@@ -30,16 +30,7 @@ module _ (c : Config) (parts : Parts) (P : Aim → Type 0) (unserved : P (at_non
       go true size =
           to_group service (record { side = side; sapi = sapi; group = group; poll = poll; control = is; size = leb-true (length parts.info) c.n201 size })
       go false size = p
-  of_ui service told side sapi group p (control.Information ns nr poll) is = p
-  of_ui service told side sapi group p (control.ReceiveReady nr pf) is = p
-  of_ui service told side sapi group p (control.ReceiveNotReady nr pf) is = p
-  of_ui service told side sapi group p (control.Reject nr pf) is = p
-  of_ui service told side sapi group p (control.Sabme poll) is = p
-  of_ui service told side sapi group p (control.Disc poll) is = p
-  of_ui service told side sapi group p (control.Ua final) is = p
-  of_ui service told side sapi group p (control.Dm final) is = p
-  of_ui service told side sapi group p (control.Frmr final) is = p
-  of_ui service told side sapi group p (control.Xid pf) is = p
+  of_ui service told side sapi group p other is = p
 
   of_group : (told : LineTold) → c.side ≡ User → P (at_none told) → (o : Option Service) → service_of parts.address.sapi ≡ o
       → P (at_none (told_of_group c parts o told))

@@ -1,10 +1,11 @@
 -- An expiry starts at most one timer.
-use Rattle.model_line.proofs.Vocabulary.{◌≡◌, ℕ, ◌≤◌, List, [], ◌∷◌, ◌++◌, length, Option, Some, None, refl, ◌∙◌, arith, Service, Call, Packet, Order, Start, Stop, Timer, T200, T203, T201, one-start, Link, orders_for, starts, Terms, LinkTimer, IsBrief, told_brief, Change, Gained, Left, Config, expiry, at_timer, aim_of_expiry, orders_in, Line, link_in, place_in, terms, answer, told_of_management, of_link, of_change, of_aim}
+use Rattle.model_line.proofs.Vocabulary.{◌≡◌, ℕ, ◌≤◌, List, [], ◌∷◌, ◌++◌, length, Option, Some, None, refl, ◌∙◌, arith, Service, Call, Packet, Order, Start, Stop, Timer, one-start, Link, orders_for, starts, Terms, LinkTimer, IsBrief, told_brief, Change, Gained, Left, Config, expiry, aim_of_expiry, orders_in, Line, link_in, terms, answer, told_of_management, of_link, of_change, of_aim}
 use Rattle.model_link.specs.Events as link
 use Rattle.model_link.specs.Machine as links
 use Rattle.model_link.specs.declared.timers.LinkTimer.TheVariants as link_timer
 use Rattle.lapd_tei.specs.Events as teis
 use Rattle.lapd_tei.specs.Machine as tei
+use Rattle.model_line.proofs.ProperAims.{expiry_aims}
 
 -- what starts nothing may stand before other orders
 before_starts : (xs ys : List Order) → starts xs ≡ 0 → starts (xs ++ ys) ≡ starts ys
@@ -47,20 +48,18 @@ module _ (c : Config) where
       three call.told.orders (of_link c Packet n place link.cleared call.line).told.orders t.orders
       (cleared_starts (terms c Call n) (link_in l Call place)) (cleared_starts (terms c Packet n) (link_in call.line Packet place)) h.orders
 
-  timer_starts : (l : Line) (service : Service) (n : ℕ) (timer : LinkTimer) (o : Option ℕ) → starts (of_aim c (at_timer service n timer o) l).told.orders ≤ 1
-  timer_starts l service n timer None = none_starts
-  timer_starts l service n timer (Some place) =
+  timer_starts : (l : Line) (service : Service) (n place : ℕ) (timer : LinkTimer) → starts (of_link c service n place (link.expired timer) l).told.orders ≤ 1
+  timer_starts l service n place timer =
       let t = terms c service n in
       let x = link_in l service place in
       let course = links.course t (link.expired timer) x in
       one-start t x.running course.started course.link.running
 
   aim_starts : (timer : Timer) (l : Line) → starts (of_aim c (aim_of_expiry timer l) l).told.orders ≤ 1
-  aim_starts (T200 service n) l = timer_starts l service n link_timer.T200 (place_in l n)
-  aim_starts (T203 service n) l = timer_starts l service n link_timer.T203 (place_in l n)
-  aim_starts T201 l =
-      change_starts (teis.told teis.expiry l.management).change (teis.told teis.expiry l.management)
-      (record l { management = teis.after teis.expiry l.management }) (told_brief teis.expiry l.management)
+  aim_starts timer l =
+      expiry_aims l (λ aim. starts (of_aim c aim l).told.orders ≤ 1) none_starts (λ service n place timer at. timer_starts l service n place timer)
+      (change_starts (teis.told teis.expiry l.management).change (teis.told teis.expiry l.management)
+      (record l { management = teis.after teis.expiry l.management }) (told_brief teis.expiry l.management)) timer
 
 pub expiry_starts : (c : Config) (timer : Timer) (l : Line) → starts (orders_in (answer c (expiry timer) l)) ≤ 1
 unfolding answer

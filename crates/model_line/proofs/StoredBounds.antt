@@ -1,9 +1,10 @@
 -- A sound line holds at most so many octets, and at most N201 octets in each slot.
-use Rattle.model_line.proofs.Vocabulary.{◌≡◌, ℕ, zero, suc, ◌+◌, ◌*◌, ◌/◌, ◌≤◌, ◌<◌, Bool, true, false, List, [], ◌∷◌, length, reverse, nat_lt, Option, Some, None, refl, sym, subst, cond, arith, sum_by, All, range_with_len, option_map_or, unwrap_or, ltb-false, All-head, All-tail, All-drop, All-nil, All-cons, sum_by-le, sum_by-cons, bits, unstuffed, kept_count, open_gap, runs_low, item_octets, last_octets, Item, room_for, Network, spelling, held, Link, queue_of, IsWaitingFrame, ControlFrame, Terms, Config, Line, UnitData, link_count, service_at, place_at, tei_at, terms, link_at, left_of, IsSoundAt, IsSound, IsUnitData, held_received, held_sent, held_by_link, held_in, sum_of_links, slots_by_link, slots_of, total_length, unit_length, octets_by_link, stored_in}
+use Rattle.model_line.proofs.Vocabulary.{◌≡◌, ℕ, zero, suc, ◌+◌, ◌*◌, ◌/◌, ◌≤◌, ◌<◌, Bool, true, false, List, [], ◌∷◌, length, reverse, nat_lt, Option, Some, None, refl, sym, subst, cond, arith, sum_by, All, range_with_len, option_map_or, ltb-false, All-head, All-tail, All-drop, All-nil, All-cons, sum_by-le, sum_by-cons, bits, unstuffed, kept_count, open_gap, runs_low, item_octets, last_octets, Item, room_for, Network, spelling, held, queue_of, IsWaitingFrame, ControlFrame, Terms, Config, Line, UnitData, link_count, service_at, terms, link_at, left_of, IsSound, IsUnitData, held_received, held_sent, held_by_link, held_in, sum_of_links, slots_by_link, slots_of, total_length, unit_length, octets_by_link, stored_in}
 use Rattle.model_link.specs.Link.{frame_of}
 use Rattle.model_link.specs.Rises as links
 use Rattle.model_line.specs.Stored.{octets_of}
 use Rattle.model_line.proofs.Numbers.{sum_bounded}
+use Rattle.model_line.proofs.SoundParts.{any_link}
 
 -- of a frame that is received
 kept_few : (n201 n : ℕ) → kept_count (room_for n201) n ≤ n201 + 6
@@ -47,11 +48,9 @@ ring_few t most ws frames few =
         (short fs (All-tail (IsWaitingFrame t) f fs all))
 
 link_few : (c : Config) (l : Line) → IsSound c l → (n : ℕ) → n < link_count c → held_by_link c l n ≤ 4 * c.control
-link_few c l s n few = go (tei_at (place_at n) l) (s.links n few)
-  where
-    go : (o : Option ℕ) → IsSoundAt c n (link_at n l) o → links.held (terms c (service_at n) (unwrap_or o 0)) (link_at n l) ≤ 4 * c.control
-    go None is_fresh = subst (λ x. links.held (terms c (service_at n) 0) x ≤ 4 * c.control) (sym is_fresh) (omega arith)
-    go (Some tei) sound = ring_few (terms c (service_at n) tei) c.control (link_at n l).waiting sound.frames sound.ring
+link_few c l s n few =
+    any_link c l s n few (λ t x. links.held t x ≤ 4 * c.control) (omega arith)
+    (λ tei at sound. ring_few (terms c (service_at n) tei) c.control (link_at n l).waiting sound.frames sound.ring)
 
 -- of what waits and is remembered
 pub waiting_few : (c : Config) (l : Line) → IsSound c l → held l.management + sum_of_links c (held_by_link c l) ≤ 8 * c.control * c.terminals + 32 + 12
@@ -65,29 +64,20 @@ held_few c l s = omega (arith, received_few c l, sent_few c l s, waiting_few c l
 
 -- ---- contents
 
--- two terms that are each at most m times others
-pub both_scaled : (m f g f' g' sum whole : ℕ) → sum ≡ f + f' → whole ≡ g + g' → f ≤ g * m → f' ≤ g' * m → sum ≤ whole * m
-both_scaled m f g f' g' sum whole first second below below' =
-    subst (λ x. sum ≤ x * m) (sym second) (omega (arith, first, below, below'))
-
--- a sum of such terms
+-- a sum of terms that are each at most m times others
 scaled : (f g : ℕ → ℕ) (m a n : ℕ) → ((j : ℕ) → j < a + n → f j ≤ g j * m) → sum_by f (range_with_len a n) ≤ sum_by g (range_with_len a n) * m
 scaled f g m a zero below = omega arith
 scaled f g m a (suc n) below =
     let head = below a (omega arith) in
     let rest = scaled f g m (a + 1) n (λ j few. below j (omega (arith, few))) in
-    both_scaled m (f a) (g a) (sum_by f (range_with_len (a + 1) n)) (sum_by g (range_with_len (a + 1) n)) _ _
-    (sum_by-cons f a (range_with_len (a + 1) n)) (sum_by-cons g a (range_with_len (a + 1) n)) head rest
+    rw (sum_by-cons f a (range_with_len (a + 1) n), sum_by-cons g a (range_with_len (a + 1) n)) (omega (arith, head, rest))
 
 queue_octets : (c : Config) (l : Line) → IsSound c l → (n : ℕ) → n < link_count c → octets_by_link l n ≤ slots_by_link l n * c.n201
-queue_octets c l s n few = go (tei_at (place_at n) l) (s.links n few)
-  where
-    go : (o : Option ℕ) → IsSoundAt c n (link_at n l) o → total_length (queue_of (link_at n l)) ≤ length (queue_of (link_at n l)) * c.n201
-    go None is_fresh =
-        subst (λ (x : Link). total_length (queue_of x) ≤ length (queue_of x) * c.n201) (sym is_fresh) (omega arith)
-    go (Some tei) sound =
-        sum_by-le length c.n201 (queue_of (link_at n l))
-        (All-drop (λ octets. length octets ≤ c.n201) (link_at n l).a (link_at n l).contents sound.sizes)
+queue_octets c l s n few =
+    any_link c l s n few (λ t x. total_length (queue_of x) ≤ length (queue_of x) * c.n201) (omega arith)
+    (λ tei at sound.
+    sum_by-le length c.n201 (queue_of (link_at n l))
+    (All-drop (λ octets. length octets ≤ c.n201) (link_at n l).a (link_at n l).contents sound.sizes))
 
 unit_octets : (c : Config) (us : List UnitData) → All (IsUnitData c) us → sum_by unit_length us ≤ length us * c.n201
 unit_octets c us all = sum_by-le unit_length c.n201 us (short us all)
@@ -99,8 +89,7 @@ unit_octets c us all = sum_by-le unit_length c.n201 us (short us all)
 pub octets_few : (c : Config) (l : Line) → IsSound c l → octets_of c l ≤ slots_of c l * c.n201
 octets_few c l s =
     let queues = scaled (octets_by_link l) (slots_by_link l) c.n201 0 (link_count c) (λ n few. queue_octets c l s n (omega (arith, few))) in
-    both_scaled c.n201 (sum_by unit_length l.units) (length l.units) (sum_of_links c (octets_by_link l)) (sum_of_links c (slots_by_link l)) _ _
-    refl refl (unit_octets c l.units s.units) queues
+    omega (arith, unit_octets c l.units s.units, queues)
 
 pub stored_few : (c : Config) (l : Line) → IsSound c l
     → stored_in c l ≤ (2 * c.n201 + 10 + 8 * c.control * c.terminals + 32 + 12) + slots_of c l * c.n201

@@ -54,7 +54,7 @@ of_link c service tei place event l =
     }
 
 -- An event of TEI management. A TEI that comes to the line opens its two links. One that leaves clears them, that of
--- call control first. What they tell comes after what TEI management tells, but for the order of T201, which is the
+-- call control first. What they tell comes after what TEI management tells, except for the order of T201, which is the
 -- last (profile).
 abbrev pub told_of_management : tei.TeiTold → LineTold
 told_of_management t =

@@ -38,7 +38,7 @@ IsHeardCounted c e l = frames_heard c (after c e l) ≡ frames_heard c l + one (
 abbrev pub HearsOne : Config → Event → Line → Type 0
 HearsOne c e l = frames_heard c (after c e l) ≤ frames_heard c l + one (is_octet e)
 
--- A pull that begins a frame lets what may be sent fall by one, or by two where the frame makes an acknowledgement
+-- A pull that begins a frame lowers what may be sent by one, or by two where the frame makes an acknowledgement
 -- needless. Any other pull leaves it as it is.
 abbrev pub FallsByPull : Config → Line → Type 0
 FallsByPull c l =
@@ -70,7 +70,7 @@ cause_in (told t) = t.cause
 cause_in (refused why) = None
 cause_in (pulled value begun orders) = None
 
--- Where the answer to an octet names a cause, whichever, the cause is all that is told, the line is as it was but for
+-- Where the answer to an octet names a cause, whichever, the cause is all that is told, the line is as it was except for
 -- the octet received, and what may be sent stays as it is.
 pub record DropsChangeNothing : Type 0 where
   pub answers : (c : Config) (value : ℕ) (l : Line) (cause : Cause) → cause_in (answer c (octet value) l) ≡ Some cause →

@@ -13,19 +13,21 @@ pub fn lines_stay_sound()
 /// What a line has sent, and may still send without anything else happening, rises by no more than an event's price:
 /// two for a frame that an octet ends, and it ends one at most; one for an accepted request; k + 1 for the expiry of a
 /// running timer; k more for an REJ with a valid N(R), which is a frame of four octets; else 0. A pull that begins a
-/// frame lets what may be sent fall by one or two, and any other leaves it as it is.
+/// frame lowers what may be sent by one or two, and any other leaves it as it is.
 pub fn lines_rise()
     ensures { LinesRise }
 {}
 
 /// Where the answer to an octet names a cause, whichever, the cause is all that it says, the line is afterwards what it
-/// was but for the octet received, and so what may be sent stays as it is.
+/// was except for the octet received, and so what may be sent stays as it is.
+#[tactic(auto, using(crate::proofs::Drops::drops_change_nothing))]
 pub fn drops_change_nothing()
     ensures { DropsChangeNothing }
 {}
 
 /// The latest frame that was put on a line is the one that a pull began last: each pull that begins a frame makes it that
 /// frame, and nothing else changes it.
+#[tactic(auto, using(crate::proofs::Begun::latest_is_begun))]
 pub fn latest_is_begun()
     ensures { LatestIsBegun }
 {}

@@ -1,5 +1,5 @@
 //! The machine of one data link, as definitions: what each event of a link of one TEI and one
-//! service does to it, and what it answers (Q.921 clause 5, states 4 to 8 of annex B, network
+//! service does to it, and what it answers (Q.921 clause 5, states 4 to 8 of annex B, either
 //! side, multiple-frame operation modulo 128).
 //!
 //! `specs/` has the machine, one equation for each row of its tables; its worked values are in

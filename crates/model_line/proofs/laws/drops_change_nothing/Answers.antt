@@ -1,6 +1,0 @@
--- The law is that of Drops.
-use Rattle.model_line.proofs.Drops.{drops_change_nothing}
-use Rattle.model_line.proofs.laws.drops_change_nothing.Goals as goal
-
-pub returns : goal.returns
-returns c = drops_change_nothing

@@ -132,10 +132,7 @@ impl Setup {
     {
         self.for_kind(CardKind::Frames)?;
         let line = self.line(line)?;
-        match self.exchange.failed(line, fault, target, page) {
-            Ok(()) => Ok(()),
-            Err(WriteFailed) => Err(LineFault::Write),
-        }
+        written(self.exchange.failed(line, fault, target, page))
     }
 
     /// A line takes the next frame, which is put into the beginning of `room`.
@@ -209,13 +206,8 @@ impl Setup {
             → Obeys result (output (T.taken target.old) page.old.items) (output (T.taken target.new) page.new.items) (Stands self.new) (with_card (meaning.ask line tei what octets.now) (scene m)) }
     {
         let line = self.line(line)?;
-        match self
-            .exchange
-            .ask(line, request_for(what, tei, octets), target, page)
-        {
-            Ok(()) => Ok(()),
-            Err(WriteFailed) => Err(LineFault::Write),
-        }
+        let request = request_for(what, tei, octets);
+        written(self.exchange.ask(line, request, target, page))
     }
 
     /// So many milliseconds pass.
@@ -248,10 +240,7 @@ impl Setup {
         ensures { (m : machine.Setup) → Stands self.old m
             → Obeys result (output (T.taken target.old) page.old.items) (output (T.taken target.new) page.new.items) (Stands self.new) (with_card meaning.stored (scene m)) }
     {
-        match self.exchange.show_stored(target, page) {
-            Ok(()) => Ok(()),
-            Err(WriteFailed) => Err(LineFault::Write),
-        }
+        written(self.exchange.show_stored(target, page))
     }
 
     /// Shows what was counted of a line.

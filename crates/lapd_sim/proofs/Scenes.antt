@@ -1,8 +1,8 @@
 -- What a line says, event by event.
-use Rattle.lapd_sim.proofs.Vocabulary.{◌≡◌, ℕ, zero, suc, ◌+◌, ◌<◌, ◌≤◌, nat_lt, nat_le, List, [], ◌∷◌, ◌++◌, length, take, drop, get_or, fold, Bool, true, false, cond, Option, None, Some, Result, Ok, Err, refl, sym, ap, ◌∙◌, subst, append_assoc, lt-ltb, le-leb, true≢false, CardKind, BadNumber, BadLine, BadFrame, append-nil, map-append, take_more, take-append-drop, fold-append, octet, Event, at, answer, Output, IsPut, IsStuck, stuck_more, Setup, LengthFault, due_at, FaultKind, Scene, with_event, with_events, octets_at, after_rx, at_line, answer_text, expiries, expired, Pulls, pulls, one_pull, after_pull, after_in, after_counters, after_coming, can_come, for_octets, for_frames, with_card, LineFault, Faulty, Obeys, scene}
-use Rattle.std.specs.Prelude.{◌&&◌}
+use Rattle.lapd_sim.proofs.Vocabulary.{◌≡◌, ℕ, zero, suc, ◌+◌, ◌<◌, ◌≤◌, nat_lt, List, [], ◌∷◌, ◌++◌, length, take, drop, get_or, fold, Bool, true, false, cond, Option, None, Some, Result, Ok, Err, OnOk, refl, sym, ap, ◌∙◌, subst, append_assoc, lt-ltb, le-leb, CardKind, BadNumber, BadLine, BadFrame, append-nil, map-append, take_more, take-append-drop, fold-append, octet, Event, at, answer, Config, Output, IsStuck, Puts, stuck_more, WriteFailed, Setup, LengthFault, due_at, FaultKind, Scene, with_event, with_events, octets_at, after_rx, at_line, answer_text, expiries, expired, Pulls, pulls, one_pull, after_coming, can_come, for_octets, for_frames, with_card, LineFault, Faulty, Obeys, Tells, scene, written, Exchange, Holds, Stands, Each, Hears, Sends}
 use Rattle.lapd_script.specs.Meaning as meaning
 use Rattle.lapd_script.specs.declared.command.CardKind.TheVariants.{Octets, Frames}
+use Rattle.lapd_sim.specs.declared.setup.Setup as rust
 use Rattle.lapd_script.specs.declared.faults.LineFault.TheVariants.{Write, OutOfMemory}
 
 -- one octet more
@@ -77,86 +77,63 @@ obeyed_at (Err Write) a b P Q true t kind f h = h
 obeyed_at (Err Write) a b P Q false t kind f h = absurd h
 obeyed_at (Err OutOfMemory) a b P Q test t kind f h = absurd h
 
--- a card of the right kind
-right_octets : (r : Result Unit LineFault) (a b : Output) (Q : Setup → Type 0) (kind : CardKind) (said : Result Scene FaultKind) → kind ≡ Octets → Obeys r a b Q said → Obeys r a b Q (for_octets kind said)
-right_octets r a b Q Octets said e h = h
-right_octets r a b Q Frames said e h = absurd (cc)
+-- what is said at a line that is there, on a card of the right kind
+pub there : {at_it line : ℕ} → line ≡ at_it → (word : ℕ → Scene → Scene) (m : Setup) → line < m.card.config.lines
+    → at_line at_it (scene m) (word at_it (scene m)) ≡ Ok (word line (scene m))
+there {at_it} {line} e word m within =
+    subst (λ n. at_line n (scene m) (word n (scene m)) ≡ Ok (word line (scene m))) e (at_line_is line (scene m) (word line (scene m)) within)
 
-pub right_frames : (r : Result Unit LineFault) (a b : Output) (Q : Setup → Type 0) (kind : CardKind) (said : Result Scene FaultKind) → kind ≡ Frames → Obeys r a b Q said → Obeys r a b Q (for_frames kind said)
-right_frames r a b Q Octets said e h = absurd (cc)
-right_frames r a b Q Frames said e h = h
+pub there_octets : {at_it line : ℕ} → line ≡ at_it → (word : ℕ → Scene → Scene) (m : Setup) → m.kind ≡ Octets → line < m.card.config.lines
+    → for_octets m.kind (at_line at_it (scene m) (word at_it (scene m))) ≡ Ok (word line (scene m))
+there_octets {at_it} e word m kind within = ap (λ k. for_octets k (at_line at_it (scene m) (word at_it (scene m)))) kind ∙ there e word m within
 
--- what happened at a line that is there
-pub obeyed_there : (a b : Output) (Q : Setup → Type 0) (line : ℕ) (s after : Scene) → line < s.setup.card.config.lines → IsPut a b after.text → Q after.setup → Obeys (Ok tt) a b Q (at_line line s after)
-obeyed_there a b Q line s after there written stands = subst (λ said. Obeys (Ok tt) a b Q said) (sym (at_line_is line s after there)) (written, stands)
+pub there_frames : {at_it line : ℕ} → line ≡ at_it → (word : ℕ → Scene → Scene) (m : Setup) → m.kind ≡ Frames → line < m.card.config.lines
+    → for_frames m.kind (at_line at_it (scene m) (word at_it (scene m))) ≡ Ok (word line (scene m))
+there_frames {at_it} e word m kind within = ap (λ k. for_frames k (at_line at_it (scene m) (word at_it (scene m)))) kind ∙ there e word m within
 
-pub broken_there : (a b : Output) (Q : Setup → Type 0) (line : ℕ) (s after : Scene) → line < s.setup.card.config.lines → IsStuck a b after.text → Obeys (Err Write) a b Q (at_line line s after)
-broken_there a b Q line s after there broken = subst (λ said. Obeys (Err Write) a b Q said) (sym (at_line_is line s after there)) broken
+-- a frame comes that can
+pub into_is : {at_it line : ℕ} → line ≡ at_it → (kind : CardKind) (frame : List ℕ) (m : Setup) → m.kind ≡ kind → line < m.card.config.lines → can_come kind frame ≡ true
+    → with_card (meaning.into at_it frame) (scene m) ≡ Ok (after_coming kind line frame (scene m))
+into_is {at_it} {line} e kind frame m is within can =
+    subst (λ n. with_card (meaning.into n frame) (scene m) ≡ Ok (after_coming kind line frame (scene m))) e
+    (subst (λ k. cond (nat_lt line m.card.config.lines) (cond (can_come k frame) (Ok (after_coming k line frame (scene m))) (Err BadFrame)) (Err BadLine) ≡ Ok (after_coming kind line frame (scene m))) (sym is)
+    (rw (lt-ltb line m.card.config.lines within) (rw can refl)))
 
--- what was counted of a line that is there
-pub counters_obeyed : (a b : Output) (Q : Setup → Type 0) {line at_it : ℕ} → line ≡ at_it → (m : Setup) → line < m.card.config.lines
-    → IsPut a b (after_counters line (scene m)).text → Q m → Obeys (Ok tt) a b Q (with_card (meaning.counters at_it) (scene m))
-counters_obeyed a b Q {line} e m there written stands =
-    subst (λ n. Obeys (Ok tt) a b Q (with_card (meaning.counters n) (scene m))) e
-    (obeyed_there a b Q line (scene m) (after_counters line (scene m)) there written stands)
+pub is_frame_is : (frame : List ℕ) → 3 ≤ length frame → length frame ≤ 1028 → can_come Octets frame ≡ true
+is_frame_is frame short long = rw (le-leb 3 (length frame) short) (le-leb (length frame) 1028 long)
 
-pub counters_broken : (a b : Output) (Q : Setup → Type 0) {line at_it : ℕ} → line ≡ at_it → (m : Setup) → line < m.card.config.lines
-    → IsStuck a b (after_counters line (scene m)).text → Obeys (Err Write) a b Q (with_card (meaning.counters at_it) (scene m))
-counters_broken a b Q {line} e m there broken =
-    subst (λ n. Obeys (Err Write) a b Q (with_card (meaning.counters n) (scene m))) e
-    (broken_there a b Q line (scene m) (after_counters line (scene m)) there broken)
+-- where only a write can fail, a line is obeyed that has been told
+pub obeyed : (r : Result Unit WriteFailed) (result : Result Unit LineFault) → result ≡ written r → (a b : Output) (Q : Setup → Type 0) (said : Result Scene FaultKind) (s : Scene) → said ≡ Ok s
+    → Puts r a b s.text → OnOk r (Q s.setup) → Obeys result a b Q said
+obeyed (Ok u) result is a b Q said s e put q = subst (λ x. Obeys x a b Q said) (sym is) (subst (λ x. Obeys (Ok tt) a b Q x) (sym e) (put, q))
+obeyed (Err w) result is a b Q said s e put q = subst (λ x. Obeys x a b Q said) (sym is) (subst (λ x. Obeys (Err Write) a b Q x) (sym e) put)
+
+pub obeyed_told : (r : Result Unit WriteFailed) (result : Result Unit LineFault) → result ≡ written r → (a b : Output) (P Q : Setup → Type 0) (said : Result Scene FaultKind) (s : Scene) → said ≡ Ok s
+    → (P s.setup → Q s.setup) → Tells r a b P s → Obeys result a b Q said
+obeyed_told (Ok u) result is a b P Q said s e f told = obeyed (Ok u) result is a b Q said s e told.0 (f told.1)
+obeyed_told (Err w) result is a b P Q said s e f told = obeyed (Err w) result is a b Q said s e told tt
+
+pub obeyed_sent : (r : Result Unit WriteFailed) (result : Result Unit LineFault) → result ≡ written r → (a b : Output) {A : Type 0} (P Q : Setup → Type 0) (said : Result Scene FaultKind) (s : Scene) → said ≡ Ok s
+    → (A → P s.setup → Q s.setup) → OnOk r A → Tells r a b P s → Obeys result a b Q said
+obeyed_sent (Ok u) result is a b P Q said s e f one told = obeyed_told (Ok u) result is a b P Q said s e (f one) told
+obeyed_sent (Err w) result is a b P Q said s e f one told = obeyed (Err w) result is a b Q said s e told tt
+
+pub when_ok : {A B : Type 0} (r : Result Unit WriteFailed) → OnOk r A → (A → B) → OnOk r B
+when_ok (Ok u) one f = f one
+when_ok (Err w) one f = tt
 
 pub pulls_keep : (n line : ℕ) (p : Pulls) → Keeps p.setup (pulls n line p).setup
 pulls_keep zero line p = (refl, refl, refl)
 pulls_keep (suc n) line p = pulls_keep n line (one_pull line p)
 
--- octets that came, or were pulled, at a line that is there
-pub rx_obeyed : (a b : Output) (Q : Setup → Type 0) {line at_it : ℕ} → line ≡ at_it → (octets : List ℕ) (m : Setup) → m.kind ≡ Octets → line < m.card.config.lines
-    → IsPut a b (after_rx line octets (scene m)).text → Q (after_rx line octets (scene m)).setup → Obeys (Ok tt) a b Q (with_card (meaning.rx at_it octets) (scene m))
-rx_obeyed a b Q {line} e octets m kind there written stands =
-    subst (λ n. Obeys (Ok tt) a b Q (with_card (meaning.rx n octets) (scene m))) e
-    (right_octets (Ok tt) a b Q m.kind (at_line line (scene m) (after_rx line octets (scene m))) kind (obeyed_there a b Q line (scene m) (after_rx line octets (scene m)) there written stands))
+-- the line of an exchange is there
+pub within : (e : Exchange) (m : Setup) (line : ℕ) → Holds e m → line < e.plan.config.lines → line < m.card.config.lines
+within e m line h less = subst (λ (c : Config). line < c.lines) (sym h.config) less
 
-pub pull_obeyed : (a b : Output) (Q : Setup → Type 0) {line at_it : ℕ} → line ≡ at_it → (count : ℕ) (m : Setup) → m.kind ≡ Octets → line < m.card.config.lines
-    → IsPut a b (after_pull line count (scene m)).text → Q (after_pull line count (scene m)).setup → Obeys (Ok tt) a b Q (with_card (meaning.pull at_it count) (scene m))
-pull_obeyed a b Q {line} e count m kind there written stands =
-    subst (λ n. Obeys (Ok tt) a b Q (with_card (meaning.pull n count) (scene m))) e
-    (right_octets (Ok tt) a b Q m.kind (at_line line (scene m) (after_pull line count (scene m))) kind (obeyed_there a b Q line (scene m) (after_pull line count (scene m)) there written stands))
-
-pub pull_broken : (a b : Output) (Q : Setup → Type 0) {line at_it : ℕ} → line ≡ at_it → (count : ℕ) (m : Setup) → m.kind ≡ Octets → line < m.card.config.lines
-    → IsStuck a b (after_pull line count (scene m)).text → Obeys (Err Write) a b Q (with_card (meaning.pull at_it count) (scene m))
-pull_broken a b Q {line} e count m kind there broken =
-    subst (λ n. Obeys (Err Write) a b Q (with_card (meaning.pull n count) (scene m))) e
-    (right_octets (Err Write) a b Q m.kind (at_line line (scene m) (after_pull line count (scene m))) kind (broken_there a b Q line (scene m) (after_pull line count (scene m)) there broken))
-
--- a frame from the terminal of a line that is there
-three_yes : {X : Type 0} (a b c : Bool) (x : X) (y z : X) → a ≡ true → b ≡ true → c ≡ true → cond a (cond (b && c) x y) z ≡ x
-three_yes true true true x y z e f h = refl
-three_yes false b c x y z e f h = absurd (true≢false (sym e))
-three_yes true false c x y z e f h = absurd (true≢false (sym f))
-three_yes true true false x y z e f h = absurd (true≢false (sym h))
-
-into_octets : (kind : CardKind) (test : Bool) (line : ℕ) (frame : List ℕ) (s : Scene) → kind ≡ Octets
-    → cond test (cond (can_come kind frame) (Ok (after_coming kind line frame s)) (Err BadFrame)) (Err BadLine)
-    ≡ cond test (cond (nat_le 3 (length frame) && nat_le (length frame) 1028) (Ok (after_in line frame s)) (Err BadFrame)) (Err BadLine)
-into_octets Octets test line frame s e = refl
-into_octets Frames test line frame s e = absurd (cc)
-
-frame_is : (line : ℕ) (frame : List ℕ) (s : Scene) → s.setup.kind ≡ Octets → line < s.setup.card.config.lines → 3 ≤ length frame → length frame ≤ 1028
-    → with_card (meaning.into line frame) s ≡ Ok (after_in line frame s)
-frame_is line frame s kind there short long =
-    into_octets s.setup.kind (nat_lt line s.setup.card.config.lines) line frame s kind
-    ∙ three_yes (nat_lt line s.setup.card.config.lines) (nat_le 3 (length frame)) (nat_le (length frame) 1028) (Ok (after_in line frame s)) (Err BadFrame) (Err BadLine)
-    (lt-ltb line s.setup.card.config.lines there) (le-leb 3 (length frame) short) (le-leb (length frame) 1028 long)
-
-pub frame_obeyed : (a b : Output) (Q : Setup → Type 0) {line at_it : ℕ} → line ≡ at_it → (frame : List ℕ) (m : Setup) → m.kind ≡ Octets → line < m.card.config.lines → 3 ≤ length frame → length frame ≤ 1028
-    → IsPut a b (after_in line frame (scene m)).text → Q (after_in line frame (scene m)).setup → Obeys (Ok tt) a b Q (with_card (meaning.into at_it frame) (scene m))
-frame_obeyed a b Q {line} e frame m kind there short long written stands =
-    subst (λ n. Obeys (Ok tt) a b Q (with_card (meaning.into n frame) (scene m))) e
-    (subst (λ said. Obeys (Ok tt) a b Q said) (sym (frame_is line frame (scene m) kind there short long)) (written, stands))
-
-pub frame_broken : (a b : Output) (Q : Setup → Type 0) {line at_it : ℕ} → line ≡ at_it → (frame : List ℕ) (m : Setup) → m.kind ≡ Octets → line < m.card.config.lines → 3 ≤ length frame → length frame ≤ 1028
-    → IsStuck a b (after_in line frame (scene m)).text → Obeys (Err Write) a b Q (with_card (meaning.into at_it frame) (scene m))
-frame_broken a b Q {line} e frame m kind there short long broken =
-    subst (λ n. Obeys (Err Write) a b Q (with_card (meaning.into n frame) (scene m))) e
-    (subst (λ said. Obeys (Err Write) a b Q said) (sym (frame_is line frame (scene m) kind there short long)) broken)
+-- what leaves terminals and listeners at the setup
+pub stands_on : (old new : rust.Setup) → new.terminals ≡ old.terminals → new.listeners ≡ old.listeners → (m n : Setup) → Keeps m n → Stands old m → Holds new.exchange n → Stands new n
+stands_on old new same_terminals same_listeners m n keep h holds = record {
+  exchange = holds;
+  terminals = subst (λ ts. Each Sends ts.items n.terminals) (sym same_terminals) (subst (λ ts. Each Sends old.terminals.items ts) (sym keep.0) h.terminals);
+  listeners = subst (λ ts. Each Hears ts.items n.taken) (sym same_listeners) (subst (λ ts. Each Hears old.listeners.items ts) (sym keep.1) h.listeners);
+}

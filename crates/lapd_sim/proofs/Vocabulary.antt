@@ -37,7 +37,7 @@ pub use Rattle.lapd_script.specs.declared.kind.FaultKind.TheVariants.{BadFrame, 
 pub use Rattle.lapd_script.specs.declared.lines.ScriptLines.{ScriptLines}
 pub use Rattle.lapd_sim.specs.Boards.{IsTaken, Leads, LeadsBy, OnBoard, as_store, counters_on, line_count}
 pub use Rattle.lapd_sim.specs.Gives.{Gives}
-pub use Rattle.lapd_sim.specs.Obeyed.{Does, Obeys, Said, StartsBy, Tells, said, said_by, said_of, said_with, said_without, scene}
+pub use Rattle.lapd_sim.specs.Obeyed.{Does, Obeys, Said, StartsBy, Tells, said, said_by, said_of, said_with, said_without, scene, written}
 pub use Rattle.lapd_sim.specs.Pages.{PutsNone, PutsSome, Reaches, is_cut}
 pub use Rattle.lapd_sim.specs.Past.{HasPast}
 pub use Rattle.lapd_sim.specs.Plays.{AreAnswered, Plays, PlaysOctets, PlaysOn, is_whole, whole_lines}
@@ -76,4 +76,4 @@ pub use Rattle.model_sim.proofs.Expiries.{expiry_lowers, text_grows, until-expir
 pub use Rattle.model_sim.proofs.Runs.{config_stays}
 pub use Rattle.model_sim.specs.Script.{Fault, Played, after_bench, after_meaning, after_piece, after_reading, after_scene, counted, faulty, first_fault, is_too_long, not_begun, one_more, played, transcript, unless_faulty}
 pub use Rattle.model_sim.specs.Setup.{Setup, happened, ordered, taken_at, terminal_at, with_terminal}
-pub use Rattle.model_sim.specs.Steps.{Pulls, Scene, after_coming, after_counters, after_happening, after_in, after_next, after_pull, after_rx, after_timers, after_wait, answer_text, at_expiry, at_line, can_come, expired, expiries, for_frames, for_octets, last_moment, next_text, octet_in, octets_at, one_pull, pulls, until, with_card, with_event, with_events, without_card}
+pub use Rattle.model_sim.specs.Steps.{Pulls, Scene, after_coming, after_counters, after_next, after_pull, after_rx, after_timers, after_wait, answer_text, at_expiry, at_line, can_come, expired, expiries, for_frames, for_octets, last_moment, next_text, octet_in, octets_at, one_pull, pulls, until, with_card, with_event, with_events, without_card}

@@ -6,6 +6,7 @@ use Rattle.lapd_script.specs.Meaning.{Meaning}
 use Rattle.lapd_script.specs.Read.{read}
 use Rattle.model_line.specs.declared.config.Config.{Config}
 use Rattle.model_line.specs.Config.{first_fault}
+use Rattle.lapd_transcript.specs.declared.streams.WriteFailed.{WriteFailed}
 use Rattle.lapd_transcript.specs.Streams.{Output, IsPut, IsStuck}
 use Rattle.model_sim.specs.Setup.{Setup, begun}
 use Rattle.model_sim.specs.Steps.{Scene, begun_with, with_card, without_card}
@@ -34,6 +35,11 @@ Obeys (Ok _) old new stands (Err kind) = ⊥
 Obeys (Err (Faulty kind)) old new stands said = (new ≡ old) × (said ≡ Err kind)
 Obeys (Err Write) old new stands said = Breaks old new said
 Obeys (Err OutOfMemory) old new stands said = ⊥
+
+-- What a line comes to at which only a write can fail.
+abbrev pub written : Result Unit WriteFailed → Result Unit LineFault
+written (Ok u) = Ok u
+written (Err e) = Err Write
 
 -- What is begun at a card line: for want of memory alone it may not begin where the configuration is in range.
 abbrev pub Begins : {X : Type 0} → Result X LineFault → CardKind → Config → (X → Setup → Type 0) → Type 0

@@ -11,7 +11,7 @@ ghost use Rattle.lapd_transcript.specs.Streams.{Output, output};
 use crate::board::Plan;
 use crate::exchange::Exchange;
 use crate::parts::{listeners, request_for, terminals};
-use crate::traffic::{pull, receive, send, tell_next};
+use crate::traffic::{pull, receive, send, tell_next, written};
 use lapd_bits::Deframer;
 use lapd_card::Fault;
 use lapd_script::{Asked, CardKind, FaultKind, LineFault};
@@ -83,10 +83,7 @@ impl Setup {
     {
         self.for_kind(CardKind::Octets)?;
         let line = self.line(line)?;
-        match receive(&mut self.exchange, line, octets, target, page) {
-            Ok(()) => Ok(()),
-            Err(WriteFailed) => Err(LineFault::Write),
-        }
+        written(receive(&mut self.exchange, line, octets, target, page))
     }
 
     /// A frame comes from a line. At a card for octets the terminal of the line sends it, up to and with the last bit of its
@@ -119,10 +116,7 @@ impl Setup {
             → Obeys result (output (T.taken target.old) page.old.items) (output (T.taken target.new) page.new.items) (Stands self.new) (with_card (meaning.into line frame.now) (scene m)) }
     {
         let line = self.line(line)?;
-        match self.exchange.frame(line, frame, target, page) {
-            Ok(()) => Ok(()),
-            Err(WriteFailed) => Err(LineFault::Write),
-        }
+        written(self.exchange.frame(line, frame, target, page))
     }
 
     /// The controller of a line tells a fault in place of a frame.
@@ -138,10 +132,7 @@ impl Setup {
     {
         self.for_kind(CardKind::Frames)?;
         let line = self.line(line)?;
-        match self.exchange.failed(line, fault, target, page) {
-            Ok(()) => Ok(()),
-            Err(WriteFailed) => Err(LineFault::Write),
-        }
+        written(self.exchange.failed(line, fault, target, page))
     }
 
     /// A line takes the next frame, which is put into the beginning of `room`.
@@ -159,10 +150,7 @@ impl Setup {
         self.for_kind(CardKind::Frames)?;
         let line = self.line(line)?;
         let next = self.exchange.next(line, room);
-        match tell_next(line, next, room, target, page) {
-            Ok(()) => Ok(()),
-            Err(WriteFailed) => Err(LineFault::Write),
-        }
+        written(tell_next(line, next, room, target, page))
     }
 
     fn send<T: Target>(
@@ -180,17 +168,8 @@ impl Setup {
         if frame.len() < SHORTEST_FRAME || frame.len() > LONGEST_FRAME {
             return Err(LineFault::Faulty(FaultKind::BadFrame));
         }
-        match send(
-            &mut self.terminals[line],
-            frame,
-            &mut self.exchange,
-            line,
-            target,
-            page,
-        ) {
-            Ok(()) => Ok(()),
-            Err(WriteFailed) => Err(LineFault::Write),
-        }
+        let terminal = &mut self.terminals[line];
+        written(send(terminal, frame, &mut self.exchange, line, target, page))
     }
 
     /// A line takes so many octets, which are put into the beginning of `room`.
@@ -210,10 +189,7 @@ impl Setup {
         let line = self.line(line)?;
         let octets = &mut room[..count];
         pull(&mut self.exchange, line, octets);
-        match tell(&mut self.listeners[line], line, octets, target, page) {
-            Ok(()) => Ok(()),
-            Err(WriteFailed) => Err(LineFault::Write),
-        }
+        written(tell(&mut self.listeners[line], line, octets, target, page))
     }
 
     /// Layer 3 asks for something, with the octets that it carries.
@@ -230,13 +206,8 @@ impl Setup {
             → Obeys result (output (T.taken target.old) page.old.items) (output (T.taken target.new) page.new.items) (Stands self.new) (with_card (meaning.ask line tei what octets.now) (scene m)) }
     {
         let line = self.line(line)?;
-        match self
-            .exchange
-            .ask(line, request_for(what, tei, octets), target, page)
-        {
-            Ok(()) => Ok(()),
-            Err(WriteFailed) => Err(LineFault::Write),
-        }
+        let request = request_for(what, tei, octets);
+        written(self.exchange.ask(line, request, target, page))
     }
 
     /// So many milliseconds pass.
@@ -269,10 +240,7 @@ impl Setup {
         ensures { (m : machine.Setup) → Stands self.old m
             → Obeys result (output (T.taken target.old) page.old.items) (output (T.taken target.new) page.new.items) (Stands self.new) (with_card meaning.stored (scene m)) }
     {
-        match self.exchange.show_stored(target, page) {
-            Ok(()) => Ok(()),
-            Err(WriteFailed) => Err(LineFault::Write),
-        }
+        written(self.exchange.show_stored(target, page))
     }
 
     /// Shows what was counted of a line.
@@ -286,9 +254,6 @@ impl Setup {
             → Obeys result (output (T.taken target.old) page.old.items) (output (T.taken target.new) page.new.items) (Stands self.new) (with_card (meaning.counters line) (scene m)) }
     {
         let line = self.line(line)?;
-        match self.exchange.show_counters(line, target, page) {
-            Ok(()) => Ok(()),
-            Err(WriteFailed) => Err(LineFault::Write),
-        }
+        written(self.exchange.show_counters(line, target, page))
     }
 }

@@ -12,10 +12,11 @@ ghost use Rattle.model_line.specs.Pull.{Taken};
 ghost use Rattle.model_sim.specs.Steps.{after_rx, pulls, next_text};
 ghost use Rattle.lapd_sim.specs.Boards.{IsTaken};
 ghost use Rattle.lapd_sim.specs.Gives.{Gives};
-ghost use Rattle.lapd_sim.specs.Obeyed.{scene, Tells};
+ghost use Rattle.lapd_sim.specs.Obeyed.{scene, written, Tells};
 ghost use Rattle.lapd_sim.specs.Stands.{Holds};
 
 use crate::exchange::Exchange;
+use lapd_script::LineFault;
 use lapd_transcript::{Page, Target, Terminal, WriteFailed, put_frame, put_nothing};
 
 /// Octets come from a line.
@@ -127,5 +128,15 @@ pub(crate) fn tell_next<T: Target>(
     match next {
         Some(count) => put_frame(target, page, line as u16, &room[..count]),
         None => put_nothing(target, page, line as u16),
+    }
+}
+
+/// What a line comes to at which only a write can fail.
+pub(crate) fn written(told: Result<(), WriteFailed>) -> Result<(), LineFault>
+    ensures { result ≡ written told }
+{
+    match told {
+        Ok(()) => Ok(()),
+        Err(WriteFailed) => Err(LineFault::Write),
     }
 }

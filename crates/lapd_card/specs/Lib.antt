@@ -12,7 +12,6 @@ pub mod Stands
 pub mod Start
 pub mod Drive
 pub mod FrameCard
-pub mod FrameLines
 pub mod FrameStands
 pub mod FrameReply
 pub mod FrameDrive

@@ -1,30 +1,60 @@
 -- A law of the machine holds of the events of a card's list, and of every front of it.
-use Rattle.lapd_card.proofs.Vocabulary.{ℕ, ◌<◌, List, take, sym, subst, All-map, All-take, All-weaker, All, Config, IsInRange, Card, fresh, Event, event_of, IsAtLine, AreAtLines, IsSound, reached-sound, Store, Held, line_count, Stands}
+use Rattle.lapd_card.proofs.Vocabulary.{ℕ, ◌<◌, List, [], ◌∷◌, take, refl, sym, subst, All-nil, All-head, All-tail, All-append, All-map, All-take, All-weaker, All, Config, IsInRange, Card, fresh, Event, event_of, IsAtLine, AreAtLines, after_all, IsSound, reached-sound, Happening, events_at, events_of, spelled, AreIdle, IsIdle, all_at, config_stays, Store, HeldOf, Held, line_count, LineKind, StandsOf, Stands, happening_of, all_of}
 use Rattle.model_card.specs.declared.events.Event as rust
-use Rattle.lapd_card.specs.Drive.{line_of, events_of}
+use Rattle.model_card.specs.Happening as happenings
+use Rattle.lapd_card.specs.declared.happenings.Happening as rust_happening
+use Rattle.lapd_card.specs.Drive as octets
+use Rattle.lapd_card.specs.FrameCard as frame_card
+use Rattle.lapd_card.specs.FrameDrive as frames
+use Rattle.lapd_card.specs.FrameStands as frame_stands
+use Rattle.lapd_card.proofs.OneLine.{is_frames, one_holds, line-of, line-there}
 
 -- the events are at lines of the machine
-pub events_at_lines : {S : Type 0} (store : S → Store) (card : Held S) (events : List rust.Event) → All (λ e. line_of e < line_count card) events → (m : Card) → Stands store card m → AreAtLines m (events_of events)
+pub events_at_lines : {S : Type 0} (store : S → Store) (card : Held S) (events : List rust.Event) → All (λ e. octets.line_of e < line_count card) events → (m : Card) → Stands store card m → AreAtLines m (octets.events_of events)
 events_at_lines store card events within m s =
-    All-map (IsAtLine m) event_of events (All-weaker (λ e. line_of e < line_count card) (λ e. IsAtLine m (event_of e)) (λ e below. subst (λ c. line_of e < c.lines) (sym s.config) below) events within)
+    All-map (IsAtLine m) event_of events (All-weaker (λ e. octets.line_of e < line_count card) (λ e. IsAtLine m (event_of e)) (λ e below. subst (λ c. octets.line_of e < c.lines) (sym s.config) below) events within)
 
--- a law of every sound card and list of events holds of them
-pub whole_list : {S : Type 0} (store : S → Store) (card : Held S) (events : List rust.Event) → All (λ e. line_of e < line_count card) events → (P : Card → List Event → Type 0) → ((m : Card) (es : List Event) → IsSound m → AreAtLines m es → P m es) → (m : Card) → Stands store card m → P m (events_of events)
-whole_list store card events within P law m s = law m (events_of events) (reached-sound m s.reached) (events_at_lines store card events within m s)
+-- happenings at lines are events at lines
+pub spelled_at : (m : Card) (hs : List Happening) → All (λ h. happenings.line_of h < m.config.lines) hs → AreAtLines m (spelled m hs)
+spelled_at m [] all = All-nil (IsAtLine m)
+spelled_at m (h ∷ hs) all =
+    let next = after_all m (events_of m h) in
+    let same = config_stays m (events_of m h) in
+    let rest : All (λ x. happenings.line_of x < next.config.lines) hs =
+    subst (λ c. All (λ x. happenings.line_of x < c.lines) hs) (sym same) (All-tail (λ x. happenings.line_of x < m.config.lines) h hs all) in
+    let more : AreAtLines m (spelled next hs) = subst (λ c. All (λ e. e.line < c.lines) (spelled next hs)) same (spelled_at next hs rest) in
+    All-append (IsAtLine m) (events_of m h) (spelled next hs)
+    (all_at m (happenings.line_of h) (events_at m h) (All-head (λ x. happenings.line_of x < m.config.lines) h hs all)) more
 
--- so are those of a front
-front_at_lines : {S : Type 0} (store : S → Store) (card : Held S) (events : List rust.Event) → All (λ e. line_of e < line_count card) events → (m : Card) (count : ℕ) → Stands store card m → AreAtLines m (take count (events_of events))
-front_at_lines store card events within m count s =
-    All-take (IsAtLine m) count (events_of events) (events_at_lines store card events within m s)
+-- the happenings and their events are at lines of the machine
+pub happen_at_lines : {S : Type 0} (store : S → Store) (card : frame_card.Held S) (hs : List rust_happening.Happening) → All (λ h. frames.line_of h < line_count card) hs → (m : Card) → frame_stands.Stands store card m → All (λ h. happenings.line_of h < m.config.lines) (all_of hs)
+happen_at_lines store card hs within m s =
+    All-map (λ h. happenings.line_of h < m.config.lines) happening_of hs
+    (All-weaker (λ h. frames.line_of h < line_count card) (λ h. frames.line_of h < m.config.lines) (λ h below. subst (λ c. frames.line_of h < c.lines) (sym s.config) below) hs within)
 
--- and the law holds of each front
-pub each_front : {S : Type 0} (store : S → Store) (card : Held S) (events : List rust.Event) → All (λ e. line_of e < line_count card) events → (P : Card → List Event → Type 0) → ((m : Card) (es : List Event) → IsSound m → AreAtLines m es → P m es) → (m : Card) (count : ℕ) → Stands store card m → P m (take count (events_of events))
-each_front store card events within P law m count s = law m (take count (events_of events)) (reached-sound m s.reached) (front_at_lines store card events within m count s)
+-- A law of every sound card and list of events holds of those of a list,
+module _ {L S : Type 0} {k : LineKind L} (store : S → Store) (card : HeldOf L S) (list : Card → List Event) (within : (m : Card) → StandsOf k store card m → AreAtLines m (list m)) where
+  pub whole_list : (P : Card → List Event → Type 0) → ((m : Card) (es : List Event) → IsSound m → AreAtLines m es → P m es) → (m : Card) → StandsOf k store card m → P m (list m)
+  whole_list P law m s = law m (list m) (reached-sound m s.reached) (within m s)
 
--- and a law of every sound card and line holds of a line of the card
-pub at_line : {S : Type 0} (store : S → Store) (card : Held S) (line : ℕ) → line < line_count card → (P : Card → Type 0) → ((m : Card) → IsSound m → line < m.config.lines → P m) → (m : Card) → Stands store card m → P m
+  -- of each front,
+  pub each_front : (P : Card → List Event → Type 0) → ((m : Card) (es : List Event) → IsSound m → AreAtLines m es → P m es) → (m : Card) (count : ℕ) → StandsOf k store card m → P m (take count (list m))
+  each_front P law m count s = law m (take count (list m)) (reached-sound m s.reached) (All-take (IsAtLine m) count (list m) (within m s))
+
+  -- and one of a card as it begins of each front there.
+  pub fresh_front : (P : Config → List Event → Type 0) → ((c : Config) (es : List Event) → IsInRange c → AreAtLines (fresh c) es → P c es) → (count : ℕ) → StandsOf k store card (fresh card.config) → P card.config (take count (list (fresh card.config)))
+  fresh_front P law count s = law card.config (take count (list (fresh card.config))) s.reached.config (All-take (IsAtLine (fresh card.config)) count (list (fresh card.config)) (within (fresh card.config) s))
+
+-- a law of every sound card and line holds of a line of the card
+pub at_line : {L S : Type 0} {k : LineKind L} (store : S → Store) (card : HeldOf L S) (line : ℕ) → line < line_count card → (P : Card → Type 0) → ((m : Card) → IsSound m → line < m.config.lines → P m) → (m : Card) → StandsOf k store card m → P m
 at_line store card line within P law m s = law m (reached-sound m s.reached) (subst (λ c. line < c.lines) (sym s.config) within)
 
--- and those of a card as it begins of a front
-pub fresh_front : {S : Type 0} (store : S → Store) (card : Held S) (events : List rust.Event) → All (λ e. line_of e < line_count card) events → (P : Config → List Event → Type 0) → ((c : Config) (es : List Event) → IsInRange c → AreAtLines (fresh c) es → P c es) → (count : ℕ) → Stands store card (fresh card.config) → P card.config (take count (events_of events))
-fresh_front store card events within P law count s = law card.config (take count (events_of events)) s.reached.config (front_at_lines store card events within (fresh card.config) count s)
+-- between happenings the lines of a card for frames are idle
+pub all-idle : {S : Type 0} (store : S → Store) (card : frame_card.Held S) (m : Card) → frame_stands.Stands store card m → AreIdle m
+all-idle store card m s = record {
+  count = (reached-sound m s.reached).count;
+  each = λ number within.
+      let here = subst (λ c. number < c.lines) s.config within in
+      let (x, is) = line-of card.lines number (line-there is_frames store card card number _ (m, s) refl here refl) in
+      one_holds is_frames store card card number x (record { past = (m, s); same = refl; within = here; is = is }) (λ c l. IsIdle l.received) (λ others l stands. stands.idle) m s;
+}

@@ -1,20 +1,12 @@
 -- Lemmas: one line of a card in a call; what drive and frames_drive have done and counted; rooms.
 pub mod Vocabulary
 pub mod OneLine
-pub mod OneFrameLine
-pub mod OneHappening
-pub mod FrameAmounts
-pub mod FrameBegins
-pub mod FrameHeadline
-pub mod FrameTaken
 pub mod OneEvent
-pub mod Taken
-pub mod Counting
-pub mod FrameCounting
 pub mod Begins
-pub mod Amounts
 pub mod Headline
 pub mod AnswerLaws
+pub mod Amounts
+pub mod OneHappening
+pub mod Counting
+pub mod Taken
 pub mod Keeping
-pub mod RoomOfCard
-pub mod RoomOfFrames

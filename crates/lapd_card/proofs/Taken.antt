@@ -1,12 +1,11 @@
--- A list of events, event by event, and what a sink has taken of it.
-use Rattle.lapd_card.proofs.Vocabulary.{◌≡◌, ℕ, ◌+◌, zero, suc, List, [], ◌∷◌, ◌++◌, map, take, refl, sym, ap, subst, ◌∙◌, Some, slice_get, arith, false≢true, none-some, same_Some, is_err, OnOk, fold-append, Answer, Card, event_of, one_more, run, Held, Stands, Leads, Store}
+-- A list of events or happenings, one by one, and what a sink has taken of it.
+use Rattle.lapd_card.proofs.Vocabulary.{◌≡◌, ℕ, ◌+◌, zero, suc, List, [], ◌∷◌, ◌++◌, map, take, refl, sym, ap, subst, ◌∙◌, Some, slice_get, arith, false≢true, none-some, same_Some, is_err, OnOk, append-nil, fold-append, Card, Event, one_more, run, moments, moment_of, moment_counted, all_counted, run_is_moments, after_all, Happening, events_of, spelled, said, replies, after_all-append, Counters, happening_counted, happenings_counted, after_happenings, Taken}
 use Rattle.std.specs.Prelude.{Result, Ok, Err, OnErr, true, false}
-use Rattle.model_card.specs.declared.events.Event as rust
-use Rattle.model_card.specs.Machine.{answer}
-use Rattle.lapd_card.specs.Drive.{events_of, Taken, MissesReply, MissesAt}
+use Rattle.model_card.specs.Happening as happenings
+use Rattle.lapd_card.proofs.Counting.{moments-more}
 
 -- one reply more
-Taken-more : {K : Type 0} (takes : K → ℕ → Answer → K → Type 0) (old mid new : K) (replies : List (ℕ × Answer)) (line : ℕ) (reply : Answer) → Taken takes old replies mid → takes mid line reply new → Taken takes old (replies ++ (line, reply) ∷ []) new
+pub Taken-more : {R K : Type 0} (takes : K → ℕ → R → K → Type 0) (old mid new : K) (replies : List (ℕ × R)) (line : ℕ) (reply : R) → Taken takes old replies mid → takes mid line reply new → Taken takes old (replies ++ (line, reply) ∷ []) new
 Taken-more takes old mid new [] line reply taken took = (new, subst (λ k. takes k line reply new) taken took, refl)
 Taken-more takes old mid new ((l, r) ∷ replies) line reply (next, first, rest) took = (next, first, Taken-more takes next mid new replies line reply rest took)
 
@@ -27,22 +26,49 @@ one-at f [] at x is = absurd (none-some x is)
 one-at f (y ∷ ys) zero x is = ap (λ z. Some (f z)) (same_Some y x is)
 one-at f (y ∷ ys) (suc at) x is = one-at f ys at x is
 
--- and its run goes one event further
-pub run-more : (m : Card) (events : List rust.Event) (at : ℕ) (e : rust.Event) → slice_get events at ≡ Some e → run m (take (at + 1) (events_of events)) ≡ one_more (run m (take at (events_of events))) (event_of e)
-run-more m events at e is = ap (run m) (one-more event_of events at e is) ∙ fold-append one_more (record { card = m; replies = [] }) (take at (events_of events)) (event_of e ∷ [])
+-- so what is said of a list goes one further
+pub one-further : {X Y Z : Type 0} (of : X → Y) (f : List Y → Z) (step : List Y → Y → Z) → ((ys : List Y) (y : Y) → f (ys ++ y ∷ []) ≡ step ys y)
+    → (xs : List X) (at : ℕ) (x : X) → slice_get xs at ≡ Some x → f (take (at + 1) (map of xs)) ≡ step (take at (map of xs)) (of x)
+one-further of f step more xs at x is = ap f (one-more of xs at x is) ∙ more (take at (map of xs)) (of x)
 
-pub ran-more : {S : Type 0} (store : S → Store) (m : Card) (events : List rust.Event) (at : ℕ) (e : rust.Event) (mid new : Held S) → slice_get events at ≡ Some e → Leads store (event_of e) mid new → Stands store mid (run m (take at (events_of events))).card → Stands store new (run m (take (at + 1) (events_of events))).card
-ran-more store m events at e mid new is leads ran = subst (λ r. Stands store new r.card) (sym (run-more m events at e is)) (leads.stands _ ran)
+-- a run with one event more, and what it counts
+pub run-more : (m : Card) (es : List Event) (e : Event) → run m (es ++ e ∷ []) ≡ one_more (run m es) e
+run-more m es e = fold-append one_more (record { card = m; replies = [] }) es (e ∷ [])
 
-pub taken-more : {K : Type 0} (takes : K → ℕ → Answer → K → Type 0) (m : Card) (events : List rust.Event) (at : ℕ) (e : rust.Event) (old mid new : K) → slice_get events at ≡ Some e → takes mid (event_of e).line (answer (event_of e) (run m (take at (events_of events))).card) new → Taken takes old (run m (take at (events_of events))).replies mid → Taken takes old (run m (take (at + 1) (events_of events))).replies new
-taken-more takes m events at e old mid new is took taken = subst (λ r. Taken takes old r.replies new) (sym (run-more m events at e is)) (Taken-more takes old mid new _ _ _ taken took)
+pub moments-count : (all : List Counters) (m : Card) (es : List Event) (e : Event) → all_counted all (moments m (es ++ e ∷ [])) ≡ moment_counted (all_counted all (moments m es)) (moment_of (run m es).card e)
+moments-count all m es e =
+    ap (all_counted all) (moments-more m es e)
+    ∙ fold-append moment_counted all (moments m es) (moment_of (after_all m es) e ∷ [])
+    ∙ ap (λ card. moment_counted (all_counted all (moments m es)) (moment_of card e)) (sym (run_is_moments.card m es))
 
-pub missed-at : {K : Type 0} (takes misses : K → ℕ → Answer → K → Type 0) (m : Card) (events : List rust.Event) (at : ℕ) (e : rust.Event) (old mid new : K) → slice_get events at ≡ Some e → misses mid (event_of e).line (answer (event_of e) (run m (take at (events_of events))).card) new → Taken takes old (run m (take at (events_of events))).replies mid → MissesAt takes misses m (events_of events) at old new
-missed-at takes misses m events at e old mid new is missed taken = record {
-  before = mid;
-  taken = taken;
-  missed = subst (λ o. MissesReply misses (run m (take at (events_of events))).card o mid new) (sym (one-at event_of events at e is)) missed;
-}
+-- a list with one happening more leads there,
+pub after-more : (m : Card) (hs : List Happening) (h : Happening) → after_happenings m (hs ++ h ∷ []) ≡ after_all (after_happenings m hs) (events_of (after_happenings m hs) h)
+unfolding after_all
+after-more m [] h = ap (after_all m) (append-nil (events_of m h))
+after-more m (x ∷ hs) h =
+    let next = after_all m (events_of m x) in
+    after_all-append m (events_of m x) (spelled next (hs ++ h ∷ []))
+    ∙ after-more next hs h
+    ∙ ap (λ c. after_all c (events_of c h)) (sym (after_all-append m (events_of m x) (spelled next hs)))
+
+-- is answered so,
+pub replies-more : (m : Card) (hs : List Happening) (h : Happening) → replies m (hs ++ h ∷ []) ≡ replies m hs ++ (happenings.line_of h, said (after_happenings m hs) h) ∷ []
+unfolding after_all
+replies-more m [] h = refl
+replies-more m (x ∷ hs) h =
+    let next = after_all m (events_of m x) in
+    ap (λ l. (happenings.line_of x, said m x) ∷ l)
+    (replies-more next hs h ∙ ap (λ c. replies next hs ++ (happenings.line_of h, said c h) ∷ []) (sym (after_all-append m (events_of m x) (spelled next hs))))
+
+-- and what it shows is counted
+pub counts-more : (all : List Counters) (m : Card) (hs : List Happening) (h : Happening) → happenings_counted all m (hs ++ h ∷ []) ≡ happening_counted (happenings_counted all m hs) (after_happenings m hs) h
+unfolding after_all
+counts-more all m [] h = refl
+counts-more all m (x ∷ hs) h =
+    let next = after_all m (events_of m x) in
+    let one = happening_counted all m x in
+    counts-more one next hs h
+    ∙ ap (λ c. happening_counted (happenings_counted one next hs) c h) (sym (after_all-append m (events_of m x) (spelled next hs)))
 
 -- what holds where a reply was taken, and where it was not
 pub at_ok : {T E : Type 0} (r : Result T E) (P : Type 0) → is_err r ≡ false → OnOk r P → P

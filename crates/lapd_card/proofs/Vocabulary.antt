@@ -11,16 +11,16 @@ pub use Rattle.std.proofs.lemmas.Result.{IfErr-weaker, IfOk-weaker}
 pub use Rattle.std.specs.List.{All, AllByRecursion, flat_map, sum_by, zip}
 pub use Rattle.std.specs.Option.{option_map_or}
 pub use Rattle.std.specs.Prelude.{OnOk, is_err}
-pub use Rattle.lapd_card.specs.Card.{Held, line_count}
+pub use Rattle.lapd_card.specs.Card.{Held, HeldOf, line_count}
 pub use Rattle.lapd_card.specs.Counted.{counters_in, counters_of, frame_counters_in, frame_counters_of}
 pub use Rattle.lapd_card.specs.FrameCard.{frame_limit, frame_limit_in, room_for_frames}
 pub use Rattle.lapd_card.specs.FrameDrive.{MissesAt, MissesReply, Taken, after_happenings, all_of, happening_of}
-pub use Rattle.lapd_card.specs.FrameLines.{CountsAt, Serve}
 pub use Rattle.lapd_card.specs.Kept.{kept_of}
-pub use Rattle.lapd_card.specs.Lines.{AreFresh, IsFit, IsFresh, Lead, Stand, after_event, line_in, owned, told_at, told_if_at, told_of}
+pub use Rattle.lapd_card.specs.Lines.{AreFresh, IsFit, IsFresh, LineKind, Stand, of_frames, of_octets, owned, told_at, told_if_at, told_of}
 pub use Rattle.lapd_card.specs.Reply.{answer_of_result}
-pub use Rattle.lapd_card.specs.Stands.{HasPast, Leads, Stands}
-pub use Rattle.lapd_card.specs.Start.{is_too_small}
+pub use Rattle.lapd_card.specs.Stands.{HasPast, HasPastOf, Leads, LeadsOf, Stands, StandsOf}
+pub use Rattle.lapd_card.specs.Start.{fault_by, is_too_small, start_fault}
+pub use Rattle.lapd_card.specs.declared.fault.CardFault.TheVariants.{BadConfig, ShelfTooSmall}
 pub use Rattle.lapd_card.specs.declared.happenings.Happening.TheVariants.{Comes}
 pub use Rattle.lapd_card.specs.declared.kept.KeptReply.{KeptReply}
 pub use Rattle.lapd_count.proofs.Numbers.{counters_are_numbers}
@@ -30,8 +30,7 @@ pub use Rattle.lapd_frame.specs.declared.refusals.Refusal.{Refusal}
 pub use Rattle.lapd_frame.specs.declared.refusals.Refusal.TheVariants.{PoolFull}
 pub use Rattle.lapd_frame.specs.declared.services.Service.{Service}
 pub use Rattle.lapd_frame.specs.declared.timers.Timer.{Timer}
-pub use Rattle.lapd_line.proofs.FrameStood.{stands_on}
-pub use Rattle.lapd_line.proofs.Stood.{held_of, octets-pairs, slots-pairs}
+pub use Rattle.lapd_line.proofs.Stood.{held_of, octets-pairs, slots-pairs, stands_on}
 pub use Rattle.lapd_line.specs.FrameStands.{IsNext, config_of}
 pub use Rattle.lapd_line.specs.Reports.{report_told, told_if}
 pub use Rattle.lapd_line.specs.Stands.{latest_frame, pairs_of}
@@ -98,6 +97,7 @@ pub use Rattle.model_line.specs.Stored.{held_in, held_received, held_sent, octet
 pub use Rattle.model_line.specs.Whole.{IsIdle, came, cause_of, fault_octets, line_octets}
 pub use Rattle.model_line.specs.WholeAtLine.{after_events, of_heard, pulls_for}
 pub use Rattle.model_line.specs.declared.config.Config.{Config}
+pub use Rattle.model_line.specs.declared.config.Field.{Field}
 pub use Rattle.model_line.specs.declared.faults.Fault.{Fault}
 pub use Rattle.model_link.specs.Told.{starts}
 pub use Rattle.model_link.specs.declared.rooms.Room.{Room}

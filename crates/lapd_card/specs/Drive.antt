@@ -21,9 +21,9 @@ abbrev pub events_of : List rust.Event → List Event
 events_of events = map event_of events
 
 -- A sink has taken these replies, one after the other.
-abbrev pub Taken : {K : Type 0} → (K → ℕ → Answer → K → Type 0) → K → List (ℕ × Answer) → K → Type 0
+abbrev pub Taken : {R K : Type 0} → (K → ℕ → R → K → Type 0) → K → List (ℕ × R) → K → Type 0
 Taken takes old [] new = new ≡ old
-Taken {K} takes old ((line, reply) ∷ replies) new = (next : K) × takes old line reply next × Taken takes next replies new
+Taken {R} {K} takes old ((line, reply) ∷ replies) new = (next : K) × takes old line reply next × Taken takes next replies new
 
 -- It has taken the replies to the events before one, and has missed the reply to that event.
 abbrev pub MissesReply : {K : Type 0} → (K → ℕ → Answer → K → Type 0) → Card → Option Event → K → K → Type 0

@@ -1,28 +1,18 @@
 -- What a card for frames holds.
-use Rattle.std.specs.Prelude.{◌≡◌, ℕ, ◌+◌, ◌*◌, List, refl}
-use Rattle.std.specs.Coded.{Coded, code_by, coded×, coded_list}
+use Rattle.std.specs.Prelude.{◌≡◌, ℕ, ◌+◌, ◌*◌, refl}
+use Rattle.std.specs.Coded.{Coded}
 use Rattle.lapd_frame.specs.declared.addresses.Side.TheVariants.{Network}
 use Rattle.model_line.specs.declared.config.Config.{Config}
-use Rattle.model_line.specs.contracts.config.Config as config
 use Rattle.lapd_line.specs.declared.frame_line.FrameLine.{FrameLine}
 use Rattle.lapd_line.specs.contracts.frame_line.FrameLine as line
+use Rattle.lapd_card.specs.Card.{HeldOf, code_of}
+pub use Rattle.lapd_card.specs.Card.{line_count}
 
-pub record Held (S : Type 0) : Type 0 where
-  pub config : Config
-  pub lines : List FrameLine
-  pub shelf : S
+abbrev pub Held : Type 0 → Type 0
+Held S = HeldOf FrameLine S
 
--- the same as the tuple of its fields
 abbrev pub held_code : {S : Type 0} → Coded S → Coded (Held S)
-held_code {S} shelf =
-    code_by (Config × (List FrameLine × S))
-    (coded× config.the_row.coded (coded× (coded_list line.the_row.coded) shelf))
-    (λ h. (h.config, (h.lines, h.shelf)))
-    (λ p. record { config = p.0; lines = p.1.0; shelf = p.1.1 })
-    (λ _. refl)
-
-abbrev pub line_count : {S : Type 0} → Held S → ℕ
-line_count card = card.config.lines
+held_code shelf = code_of line.the_row.coded shelf
 
 -- Room for every frame of the card: a header, and N201 octets.
 abbrev pub room_for_frames : {S : Type 0} → Held S → ℕ

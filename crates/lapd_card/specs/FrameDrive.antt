@@ -1,5 +1,5 @@
 -- Whole lists of happenings at a card for frames, and what a sink takes of them.
-use Rattle.std.specs.Prelude.{◌≡◌, ℕ, List, [], ◌∷◌, map, take, slice_get, Option, Some, None}
+use Rattle.std.specs.Prelude.{ℕ, List, map, take, slice_get, Option, Some, None}
 use Rattle.model_line.specs.Request.{request_of}
 use Rattle.model_card.specs.Card.{Card}
 use Rattle.model_card.specs.Run.{after_all}
@@ -7,6 +7,7 @@ use Rattle.model_card.specs.Happening as happenings
 use Rattle.model_card.specs.Happening.{Happening, spelled}
 use Rattle.model_card.specs.Said.{Said, said, replies}
 use Rattle.lapd_card.specs.declared.happenings.Happening as rust
+pub use Rattle.lapd_card.specs.Drive.{Taken}
 
 -- A happening, its octets and contents seen without references.
 abbrev pub happening_of : rust.Happening → Happening
@@ -25,11 +26,6 @@ all_of hs = map happening_of hs
 -- The card after a list of happenings.
 abbrev pub after_happenings : Card → List Happening → Card
 after_happenings m hs = after_all m (spelled m hs)
-
--- A sink has taken these replies, one after the other.
-abbrev pub Taken : {K : Type 0} → (K → ℕ → Said → K → Type 0) → K → List (ℕ × Said) → K → Type 0
-Taken takes old [] new = new ≡ old
-Taken {K} takes old ((line, reply) ∷ replies) new = (next : K) × takes old line reply next × Taken takes next replies new
 
 -- It has taken the replies to the happenings before one, and has missed the reply to that.
 abbrev pub MissesReply : {K : Type 0} → (K → ℕ → Said → K → Type 0) → Card → Option Happening → K → K → Type 0

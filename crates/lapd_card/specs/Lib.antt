@@ -13,7 +13,6 @@ pub mod Stands
 pub mod Start
 pub mod Drive
 pub mod FrameCard
-pub mod FrameLines
 pub mod FrameStands
 pub mod FrameReply
 pub mod FrameDrive

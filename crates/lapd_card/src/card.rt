@@ -1,20 +1,24 @@
 //! The card: one call an event.
 
-ghost use Rattle.std.specs.Prelude.{◌≡◌, ◌≤◌, ◌<◌, Some, None, IsSome, IfOk, IfErr, OnErr};
+ghost use Rattle.std.specs.Prelude.{◌≡◌, ◌≤◌, ◌<◌, Some, None, IsSome, IfOk, IfErr, OnErr, get_or};
+ghost use Rattle.lapd_count.specs.Counters.{none_counted};
+ghost use Rattle.model_card.specs.Begun.{head_begun_at};
 ghost use Rattle.model_card.specs.ByEvent.{RisesByOctet, RisesByExpiry, RisesByRequest, FallsByPull};
 ghost use Rattle.model_card.specs.Card as machine;
 ghost use Rattle.model_card.specs.Event.{at};
 ghost use Rattle.model_card.specs.Counts.{may_send};
 ghost use Rattle.model_card.specs.Machine.{after, answer};
+ghost use Rattle.model_card.specs.Room.{room, RefusesBy};
 ghost use Rattle.model_line.specs.Event as line_event;
 ghost use Rattle.model_link.specs.Told.{starts};
 ghost use Rattle.model_line.specs.Refusal.{refusal};
 ghost use Rattle.model_line.specs.Request.{request_of};
 
-use crate::lines::Lines;
+use lapd_count::Counters;
 use lapd_frame::{Refusal, Service, Timer};
-use lapd_line::{BareReport, Config, Pulled, Report, Request};
+use lapd_line::{BareReport, Config, Line, Pulled, Report, Request, Room};
 use lapd_store::Shelf;
+use model_bits::Head;
 use std::marker::Model;
 
 /// A line card over a shelf for the contents that wait.
@@ -24,7 +28,7 @@ use std::marker::Model;
 #[derive(Debug, Drop)]
 pub struct Card<S: Shelf> {
     pub(crate) config: Config,
-    pub(crate) lines: Lines,
+    pub(crate) lines: Vec<Line>,
     pub(crate) shelf: S,
 }
 
@@ -37,9 +41,9 @@ impl<S: Shelf> Model for Card<S> {
 
     ghost use Rattle.lapd_card.specs.Stands.{HasPast};
 
-    ghost view = { λ a. record { config = a.config; lines = a.lines; shelf = a.shelf } };
+    ghost view = { λ a. record { config = a.config; lines = a.lines.items; shelf = a.shelf } };
 
-    ghost invariant = { λ a. HasPast S.store (record { config = a.config; lines = a.lines; shelf = a.shelf }) };
+    ghost invariant = { λ a. HasPast S.store (record { config = a.config; lines = a.lines.items; shelf = a.shelf }) };
 }
 
 impl<S: Shelf> Card<S> {
@@ -47,6 +51,7 @@ impl<S: Shelf> Card<S> {
     ghost use Rattle.std.specs.Io.BufRead.{Rests};
     ghost use Rattle.lapd_card.specs.contracts.card.Card.{the_row};
     ghost use Rattle.lapd_card.specs.Card.{line_count};
+    ghost use Rattle.lapd_card.specs.Counted.{counters_in};
     ghost use Rattle.lapd_card.specs.Lines.{told_at, told_if_at};
     ghost use Rattle.lapd_card.specs.Reply.{answer_of_result};
     ghost use Rattle.lapd_card.specs.Stands.{Stands, Leads};
@@ -87,7 +92,7 @@ impl<S: Shelf> Card<S> {
         ensures after { Leads S.store (at line (line_event.octet octet)) self.old self.new }
         ensures frames { (m : machine.Card) → Stands S.store self.old m → RisesByOctet line octet m }
     {
-        self.lines.hear(line, octet, &mut self.shelf)
+        self.lines[line].hear(octet, &mut self.shelf)
     }
 
     /// The report of what the latest octet of a line led to. Contents that it delivered are lent until the card's next event.
@@ -97,7 +102,7 @@ impl<S: Shelf> Card<S> {
         requires { line < line_count self.now }
         ensures { report_told result ≡ told_at self.now.lines line bare.now }
     {
-        self.lines.lend(line, bare)
+        self.lines[line].lend(bare)
     }
 
     /// A timer of a line expired. One that does not run has no effect, and nothing is reported.
@@ -111,7 +116,7 @@ impl<S: Shelf> Card<S> {
         // What may be sent rises by k + 1 where the timer was running, else by nothing.
         ensures frames { (m : machine.Card) → Stands S.store self.old m → RisesByExpiry line timer m }
     {
-        self.lines.expire(line, timer, &mut self.shelf)
+        self.lines[line].expire(timer, &mut self.shelf)
     }
 
     /// Serves a request of layer 3 or management at a line. One that is refused changes nothing, on this line or any other.
@@ -133,7 +138,7 @@ impl<S: Shelf> Card<S> {
         // What may be sent rises by one where it is accepted, else by nothing.
         ensures frames { (m : machine.Card) → Stands S.store self.old m → RisesByRequest line (request_of request.entry) m }
     {
-        self.lines.request(line, request, &mut self.shelf, u32::from(self.config.slots))
+        self.lines[line].request(request, &mut self.shelf, u32::from(self.config.slots))
     }
 
     /// Gives the next octet of a line, low bit first. Where fewer than eight bits are left to send, the frame that is next
@@ -146,7 +151,7 @@ impl<S: Shelf> Card<S> {
         // Where it begins a frame, what may be sent falls by one or two; else it stays.
         ensures frames { (m : machine.Card) → Stands S.store self.old m → FallsByPull line m }
     {
-        self.lines.pull(line, &mut self.shelf)
+        self.lines[line].pull(&mut self.shelf)
     }
 
     /// The state of the link of a service with this TEI, by its number in Q.921: 4 to 8. None where the card has no such
@@ -155,10 +160,47 @@ impl<S: Shelf> Card<S> {
         ensures { (m : machine.Card) → Stands S.store self.now m → result ≡ machine.state line service tei m }
     {
         if line < self.lines() {
-            self.lines.state(line, service, tei)
+            self.lines[line].state(service, tei)
         } else {
             None
         }
+    }
+
+    /// How much room the link of a service with this TEI has for contents: the places of its queue that are left, and the
+    /// slots that are free for all; and its V(A). Whoever was refused for want of room asks again once there is some. Each
+    /// contents that is acknowledged gives its place and its slot back, and moves V(A) on by one.
+    ///
+    /// # Errors
+    ///
+    /// There is no such link: `BadTei` where the TEI is over 126, `NoLink` where it is not on the line.
+    pub fn room(&self, line: usize, service: Service, tei: u8) -> Result<Room, Refusal>
+        requires { line < line_count self.now }
+        ensures told { (m : machine.Card) → Stands S.store self.now m → result ≡ room line service tei m }
+        // In state 7 or 8 a request to send contents that are not too long is refused for a full queue exactly where no place
+        // is left, and else for a full pool exactly where no slot is.
+        ensures refuses { (m : machine.Card) → Stands S.store self.now m
+            → IfOk result (λ room. RefusesBy room line service tei m) }
+    {
+        self.lines[line].room(service, tei, &self.shelf, u32::from(self.config.slots))
+    }
+
+    /// How the frame that a pull of the line began last begins, and how long it is; none where none was begun yet. After a
+    /// pull that has begun a frame it is that frame (`latest_is_begun` of `model_line`), until a pull begins another.
+    pub fn begun(&self, line: usize) -> Option<Head>
+        requires { line < line_count self.now }
+        ensures { (m : machine.Card) → Stands S.store self.now m → result ≡ head_begun_at line m }
+    {
+        self.lines[line].begun()
+    }
+
+    /// What was counted of a line since the card's start: frames and octets each way, drops by their causes, what was told, and
+    /// what was lost. A request that is refused is not counted. All memory for it was taken at the start, and none of it is among the
+    /// octets that [`Card::stored`] tells.
+    pub fn counters(&self, line: usize) -> &Counters
+        requires { line < line_count self.now }
+        ensures { result.now ≡ get_or (counters_in self.now.lines) line none_counted }
+    {
+        self.lines[line].counters()
     }
 
     fn report(&self, line: usize, bare: &Option<BareReport>) -> Report<'_>

@@ -1,8 +1,10 @@
 //! The card for frames: one call a happening.
 
-ghost use Rattle.std.specs.Prelude.{◌≡◌, ◌+◌, ◌≤◌, ◌<◌, ◌↔◌, length, drop, sum_by, Some, None, IfOk, IfErr, IfSome, IfNone, Err, IsErr, IsOkUnless, OnOk, OnErr};
+ghost use Rattle.std.specs.Prelude.{◌≡◌, ◌+◌, ◌≤◌, ◌<◌, ◌↔◌, length, drop, sum_by, Some, None, IfOk, IfErr, IfSome, IfNone, Err, IsErr, IsOkUnless, OnOk, OnErr, get_or};
+ghost use Rattle.lapd_count.specs.Counters.{none_counted};
 ghost use Rattle.model_card.specs.ByEvent.{ArePriced, RisesByExpiry, RisesByRequest};
 ghost use Rattle.model_card.specs.Card as machine;
+ghost use Rattle.model_card.specs.Room.{room, RefusesBy};
 ghost use Rattle.model_card.specs.Stored.{stored, limit};
 ghost use Rattle.model_line.specs.Event.{told};
 ghost use Rattle.model_line.specs.Pull.{taken};
@@ -15,10 +17,10 @@ ghost use Rattle.model_card.specs.Said.{says, said};
 ghost use Rattle.lapd_line.specs.FrameStands.{IsNext, written};
 ghost use Rattle.lapd_line.specs.Reports.{report_told};
 
-use crate::frame_lines::FrameLines;
-use crate::frame_stored::frame_limit;
+use crate::stored::frame_limit;
+use lapd_count::Counters;
 use lapd_frame::{Refusal, Service, Timer};
-use lapd_line::{Config, NextFrame, Report, Request};
+use lapd_line::{Config, FrameLine, NextFrame, Report, Request, Room};
 use lapd_store::Shelf;
 use model_line::Fault;
 use std::marker::Model;
@@ -41,7 +43,7 @@ pub struct RoomTooSmall {
 #[derive(Debug, Drop)]
 pub struct FrameCard<S: Shelf> {
     pub(crate) config: Config,
-    pub(crate) lines: FrameLines,
+    pub(crate) lines: Vec<FrameLine>,
     pub(crate) shelf: S,
 }
 
@@ -54,12 +56,13 @@ impl<S: Shelf> Model for FrameCard<S> {
 
     ghost use Rattle.lapd_card.specs.FrameStands.{HasPast};
 
-    ghost view = { λ a. record { config = a.config; lines = a.lines; shelf = a.shelf } };
+    ghost view = { λ a. record { config = a.config; lines = a.lines.items; shelf = a.shelf } };
 
-    ghost invariant = { λ a. HasPast S.store (record { config = a.config; lines = a.lines; shelf = a.shelf }) };
+    ghost invariant = { λ a. HasPast S.store (record { config = a.config; lines = a.lines.items; shelf = a.shelf }) };
 }
 
 impl<S: Shelf> FrameCard<S> {
+    ghost use Rattle.lapd_card.specs.Counted.{frame_counters_in};
     ghost use Rattle.lapd_card.specs.FrameCard.{line_count, room_for_frames, frame_limit};
     ghost use Rattle.lapd_card.specs.FrameStands.{Stands, Leads};
     ghost use Rattle.lapd_card.specs.Reply.{answer_of_result};
@@ -90,7 +93,7 @@ impl<S: Shelf> FrameCard<S> {
         // What may be sent rises by two at most for the frame, and by k more where that is an REJ with a valid N(R).
         ensures frames { (m : machine.Card) → Stands S.store self.old m → ArePriced m (events_of m (comes line octets.now)) }
     {
-        self.lines.frame(line, octets, &mut self.shelf)
+        self.lines[line].frame(octets, &mut self.shelf)
     }
 
     /// The controller of a line told a fault in place of a frame. It is reported with its cause and counted, and has
@@ -101,7 +104,7 @@ impl<S: Shelf> FrameCard<S> {
             → says (told (report_told result)) ≡ said m (failed line fault) }
         ensures after { Leads S.store (failed line fault) self.old self.new }
     {
-        self.lines.failed(line, fault)
+        self.lines[line].failed(fault)
     }
 
     /// Writes the next frame to be sent on a line in front of `out`, from its address to its information, without its check:
@@ -146,7 +149,7 @@ impl<S: Shelf> FrameCard<S> {
         ensures length { length out.new ≡ length out.old }
         ensures after { Leads S.store (goes line) self.old self.new }
     {
-        self.lines.next_frame(line, out, &mut self.shelf)
+        self.lines[line].next_frame(out, &mut self.shelf)
     }
 
     /// A timer of a line expired. One that does not run has no effect, and nothing is reported.
@@ -160,7 +163,7 @@ impl<S: Shelf> FrameCard<S> {
         // What may be sent rises by k + 1 where the timer was running, else by nothing.
         ensures frames { (m : machine.Card) → Stands S.store self.old m → RisesByExpiry line timer m }
     {
-        self.lines.expire(line, timer, &mut self.shelf)
+        self.lines[line].expire(timer, &mut self.shelf)
     }
 
     /// Serves a request of layer 3 or management at a line. One that is refused changes nothing, on this line or any other.
@@ -182,7 +185,7 @@ impl<S: Shelf> FrameCard<S> {
         // What may be sent rises by one where it is accepted, else by nothing.
         ensures frames { (m : machine.Card) → Stands S.store self.old m → RisesByRequest line (request_of request.entry) m }
     {
-        self.lines.request(line, request, &mut self.shelf, u32::from(self.config.slots))
+        self.lines[line].request(request, &mut self.shelf, u32::from(self.config.slots))
     }
 
     /// The state of the link of a service with this TEI, by its number in Q.921: 4 to 8. None where the card has no such
@@ -191,10 +194,34 @@ impl<S: Shelf> FrameCard<S> {
         ensures { (m : machine.Card) → Stands S.store self.now m → result ≡ machine.state line service tei m }
     {
         if line < self.lines() {
-            self.lines.state(line, service, tei)
+            self.lines[line].state(service, tei)
         } else {
             None
         }
+    }
+
+    /// How much room the link of a service with this TEI has for contents, as [`Card::room`] tells it.
+    ///
+    /// # Errors
+    ///
+    /// There is no such link: `BadTei` where the TEI is over 126, `NoLink` where it is not on the line.
+    pub fn room(&self, line: usize, service: Service, tei: u8) -> Result<Room, Refusal>
+        requires { line < line_count self.now }
+        ensures told { (m : machine.Card) → Stands S.store self.now m → result ≡ room line service tei m }
+        // A request to send contents that are not too long is refused for room exactly by it.
+        ensures refuses { (m : machine.Card) → Stands S.store self.now m
+            → IfOk result (λ room. RefusesBy room line service tei m) }
+    {
+        self.lines[line].room(service, tei, &self.shelf, u32::from(self.config.slots))
+    }
+
+    /// What was counted of a line since the card's start, as [`Card::counters`] has it: a frame as it is heard when it comes, a
+    /// fault under its cause, and a frame that was given as begun.
+    pub fn counters(&self, line: usize) -> &Counters
+        requires { line < line_count self.now }
+        ensures { result.now ≡ get_or (frame_counters_in self.now.lines) line none_counted }
+    {
+        self.lines[line].counters()
     }
 
     /// How many octets the card stores now: of control frames and messages that wait, of assignments that are remembered,
@@ -204,7 +231,11 @@ impl<S: Shelf> FrameCard<S> {
         ensures octets { (m : machine.Card) → Stands S.store self.now m → result + sum_by held_sent m.lines ≡ stored m }
         ensures few { result ≤ frame_limit self.now.config }
     {
-        (self.lines.held() + self.shelf.octets()) as u32
+        let mut held = 0;
+        for line in &self.lines {
+            held += u64::from(line.held());
+        }
+        (held + self.shelf.octets()) as u32
     }
 
     /// How many octets a card of octets with its configuration stores at most: [`crate::limit`].

@@ -22,15 +22,13 @@
 //! }
 //! ```
 //!
-//! - `card`: the card, one call an event.
+//! - `card`: the card, one call an event, and what it tells of a line: a link's state and room, the frame that a pull began,
+//!   what was counted.
 //! - `drive` with `sink` and `replies`: whole lists of events; `kept`: a sink that keeps the replies.
 //! - `start` with `fault`: how a card begins, and why it does not.
-//! - `stored`: how many octets it stores, and how many it may; `rooms`: how many contents more a link takes;
-//!   `begun`: which frame a pull began; `counted`: what was counted of a line.
-//! - `lines`: the lines as one part.
-//! - `frame_card` with `frame_start` and `frame_lines`: [`FrameCard`], a card at whose lines a controller keeps flags, stuffed
-//!   0s and checks, and gives and takes whole frames. What kind a card is, is said at its start and stays.
-//! - `frame_stored`: how many octets such a card may store.
+//! - `stored`: how many octets it stores, and how many a card of either kind may.
+//! - `frame_card`: [`FrameCard`], a card at whose lines a controller keeps flags, stuffed 0s and checks, and gives and takes
+//!   whole frames. What kind a card is, is said at its start and stays.
 //! - `frame_drive` with `happenings`, `frame_sink` and `frame_replies`: whole lists of what happens at such a card.
 //!
 //! What the card does is defined below: a row of a link's tables (by state, in `specs/`) and its notes in
@@ -45,23 +43,16 @@
 //! which the same happens, through C (`tests/c/run`).
 #![tactic(auto)]
 
-mod begun;
 mod card;
-mod counted;
 mod drive;
 mod fault;
 mod frame_card;
 mod frame_drive;
-mod frame_lines;
 mod frame_replies;
 mod frame_sink;
-mod frame_start;
-mod frame_stored;
 mod happenings;
 mod kept;
-mod lines;
 mod replies;
-mod rooms;
 mod sink;
 mod start;
 mod stored;
@@ -71,7 +62,6 @@ pub use fault::CardFault;
 pub use frame_card::{FrameCard, RoomTooSmall};
 pub use frame_replies::{FrameReply, SentFrame};
 pub use frame_sink::FrameSink;
-pub use frame_stored::frame_limit;
 pub use happenings::Happening;
 pub use kept::{Kept, KeptReply};
 pub use lapd_count::{Counter, Counters, Kind, Way};
@@ -82,4 +72,4 @@ pub use model_card::Event;
 pub use model_line::Fault;
 pub use replies::Reply;
 pub use sink::{Sink, SinkFailed, SinkFault};
-pub use stored::limit;
+pub use stored::{frame_limit, limit};

@@ -4,18 +4,21 @@ ghost use Rattle.std.specs.Prelude.{◌≡◌, replicate, IfOk, IfSome, IfNone, 
 ghost use Rattle.model_card.specs.Card as machine;
 ghost use Rattle.lapd_card.specs.declared.fault.CardFault.TheVariants.{OutOfMemory};
 ghost use Rattle.lapd_count.specs.Counters.{none_counted};
-ghost use Rattle.lapd_card.specs.Counted.{counters_in};
+ghost use Rattle.lapd_card.specs.Counted.{counters_in, frame_counters_in};
+ghost use Rattle.lapd_card.specs.Lines.{of_octets, of_frames, AreFresh};
 ghost use Rattle.lapd_card.specs.Start.{start_fault, is_too_small};
-ghost use Rattle.lapd_card.specs.Stands.{Stands};
+ghost use Rattle.model_line.specs.Sound.{IsInRange};
 
 use crate::card::Card;
 use crate::fault::CardFault;
-use crate::lines::Lines;
-use lapd_line::Config;
+use crate::frame_card::FrameCard;
+use lapd_line::{Config, FrameLine, Line, StartFault};
 use lapd_store::Shelf;
 use std::alloc::Global;
 
 impl<S: Shelf> Card<S> {
+    ghost use Rattle.lapd_card.specs.Stands.{Stands};
+
     /// A card with these sizes and limits, over a shelf on which nothing lies. No TEI is on any line.
     ///
     /// # Errors
@@ -31,13 +34,10 @@ impl<S: Shelf> Card<S> {
         ensures fresh { IfOk result (λ card. Stands S.store card (machine.fresh config)) }
         ensures counters { IfOk result (λ card. counters_in card.lines ≡ replicate config.lines none_counted) }
     {
-        if let Some(field) = config.fault() {
-            return Err(CardFault::BadConfig(field));
+        if let Some(fault) = fault_of(&config, &shelf) {
+            return Err(fault);
         }
-        if is_too_small(&config, &shelf) {
-            return Err(CardFault::ShelfTooSmall);
-        }
-        let lines = Lines::start(alloc, &config)?;
+        let lines = lines(alloc, &config)?;
         Ok(Card {
             config,
             lines,
@@ -46,7 +46,77 @@ impl<S: Shelf> Card<S> {
     }
 }
 
-pub(crate) fn is_too_small<S: Shelf>(config: &Config, shelf: &S) -> bool
+impl<S: Shelf> FrameCard<S> {
+    ghost use Rattle.lapd_card.specs.FrameStands.{Stands};
+
+    /// A card for frames with these sizes and limits, over a shelf on which nothing lies, as [`Card::start`] has it.
+    /// No TEI is on any line. That it takes frames is said here, and stays.
+    ///
+    /// # Errors
+    ///
+    /// [`CardFault::BadConfig`] names the first field that is out of range. Else [`CardFault::ShelfTooSmall`] where the
+    /// shelf has fewer slots than `slots`, or they are narrower than `n201`, or any is in use. Else
+    /// [`CardFault::OutOfMemory`] where memory is refused. The shelf is dropped then.
+    pub fn start(alloc: Global, config: Config, shelf: S) -> Result<FrameCard<S>, CardFault>
+        ensures fault { IfSome (start_fault config (S.store shelf)) (λ fault. result ≡ Err fault) }
+        ensures otherwise { IfNone (start_fault config (S.store shelf)) (IsOkUnless result OutOfMemory) }
+        ensures config { IfOk result (λ card. card.config ≡ config) }
+        ensures shelf { IfOk result (λ card. card.shelf ≡ shelf) }
+        ensures fresh { IfOk result (λ card. Stands S.store card (machine.fresh config)) }
+        ensures counters { IfOk result (λ card. frame_counters_in card.lines ≡ replicate config.lines none_counted) }
+    {
+        if let Some(fault) = fault_of(&config, &shelf) {
+            return Err(fault);
+        }
+        let lines = frame_lines(alloc, &config)?;
+        Ok(FrameCard {
+            config,
+            lines,
+            shelf,
+        })
+    }
+}
+
+/// As many lines as the configuration says, each as it begins.
+fn lines(alloc: Global, config: &Config) -> Result<Vec<Line>, StartFault>
+    requires { IsInRange config.now }
+    ensures { IfOk result (λ lines. AreFresh of_octets config.now lines.items) }
+{
+    let count = usize::from(config.lines);
+    let mut lines = Vec::with_capacity(alloc, count).map_err(|_| StartFault::OutOfMemory)?;
+    for _ in 0..count {
+        let line = Line::start(alloc, config)?;
+        lines.push(line).map_err(|_| StartFault::OutOfMemory)?;
+    }
+    Ok(lines)
+}
+
+fn frame_lines(alloc: Global, config: &Config) -> Result<Vec<FrameLine>, StartFault>
+    requires { IsInRange config.now }
+    ensures { IfOk result (λ lines. AreFresh of_frames config.now lines.items) }
+{
+    let count = usize::from(config.lines);
+    let mut lines = Vec::with_capacity(alloc, count).map_err(|_| StartFault::OutOfMemory)?;
+    for _ in 0..count {
+        let line = FrameLine::start(alloc, config)?;
+        lines.push(line).map_err(|_| StartFault::OutOfMemory)?;
+    }
+    Ok(lines)
+}
+
+fn fault_of<S: Shelf>(config: &Config, shelf: &S) -> Option<CardFault>
+    ensures { result ≡ start_fault config.now (S.store shelf.now) }
+{
+    if let Some(field) = config.fault() {
+        return Some(CardFault::BadConfig(field));
+    }
+    if is_too_small(config, shelf) {
+        return Some(CardFault::ShelfTooSmall);
+    }
+    None
+}
+
+fn is_too_small<S: Shelf>(config: &Config, shelf: &S) -> bool
     ensures { result ≡ is_too_small config.now (S.store shelf.now) }
 {
     shelf.slots() < u32::from(config.slots) || shelf.width() < config.n201 || shelf.used() > 0

@@ -1,9 +1,10 @@
-//! How many octets a card stores, and how many it may.
+//! How many octets a card stores, and how many a card of either kind may.
 
 ghost use Rattle.std.specs.Prelude.{◌≡◌};
 ghost use Rattle.model_card.specs.Card as machine;
 ghost use Rattle.model_card.specs.Stored.{stored, limit};
 ghost use Rattle.model_line.specs.Sound.{IsInRange};
+ghost use Rattle.lapd_card.specs.FrameCard.{frame_limit};
 ghost use Rattle.lapd_card.specs.Stands.{Stands};
 
 use crate::card::Card;
@@ -22,13 +23,28 @@ pub fn limit(config: &Config) -> u32
     u32::from(config.lines) * line + u32::from(config.slots) * u32::from(config.n201)
 }
 
+/// The most octets that a card for frames of this configuration stores. The configuration is in range ([`Config::fault`] is
+/// None). It is for each line all control frames, messages and assignments that may wait; and for each slot, N201.
+pub fn frame_limit(config: &Config) -> u32
+    requires { IsInRange config.now }
+    ensures { result ≡ frame_limit config.now }
+{
+    let control = 8 * u32::from(config.control) * u32::from(config.terminals);
+    let line = control + 32 + 12;
+    u32::from(config.lines) * line + u32::from(config.slots) * u32::from(config.n201)
+}
+
 impl<S: Shelf> Card<S> {
     /// How many octets the card stores now: of frames that are received and sent, of control frames and messages that wait,
     /// of assignments that are remembered, and of contents in slots. They are never more than [`limit`] says.
     pub fn stored(&self) -> u32
         ensures { (m : machine.Card) → Stands S.store self.now m → result ≡ stored m }
     {
-        (self.lines.held() + self.shelf.octets()) as u32
+        let mut held = 0;
+        for line in &self.lines {
+            held += u64::from(line.held());
+        }
+        (held + self.shelf.octets()) as u32
     }
 
     /// How many octets the card stores at most, whatever happens: [`limit`] of its configuration.

@@ -14,7 +14,7 @@ use Rattle.laws_card.proofs.FramesAnswered.{polls-answered, commands-answered}
 use Rattle.laws_card.proofs.FramesCount.{are-counted, are-amortised, are-linear}
 use Rattle.laws_card.proofs.FramesGiven.{calls-end, waiting-is-given}
 use Rattle.laws_card.proofs.FramesGo.{gives-what-goes}
-use Rattle.lapd_card.proofs.FrameHeadline.{spelled_at}
+use Rattle.lapd_card.proofs.Headline.{spelled_at}
 use Rattle.laws_promises.specs.FramePromises.{after_front, FramePromises}
 use Rattle.laws_promises.proofs.Kept.{promises-kept}
 

@@ -1,6 +1,6 @@
 -- Hand-written answers for `drive_frames`.
 use Rattle.lapd_card.specs.FrameDrive.{all_of}
-use Rattle.lapd_card.proofs.FrameHeadline.{happen_at_lines, all-idle}
+use Rattle.lapd_card.proofs.Headline.{happen_at_lines, all-idle}
 use Rattle.laws_promises.proofs.FramesKept.{frame-promises-kept}
 use Rattle.laws_promises.proofs.frame_call.drive_frames.Goals as goal
 

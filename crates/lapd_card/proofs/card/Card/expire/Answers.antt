@@ -1,28 +1,27 @@
 -- Hand-written answers for `Card::expire`.
-use Rattle.lapd_card.proofs.Vocabulary.{◌<◌, sym, subst, RisesByExpiry, at, frames_by_event, line_count, Stands, Leads, report_told}
+use Rattle.lapd_card.proofs.Vocabulary.{RisesByExpiry, frames_by_event}
 use Rattle.model_line.specs.Event as line_event
-use Rattle.lapd_card.proofs.AnswerLaws.{starts_one}
+use Rattle.lapd_card.proofs.OneLine.{line-there, one_serves, event_moves, is_octets}
+use Rattle.lapd_card.proofs.OneEvent.{has_room, expiry_takes, past_after, event_leads, event_told}
 use Rattle.lapd_card.proofs.Headline.{at_line}
-use Rattle.lapd_card.proofs.OneEvent.{line-there, event_leads, event_told, past_after, has_room, expiry_takes}
 use Rattle.lapd_card.proofs.card.Card.expire.Goals as goal
 
--- the line is there
-pub expire-requires-clause-within : goal.expire-requires-clause-within
-expire-requires-clause-within g c = line-there g.S.Shelf.store (record { config = c.self.inside.config; lines = c.self.inside.lines; shelf = c.self.inside.shelf }) c.args.line c.self.invariant (subst (λ card. c.args.line < line_count card) (sym c.self.view_is) c.requires)
+pub index_mut-requires : goal.index_mut-requires
+index_mut-requires g c = line-there is_octets g.S.Shelf.store _ c.args.self.now c.args.line _ c.self.invariant c.self.view_is c.requires c.self.inside.lines.ok.0
+
+pub expire-requires : goal.expire-requires
+expire-requires g c = one_serves is_octets g.S.Shelf.store _ c.args.self.now c.args.line c.index_mut.result.now (record { past = c.self.invariant; same = c.self.view_is; within = c.requires; is = c.index_mut.ensures.value })
 
 pub invariant_of-self : goal.invariant_of-self
-invariant_of-self g c = past_after g.S.Shelf.store (at c.args.line (line_event.expiry c.args.timer)) (record { config = c.self.inside.config; lines = c.self.inside.lines; shelf = c.self.inside.shelf }) _ (event_leads g.S.Shelf.store (line_event.expiry c.args.timer) c.args.line (record { config = c.self.inside.config; lines = c.self.inside.lines; shelf = c.self.inside.shelf }) c.expire.new.self c.expire.new.shelf (subst (λ card. c.args.line < line_count card) (sym c.self.view_is) c.requires) (λ m s. has_room (at c.args.line (line_event.expiry c.args.timer)) m (expiry_takes m.config c.args.timer _)) c.expire.ensures.after) c.self.invariant
+invariant_of-self g c =
+    past_after is_octets g.S.Shelf.store _ _ _ c.args.self.now _ c.self.view_is
+    (event_leads is_octets g.S.Shelf.store _ c.args.self.now c.args.line c.index_mut.result.now (record { past = c.self.invariant; same = c.self.view_is; within = c.requires; is = c.index_mut.ensures.value }) (line_event.expiry c.args.timer) _ _ (event_moves _ _ _ _ _ c.expire.ensures.after) (λ m s. has_room c.args.line (line_event.expiry c.args.timer) (expiry_takes c.args.timer) m)) c.self.invariant
 
 pub returns-clause-told : goal.returns-clause-told
-returns-clause-told g c = λ m s. event_told g.S.Shelf.store (line_event.expiry c.args.timer) c.args.line (record { config = c.self.inside.config; lines = c.self.inside.lines; shelf = c.self.inside.shelf }) _ (λ m s. has_room (at c.args.line (line_event.expiry c.args.timer)) m (expiry_takes m.config c.args.timer _)) c.expire.ensures.told m (subst (λ card. Stands g.S.Shelf.store card m) (sym c.self.view_is) s)
+returns-clause-told g c = event_told is_octets g.S.Shelf.store _ c.args.self.now c.args.line c.index_mut.result.now (record { past = c.self.invariant; same = c.self.view_is; within = c.requires; is = c.index_mut.ensures.value }) (line_event.expiry c.args.timer) _ c.expire.ensures.told (λ m s. has_room c.args.line (line_event.expiry c.args.timer) (expiry_takes c.args.timer) m)
 
 pub returns-clause-after : goal.returns-clause-after
-returns-clause-after g c = subst (λ card. Leads g.S.Shelf.store (at c.args.line (line_event.expiry c.args.timer)) card (record { config = c.self.inside.config; lines = c.expire.new.self; shelf = c.expire.new.shelf })) c.self.view_is (event_leads g.S.Shelf.store (line_event.expiry c.args.timer) c.args.line (record { config = c.self.inside.config; lines = c.self.inside.lines; shelf = c.self.inside.shelf }) c.expire.new.self c.expire.new.shelf (subst (λ card. c.args.line < line_count card) (sym c.self.view_is) c.requires) (λ m s. has_room (at c.args.line (line_event.expiry c.args.timer)) m (expiry_takes m.config c.args.timer _)) c.expire.ensures.after)
+returns-clause-after g c = event_leads is_octets g.S.Shelf.store _ c.args.self.now c.args.line c.index_mut.result.now (record { past = c.self.invariant; same = c.self.view_is; within = c.requires; is = c.index_mut.ensures.value }) (line_event.expiry c.args.timer) _ _ (event_moves _ _ _ _ _ c.expire.ensures.after) (λ m s. has_room c.args.line (line_event.expiry c.args.timer) (expiry_takes c.args.timer) m)
 
 pub returns-clause-frames : goal.returns-clause-frames
 returns-clause-frames g c = at_line g.S.Shelf.store c.args.self.now c.args.line c.requires (RisesByExpiry c.args.line c.args.timer) (λ m s w. frames_by_event.expiries m c.args.line c.args.timer s w)
-
-pub returns-clause-starts : goal.returns-clause-starts
-returns-clause-starts g c =
-    starts_one g.S.Shelf.store (record { config = c.self.inside.config; lines = c.self.inside.lines; shelf = c.self.inside.shelf }) c.args.line c.args.timer (report_told c.expire.result)
-    (event_told g.S.Shelf.store (line_event.expiry c.args.timer) c.args.line (record { config = c.self.inside.config; lines = c.self.inside.lines; shelf = c.self.inside.shelf }) _ (λ m s. has_room (at c.args.line (line_event.expiry c.args.timer)) m (expiry_takes m.config c.args.timer _)) c.expire.ensures.told) c.self.invariant

@@ -1,22 +1,27 @@
 -- Hand-written answers for `Card::hear`.
-use Rattle.lapd_card.proofs.Vocabulary.{◌<◌, sym, subst, RisesByOctet, at, frames_by_event, line_count, Stands, Leads}
+use Rattle.lapd_card.proofs.Vocabulary.{RisesByOctet, frames_by_event, ap, refl, ◌∙◌}
 use Rattle.model_line.specs.Event as line_event
+use Rattle.lapd_card.proofs.OneLine.{line-there, one_serves, event_moves, told_if_there, is_octets}
+use Rattle.lapd_card.proofs.OneEvent.{has_room, octet_takes, past_after, event_leads, event_told}
 use Rattle.lapd_card.proofs.Headline.{at_line}
-use Rattle.lapd_card.proofs.OneEvent.{line-there, event_leads, event_told, past_after, has_room, octet_takes}
 use Rattle.lapd_card.proofs.card.Card.hear.Goals as goal
 
--- the line is there
-pub hear-requires-clause-within : goal.hear-requires-clause-within
-hear-requires-clause-within g c = line-there g.S.Shelf.store (record { config = c.self.inside.config; lines = c.self.inside.lines; shelf = c.self.inside.shelf }) c.args.line c.self.invariant (subst (λ card. c.args.line < line_count card) (sym c.self.view_is) c.requires)
+pub index_mut-requires : goal.index_mut-requires
+index_mut-requires g c = line-there is_octets g.S.Shelf.store _ c.args.self.now c.args.line _ c.self.invariant c.self.view_is c.requires c.self.inside.lines.ok.0
+
+pub hear-requires : goal.hear-requires
+hear-requires g c = one_serves is_octets g.S.Shelf.store _ c.args.self.now c.args.line c.index_mut.result.now (record { past = c.self.invariant; same = c.self.view_is; within = c.requires; is = c.index_mut.ensures.value })
 
 pub invariant_of-self : goal.invariant_of-self
-invariant_of-self g c = past_after g.S.Shelf.store (at c.args.line (line_event.octet c.args.octet)) (record { config = c.self.inside.config; lines = c.self.inside.lines; shelf = c.self.inside.shelf }) _ (event_leads g.S.Shelf.store (line_event.octet c.args.octet) c.args.line (record { config = c.self.inside.config; lines = c.self.inside.lines; shelf = c.self.inside.shelf }) c.hear.new.self c.hear.new.shelf (subst (λ card. c.args.line < line_count card) (sym c.self.view_is) c.requires) (λ m s. has_room (at c.args.line (line_event.octet c.args.octet)) m (octet_takes m.config c.args.octet _)) c.hear.ensures.after) c.self.invariant
+invariant_of-self g c =
+    past_after is_octets g.S.Shelf.store _ _ _ c.args.self.now _ c.self.view_is
+    (event_leads is_octets g.S.Shelf.store _ c.args.self.now c.args.line c.index_mut.result.now (record { past = c.self.invariant; same = c.self.view_is; within = c.requires; is = c.index_mut.ensures.value }) (line_event.octet c.args.octet) _ _ (event_moves _ _ _ _ _ c.hear.ensures.after) (λ m s. has_room c.args.line (line_event.octet c.args.octet) (octet_takes c.args.octet) m)) c.self.invariant
 
 pub returns-clause-told : goal.returns-clause-told
-returns-clause-told g c = λ m s. event_told g.S.Shelf.store (line_event.octet c.args.octet) c.args.line (record { config = c.self.inside.config; lines = c.self.inside.lines; shelf = c.self.inside.shelf }) _ (λ m s. has_room (at c.args.line (line_event.octet c.args.octet)) m (octet_takes m.config c.args.octet _)) c.hear.ensures.told m (subst (λ card. Stands g.S.Shelf.store card m) (sym c.self.view_is) s)
+returns-clause-told g c = λ m s. ap line_event.told (told_if_there c.self.inside.lines.items c.args.line c.hear.new.self c.hear.result (line-there is_octets g.S.Shelf.store _ c.args.self.now c.args.line _ c.self.invariant c.self.view_is c.requires refl)) ∙ event_told is_octets g.S.Shelf.store _ c.args.self.now c.args.line c.index_mut.result.now (record { past = c.self.invariant; same = c.self.view_is; within = c.requires; is = c.index_mut.ensures.value }) (line_event.octet c.args.octet) _ c.hear.ensures.told (λ m s. has_room c.args.line (line_event.octet c.args.octet) (octet_takes c.args.octet) m) m s
 
 pub returns-clause-after : goal.returns-clause-after
-returns-clause-after g c = subst (λ card. Leads g.S.Shelf.store (at c.args.line (line_event.octet c.args.octet)) card (record { config = c.self.inside.config; lines = c.hear.new.self; shelf = c.hear.new.shelf })) c.self.view_is (event_leads g.S.Shelf.store (line_event.octet c.args.octet) c.args.line (record { config = c.self.inside.config; lines = c.self.inside.lines; shelf = c.self.inside.shelf }) c.hear.new.self c.hear.new.shelf (subst (λ card. c.args.line < line_count card) (sym c.self.view_is) c.requires) (λ m s. has_room (at c.args.line (line_event.octet c.args.octet)) m (octet_takes m.config c.args.octet _)) c.hear.ensures.after)
+returns-clause-after g c = event_leads is_octets g.S.Shelf.store _ c.args.self.now c.args.line c.index_mut.result.now (record { past = c.self.invariant; same = c.self.view_is; within = c.requires; is = c.index_mut.ensures.value }) (line_event.octet c.args.octet) _ _ (event_moves _ _ _ _ _ c.hear.ensures.after) (λ m s. has_room c.args.line (line_event.octet c.args.octet) (octet_takes c.args.octet) m)
 
 pub returns-clause-frames : goal.returns-clause-frames
 returns-clause-frames g c = at_line g.S.Shelf.store c.args.self.now c.args.line c.requires (RisesByOctet c.args.line c.args.octet) (λ m s w. frames_by_event.octets m c.args.line c.args.octet s w)

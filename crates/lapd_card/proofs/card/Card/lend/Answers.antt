@@ -1,8 +1,13 @@
 -- Hand-written answers for `Card::lend`.
-use Rattle.lapd_card.proofs.Vocabulary.{◌<◌, sym, subst, line_count}
-use Rattle.lapd_card.proofs.OneEvent.{line-there}
+use Rattle.lapd_card.proofs.Vocabulary.{refl, sym, ap, ◌∙◌, told_at}
+use Rattle.lapd_card.proofs.OneLine.{line-there, told_there, is_octets}
 use Rattle.lapd_card.proofs.card.Card.lend.Goals as goal
 
--- the line is there
-pub lend-requires : goal.lend-requires
-lend-requires g c = line-there g.S.Shelf.store (record { config = c.self.inside.config; lines = c.self.inside.lines; shelf = c.self.inside.shelf }) c.args.line c.self.invariant (subst (λ card. c.args.line < line_count card) (sym c.self.view_is) c.requires)
+pub index-requires : goal.index-requires
+index-requires g c = line-there is_octets g.S.Shelf.store _ c.args.self.now c.args.line _ c.self.invariant c.self.view_is c.requires c.self.inside.lines.ok.0
+
+pub returns : goal.returns
+returns g c =
+    c.lend.ensures
+    ∙ sym (told_there c.self.inside.lines.items c.args.line c.index.result.now c.args.bare.now (line-there is_octets g.S.Shelf.store _ c.args.self.now c.args.line _ c.self.invariant c.self.view_is c.requires refl) c.index.ensures)
+    ∙ ap (λ card. told_at card.lines c.args.line c.args.bare.now) c.self.view_is

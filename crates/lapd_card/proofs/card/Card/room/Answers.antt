@@ -1,20 +1,13 @@
 -- Hand-written answers for `Card::room`.
-use Rattle.lapd_card.proofs.Vocabulary.{◌<◌, sym, subst, line_count, Stands}
-use Rattle.lapd_card.proofs.OneEvent.{line-there}
-use Rattle.lapd_card.proofs.RoomOfCard.{room_is, refuses_so}
+use Rattle.lapd_card.proofs.OneLine.{line-there, is_octets}
+use Rattle.lapd_card.proofs.OneEvent.{room_is, refuses_so}
 use Rattle.lapd_card.proofs.card.Card.room.Goals as goal
 
--- the line is there
-pub room-requires : goal.room-requires
-room-requires g c = line-there g.S.Shelf.store (record { config = c.self.inside.config; lines = c.self.inside.lines; shelf = c.self.inside.shelf }) c.args.line c.self.invariant (subst (λ card. c.args.line < line_count card) (sym c.self.view_is) c.requires)
+pub index-requires : goal.index-requires
+index-requires g c = line-there is_octets g.S.Shelf.store _ c.args.self.now c.args.line _ c.self.invariant c.self.view_is c.requires c.self.inside.lines.ok.0
 
 pub returns-clause-told : goal.returns-clause-told
-returns-clause-told g c = λ m s.
-    room_is g.S.Shelf.store c.args.line c.from-slots.result c.args.service c.args.tei (record { config = c.self.inside.config; lines = c.self.inside.lines; shelf = c.self.inside.shelf }) c.room.result
-    c.from-slots.ensures c.room.ensures m (subst (λ card. Stands g.S.Shelf.store card m) (sym c.self.view_is) s)
+returns-clause-told g c = room_is is_octets g.S.Shelf.store _ c.args.self.now c.args.line c.index.result.now (record { past = c.self.invariant; same = c.self.view_is; within = c.requires; is = c.index.ensures }) c.args.service c.args.tei c.from.result c.room.result c.from.ensures c.room.ensures
 
 pub returns-clause-refuses : goal.returns-clause-refuses
-returns-clause-refuses g c = λ m s.
-    refuses_so c.args.line c.args.service c.args.tei m c.room.result
-    (room_is g.S.Shelf.store c.args.line c.from-slots.result c.args.service c.args.tei (record { config = c.self.inside.config; lines = c.self.inside.lines; shelf = c.self.inside.shelf }) c.room.result
-    c.from-slots.ensures c.room.ensures m (subst (λ card. Stands g.S.Shelf.store card m) (sym c.self.view_is) s))
+returns-clause-refuses g c = λ m s. refuses_so c.args.line c.args.service c.args.tei m c.room.result (room_is is_octets g.S.Shelf.store _ c.args.self.now c.args.line c.index.result.now (record { past = c.self.invariant; same = c.self.view_is; within = c.requires; is = c.index.ensures }) c.args.service c.args.tei c.from.result c.room.result c.from.ensures c.room.ensures m s)

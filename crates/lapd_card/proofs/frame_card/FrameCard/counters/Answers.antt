@@ -1,12 +1,10 @@
 -- Hand-written answers for `FrameCard::counters`.
-use Rattle.lapd_card.proofs.Vocabulary.{◌<◌, sym, subst, ap, get_or, ◌∙◌, none_counted, frame_counters_in}
-use Rattle.lapd_card.specs.FrameCard.{line_count}
-use Rattle.lapd_card.proofs.OneHappening.{line-there}
+use Rattle.lapd_card.proofs.Vocabulary.{◌∙◌}
+use Rattle.lapd_card.proofs.OneLine.{line-there, counters_at, is_frames}
 use Rattle.lapd_card.proofs.frame_card.FrameCard.counters.Goals as goal
 
--- the line is there
-pub counters-requires : goal.counters-requires
-counters-requires g c = line-there g.S.Shelf.store (record { config = c.self.inside.config; lines = c.self.inside.lines; shelf = c.self.inside.shelf }) c.args.line c.self.invariant (subst (λ card. c.args.line < line_count card) (sym c.self.view_is) c.requires)
+pub index-requires : goal.index-requires
+index-requires g c = line-there is_frames g.S.Shelf.store _ c.args.self.now c.args.line _ c.self.invariant c.self.view_is c.requires c.self.inside.lines.ok.0
 
 pub returns : goal.returns
-returns g c = c.counters.ensures ∙ ap (λ card. get_or (frame_counters_in card.lines) c.args.line none_counted) c.self.view_is
+returns g c = c.counters.ensures ∙ counters_at is_frames g.S.Shelf.store _ c.args.self.now c.args.line c.index.result.now (record { past = c.self.invariant; same = c.self.view_is; within = c.requires; is = c.index.ensures })

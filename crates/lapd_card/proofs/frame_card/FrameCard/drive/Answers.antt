@@ -1,13 +1,12 @@
 -- Hand-written answers for `FrameCard::drive`.
-use Rattle.lapd_card.proofs.Vocabulary.{rules, [], refl, sym, ap, subst, arith, ◌∙◌, take_all, happening_of, all_of, Taken, after_happenings, replies, happenings_counted, frame_counters_in, slice_get-get_or, Comes, answers_say_it, ArePriced, AreDropsWithoutCost, AreDropsWithoutEffect, frames_amortised, run_is_moments, lines_isolated, frames_linear, pool_never_full, deliveries_numbered, stored_within_limit, text_goes_on, refused_by_the_table, frames_by_event, drops_cost_nothing, drops_change_nothing, IsWithinLimit, IsAmortised, IsAmortisedFromZero, HasSixOctetsAFrame, HasSevenOctetsAReject, IsLinear, IsIsolated, IsNeverFull, IsNumbered, IsNumberedFromZero, IsTextual, after_all, length-map}
+use Rattle.lapd_card.proofs.Vocabulary.{rules, [], ◌∷◌, ◌++◌, refl, sym, ap, subst, arith, ◌∙◌, take, get_or, take_all, length-map, slice_get-get_or, Comes, happening_of, all_of, Taken, MissesReply, after_happenings, after_all, events_of, spelled, said, replies, happening_counted, happenings_counted, frame_counters_in, answers_say_it, ArePriced, AreDropsWithoutCost, AreDropsWithoutEffect, frames_amortised, run_is_moments, lines_isolated, frames_linear, pool_never_full, deliveries_numbered, stored_within_limit, text_goes_on, refused_by_the_table, frames_by_event, drops_cost_nothing, drops_change_nothing, IsWithinLimit, IsAmortised, IsAmortisedFromZero, HasSixOctetsAFrame, HasSevenOctetsAReject, IsLinear, IsIsolated, IsNeverFull, IsNumbered, IsNumberedFromZero, IsTextual}
+use Rattle.model_card.specs.Happening as happenings
 use Rattle.lapd_card.specs.FrameStands.{Stands}
-use Rattle.lapd_card.proofs.FrameTaken.{ran-more, counted-more, taken-more, missed-at}
-use Rattle.lapd_card.proofs.Taken.{at_ok, at_err}
-use Rattle.lapd_card.proofs.FrameCounting.{numbers_in_lists}
-use Rattle.lapd_card.proofs.FrameHeadline.{whole_list, each_front, fresh_front, all-idle}
+use Rattle.lapd_card.proofs.Taken.{Taken-more, one-further, one-at, after-more, replies-more, counts-more, at_ok, at_err}
+use Rattle.lapd_card.proofs.Counting.{numbers_in_lists}
+use Rattle.lapd_card.proofs.Headline.{spelled_at, happen_at_lines, whole_list, each_front, fresh_front, all-idle}
 use Rattle.lapd_card.proofs.frame_card.FrameCard.drive.Goals as goal
 
--- nothing has happened
 pub loop-at-init : goal.loop-at-init
 unfolding after_all
 loop-at-init g c = record { config = refl; none_failed = refl; ran = λ m s. s; counted = λ m s. refl; taken = λ m s. refl }
@@ -19,18 +18,18 @@ loop-at-preserved g c =
     record {
       config = c.answer.ensures.leads.config ∙ c.loop-at.invariant.config;
       none_failed = at_ok c.answer.result _ no c.answer.ensures.not_failed ∙ c.loop-at.invariant.none_failed;
-      ran = λ m s. ran-more g.S.Shelf.store m c.args.happenings.now c.loop-at.at _ c.loop-at.self c.answer.new.self is c.answer.ensures.leads (c.loop-at.invariant.ran m s);
-      counted = λ m s. counted-more g.S.Shelf.store m c.args.happenings.now c.loop-at.at _ c.args.self.now c.loop-at.self c.answer.new.self is c.answer.ensures.leads (c.loop-at.invariant.ran m s) (c.loop-at.invariant.counted m s);
-      taken = λ m s. taken-more g.K.FrameSink.takes m c.args.happenings.now c.loop-at.at _ c.args.sink.now c.loop-at.sink c.answer.new.sink is (at_ok c.answer.result _ no c.answer.ensures.taken _ (c.loop-at.invariant.ran m s)) (c.loop-at.invariant.taken m s);
+      ran = λ m s. subst (Stands g.S.Shelf.store c.answer.new.self) (sym (one-further happening_of (after_happenings m) (λ hs h. after_all (after_happenings m hs) (events_of (after_happenings m hs) h)) (after-more m) c.args.happenings.now c.loop-at.at _ is)) (c.answer.ensures.leads.stands _ (c.loop-at.invariant.ran m s));
+      counted = λ m s. c.answer.ensures.leads.counted _ (c.loop-at.invariant.ran m s) ∙ ap (λ k. happening_counted k (after_happenings m (take c.loop-at.at (all_of c.args.happenings.now))) (happening_of (get_or c.args.happenings.now c.loop-at.at (Comes 0 (record { ref_ptr = (0, 0); now = [] }))))) (c.loop-at.invariant.counted m s) ∙ (sym (one-further happening_of (happenings_counted (frame_counters_in c.args.self.now.lines) m) (λ hs h. happening_counted (happenings_counted (frame_counters_in c.args.self.now.lines) m hs) (after_happenings m hs) h) (counts-more (frame_counters_in c.args.self.now.lines) m) c.args.happenings.now c.loop-at.at _ is));
+      taken = λ m s. subst (λ r. Taken g.K.FrameSink.takes c.args.sink.now r c.answer.new.sink) (sym (one-further happening_of (replies m) (λ hs h. replies m hs ++ (happenings.line_of h, said (after_happenings m hs) h) ∷ []) (replies-more m) c.args.happenings.now c.loop-at.at _ is)) (Taken-more g.K.FrameSink.takes c.args.sink.now c.loop-at.sink c.answer.new.sink _ _ _ (c.loop-at.invariant.taken m s) (at_ok c.answer.result _ no c.answer.ensures.taken _ (c.loop-at.invariant.ran m s)));
     }
 
 pub returns-then-is_err : goal.returns-then-is_err
 returns-then-is_err g c =
     let is = slice_get-get_or c.args.happenings.now c.loop-at.at (Comes 0 (record { ref_ptr = (0, 0); now = [] })) c.loop-at-test.true in
     let yes = sym c.is_err.ensures.value ∙ c.if-is_err.true in
-    let whole = whole_list g.S.Shelf.store c.args.self.now c.args.happenings.now c.requires in
-    let front = each_front g.S.Shelf.store c.args.self.now c.args.happenings.now c.requires in
-    let fresh = fresh_front g.S.Shelf.store c.args.self.now c.args.happenings.now c.requires in
+    let whole = whole_list g.S.Shelf.store c.args.self.now (λ m. spelled m (all_of c.args.happenings.now)) (λ m s. spelled_at m (all_of c.args.happenings.now) (happen_at_lines g.S.Shelf.store c.args.self.now c.args.happenings.now c.requires m s)) in
+    let front = each_front g.S.Shelf.store c.args.self.now (λ m. spelled m (all_of c.args.happenings.now)) (λ m s. spelled_at m (all_of c.args.happenings.now) (happen_at_lines g.S.Shelf.store c.args.self.now c.args.happenings.now c.requires m s)) in
+    let fresh = fresh_front g.S.Shelf.store c.args.self.now (λ m. spelled m (all_of c.args.happenings.now)) (λ m s. spelled_at m (all_of c.args.happenings.now) (happen_at_lines g.S.Shelf.store c.args.self.now c.args.happenings.now c.requires m s)) in
     record {
       ok = search rules;
       at = search rules;
@@ -40,9 +39,9 @@ returns-then-is_err g c =
       ran = search rules;
       taken = search rules;
       counters = search rules;
-      stopped = λ m s. ran-more g.S.Shelf.store m c.args.happenings.now c.loop-at.at _ c.loop-at.self c.answer.new.self is c.answer.ensures.leads (c.loop-at.invariant.ran m s);
-      taken_before = λ m s. missed-at g.K.FrameSink.takes g.K.FrameSink.misses m c.args.happenings.now c.loop-at.at _ c.args.sink.now c.loop-at.sink c.answer.new.sink is (at_err c.answer.result _ yes c.answer.ensures.not_taken _ (c.loop-at.invariant.ran m s)) (c.loop-at.invariant.taken m s);
-      counters_before = λ m s. counted-more g.S.Shelf.store m c.args.happenings.now c.loop-at.at _ c.args.self.now c.loop-at.self c.answer.new.self is c.answer.ensures.leads (c.loop-at.invariant.ran m s) (c.loop-at.invariant.counted m s);
+      stopped = λ m s. subst (Stands g.S.Shelf.store c.answer.new.self) (sym (one-further happening_of (after_happenings m) (λ hs h. after_all (after_happenings m hs) (events_of (after_happenings m hs) h)) (after-more m) c.args.happenings.now c.loop-at.at _ is)) (c.answer.ensures.leads.stands _ (c.loop-at.invariant.ran m s));
+      taken_before = λ m s. record { before = c.loop-at.sink; taken = c.loop-at.invariant.taken m s; missed = subst (λ o. MissesReply g.K.FrameSink.misses (after_happenings m (take c.loop-at.at (all_of c.args.happenings.now))) o c.loop-at.sink c.answer.new.sink) (sym (one-at happening_of c.args.happenings.now c.loop-at.at _ is)) (at_err c.answer.result _ yes c.answer.ensures.not_taken _ (c.loop-at.invariant.ran m s)) };
+      counters_before = λ m s. c.answer.ensures.leads.counted _ (c.loop-at.invariant.ran m s) ∙ ap (λ k. happening_counted k (after_happenings m (take c.loop-at.at (all_of c.args.happenings.now))) (happening_of (get_or c.args.happenings.now c.loop-at.at (Comes 0 (record { ref_ptr = (0, 0); now = [] }))))) (c.loop-at.invariant.counted m s) ∙ (sym (one-further happening_of (happenings_counted (frame_counters_in c.args.self.now.lines) m) (λ hs h. happening_counted (happenings_counted (frame_counters_in c.args.self.now.lines) m hs) (after_happenings m hs) h) (counts-more (frame_counters_in c.args.self.now.lines) m) c.args.happenings.now c.loop-at.at _ is));
       idle = all-idle g.S.Shelf.store c.args.self.now;
       answers = answers_say_it;
       moments = run_is_moments;
@@ -66,9 +65,9 @@ returns-then-is_err g c =
 
 pub returns : goal.returns
 returns g c =
-    let whole = whole_list g.S.Shelf.store c.args.self.now c.args.happenings.now c.requires in
-    let front = each_front g.S.Shelf.store c.args.self.now c.args.happenings.now c.requires in
-    let fresh = fresh_front g.S.Shelf.store c.args.self.now c.args.happenings.now c.requires in
+    let whole = whole_list g.S.Shelf.store c.args.self.now (λ m. spelled m (all_of c.args.happenings.now)) (λ m s. spelled_at m (all_of c.args.happenings.now) (happen_at_lines g.S.Shelf.store c.args.self.now c.args.happenings.now c.requires m s)) in
+    let front = each_front g.S.Shelf.store c.args.self.now (λ m. spelled m (all_of c.args.happenings.now)) (λ m s. spelled_at m (all_of c.args.happenings.now) (happen_at_lines g.S.Shelf.store c.args.self.now c.args.happenings.now c.requires m s)) in
+    let fresh = fresh_front g.S.Shelf.store c.args.self.now (λ m. spelled m (all_of c.args.happenings.now)) (λ m s. spelled_at m (all_of c.args.happenings.now) (happen_at_lines g.S.Shelf.store c.args.self.now c.args.happenings.now c.requires m s)) in
     let all = take_all c.loop-at.at (all_of c.args.happenings.now) (omega (arith, c.loop-at-test.false, length-map c.args.happenings.now happening_of)) in
     record {
       ok = search rules;

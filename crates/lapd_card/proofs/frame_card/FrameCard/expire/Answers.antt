@@ -1,29 +1,31 @@
 -- Hand-written answers for `FrameCard::expire`.
-use Rattle.lapd_card.proofs.Vocabulary.{◌<◌, sym, subst, frames_by_event, reached-sound, expires, report_told, answer, told_in_answer}
-use Rattle.lapd_card.specs.FrameCard.{line_count}
-use Rattle.lapd_card.specs.FrameStands.{Stands, Leads}
+use Rattle.lapd_card.proofs.Vocabulary.{[], ◌∷◌, ap, RisesByExpiry, frames_by_event, after_all, says, answer, told_in_answer}
 use Rattle.model_line.specs.Event as line_event
-use Rattle.lapd_card.proofs.OneHappening.{line-there, lines-serve, happening_leads, past_after, expiry_alone, expiry_said, expiry_shown, starts_one}
+use Rattle.lapd_card.proofs.OneLine.{line-there, one_serves, events_move, is_frames}
+use Rattle.lapd_card.proofs.OneEvent.{has_room, expiry_takes, past_after, event_leads, event_told, starts_one}
+use Rattle.lapd_card.proofs.Headline.{at_line}
 use Rattle.lapd_card.proofs.frame_card.FrameCard.expire.Goals as goal
 
--- the line is there
-pub expire-requires-clause-within : goal.expire-requires-clause-within
-expire-requires-clause-within g c = line-there g.S.Shelf.store (record { config = c.self.inside.config; lines = c.self.inside.lines; shelf = c.self.inside.shelf }) c.args.line c.self.invariant (subst (λ card. c.args.line < line_count card) (sym c.self.view_is) c.requires)
+pub index_mut-requires : goal.index_mut-requires
+index_mut-requires g c = line-there is_frames g.S.Shelf.store _ c.args.self.now c.args.line _ c.self.invariant c.self.view_is c.requires c.self.inside.lines.ok.0
 
-pub expire-requires-clause-serve : goal.expire-requires-clause-serve
-expire-requires-clause-serve g c = lines-serve g.S.Shelf.store (record { config = c.self.inside.config; lines = c.self.inside.lines; shelf = c.self.inside.shelf }) c.self.invariant
+pub expire-requires : goal.expire-requires
+expire-requires g c = one_serves is_frames g.S.Shelf.store _ c.args.self.now c.args.line c.index_mut.result.now (record { past = c.self.invariant; same = c.self.view_is; within = c.requires; is = c.index_mut.ensures.value })
 
 pub invariant_of-self : goal.invariant_of-self
-invariant_of-self g c = past_after g.S.Shelf.store (expires c.args.line c.args.timer) (record { config = c.self.inside.config; lines = c.self.inside.lines; shelf = c.self.inside.shelf }) _ (happening_leads g.S.Shelf.store (expires c.args.line c.args.timer) (record { config = c.self.inside.config; lines = c.self.inside.lines; shelf = c.self.inside.shelf }) c.expire.new.self c.expire.new.shelf (subst (λ card. c.args.line < line_count card) (sym c.self.view_is) c.requires) _ (expiry_alone g.S.Shelf.store (record { config = c.self.inside.config; lines = c.self.inside.lines; shelf = c.self.inside.shelf }) c.args.line c.args.timer) c.expire.ensures.after (λ d l. told_in_answer (answer d (line_event.expiry c.args.timer) l)) c.expire.ensures.counted (λ m s. expiry_shown g.S.Shelf.store (record { config = c.self.inside.config; lines = c.self.inside.lines; shelf = c.self.inside.shelf }) c.args.line c.args.timer m s)) c.self.invariant
+invariant_of-self g c =
+    past_after is_frames g.S.Shelf.store _ _ _ c.args.self.now _ c.self.view_is
+    (event_leads is_frames g.S.Shelf.store _ c.args.self.now c.args.line c.index_mut.result.now (record { past = c.self.invariant; same = c.self.view_is; within = c.requires; is = c.index_mut.ensures.value }) (line_event.expiry c.args.timer) _ _ (events_move (λ d l. line_event.expiry c.args.timer ∷ []) (λ d l. told_in_answer (answer d (line_event.expiry c.args.timer) l)) _ _ _ _ c.expire.ensures.after c.expire.ensures.counted) (λ m s. has_room c.args.line (line_event.expiry c.args.timer) (expiry_takes c.args.timer) m)) c.self.invariant
 
 pub returns-clause-told : goal.returns-clause-told
-returns-clause-told g c = λ m s. expiry_said g.S.Shelf.store c.args.line c.args.timer (record { config = c.self.inside.config; lines = c.self.inside.lines; shelf = c.self.inside.shelf }) _ c.expire.ensures.told m (subst (λ card. Stands g.S.Shelf.store card m) (sym c.self.view_is) s)
+returns-clause-told g c = λ m s. ap says (event_told is_frames g.S.Shelf.store _ c.args.self.now c.args.line c.index_mut.result.now (record { past = c.self.invariant; same = c.self.view_is; within = c.requires; is = c.index_mut.ensures.value }) (line_event.expiry c.args.timer) _ c.expire.ensures.told (λ m s. has_room c.args.line (line_event.expiry c.args.timer) (expiry_takes c.args.timer) m) m s)
 
 pub returns-clause-after : goal.returns-clause-after
-returns-clause-after g c = subst (λ card. Leads g.S.Shelf.store (expires c.args.line c.args.timer) card (record { config = c.self.inside.config; lines = c.expire.new.self; shelf = c.expire.new.shelf })) c.self.view_is (happening_leads g.S.Shelf.store (expires c.args.line c.args.timer) (record { config = c.self.inside.config; lines = c.self.inside.lines; shelf = c.self.inside.shelf }) c.expire.new.self c.expire.new.shelf (subst (λ card. c.args.line < line_count card) (sym c.self.view_is) c.requires) _ (expiry_alone g.S.Shelf.store (record { config = c.self.inside.config; lines = c.self.inside.lines; shelf = c.self.inside.shelf }) c.args.line c.args.timer) c.expire.ensures.after (λ d l. told_in_answer (answer d (line_event.expiry c.args.timer) l)) c.expire.ensures.counted (λ m s. expiry_shown g.S.Shelf.store (record { config = c.self.inside.config; lines = c.self.inside.lines; shelf = c.self.inside.shelf }) c.args.line c.args.timer m s))
-
-pub returns-clause-frames : goal.returns-clause-frames
-returns-clause-frames g c = λ m s. frames_by_event.expiries m c.args.line c.args.timer (reached-sound m s.reached) (subst (λ d. c.args.line < d.lines) (sym s.config) c.requires)
+unfolding after_all
+returns-clause-after g c = event_leads is_frames g.S.Shelf.store _ c.args.self.now c.args.line c.index_mut.result.now (record { past = c.self.invariant; same = c.self.view_is; within = c.requires; is = c.index_mut.ensures.value }) (line_event.expiry c.args.timer) _ _ (events_move (λ d l. line_event.expiry c.args.timer ∷ []) (λ d l. told_in_answer (answer d (line_event.expiry c.args.timer) l)) _ _ _ _ c.expire.ensures.after c.expire.ensures.counted) (λ m s. has_room c.args.line (line_event.expiry c.args.timer) (expiry_takes c.args.timer) m)
 
 pub returns-clause-starts : goal.returns-clause-starts
-returns-clause-starts g c = starts_one g.S.Shelf.store (record { config = c.self.inside.config; lines = c.self.inside.lines; shelf = c.self.inside.shelf }) c.args.line c.args.timer (report_told c.expire.result) c.expire.ensures.told c.self.invariant
+returns-clause-starts g c = starts_one is_frames g.S.Shelf.store _ c.args.self.now c.args.line c.index_mut.result.now (record { past = c.self.invariant; same = c.self.view_is; within = c.requires; is = c.index_mut.ensures.value }) c.args.timer _ c.expire.ensures.told
+
+pub returns-clause-frames : goal.returns-clause-frames
+returns-clause-frames g c = at_line g.S.Shelf.store c.args.self.now c.args.line c.requires (RisesByExpiry c.args.line c.args.timer) (λ m s w. frames_by_event.expiries m c.args.line c.args.timer s w)

@@ -1,31 +1,31 @@
 -- Hand-written answers for `FrameCard::request`.
-use Rattle.lapd_card.proofs.Vocabulary.{◌<◌, sym, subst, Some, None, IfOk-weaker, IfErr-weaker, request_of, asks, frames_by_event, reached-sound}
-use Rattle.lapd_card.specs.FrameCard.{line_count}
-use Rattle.lapd_card.specs.FrameStands.{Stands, Leads}
-use Rattle.lapd_card.proofs.OneHappening.{line-there, lines-serve, refusal_is, request_told, request_leads, past_after}
+use Rattle.lapd_card.proofs.Vocabulary.{request_of, RisesByRequest, frames_by_event, of_frames, ap, after_all, says, [], ◌∷◌, answer, told_in_answer}
+use Rattle.model_line.specs.Event as line_event
+use Rattle.lapd_card.proofs.OneLine.{line-there, one_serves, events_move, is_frames}
+use Rattle.lapd_card.proofs.OneEvent.{Requested, both_ok, past_after, request_refused, request_accepted, request_unchanged, request_told, request_leads}
+use Rattle.lapd_card.proofs.Headline.{at_line}
 use Rattle.lapd_card.proofs.frame_card.FrameCard.request.Goals as goal
 
--- the line is there
-pub request-requires-clause-within : goal.request-requires-clause-within
-request-requires-clause-within g c = line-there g.S.Shelf.store (record { config = c.self.inside.config; lines = c.self.inside.lines; shelf = c.self.inside.shelf }) c.args.line c.self.invariant (subst (λ card. c.args.line < line_count card) (sym c.self.view_is) c.requires)
+pub index_mut-requires : goal.index_mut-requires
+index_mut-requires g c = line-there is_frames g.S.Shelf.store _ c.args.self.now c.args.line _ c.self.invariant c.self.view_is c.requires c.self.inside.lines.ok.0
 
-pub request-requires-clause-serve : goal.request-requires-clause-serve
-request-requires-clause-serve g c = lines-serve g.S.Shelf.store (record { config = c.self.inside.config; lines = c.self.inside.lines; shelf = c.self.inside.shelf }) c.self.invariant
+pub request-requires-clause-stands : goal.request-requires-clause-stands
+request-requires-clause-stands g c = one_serves is_frames g.S.Shelf.store _ c.args.self.now c.args.line c.index_mut.result.now (record { past = c.self.invariant; same = c.self.view_is; within = c.requires; is = c.index_mut.ensures.value })
 
 pub invariant_of-self : goal.invariant_of-self
-invariant_of-self g c = past_after g.S.Shelf.store (asks c.args.line (request_of c.args.request)) (record { config = c.self.inside.config; lines = c.self.inside.lines; shelf = c.self.inside.shelf }) _ (request_leads g.S.Shelf.store (request_of c.args.request) c.args.line (record { config = c.self.inside.config; lines = c.self.inside.lines; shelf = c.self.inside.shelf }) c.request.new.self c.request.new.shelf c.request.result (subst (λ card. c.args.line < line_count card) (sym c.self.view_is) c.requires) (IfErr-weaker c.request.result _ _ (λ why. refusal_is g.S.Shelf.store (request_of c.args.request) c.args.line c.from.result (record { config = c.self.inside.config; lines = c.self.inside.lines; shelf = c.self.inside.shelf }) (Some why) c.from.ensures) c.request.ensures.refused) (IfOk-weaker c.request.result _ _ (λ report. refusal_is g.S.Shelf.store (request_of c.args.request) c.args.line c.from.result (record { config = c.self.inside.config; lines = c.self.inside.lines; shelf = c.self.inside.shelf }) None c.from.ensures) c.request.ensures.accepted) c.request.ensures.unchanged c.request.ensures.kept c.request.ensures.after c.request.ensures.counted) c.self.invariant
+invariant_of-self g c =
+    past_after is_frames g.S.Shelf.store _ _ _ c.args.self.now _ c.self.view_is
+    (request_leads is_frames g.S.Shelf.store (request_of c.args.request) _ c.args.self.now c.args.line c.from.result c.index_mut.result.now (record { past = c.self.invariant; same = c.self.view_is; within = c.requires; is = c.index_mut.ensures.value }) c.request.new.self c.request.new.shelf c.request.result (record { most = c.from.ensures; refused = c.request.ensures.refused; accepted = c.request.ensures.accepted; unchanged = c.request.ensures.unchanged; kept = c.request.ensures.kept; told = c.request.ensures.told; leads = both_ok c.request.result (λ report. events_move (λ d l. line_event.request (request_of c.args.request) ∷ []) (λ d l. told_in_answer (answer d (line_event.request (request_of c.args.request)) l)) _ _ _ _) c.request.ensures.after c.request.ensures.counted })) c.self.invariant
 
-pub returns-clause-refused : goal.returns-clause-refused
-returns-clause-refused g c = IfErr-weaker c.request.result _ _ (λ why says m s. says m (subst (λ card. Stands g.S.Shelf.store card m) (sym c.self.view_is) s)) (IfErr-weaker c.request.result _ _ (λ why. refusal_is g.S.Shelf.store (request_of c.args.request) c.args.line c.from.result (record { config = c.self.inside.config; lines = c.self.inside.lines; shelf = c.self.inside.shelf }) (Some why) c.from.ensures) c.request.ensures.refused)
-
-pub returns-clause-accepted : goal.returns-clause-accepted
-returns-clause-accepted g c = IfOk-weaker c.request.result _ _ (λ report says m s. says m (subst (λ card. Stands g.S.Shelf.store card m) (sym c.self.view_is) s)) (IfOk-weaker c.request.result _ _ (λ report. refusal_is g.S.Shelf.store (request_of c.args.request) c.args.line c.from.result (record { config = c.self.inside.config; lines = c.self.inside.lines; shelf = c.self.inside.shelf }) None c.from.ensures) c.request.ensures.accepted)
-
-pub returns-clause-told : goal.returns-clause-told
-returns-clause-told g c = λ m s. request_told g.S.Shelf.store (request_of c.args.request) c.args.line (record { config = c.self.inside.config; lines = c.self.inside.lines; shelf = c.self.inside.shelf }) c.request.result (IfErr-weaker c.request.result _ _ (λ why. refusal_is g.S.Shelf.store (request_of c.args.request) c.args.line c.from.result (record { config = c.self.inside.config; lines = c.self.inside.lines; shelf = c.self.inside.shelf }) (Some why) c.from.ensures) c.request.ensures.refused) (IfOk-weaker c.request.result _ _ (λ report. refusal_is g.S.Shelf.store (request_of c.args.request) c.args.line c.from.result (record { config = c.self.inside.config; lines = c.self.inside.lines; shelf = c.self.inside.shelf }) None c.from.ensures) c.request.ensures.accepted) c.request.ensures.told m (subst (λ card. Stands g.S.Shelf.store card m) (sym c.self.view_is) s)
-
-pub returns-clause-after : goal.returns-clause-after
-returns-clause-after g c = subst (λ card. Leads g.S.Shelf.store (asks c.args.line (request_of c.args.request)) card (record { config = c.self.inside.config; lines = c.request.new.self; shelf = c.request.new.shelf })) c.self.view_is (request_leads g.S.Shelf.store (request_of c.args.request) c.args.line (record { config = c.self.inside.config; lines = c.self.inside.lines; shelf = c.self.inside.shelf }) c.request.new.self c.request.new.shelf c.request.result (subst (λ card. c.args.line < line_count card) (sym c.self.view_is) c.requires) (IfErr-weaker c.request.result _ _ (λ why. refusal_is g.S.Shelf.store (request_of c.args.request) c.args.line c.from.result (record { config = c.self.inside.config; lines = c.self.inside.lines; shelf = c.self.inside.shelf }) (Some why) c.from.ensures) c.request.ensures.refused) (IfOk-weaker c.request.result _ _ (λ report. refusal_is g.S.Shelf.store (request_of c.args.request) c.args.line c.from.result (record { config = c.self.inside.config; lines = c.self.inside.lines; shelf = c.self.inside.shelf }) None c.from.ensures) c.request.ensures.accepted) c.request.ensures.unchanged c.request.ensures.kept c.request.ensures.after c.request.ensures.counted)
-
-pub returns-clause-frames : goal.returns-clause-frames
-returns-clause-frames g c = λ m s. frames_by_event.requests m c.args.line (request_of c.args.request) (reached-sound m s.reached) (subst (λ d. c.args.line < d.lines) (sym s.config) c.requires)
+pub returns : goal.returns
+unfolding after_all
+returns g c =
+    let asked : Requested of_frames g.S.Shelf.store (request_of c.args.request) _ c.from.result c.index_mut.result.now c.request.result c.request.new.self c.request.new.shelf = record { most = c.from.ensures; refused = c.request.ensures.refused; accepted = c.request.ensures.accepted; unchanged = c.request.ensures.unchanged; kept = c.request.ensures.kept; told = c.request.ensures.told; leads = both_ok c.request.result (λ report. events_move (λ d l. line_event.request (request_of c.args.request) ∷ []) (λ d l. told_in_answer (answer d (line_event.request (request_of c.args.request)) l)) _ _ _ _) c.request.ensures.after c.request.ensures.counted } in
+    record {
+      refused = request_refused is_frames g.S.Shelf.store (request_of c.args.request) _ c.args.self.now c.args.line c.from.result c.index_mut.result.now (record { past = c.self.invariant; same = c.self.view_is; within = c.requires; is = c.index_mut.ensures.value }) c.request.new.self c.request.new.shelf c.request.result asked;
+      unchanged = request_unchanged is_frames g.S.Shelf.store (request_of c.args.request) _ c.args.self.now c.args.line c.from.result c.index_mut.result.now (record { past = c.self.invariant; same = c.self.view_is; within = c.requires; is = c.index_mut.ensures.value }) c.request.new.self c.request.new.shelf c.request.result asked;
+      accepted = request_accepted is_frames g.S.Shelf.store (request_of c.args.request) _ c.args.self.now c.args.line c.from.result c.index_mut.result.now (record { past = c.self.invariant; same = c.self.view_is; within = c.requires; is = c.index_mut.ensures.value }) c.request.new.self c.request.new.shelf c.request.result asked;
+      told = λ m s. ap says (request_told is_frames g.S.Shelf.store (request_of c.args.request) _ c.args.self.now c.args.line c.from.result c.index_mut.result.now (record { past = c.self.invariant; same = c.self.view_is; within = c.requires; is = c.index_mut.ensures.value }) c.request.new.self c.request.new.shelf c.request.result asked m s);
+      after = request_leads is_frames g.S.Shelf.store (request_of c.args.request) _ c.args.self.now c.args.line c.from.result c.index_mut.result.now (record { past = c.self.invariant; same = c.self.view_is; within = c.requires; is = c.index_mut.ensures.value }) c.request.new.self c.request.new.shelf c.request.result asked;
+      frames = at_line g.S.Shelf.store c.args.self.now c.args.line c.requires (RisesByRequest c.args.line (request_of c.args.request)) (λ m s w. frames_by_event.requests m c.args.line (request_of c.args.request) s w);
+    }

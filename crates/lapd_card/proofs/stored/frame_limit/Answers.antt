@@ -1,8 +1,7 @@
 -- Hand-written answers for `frame_limit`.
 use Rattle.lapd_card.proofs.Vocabulary.{◌≡◌, ◌+◌, ◌*◌, sym, subst, Fits, w32, frame_limit}
-use Rattle.lapd_card.proofs.Amounts.{fits_32}
-use Rattle.lapd_card.proofs.FrameAmounts.{frame_limit_small}
-use Rattle.lapd_card.proofs.frame_stored.frame_limit.Goals as goal
+use Rattle.lapd_card.proofs.Amounts.{fits_32, frame_limit_small}
+use Rattle.lapd_card.proofs.stored.frame_limit.Goals as goal
 
 pub overflow_add-result : goal.overflow_add-result
 overflow_add-result c =

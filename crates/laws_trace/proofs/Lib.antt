@@ -56,6 +56,12 @@ pub mod StandingOfLink
 pub mod Standing
 pub mod DeliveriesKept
 pub mod ReceiptsOfLink
+pub mod ControlsOfLink
+pub mod Addressed
+pub mod ControlsSeen
+pub mod ControlsAtLine
+pub mod StaysOn
+pub mod ControlFrames
 pub mod ReceiptsSeen
 pub mod ReceiptsCount
 pub mod ManagingTables

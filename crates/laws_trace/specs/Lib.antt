@@ -12,6 +12,7 @@ pub mod TurnsMeanwhile
 pub mod MessagesComeFirst
 pub mod AnswersAreAsked
 pub mod AllAreAnswered
+pub mod ControlFrames
 pub mod CommandsHaveCauses
 pub mod ReceiptsCount
 pub mod AllAreAcknowledged

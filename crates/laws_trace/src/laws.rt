@@ -7,6 +7,7 @@ ghost use Rattle.laws_trace.specs.AllGoesAgain.{AllGoesAgain, NextGoes};
 ghost use Rattle.laws_trace.specs.AnswersAreAsked.{AnswersAreAsked};
 ghost use Rattle.laws_trace.specs.CommandsGo.{CommandsAreDue, CommandsGo};
 ghost use Rattle.laws_trace.specs.CommandsHaveCauses.{CommandsHaveCauses};
+ghost use Rattle.laws_trace.specs.ControlFrames.{OnlyDueGo, AllDueGo};
 ghost use Rattle.laws_trace.specs.Configurations.{RangesAreServed};
 ghost use Rattle.laws_trace.specs.OtherSide.{TheOtherSideIsHeard};
 ghost use Rattle.laws_trace.specs.FramesAreRead.{FramesAreRead, FramesAreOctets, FramesGoOutAsTheyAre};
@@ -133,6 +134,12 @@ pub fn data_goes_out()
     ensures front { Always DataGoesOut }
     ensures again { Always AllGoesAgain }
     ensures next { Always NextGoes }
+{}
+
+/// Control frames go.
+pub fn control_frames_go()
+    ensures only { Always OnlyDueGo }
+    ensures all { Always AllDueGo }
 {}
 
 /// Answers are due. The UA, the DM, and the responses RR, RNR and REJ with F=1 of a link that begin are among those that are due,

@@ -31,10 +31,6 @@ pub mod TurnsMeanwhile
 pub mod MessagesComeFirst
 pub mod Parts
 pub mod ReadAgain
-pub mod AskedOfLink
-pub mod AnswersAreAsked
-pub mod AnswersDueOfLink
-pub mod AnswersAreDue
 pub mod Deliveries
 pub mod DeliveriesRun
 pub mod AllAreTold
@@ -45,9 +41,6 @@ pub mod DataAsked
 pub mod DataRun
 pub mod AllDataGoesOut
 pub mod HeardLengths
-pub mod Answering
-pub mod AnsweredAtLine
-pub mod AllAreAnswered
 pub mod CommandsPut
 pub mod CommandsCaused
 pub mod CommandsHaveCauses
@@ -55,15 +48,12 @@ pub mod ReceiptsNumbered
 pub mod StandingOfLink
 pub mod Standing
 pub mod DeliveriesKept
-pub mod ReceiptsOfLink
 pub mod ControlsOfLink
 pub mod Addressed
 pub mod ControlsSeen
 pub mod ControlsAtLine
 pub mod StaysOn
 pub mod ControlFrames
-pub mod ReceiptsSeen
-pub mod ReceiptsCount
 pub mod ManagingTables
 pub mod ManagingKnown
 pub mod ManagingTeis
@@ -84,10 +74,6 @@ pub mod AllGoesAgain
 pub mod MovesOfLink
 pub mod LinkLed
 pub mod LinksMove
-pub mod CommandsOfLink
-pub mod CommandsAreDue
-pub mod CommandsDue
-pub mod CommandsGo
 pub mod NewsRows
 pub mod NewsOfLink
 pub mod NewsOfOthers

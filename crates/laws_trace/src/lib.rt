@@ -18,10 +18,9 @@
 mod laws;
 
 pub use laws::{
-    all_are_acknowledged, all_are_answered, all_frames_go_out, answers_are_asked, answers_are_due,
-    commands_are_due, commands_go, control_frames_go, commands_have_causes, data_goes_out, frames_are_read,
-    frames_go_out, links_move, links_take_turns, links_take_turns_meanwhile, messages_are_owed,
-    messages_come_first, news_is_told, nothing_is_lost_in_vain, ranges_are_served, receipts_count,
-    the_other_side_is_heard, timers_are_timely, units_are_heard, units_go_out,
-    what_is_told_was_heard,
+    all_are_acknowledged, all_frames_go_out, commands_have_causes, control_frames_go,
+    data_goes_out, frames_are_read, frames_go_out, links_move, links_take_turns,
+    links_take_turns_meanwhile, messages_are_owed, messages_come_first, news_is_told,
+    nothing_is_lost_in_vain, ranges_are_served, the_other_side_is_heard, timers_are_timely,
+    units_are_heard, units_go_out, what_is_told_was_heard,
 };

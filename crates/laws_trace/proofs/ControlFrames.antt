@@ -11,8 +11,7 @@ use Rattle.lapd_tei.proofs.Tables.{place_of-is, at-within}
 use Rattle.model_link.specs.declared.frames.ControlFrame.{ControlFrame}
 use Rattle.model_link.specs.Link.{Link, fresh as fresh_link}
 use Rattle.model_line.specs.declared.config.Config.{Config}
-use Rattle.model_line.specs.Event.{Answer}
-use Rattle.model_line.specs.Line.{Line, fresh_line, link_count, link_number, link_in, link_of, place_in, tei_at, has_tei, state_of}
+use Rattle.model_line.specs.Line.{Line, fresh_line, link_count, link_number, link_in, link_of, place_in, tei_at, state_of}
 use Rattle.model_line.specs.Machine as lines
 use Rattle.model_line.specs.Sound.{IsSound}
 use Rattle.model_line.proofs.Numbers.{place_at-number, number_within}
@@ -41,7 +40,6 @@ use Rattle.laws_trace.specs.Trace.{Seen, seen, trace, trace_of, Always}
 use Rattle.laws_trace.proofs.ControlsAtLine.{waits, due_here, owed_here, Passes, none-taken, event-passes}
 use Rattle.laws_trace.proofs.ControlsOfLink.{controls}
 use Rattle.laws_trace.proofs.ControlsSeen.{controls_begun}
-use Rattle.laws_trace.proofs.DeliveriesKept as kept
 use Rattle.laws_trace.proofs.DeliveriesKept.{run-stands}
 use Rattle.laws_trace.proofs.DeliveriesRun.{IsCount}
 use Rattle.laws_trace.proofs.LinksMove.{differ-self, none-expires}

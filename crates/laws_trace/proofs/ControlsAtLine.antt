@@ -1,5 +1,5 @@
 -- The control frames of a link that wait and go: one event of a line.
-use Rattle.std.proofs.Common.{◌≡◌, ℕ, ◌+◌, ◌-◌, ◌==◌, ◌&&◌, ◌||◌, Bool, true, false, cond, List, [], ◌∷◌, ◌++◌, length, map, take, zero, suc, Option, Some, None, refl, sym, ap, ◌∙◌, subst, ◌⊎◌, inl, inr, append-nil, true≢false}
+use Rattle.std.proofs.Common.{◌≡◌, ℕ, ◌+◌, ◌-◌, ◌==◌, ◌||◌, Bool, true, false, cond, List, [], ◌++◌, length, map, take, zero, suc, Option, Some, None, refl, sym, ap, ◌∙◌, subst, ◌⊎◌, inl, inr, append-nil, true≢false}
 use Rattle.std.specs.Prelude.{flat_map, not, option_to_list, is_some}
 use Rattle.std.specs.List.{list_any}
 use Rattle.std.specs.Option.{option_map_or}
@@ -34,7 +34,7 @@ use Rattle.laws_line.specs.Heard.{notes_of, is_data_of}
 use Rattle.laws_line.specs.Steady.{IsBy}
 use Rattle.laws_line.specs.Timers.{HaveTheirTimers}
 use Rattle.model_card.specs.Pulled.{frame_in}
-use Rattle.laws_trace.specs.ControlFrames.{receipt, while_up, changed, answers_at, command_of, acknowledged_at, IsPart}
+use Rattle.laws_trace.specs.ControlFrames.{receipt, changed, command_of, acknowledged_at, IsPart}
 use Rattle.laws_trace.specs.Deliveries.{Standing}
 use Rattle.laws_trace.specs.LinksMove.{is_up, expired_of, one_more}
 use Rattle.laws_trace.specs.TimersAreTimely.{nothing_yet, differ}

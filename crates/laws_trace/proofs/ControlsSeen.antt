@@ -44,7 +44,7 @@ use Rattle.laws_line.proofs.Ending.{gained-is}
 use Rattle.laws_line.proofs.Hearing.{sapi-is, same-sapi}
 use Rattle.laws_line.proofs.Obeyed.{both-true}
 use Rattle.model_card.specs.Pulled.{frame_taken, frame_in, octet_in}
-use Rattle.laws_trace.specs.ControlFrames.{of_link, control_in, controls_at, receipt, while_up, answer_to, changed, answers_at, acknowledged_by, acknowledged_at, IsPart}
+use Rattle.laws_trace.specs.ControlFrames.{of_link, control_in, controls_at, while_up, answer_to, changed, answers_at, acknowledged_by, acknowledged_at, IsPart}
 use Rattle.laws_trace.specs.Deliveries.{Standing}
 use Rattle.laws_trace.specs.LinksMove.{is_up}
 use Rattle.laws_trace.specs.Trace as traces

@@ -41,9 +41,8 @@ pub mod DataAsked
 pub mod DataRun
 pub mod AllDataGoesOut
 pub mod HeardLengths
-pub mod CommandsPut
 pub mod CommandsCaused
-pub mod CommandsHaveCauses
+pub mod ErrorsAreNoted
 pub mod ReceiptsNumbered
 pub mod StandingOfLink
 pub mod Standing

@@ -11,7 +11,7 @@ pub mod LinksTakeTurns
 pub mod TurnsMeanwhile
 pub mod MessagesComeFirst
 pub mod ControlFrames
-pub mod CommandsHaveCauses
+pub mod ErrorsAreNoted
 pub mod AllAreAcknowledged
 pub mod Managing
 pub mod MessagesAreOwed
@@ -30,8 +30,8 @@ pub mod Deliveries
 pub mod WorkedDeliveries
 pub mod DataGoesOut
 pub mod WorkedData
-pub mod WorkedCommands
 pub mod WorkedControls
+pub mod WorkedErrors
 pub mod WorkedBusy
 pub mod WorkedAcknowledged
 pub mod WorkedGiven

@@ -1,9 +1,8 @@
 -- Worked values: layer 3 is busy, and is so no more; which receipts are due, what is told, and traces that break the laws.
-use Rattle.std.specs.Prelude.{◌≡◌, List, [], ◌∷◌, ◌++◌, true, false, fold, flat_map, None, refl, ℕ, Bool, Some}
+use Rattle.std.specs.Prelude.{◌≡◌, List, [], ◌∷◌, ◌++◌, true, false, fold, None, refl}
 use Rattle.model_bits.specs.Bits.{low_bits}
 use Rattle.model_bits.specs.Stream as stream
-use Rattle.lapd_frame.specs.declared.notes.Note.TheVariants.{EstablishIndication, Data}
-use Rattle.std.proofs.Common.{ap}
+use Rattle.lapd_frame.specs.declared.notes.Note.TheVariants.{EstablishIndication}
 use Rattle.lapd_frame.specs.declared.services.Service.TheVariants.{Call, Packet}
 use Rattle.lapd_frame.specs.Reading.{reading, header_of, control_of, unnumbered_of, supervisory_of}
 use Rattle.lapd_frame.specs.declared.controls.Control.TheVariants.{ReceiveReady, ReceiveNotReady}
@@ -14,7 +13,6 @@ use Rattle.model_line.specs.Machine as lines
 use Rattle.model_line.specs.Request.{SetBusy, ClearBusy}
 use Rattle.laws_link.specs.Waiting.{as_response}
 use Rattle.model_link.specs.declared.frames.ControlFrame.{ControlFrame}
-use Rattle.model_card.specs.Event.{Event}
 use Rattle.model_card.specs.Run.{moments}
 use Rattle.laws_card.specs.Worked as worked
 use Rattle.laws_card.specs.Worked.{usual, on_0, hears}

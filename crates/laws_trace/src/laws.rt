@@ -3,8 +3,8 @@
 ghost use Rattle.laws_trace.specs.Trace.{Always};
 ghost use Rattle.laws_trace.specs.AllAreAcknowledged.{AllAreAcknowledged};
 ghost use Rattle.laws_trace.specs.AllGoesAgain.{AllGoesAgain, NextGoes};
-ghost use Rattle.laws_trace.specs.CommandsHaveCauses.{CommandsHaveCauses};
 ghost use Rattle.laws_trace.specs.ControlFrames.{OnlyDueGo, AllDueGo};
+ghost use Rattle.laws_trace.specs.ErrorsAreNoted.{ErrorsAreNoted};
 ghost use Rattle.laws_trace.specs.Configurations.{RangesAreServed};
 ghost use Rattle.laws_trace.specs.OtherSide.{TheOtherSideIsHeard};
 ghost use Rattle.laws_trace.specs.FramesAreRead.{FramesAreRead, FramesAreOctets, FramesGoOutAsTheyAre};
@@ -139,12 +139,11 @@ pub fn control_frames_go()
     ensures all { Always AllDueGo }
 {}
 
-/// Commands have causes. No more SABME of a link begin than requests to establish it were granted, errors of it were noted of
-/// what was heard, and its T200 expired; no more DISC than requests to release it were granted, and its T200 expired; and no
-/// more enquiries, which are supervisory commands with P=1, than its T200 and its T203 expired (Q.921 clauses 5.5.1, 5.5.3,
-/// 5.6.7, 5.7.1 and 5.10.3).
-pub fn commands_have_causes()
-    ensures { Always CommandsHaveCauses }
+/// Errors are noted. Where a link comes to state 5 by what is heard, where SABME is due, an error of it is noted. So SABME goes
+/// where this is noted, where layer 3 asks for the establishment, or where T200 expires, and nowhere else (Q.921 clauses 5.6.7,
+/// 5.7.1, 5.8.2 and 5.8.5 to 5.8.7).
+pub fn errors_are_noted()
+    ensures { Always ErrorsAreNoted }
 {}
 
 /// All that is told is acknowledged. Of a link in state 7 or 8, once the line was only pulled, as often as the configuration

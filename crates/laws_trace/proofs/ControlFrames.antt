@@ -38,7 +38,7 @@ use Rattle.laws_trace.specs.TimersAreTimely.{differ}
 use Rattle.laws_trace.specs.Trace as traces
 use Rattle.laws_trace.specs.Trace.{Seen, seen, trace, trace_of, Always}
 use Rattle.laws_trace.proofs.ControlsAtLine.{waits, due_here, owed_here, Passes, none-taken, event-passes}
-use Rattle.laws_trace.proofs.ControlsOfLink.{controls}
+use Rattle.laws_trace.proofs.ControlsDue.{controls}
 use Rattle.laws_trace.proofs.ControlsSeen.{controls_begun}
 use Rattle.laws_trace.proofs.DeliveriesKept.{run-stands}
 use Rattle.laws_trace.proofs.DeliveriesRun.{IsCount}

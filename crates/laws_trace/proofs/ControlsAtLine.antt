@@ -41,7 +41,8 @@ use Rattle.laws_trace.specs.TimersAreTimely.{nothing_yet, differ}
 use Rattle.laws_trace.specs.Trace.{Seen, seen}
 use Rattle.laws_trace.proofs.Addressed.{at-some-place, as-is}
 use Rattle.laws_trace.proofs.CommandsCaused.{IsNoOther}
-use Rattle.laws_trace.proofs.ControlsOfLink.{controls, answers_of, put_by, IsNumbered, puts, both-up}
+use Rattle.laws_trace.proofs.ControlsDue.{controls, answers_of, put_by}
+use Rattle.laws_trace.proofs.ControlsOfLink.{IsNumbered, puts, both-up}
 use Rattle.laws_trace.proofs.ControlsSeen.{begun_of, controls_begun, owed_of, answers_seen, IsOwed, begun-is, all-foreign, by-owed, offered, offer-serves, event-answers, none-answered}
 use Rattle.laws_trace.proofs.DeliveriesRun.{IsCount, data-noted}
 use Rattle.laws_trace.proofs.LinkLed.{none-ticks, one-ticks}

@@ -51,7 +51,7 @@ use Rattle.laws_trace.specs.Trace as traces
 use Rattle.laws_trace.specs.Trace.{Seen, heard, put, seen, seen_told, seen_granted}
 use Rattle.laws_trace.proofs.Addressed.{addressed-is}
 use Rattle.laws_trace.proofs.CommandsCaused.{same-itself}
-use Rattle.laws_trace.proofs.ControlsOfLink.{controls, answers_of}
+use Rattle.laws_trace.proofs.ControlsDue.{controls, answers_of}
 use Rattle.laws_trace.proofs.OneLink.{frames_given, IsForeign, is_at_link}
 use Rattle.laws_trace.proofs.Parts as parts
 use Rattle.laws_trace.proofs.Parts.{of-itself, of-nothing, both, more, through}

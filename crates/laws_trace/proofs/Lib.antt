@@ -47,6 +47,7 @@ pub mod ReceiptsNumbered
 pub mod StandingOfLink
 pub mod Standing
 pub mod DeliveriesKept
+pub mod ControlsDue
 pub mod ControlsOfLink
 pub mod Addressed
 pub mod ControlsSeen

@@ -40,7 +40,7 @@ use Rattle.laws_line.specs.Steady.{IsBy}
 use Rattle.laws_line.proofs.Hearing.{same-sapi}
 use Rattle.model_card.specs.Pulled.{frame_taken, frame_in, octet_in}
 use Rattle.laws_trace.specs.AllAreAcknowledged.{number_in, numbers_at, lost_since}
-use Rattle.laws_trace.specs.AnswersAreAsked.{of_link}
+use Rattle.laws_trace.specs.ControlFrames.{of_link}
 use Rattle.laws_trace.specs.Trace as traces
 use Rattle.laws_trace.specs.Trace.{Seen, heard, noted, lost, put, seen, seen_told, seen_granted}
 use Rattle.laws_trace.proofs.AcknowledgedOfLink.{number_of, IsAcked, zero-begun, same-number, delivered-acked, other-acked, given-acked}

@@ -1,8 +1,7 @@
 -- Why an event of a link puts a command.
-use Rattle.std.proofs.Common.{◌≡◌, ℕ, ◌+◌, ◌≤◌, ◌==◌, ◌&&◌, ◌||◌, Bool, true, false, cond, List, [], ◌∷◌, ◌++◌, take, drop, refl, sym, ap, ◌∙◌, subst, arith, eq-eqb, true≢false}
+use Rattle.std.proofs.Common.{◌≡◌, ℕ, ◌==◌, ◌&&◌, ◌||◌, Bool, true, false, cond, List, [], ◌∷◌, ◌++◌, refl, sym, ap, ◌∙◌, eq-eqb, true≢false}
 use Rattle.std.specs.Prelude.{not}
 use Rattle.std.specs.List.{list_any}
-use Rattle.std.proofs.lemmas.List.{take-append-drop}
 use Rattle.std.proofs.lemmas.List.Folds.{list_any-append}
 use Rattle.lapd_frame.specs.declared.controls.Control.{Control}
 use Rattle.lapd_frame.specs.declared.controls.Control.TheVariants.{Information, ReceiveReady, ReceiveNotReady, Reject, Sabme, Disc, Ui, Ua, Dm, Frmr, Xid}
@@ -15,20 +14,28 @@ use Rattle.lapd_frame.specs.declared.services.Service.TheVariants.{Call, Packet}
 use Rattle.lapd_frame.specs.Services.{same_service}
 use Rattle.model_link.specs.declared.states.State.{State}
 use Rattle.model_link.specs.declared.states.State.TheVariants.{TeiAssigned, AwaitingEstablishment, AwaitingRelease, Established, TimerRecovery}
-use Rattle.model_link.specs.declared.frames.ControlFrame.{ControlFrame}
 use Rattle.model_link.specs.declared.terms.Terms.{Terms}
 use Rattle.model_link.specs.declared.timers.LinkTimer.TheVariants.{T200, T203}
 use Rattle.model_link.specs.Link.{Link, is_multiple_frame, may_repeat}
 use Rattle.model_link.specs.Events.{Event, Received, Request, frame, undefined, wrong_size, overlong, Establish, Release, Data, SetBusy, ClearBusy, received, expired, requested, offer, cleared}
-use Rattle.model_link.specs.Machine as links
 use Rattle.model_link.specs.Told.{runs}
 use Rattle.laws_link.specs.Flags.{takes_contents}
-use Rattle.laws_link.specs.States.{as_heard, moves, by_frame, by_expiry, by_request, is_invalid, receipt_of, state_after}
+use Rattle.laws_link.specs.States.{moves, by_frame, by_expiry, by_request, is_invalid, receipt_of, state_after}
 use Rattle.laws_link.specs.Telling.{error, told_by, told_by_frame, told_up, told_malformed, final_as}
-use Rattle.laws_link.specs.Waiting.{answers, command_in, is_time, commands, put, room, behind, waiting_left}
-use Rattle.laws_link.proofs.Follows.{event-follows}
-use Rattle.laws_trace.proofs.CommandsPut.{one, count, count-append, no-answer, none-least, leads, command-led}
-use Rattle.laws_trace.specs.CommandsHaveCauses.{Kind, sabme, disc, enquiry, is_error}
+use Rattle.laws_link.specs.Waiting.{is_time}
+use Rattle.laws_trace.specs.ErrorsAreNoted.{is_error}
+
+-- The commands that await an answer, and the states that put them.
+pub data Kind : Type 0 where
+  sabme : Kind
+  disc : Kind
+  enquiry : Kind
+
+abbrev pub leads : Kind → State → Bool
+leads sabme AwaitingEstablishment = true
+leads disc AwaitingRelease = true
+leads enquiry TimerRecovery = true
+leads k other = false
 
 -- Why it is put: by what happened, and the notes.
 abbrev pub is_why : Kind → Terms → Event → List Note → Bool
@@ -277,79 +284,3 @@ caused k t (expired T203) l other m h = by-203 k t l.state (runs T203 l.running)
 caused k t (requested r full) l other m h = by-asked k t l.state r full _ m h
 caused k t offer l other m h = absurd other
 caused k t cleared l other m h = absurd other
-
-put-caused : (k : Kind) (t : Terms) (e : Event) (l : Link) → IsNoOther e → let to = state_after t e l in
-    count k (put e l to) ≤ one (is_why k t e (told_by t e l to))
-put-caused k t e l other =
-    let to = state_after t e l in
-    let answers-none = no-answer k e l in
-    let whole = count-append k (answers e l) (commands e l to) in
-    omega (arith, answers-none, whole, by-move (moves l.state to || is_time e l) refl)
-  where
-    to-be : State
-    to-be = state_after t e l
-
-    why : Bool
-    why = is_why k t e (told_by t e l to-be)
-
-    by-lead : (d : Bool) → leads k to-be ≡ d → (moves l.state to-be || is_time e l) ≡ true → one d ≤ one why
-    by-lead false none moved = none-least (one why)
-    by-lead true led moved = subst (λ b. 1 ≤ one b) (sym (caused k t e l other moved led)) (omega arith)
-
-    by-move : (b : Bool) → (moves l.state to-be || is_time e l) ≡ b → count k (cond b (command_in to-be l) []) ≤ one why
-    by-move false stays = none-least (one why)
-    by-move true moved = omega (arith, command-led k to-be l, by-lead (leads k to-be) refl moved)
-
-fewer : (k : Kind) (n : ℕ) (fs : List ControlFrame) → count k (take n fs) ≤ count k fs
-fewer k n fs =
-    let whole : count k fs ≡ count k (take n fs) + count k (drop n fs) = ap (count k) (sym (take-append-drop n fs)) ∙ count-append k (take n fs) (drop n fs) in
-    omega (arith, whole)
-
-rest-fewer : (k : Kind) (fs : List ControlFrame) → count k (drop 1 fs) ≤ count k fs
-rest-fewer k fs =
-    let whole : count k fs ≡ count k (take 1 fs) + count k (drop 1 fs) = ap (count k) (sym (take-append-drop 1 fs)) ∙ count-append k (take 1 fs) (drop 1 fs) in
-    omega (arith, whole)
-
-behind-caused : (k : Kind) (t : Terms) (e : Event) (l : Link) → IsNoOther e → let to = state_after t e l in
-    count k (behind t l (put e l to)) ≤ count k l.waiting + one (is_why k t e (told_by t e l to))
-behind-caused k t e l other =
-    let to = state_after t e l in
-    let whole = count-append k l.waiting (take (room t l) (put e l to)) in
-    let few = fewer k (room t l) (put e l to) in
-    let own = put-caused k t e l other in
-    omega (arith, whole, few, own)
-
-left-caused : (k : Kind) (t : Terms) (e : Event) (l : Link) → let to = state_after t e l in
-    count k (waiting_left t e l to) ≤ count k l.waiting + one (is_why k t e (told_by t e l to))
-left-caused k t (received what) l = behind-caused k t (received what) l tt
-left-caused k t (expired timer) l = behind-caused k t (expired timer) l tt
-left-caused k t (requested r full) l = behind-caused k t (requested r full) l tt
-left-caused k t offer l = let few = rest-fewer k l.waiting in omega (arith, few)
-left-caused k t cleared l = none-least _
-
--- as it is heard
-why-heard : (k : Kind) (t : Terms) (e : Event) (ns : List Note) → is_why k t (as_heard t e) ns ≡ is_why k t e ns
-why-heard sabme t (received (frame f)) ns = refl
-why-heard disc t (received (frame f)) ns = refl
-why-heard enquiry t (received (frame f)) ns = refl
-why-heard k t (received undefined) ns = refl
-why-heard k t (received wrong_size) ns = refl
-why-heard k t (received overlong) ns = refl
-why-heard k t (expired timer) ns = refl
-why-heard k t (requested r full) ns = refl
-why-heard k t offer ns = refl
-why-heard k t cleared ns = refl
-
-pub link-caused : (k : Kind) (t : Terms) (e : Event) (l : Link)
-    → count k (links.after t e l).waiting ≤ count k l.waiting + one (is_why k t e (links.told t e l).notes)
-link-caused k t e l =
-    let heard = as_heard t e in
-    let leaves = (event-follows t e l).leaves in
-    let to = (links.after t e l).state in
-    let led : to ≡ state_after t heard l = leaves.state in
-    let waits : (links.after t e l).waiting ≡ waiting_left t heard l (state_after t heard l) = leaves.waiting ∙ ap (waiting_left t heard l) led in
-    let tells : (links.told t e l).notes ≡ told_by t heard l (state_after t heard l) = leaves.tells ∙ ap (told_by t heard l) led in
-    subst (λ ws. count k ws ≤ count k l.waiting + one (is_why k t e (links.told t e l).notes)) (sym waits)
-    (subst (λ ns. count k (waiting_left t heard l (state_after t heard l)) ≤ count k l.waiting + one (is_why k t e ns)) (sym tells)
-    (subst (λ b. count k (waiting_left t heard l (state_after t heard l)) ≤ count k l.waiting + one b) (why-heard k t e (told_by t heard l (state_after t heard l)))
-    (left-caused k t heard l)))

@@ -44,7 +44,7 @@ use Rattle.laws_line.specs.Heard.{notes_of}
 use Rattle.laws_line.proofs.Places.{is-off, has-no-place}
 use Rattle.laws_line.proofs.Readings as read
 use Rattle.laws_line.proofs.TeiNotes.{ByChange, noted}
-use Rattle.laws_trace.specs.CommandsHaveCauses.{is_own}
+use Rattle.laws_trace.specs.Trace.{is_own}
 use Rattle.laws_trace.specs.News.{is_news}
 use Rattle.laws_trace.proofs.OneLink.{is_at_link}
 

@@ -21,13 +21,12 @@ use Rattle.model_card.specs.Pulled.{frame_taken, octet_in}
 use Rattle.laws_line.specs.Share.{is_granted}
 use Rattle.laws_line.specs.Steady.{IsBy}
 use Rattle.laws_link.specs.Flags.{asks_establishment}
-use Rattle.laws_trace.specs.CommandsHaveCauses.{is_own}
 use Rattle.lapd_frame.specs.Grammar.{Parts}
 use Rattle.laws_trace.specs.Deliveries.{is_for, frame_of as frame_heard}
 use Rattle.laws_trace.specs.News.{establishes, releases, is_sabme, begins}
 use Rattle.laws_trace.specs.TimersAreTimely.{nothing_yet, control_in}
 use Rattle.laws_trace.specs.Trace as traces
-use Rattle.laws_trace.specs.Trace.{seen, seen_told, seen_granted}
+use Rattle.laws_trace.specs.Trace.{is_own, seen, seen_told, seen_granted}
 use Rattle.laws_trace.proofs.Deliveries.{frame_by, brings-frame, brings-none}
 use Rattle.laws_trace.proofs.DeliveriesRun.{event-aims}
 use Rattle.laws_trace.proofs.LinkLed.{own-is, none-refused, elsewhere}

@@ -5,10 +5,6 @@ use Rattle.std.specs.List.{list_any}
 use Rattle.std.specs.Option.{option_map_or}
 use Rattle.std.proofs.lemmas.Bool.{and_parts}
 use Rattle.model_bits.specs.Stream as stream
-use Rattle.std.proofs.lemmas.List.{get_or-replicate}
-use Rattle.std.proofs.lemmas.List.Sums.{fold-append}
-use Rattle.std.proofs.lemmas.Option.{none-some}
-use Rattle.lapd_frame.specs.declared.notes.Note.{Note}
 use Rattle.lapd_frame.specs.declared.services.Service.{Service}
 use Rattle.lapd_frame.specs.Grammar.{Parts}
 use Rattle.lapd_frame.specs.Services.{same_service}
@@ -33,9 +29,8 @@ use Rattle.laws_line.specs.Share.{is_granted}
 use Rattle.laws_line.specs.Steady.{IsBy}
 use Rattle.laws_line.proofs.Granting.{not-refused}
 use Rattle.model_card.specs.Pulled.{frame_taken, octet_in}
-use Rattle.laws_trace.specs.CommandsHaveCauses.{is_own}
 use Rattle.laws_trace.specs.Trace as traces
-use Rattle.laws_trace.specs.Trace.{Seen, heard, noted, lost, put, seen, seen_told, seen_granted, trace_of}
+use Rattle.laws_trace.specs.Trace.{is_own, Seen, heard, noted, lost, put, seen, seen_told, seen_granted, trace_of}
 use Rattle.laws_trace.specs.Deliveries.{Standing, frame_of, is_for, begins_by, begins, counted, busy_asked, is_information, brings_information, stand}
 use Rattle.laws_trace.proofs.CommandsCaused.{same-itself}
 use Rattle.laws_trace.proofs.Deliveries.{frame_by, brings-frame, brings-none, one-begins}

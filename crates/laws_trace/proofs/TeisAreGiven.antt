@@ -9,7 +9,6 @@ use Rattle.std.proofs.lemmas.List.Elements.{All-head}
 use Rattle.std.proofs.lemmas.List.Folds.{list_any-append}
 use Rattle.std.proofs.lemmas.Option.{none-some}
 use Rattle.model_bits.specs.Stream as stream
-use Rattle.lapd_frame.specs.declared.notes.Note.{Note}
 use Rattle.lapd_tei.specs.Events as teis
 use Rattle.lapd_tei.specs.Machine.{Management}
 use Rattle.lapd_tei.specs.Messages.{heard_of_type, heard_in}

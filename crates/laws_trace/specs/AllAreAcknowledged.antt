@@ -14,7 +14,7 @@ use Rattle.model_card.specs.Card.{fresh, line_at}
 use Rattle.model_card.specs.Event.{Event}
 use Rattle.model_card.specs.Run.{after_all}
 use Rattle.laws_card.specs.Among.{ArePullsAt, pulls_at}
-use Rattle.laws_trace.specs.AnswersAreAsked.{of_link}
+use Rattle.laws_trace.specs.ControlFrames.{of_link}
 use Rattle.laws_trace.specs.Deliveries.{nothing_yet, watch}
 use Rattle.laws_trace.specs.Trace.{Seen, noted, begun, lost, trace_of}
 

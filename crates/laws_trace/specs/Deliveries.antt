@@ -22,8 +22,7 @@ use Rattle.model_card.specs.Card.{fresh, line_at}
 use Rattle.model_card.specs.Event.{Event}
 use Rattle.model_card.specs.Run.{moments, after_all}
 use Rattle.laws_line.specs.Heard.{is_data_of, is_unit_of, tells_contents}
-use Rattle.laws_trace.specs.CommandsHaveCauses.{is_own}
-use Rattle.laws_trace.specs.Trace.{Seen, heard, noted, granted, trace, trace_of, IsAmong}
+use Rattle.laws_trace.specs.Trace.{is_own, Seen, heard, noted, granted, trace, trace_of, IsAmong}
 use Rattle.laws_trace.specs.Units.{is_ui}
 
 -- Whoever watches the link of a service with a TEI keeps in mind the frame that was heard right before, as the grammar

@@ -24,10 +24,9 @@ use Rattle.model_card.specs.Card.{fresh}
 use Rattle.model_card.specs.Event.{Event, at}
 use Rattle.model_card.specs.Machine.{answer}
 use Rattle.model_card.specs.Run.{Moment, moments, after_all}
-use Rattle.laws_trace.specs.CommandsHaveCauses.{is_own}
 use Rattle.laws_trace.specs.Deliveries.{is_for, frame_of}
 use Rattle.laws_trace.specs.TimersAreTimely.{Known, nothing_yet, watch, state_before, state_after, awaits, differ}
-use Rattle.laws_trace.specs.Trace.{Seen, heard, granted, seen_in}
+use Rattle.laws_trace.specs.Trace.{is_own, Seen, heard, granted, seen_in}
 
 -- States 7 and 8 are those of multiple-frame operation; a state is the number that `Card::state` tells (Q.921 annex B).
 abbrev pub is_up : ℕ → Bool

@@ -17,10 +17,9 @@ use Rattle.model_card.specs.Card.{fresh}
 use Rattle.model_card.specs.Event.{Event, at}
 use Rattle.model_card.specs.Machine.{answer}
 use Rattle.model_card.specs.Run.{Moment, moments, after_all}
-use Rattle.laws_trace.specs.CommandsHaveCauses.{is_own}
 use Rattle.laws_trace.specs.Deliveries.{frame_of}
 use Rattle.laws_trace.specs.TimersAreTimely.{control_in, is_state, state_before, state_after, differ}
-use Rattle.laws_trace.specs.Trace.{Seen, heard, seen_in}
+use Rattle.laws_trace.specs.Trace.{is_own, Seen, heard, seen_in}
 
 -- The notes that say that a link is up, or down (Q.921 clauses 4.1.1.1 and 4.1.1.2).
 abbrev pub is_news : Service → ℕ → Note → Bool

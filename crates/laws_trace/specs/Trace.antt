@@ -1,7 +1,9 @@
 -- What an observer of one line of a card sees, in order of time.
-use Rattle.std.specs.Prelude.{◌≡◌, ℕ, ◌==◌, ◌<◌, List, [], ◌∷◌, ◌++◌, map, flat_map, Option, option_to_list, if◌then◌else◌}
+use Rattle.std.specs.Prelude.{◌≡◌, ℕ, ◌==◌, ◌<◌, ◌&&◌, Bool, List, [], ◌∷◌, ◌++◌, map, flat_map, Option, option_to_list, if◌then◌else◌}
 use Rattle.model_bits.specs.Stream as stream
 use Rattle.lapd_frame.specs.declared.notes.Note.{Note}
+use Rattle.lapd_frame.specs.declared.services.Service.{Service}
+use Rattle.lapd_frame.specs.Services.{same_service}
 use Rattle.model_line.specs.declared.config.Config.{Config}
 use Rattle.model_line.specs.Event.{Event, octet, expiry, request, pull, Answer, told}
 use Rattle.model_line.specs.Line.{Line}
@@ -40,6 +42,10 @@ seen c (octet value) l answer = map heard (option_to_list (gained c.n201 l.recei
 seen c (expiry timer) l answer = seen_told answer
 seen c (request r) l answer = seen_granted r answer ++ seen_told answer
 seen c pull l answer = map begun (frame_in c pull l) ++ map put (octet_in answer)
+
+-- A note, a request or a timer of the link of a service with a TEI.
+abbrev pub is_own : Service → ℕ → Service → ℕ → Bool
+is_own service tei of by = same_service of service && by == tei
 
 -- What is seen of a line in the moments of a run.
 abbrev pub seen_in : ℕ → Moment → List Seen

@@ -1,38 +1,25 @@
 -- Worked values: layer 3 is busy, and is so no more; which receipts are due, what is told, and traces that break the laws.
-use Rattle.std.specs.Prelude.{◌≡◌, List, [], ◌∷◌, ◌++◌, true, false, fold, flat_map, None, refl, ℕ, Bool, Some}
+use Rattle.std.specs.Prelude.{◌≡◌, List, [], ◌∷◌, ◌++◌, true, false, fold, None, refl}
 use Rattle.model_bits.specs.Bits.{low_bits}
 use Rattle.model_bits.specs.Stream as stream
-use Rattle.lapd_frame.specs.declared.notes.Note.TheVariants.{EstablishIndication, Data}
-use Rattle.std.proofs.Common.{ap}
+use Rattle.lapd_frame.specs.declared.notes.Note.TheVariants.{EstablishIndication}
 use Rattle.lapd_frame.specs.declared.services.Service.TheVariants.{Call, Packet}
 use Rattle.lapd_frame.specs.Reading.{reading, header_of, control_of, unnumbered_of, supervisory_of}
+use Rattle.lapd_frame.specs.declared.controls.Control.TheVariants.{ReceiveReady, ReceiveNotReady}
 use Rattle.lapd_seq.specs.Circle.{named, distance_of}
 use Rattle.lapd_seq.specs.Numbers.{seq}
 use Rattle.lapd_tei.specs.Events as teis
 use Rattle.model_line.specs.Machine as lines
 use Rattle.model_line.specs.Request.{SetBusy, ClearBusy}
-use Rattle.model_card.specs.Card.{fresh}
-use Rattle.model_card.specs.Event.{Event}
+use Rattle.laws_link.specs.Waiting.{as_response}
+use Rattle.model_link.specs.declared.frames.ControlFrame.{ControlFrame}
 use Rattle.model_card.specs.Run.{moments}
 use Rattle.laws_card.specs.Worked as worked
 use Rattle.laws_card.specs.Worked.{usual, on_0, hears}
 use Rattle.laws_trace.specs.Deliveries.{Standing, at_first, stand}
-use Rattle.laws_trace.specs.ReceiptsCount.{receipts_at, rr, rnr, due_by, due}
+use Rattle.laws_trace.specs.ControlFrames.{answers_at}
 use Rattle.laws_trace.specs.Trace.{Seen, heard, noted, granted, lost, trace_of}
 use Rattle.laws_trace.specs.WorkedDeliveries.{sabme, i_frame}
-use Rattle.laws_trace.specs.WorkedUnits.{pulls}
-
--- Layer 3 becomes busy on a link that is up: behind the UA RNR begins, and RR once it is busy no more; both are due.
-abbrev changes : List Event
-changes = worked.up ++ (on_0 (SetBusy Call 64) ∷ on_0 (ClearBusy Call 64) ∷ [])
-
-both_begin : flat_map (receipts_at usual Call 64) (trace_of usual (changes ++ pulls 16) 0) ≡ rnr false 0 false ∷ rr false 0 false ∷ []
-unfolding moments lines.after lines.answer lines.takes_slot teis.course teis.refusal low_bits seq distance_of named reading header_of control_of unnumbered_of supervisory_of
-both_begin = refl
-
-both_due : due usual Call 64 0 at_first (moments (fresh usual) changes) ≡ rnr false 0 false ∷ rr false 0 false ∷ []
-unfolding moments due lines.after lines.answer lines.takes_slot teis.course teis.refusal low_bits seq distance_of named reading header_of control_of unnumbered_of supervisory_of
-both_due = refl
 
 -- An I-frame that is heard meanwhile is not told.
 none_told : (fold (stand usual Call 64) at_first (trace_of usual (worked.up ++ (on_0 (SetBusy Call 64) ∷ i_frame) ++ hears 0xFC ∷ []) 0)).told.count ≡ 0
@@ -59,11 +46,14 @@ unfolding reading header_of control_of unnumbered_of
 free_again = refl
 
 -- A poll is due RNR while layer 3 is busy, and RR while it is not.
-rnr_due : due_by usual Call 64 (busy_by set) (busy_by set) (heard (stream.frame (0x00 ∷ 0x81 ∷ 0x01 ∷ 0x01 ∷ []))) ≡ rnr false 0 true ∷ []
+abbrev answers_poll : Standing → List ControlFrame
+answers_poll now = answers_at usual Call 64 now now 7 (heard (stream.frame (0x00 ∷ 0x81 ∷ 0x01 ∷ 0x01 ∷ [])))
+
+rnr_due : answers_poll (busy_by set) ≡ as_response (ReceiveNotReady (seq 0) true)
 unfolding seq reading header_of control_of unnumbered_of supervisory_of
 rnr_due = refl
 
-rr_due : due_by usual Call 64 at_first at_first (heard (stream.frame (0x00 ∷ 0x81 ∷ 0x01 ∷ 0x01 ∷ []))) ≡ rr false 0 true ∷ []
+rr_due : answers_poll at_first ≡ as_response (ReceiveReady (seq 0) true)
 unfolding seq reading header_of control_of unnumbered_of supervisory_of
 rr_due = refl
 

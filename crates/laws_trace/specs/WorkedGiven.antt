@@ -1,6 +1,6 @@
 -- Worked values: a TEI that is given, a line that is full, and a moment that breaks the law.
-use Rattle.std.specs.Prelude.{◌≡◌, true, List, [], ◌∷◌, ◌++◌, length, take, drop, fold, None, refl, ℕ, Some}
-use Rattle.std.specs.List.{list_any, find}
+use Rattle.std.specs.Prelude.{◌≡◌, true, List, [], ◌∷◌, ◌++◌, length, take, drop, fold, None, refl}
+use Rattle.std.specs.List.{list_any}
 use Rattle.model_bits.specs.Bits.{low_bits}
 use Rattle.model_bits.specs.Stream as stream
 use Rattle.lapd_frame.specs.declared.notes.Note.{Note}

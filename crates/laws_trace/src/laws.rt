@@ -2,11 +2,9 @@
 
 ghost use Rattle.laws_trace.specs.Trace.{Always};
 ghost use Rattle.laws_trace.specs.AllAreAcknowledged.{AllAreAcknowledged};
-ghost use Rattle.laws_trace.specs.AllAreAnswered.{AllAreAnswered, AnswersAreDue};
 ghost use Rattle.laws_trace.specs.AllGoesAgain.{AllGoesAgain, NextGoes};
-ghost use Rattle.laws_trace.specs.AnswersAreAsked.{AnswersAreAsked};
-ghost use Rattle.laws_trace.specs.CommandsGo.{CommandsAreDue, CommandsGo};
-ghost use Rattle.laws_trace.specs.CommandsHaveCauses.{CommandsHaveCauses};
+ghost use Rattle.laws_trace.specs.ControlFrames.{OnlyDueGo, AllDueGo};
+ghost use Rattle.laws_trace.specs.ErrorsAreNoted.{ErrorsAreNoted};
 ghost use Rattle.laws_trace.specs.Configurations.{RangesAreServed};
 ghost use Rattle.laws_trace.specs.OtherSide.{TheOtherSideIsHeard};
 ghost use Rattle.laws_trace.specs.FramesAreRead.{FramesAreRead, FramesAreOctets, FramesGoOutAsTheyAre};
@@ -19,7 +17,6 @@ ghost use Rattle.laws_trace.specs.MessagesComeFirst.{MessagesComeFirst};
 ghost use Rattle.laws_trace.specs.MessagesAreOwed.{MessagesAreOwed, AllMessagesGoOut};
 ghost use Rattle.laws_trace.specs.News.{NewsIsTold};
 ghost use Rattle.laws_trace.specs.NoLossInVain.{NoLossInVain};
-ghost use Rattle.laws_trace.specs.ReceiptsCount.{ReceiptsCount};
 ghost use Rattle.laws_trace.specs.TeisAgree.{TeisAgree, HeldForOne};
 ghost use Rattle.laws_trace.specs.TeisAreGiven.{TeisAreGiven};
 ghost use Rattle.laws_trace.specs.TimersAreTimely.{TimersRun, TimersAreStarted};
@@ -100,14 +97,6 @@ pub fn messages_come_first()
     ensures { Always MessagesComeFirst }
 {}
 
-/// Answers are asked for. The UA, the DM, and the responses RR, RNR and REJ with F=1 of a link that begin are among what was
-/// asked of it: each answers one SABME or DISC, or another command with P=1, of its kind and with F = P, that was heard before
-/// with the SAPI of its service and its TEI, whichever terminal had that TEI then; in their order, and none twice (Q.921
-/// clauses 3.5.1, 5.5 and 5.6).
-pub fn answers_are_asked()
-    ensures { Always AnswersAreAsked }
-{}
-
 /// What layer 3 is told was heard. Data of a link is the information of an I-frame for it that was heard right before, and the
 /// N(S) of these count them, modulo 128, from the establishment of the link on, without gap; none is told while layer 3 is busy;
 /// unit data is that of a UI; and contents that are told are noted as one or the other, once (`heard`). The numbers of a link
@@ -135,39 +124,26 @@ pub fn data_goes_out()
     ensures next { Always NextGoes }
 {}
 
-/// Answers are due. The UA, the DM, and the responses RR, RNR and REJ with F=1 of a link that begin are among those that are due,
-/// in their order, and none twice: one for each SABME and each DISC that is heard of it while its TEI is on the line, and one for
-/// each other command with P=1 that is heard while it is in state 7 or 8. So no more polls are answered than were heard in state 7
-/// or 8, and no more SABME and DISC than were heard of a TEI on the line (Q.921 clauses 3.5.1, 5.5 and 5.6).
-pub fn answers_are_due()
-    ensures { Always AnswersAreDue }
+/// Control frames that are due go, and no others: of a link, all frames except I-frames and UI. Due are, by the state of the link
+/// before: UA to SABME, and to DISC, with F = P, except DM to SABME in state 6, and to DISC in states 4 and 5; in states 7 and 8
+/// REJ, with F = P, to the first I-frame of which nothing is told though layer 3 is not busy, RNR or RR with F=1 to each other
+/// command with P=1, and with F=0 where layer 3 comes to be busy, or is so no more; and, with P=1, SABME, DISC or an enquiry where
+/// the link comes to state 5, 6 or 8, and again where T200 expires and leaves it there. It is RNR while layer 3 is busy, and RR
+/// while it is not, with the number of contents told of the link since its numbers began, modulo 128, as it was when the frame
+/// was due. Those that begin are among these, in their order, and none twice; except that RR with F=0, and the number told, goes by
+/// itself too in states 7 and 8, while layer 3 is not busy (`only`). And while the TEI stays on the line they all go, except the
+/// last of a moment, as many as its answer counts as lost: each has begun once the line was only pulled, as often as the
+/// configuration says, in their order (`all`; Q.921 clauses 3.5.1, 3.5.2.4 to 3.5.2.6, 5.5, 5.6, 5.7, 5.8.1 and 5.10.3).
+pub fn control_frames_go()
+    ensures only { Always OnlyDueGo }
+    ensures all { Always AllDueGo }
 {}
 
-/// All that is asked is answered. Whatever happened before: of a link whose TEI stays on the line, each SABME and each DISC
-/// that is heard is answered by UA or DM with F = P, and each command with P=1 that is heard in state 7 or 8 by RR, RNR or
-/// REJ with F=1, except where the answer to its octet counts a frame as lost: once the line was only pulled, as often as the
-/// configuration says, one answer has begun for each, in their order (Q.921 clauses 3.5.1, 5.5 and 5.6).
-pub fn all_are_answered()
-    ensures { Always AllAreAnswered }
-{}
-
-/// Commands have causes. No more SABME of a link begin than requests to establish it were granted, errors of it were noted of
-/// what was heard, and its T200 expired; no more DISC than requests to release it were granted, and its T200 expired; and no
-/// more enquiries, which are supervisory commands with P=1, than its T200 and its T203 expired (Q.921 clauses 5.5.1, 5.5.3,
-/// 5.6.7, 5.7.1 and 5.10.3).
-pub fn commands_have_causes()
-    ensures { Always CommandsHaveCauses }
-{}
-
-/// Receipts count what was told. The RR, RNR and REJ of a link that begin are among those that were due: for each command with
-/// P=1 that was heard, in whatever state, one with F=1; REJ, with F = P, in its place for an I-frame of which nothing was told
-/// though layer 3 was not busy, and no other until data is told, or the numbers begin; where SetBusy or ClearBusy that is granted changes it, RNR or RR; for each
-/// expiry of its T200 or T203, an enquiry; and RR with F=0 by itself. It is RNR while layer 3 is busy, and RR while it is not.
-/// Each has as its N(R) the number of contents told of the link since its numbers began, modulo 128, as it was when the receipt
-/// was due, which is as it begins for the RR by itself; in their order, and none twice (Q.921 clauses 3.5.2.4 to 3.5.2.6, 5.6.2
-/// to 5.6.7 and 5.8.1).
-pub fn receipts_count()
-    ensures { Always ReceiptsCount }
+/// Errors are noted. Where a link comes to state 5 by what is heard, where SABME is due, an error of it is noted. So SABME goes
+/// where this is noted, where layer 3 asks for the establishment, or where T200 expires, and nowhere else (Q.921 clauses 5.6.7,
+/// 5.7.1, 5.8.2 and 5.8.5 to 5.8.7).
+pub fn errors_are_noted()
+    ensures { Always ErrorsAreNoted }
 {}
 
 /// All that is told is acknowledged. Of a link in state 7 or 8, once the line was only pulled, as often as the configuration
@@ -228,21 +204,6 @@ pub fn timers_are_timely()
 /// whose TEI comes to the line is in state 4 (Q.921 clauses 3.5.2.3, 5.3, 5.5.1 to 5.5.5, 5.6.7, 5.7, 5.8, 5.9.2 and 5.10.3).
 pub fn links_move()
     ensures { Always LinksMove }
-{}
-
-/// Commands are due. The SABME, the DISC, and the supervisory commands, which are enquiries, of a link that begin are among those
-/// that are due, in their order, and none twice: SABME where the link comes to state 5, DISC where it comes to state 6, and an
-/// enquiry where it comes to state 8, and again where its T200 expires and leaves it there; each with P=1. So none of these
-/// goes as T200 ends state 5 or 6, beyond those that were due, and none with P=0 (Q.921 clauses 5.5.1, 5.5.3, 5.6.7, 5.7.2 and 5.10.3).
-pub fn commands_are_due()
-    ensures { Always CommandsAreDue }
-{}
-
-/// Commands that are due go. Whatever happened before: of a link whose TEI stays on the line, each command that is due, except
-/// where the answer counts a frame as lost, has begun, with P=1, once the line was only pulled, as often as the configuration says,
-/// in their order (Q.921 clauses 5.5.1, 5.5.3, 5.6.7, 5.7.2 and 5.10.3).
-pub fn commands_go()
-    ensures { Always CommandsGo }
 {}
 
 /// News of links is told. Where the TEI of a link is on the line before and after an event, the answer notes of its establishment

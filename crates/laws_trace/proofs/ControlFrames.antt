@@ -1,0 +1,305 @@
+-- The control frames of a link that go are those that are due: the laws.
+use Rattle.std.proofs.Common.{◌≡◌, ℕ, ◌<◌, ◌≤◌, ◌==◌, ◌&&◌, ◌||◌, Bool, true, false, cond, List, [], ◌∷◌, ◌++◌, get_or, length, take, ◌-◌, Option, Some, None, refl, sym, ap, ◌∙◌, subst, arith, eqb-true, eq-eqb, true≢false, append_assoc, append-nil}
+use Rattle.std.specs.Prelude.{All, flat_map, fold}
+use Rattle.std.specs.Option.{option_map_or}
+use Rattle.std.proofs.lemmas.Bool.{and_parts}
+use Rattle.std.proofs.lemmas.Grind.{flat_map-append}
+use Rattle.std.proofs.lemmas.List.{get_or-set_same, get_or-replicate}
+use Rattle.std.proofs.lemmas.List.Elements.{All-head, All-tail}
+use Rattle.lapd_frame.specs.declared.services.Service.{Service}
+use Rattle.lapd_tei.proofs.Tables.{place_of-is, at-within}
+use Rattle.model_link.specs.declared.frames.ControlFrame.{ControlFrame}
+use Rattle.model_link.specs.Link.{Link, fresh as fresh_link}
+use Rattle.model_line.specs.declared.config.Config.{Config}
+use Rattle.model_line.specs.Line.{Line, fresh_line, link_count, link_number, link_in, link_of, place_in, tei_at, state_of}
+use Rattle.model_line.specs.Machine as lines
+use Rattle.model_line.specs.Sound.{IsSound}
+use Rattle.model_line.proofs.Numbers.{place_at-number, number_within}
+use Rattle.laws_line.specs.Drains.{most_pulls}
+use Rattle.laws_line.specs.Frames.{lost_in}
+use Rattle.laws_line.specs.Pulls.{HasNothing}
+use Rattle.laws_line.proofs.TimersFollow.{nowhere}
+use Rattle.model_card.specs.Card.{Card, fresh, line_at, is_full}
+use Rattle.model_card.specs.Event as card
+use Rattle.model_card.specs.Machine as cards
+use Rattle.model_card.specs.Run.{Moment, moments, after_all, IsAtLine, AreAtLines}
+use Rattle.model_card.specs.Sound as card_sound
+use Rattle.model_card.proofs.CardSound.{fresh_is_sound, always_sound, after_is_sound}
+use Rattle.model_card.proofs.Steps.{has_lines, by_room, line_sound}
+use Rattle.laws_card.specs.Among.{pulls_at}
+use Rattle.laws_card.specs.Timers.{AllHaveTheirTimers}
+use Rattle.laws_card.proofs.Enough.{enough-pulls}
+use Rattle.laws_card.proofs.TimersRun.{timely-all, timely-after, begins-timely-card}
+use Rattle.laws_card.proofs.Wherever.{all-left, all-right, config-stays, begins-with-few}
+use Rattle.laws_trace.specs.ControlFrames.{controls_at, command_of, due_in, may_go_in, along, IsPart, OnlyDueGo, StaysOn, AllDueGo}
+use Rattle.laws_trace.specs.Deliveries.{Standing, at_first, stand}
+use Rattle.laws_trace.specs.LinksMove.{expired_of, one_more}
+use Rattle.laws_trace.specs.TimersAreTimely.{differ}
+use Rattle.laws_trace.specs.Trace as traces
+use Rattle.laws_trace.specs.Trace.{Seen, seen, trace, trace_of, Always}
+use Rattle.laws_trace.proofs.ControlsAtLine.{waits, due_here, owed_here, Passes, none-taken, event-passes}
+use Rattle.laws_trace.proofs.ControlsDue.{controls}
+use Rattle.laws_trace.proofs.ControlsSeen.{controls_begun}
+use Rattle.laws_trace.proofs.DeliveriesKept.{run-stands}
+use Rattle.laws_trace.proofs.DeliveriesRun.{IsCount}
+use Rattle.laws_trace.proofs.LinksMove.{differ-self, none-expires}
+use Rattle.laws_trace.proofs.Parts.{of-itself, of-nothing, both, more, behind, through}
+use Rattle.laws_trace.proofs.PullRuns.{apart}
+use Rattle.laws_trace.proofs.Runs.{nothing-seen}
+use Rattle.laws_trace.proofs.Standing.{standing, stand-is, event-stands, event-counts, fresh-stands}
+use Rattle.laws_trace.proofs.StandingOfLink.{calm, IsStanding}
+use Rattle.laws_trace.proofs.StaysOn.{first-on, then-on, pulls-keep, after-none}
+use Rattle.laws_trace.proofs.UnitsGoOut.{after-both}
+
+-- One thing behind the other.
+chain : {X : Type 0} (fs gs ws vs us ds es : List X) → IsPart (fs ++ vs) (ws ++ ds) → IsPart (gs ++ us) (vs ++ es) → IsPart ((fs ++ gs) ++ us) (ws ++ (ds ++ es))
+chain fs gs ws vs us ds es h i =
+    subst (λ xs. IsPart xs (ws ++ (ds ++ es))) (sym (append_assoc fs gs us))
+    (subst (IsPart (fs ++ (gs ++ us))) (append_assoc ws ds es)
+    (through (fs ++ (gs ++ us)) ((fs ++ vs) ++ es) ((ws ++ ds) ++ es)
+    (subst (IsPart (fs ++ (gs ++ us))) (sym (append_assoc fs vs es)) (both fs fs (gs ++ us) (vs ++ es) (of-itself fs) i))
+    (both (fs ++ vs) (ws ++ ds) es es h (of-itself es))))
+
+chain-back : {X : Type 0} (fs gs ws vs us ds es : List X) → IsPart (ws ++ ds) (fs ++ vs) → IsPart (vs ++ es) (gs ++ us) → IsPart (ws ++ (ds ++ es)) ((fs ++ gs) ++ us)
+chain-back fs gs ws vs us ds es h i =
+    subst (IsPart (ws ++ (ds ++ es))) (sym (append_assoc fs gs us))
+    (subst (λ xs. IsPart xs (fs ++ (gs ++ us))) (append_assoc ws ds es)
+    (through ((ws ++ ds) ++ es) ((fs ++ vs) ++ es) (fs ++ (gs ++ us))
+    (both (ws ++ ds) (fs ++ vs) es es h (of-itself es))
+    (subst (λ xs. IsPart xs (fs ++ (gs ++ us))) (sym (append_assoc fs vs es)) (both fs fs (vs ++ es) (gs ++ us) (of-itself fs) i))))
+
+none-mapped : (o : Option ℕ) (xs : List ControlFrame) → xs ≡ [] → option_map_or (λ s. xs) o xs ≡ []
+none-mapped None xs none = none
+none-mapped (Some state) xs none = none
+
+-- between two events no frame is kept in mind
+as-calm : (w : Standing) → w.told.frame ≡ None → w ≡ calm w.told.count w.busy w.rejected
+as-calm w quiet = ap (λ o. record { told = record { frame = o; count = w.told.count }; busy = w.busy; rejected = w.rejected }) quiet
+
+module _ (service : Service) (tei : ℕ) where
+  abbrev moment-of : Card → card.Event → Moment
+  moment-of m e = record { card = m; event = e; answer = cards.answer e m }
+
+  -- What a moment is to the control frames of a link, and how the link stands behind it.
+  record Moves (c : Config) (was : Standing) (time : Bool) (l : Line) (t : List Seen) (lost : ℕ) (next : Line) : Type 0 where
+    passes : Passes service tei c was (standing service tei c was t) time l t lost next
+    quiet_is : (standing service tei c was t).told.frame ≡ None
+    count : IsCount (link_of service tei next) (standing service tei c was t).told.count
+    stands : IsStanding (link_of service tei next) (standing service tei c was t).busy (standing service tei c was t).rejected
+
+  module _ (n : ℕ) (busy rejected : Bool) where
+    abbrev was : Standing
+    was = calm n busy rejected
+
+    abbrev Stands : Line → Type 0
+    Stands l = IsCount (link_of service tei l) n × IsStanding (link_of service tei l) busy rejected
+
+    idle : (c : Config) (time : Bool) (l : Line) (lost : ℕ) → time ≡ false → Stands l → Moves c was time l [] lost l
+    idle c time l lost none stands = record {
+      passes = record {
+        only = more (waits service tei l) (due_here service tei c was was time l [] lost l ++ owed_here service tei c was l []);
+        all = λ a b.
+            subst (λ xs. IsPart (waits service tei l ++ xs) (waits service tei l)) (sym no-due)
+            (subst (λ xs. IsPart xs (waits service tei l)) (sym (append-nil (waits service tei l))) (of-itself (waits service tei l)));
+      };
+      quiet_is = refl;
+      count = stands.0;
+      stands = stands.1;
+    }
+      where
+        no-due : due_here service tei c was was time l [] lost l ≡ []
+        no-due =
+            ap (λ xs. take (length (xs ++ cond time (command_of was (state_of service tei l)) []) - lost) (xs ++ cond time (command_of was (state_of service tei l)) [])) (none-mapped (state_of service tei l) [] refl)
+            ∙ ap (λ b. take (length (cond b (command_of was (state_of service tei l)) []) - lost) (cond b (command_of was (state_of service tei l)) [])) none
+            ∙ none-taken (0 - lost)
+
+    no-time : (l : Line) (n : ℕ) → n ≡ 0 → (differ (state_of service tei l) (state_of service tei l) || n == 1) ≡ false
+    no-time l n none = ap (λ n. differ (state_of service tei l) (state_of service tei l) || n == 1) none ∙ ap (λ b. b || false) (differ-self (state_of service tei l))
+
+    abbrev time_of : Line → card.Event → Bool → Line → Bool
+    time_of l e b next = differ (state_of service tei l) (state_of service tei next) || (b && option_map_or one_more (expired_of service tei e.what) 0 == 1)
+
+    own-line : (m : Card) (e : card.Event) → card_sound.IsSound m → AllHaveTheirTimers m → IsAtLine m e → let l = line_at e.line m in Stands l
+        → let x = line_at e.line (cards.after e m) in Moves m.config was (time_of l e true x) l (seen m.config e.what l (cards.answer e m)) (lost_in (cards.answer e m)) x
+    own-line m e s timely here stands =
+        let c = m.config in
+        let l = line_at e.line m in
+        by_room (λ ls a. let x = get_or ls e.line (fresh_line c) in Moves c was (time_of l e true x) l (seen c e.what l a) (lost_in a) x) e m
+        (λ full.
+        let takes = (and_parts (lines.takes_slot c e.what l) (is_full m) full).0 in
+        subst (λ t. Moves c was (time_of l e true l) l t 0 l) (sym (nothing-seen c e.what l takes))
+        (idle c (time_of l e true l) l 0
+        (no-time l (option_map_or one_more (expired_of service tei e.what) 0) (ap (λ o. option_map_or one_more o 0) (none-expires c service tei e.what l takes))) stands))
+        (λ room.
+        let sound = line_sound m e.line (has_lines m s) here in
+        let is = stand-is service tei c e.what l n busy rejected in
+        let t = seen c e.what l (lines.answer c e.what l) in
+        let next = lines.after c e.what l in
+        subst (λ (x : Line). Moves c was (time_of l e true x) l t (lost_in (lines.answer c e.what l)) x)
+        (sym (get_or-set_same m.lines e.line next (fresh_line c) (omega (arith, s.count, here))))
+        (record {
+          passes = subst (λ w. Passes service tei c was w (time_of l e true next) l t (lost_in (lines.answer c e.what l)) next) (sym is)
+              (event-passes service tei c s.config e.what l sound (timely.lines e.line here) n busy rejected stands.0 stands.1);
+          quiet_is = ap (λ (w : Standing). w.told.frame) is;
+          count = subst (λ (w : Standing). IsCount (link_of service tei next) w.told.count) (sym is) (event-counts service tei c s.config l sound e.what n stands.0 busy rejected stands.1);
+          stands = subst (λ (w : Standing). IsStanding (link_of service tei next) w.busy w.rejected) (sym is) (event-stands service tei c s.config l sound e.what n stands.0 busy rejected stands.1).0;
+        }))
+
+    abbrev Moment-moves : Card → card.Event → ℕ → Bool → Type 0
+    Moment-moves m e number b =
+        let l = line_at number m in
+        let x = line_at number (cards.after e m) in
+        Moves m.config was (time_of l e b x) l (cond b (seen m.config e.what l (cards.answer e m)) []) (lost_in (cards.answer e m)) x
+
+    moment : (m : Card) (e : card.Event) (number : ℕ) → card_sound.IsSound m → AllHaveTheirTimers m → IsAtLine m e → Stands (line_at number m)
+        → (b : Bool) → (e.line == number) ≡ b → Moment-moves m e number b
+    moment m e number s timely at-line stands false other =
+        let l = line_at number m in
+        let lost = lost_in (cards.answer e m) in
+        subst (λ (x : Line). Moves m.config was (time_of l e false x) l [] lost x) (sym (apart m e number (λ same. true≢false (sym (eq-eqb e.line number (sym same)) ∙ other))))
+        (idle m.config (time_of l e false l) l lost (no-time l 0 refl) stands)
+    moment m e number s timely at-line stands true is =
+        let same = eqb-true e.line number is in
+        subst (λ i. Moment-moves m e i true) same (own-line m e s timely at-line (subst (λ i. Stands (line_at i m)) (sym same) stands))
+
+  -- A run.
+  run-only : (m : Card) (events : List card.Event) (number n : ℕ) (busy rejected : Bool) → card_sound.IsSound m → AllHaveTheirTimers m → AreAtLines m events
+      → Stands n busy rejected (line_at number m)
+      → IsPart (controls_begun m.config service tei (trace number (moments m events)) ++ waits service tei (line_at number (after_all m events)))
+      (waits service tei (line_at number m) ++ along m.config service tei number (may_go_in m.config service tei number) (calm n busy rejected) (moments m events))
+  unfolding moments after_all along
+  run-only m [] number n busy rejected s timely all stands = more (waits service tei (line_at number m)) []
+  run-only m (e ∷ events) number n busy rejected s timely all stands =
+      let c = m.config in
+      let at-line = All-head (IsAtLine m) e events all in
+      let later = cards.after e m in
+      let first = traces.seen_in number (moment-of m e) in
+      let rest = trace number (moments later events) in
+      let x = moment n busy rejected m e number s timely at-line stands (e.line == number) refl in
+      let w = standing service tei c (calm n busy rejected) first in
+      let then = run-only later events number w.told.count w.busy w.rejected (after_is_sound m e s at-line) (timely-after m e s timely at-line) (All-tail (IsAtLine m) e events all) (x.count, x.stands) in
+      let now = may_go_in c service tei number (calm n busy rejected) w (moment-of m e) in
+      let last = waits service tei (line_at number (after_all later events)) in
+      let behind = along c service tei number (may_go_in c service tei number) w (moments later events) in
+      subst (λ xs. IsPart (xs ++ last) (waits service tei (line_at number m) ++ (now ++ behind))) (sym (flat_map-append (controls_at c service tei) first rest))
+      (chain (controls_begun c service tei first) (controls_begun c service tei rest) (waits service tei (line_at number m)) (waits service tei (line_at number later)) last now behind x.passes.only
+      (subst (λ (v : Standing). IsPart (controls_begun c service tei rest ++ last) (waits service tei (line_at number later) ++ along c service tei number (may_go_in c service tei number) v (moments later events)))
+      (sym (as-calm w x.quiet_is)) then))
+
+  run-all : (m : Card) (events : List card.Event) (number n : ℕ) (busy rejected : Bool) → card_sound.IsSound m → AllHaveTheirTimers m → AreAtLines m events
+      → Stands n busy rejected (line_at number m) → StaysOn number tei m events
+      → IsPart (waits service tei (line_at number m) ++ along m.config service tei number (due_in m.config service tei number) (calm n busy rejected) (moments m events))
+      (controls_begun m.config service tei (trace number (moments m events)) ++ waits service tei (line_at number (after_all m events)))
+  unfolding moments after_all along StaysOn
+  run-all m [] number n busy rejected s timely all stands on =
+      subst (λ xs. IsPart xs (waits service tei (line_at number m))) (sym (append-nil (waits service tei (line_at number m)))) (of-itself (waits service tei (line_at number m)))
+  run-all m (e ∷ events) number n busy rejected s timely all stands on =
+      let c = m.config in
+      let at-line = All-head (IsAtLine m) e events all in
+      let later = cards.after e m in
+      let first = traces.seen_in number (moment-of m e) in
+      let rest = trace number (moments later events) in
+      let x = moment n busy rejected m e number s timely at-line stands (e.line == number) refl in
+      let w = standing service tei c (calm n busy rejected) first in
+      let then = run-all later events number w.told.count w.busy w.rejected (after_is_sound m e s at-line) (timely-after m e s timely at-line) (All-tail (IsAtLine m) e events all) (x.count, x.stands) on.1 in
+      let now = due_in c service tei number (calm n busy rejected) w (moment-of m e) in
+      let last = waits service tei (line_at number (after_all later events)) in
+      let behind = along c service tei number (due_in c service tei number) w (moments later events) in
+      subst (λ xs. IsPart (waits service tei (line_at number m) ++ (now ++ behind)) (xs ++ last)) (sym (flat_map-append (controls_at c service tei) first rest))
+      (chain-back (controls_begun c service tei first) (controls_begun c service tei rest) (waits service tei (line_at number m)) (waits service tei (line_at number later)) last now behind
+      (x.passes.all on.0 (first-on tei number later events on.1))
+      (subst (λ (v : Standing). IsPart (waits service tei (line_at number later) ++ along c service tei number (due_in c service tei number) v (moments later events)) (controls_begun c service tei rest ++ last))
+      (sym (as-calm w x.quiet_is)) then))
+
+  -- What is due in a front is due in the whole.
+  due-front : (c : Config) (m : Card) (front behind : List card.Event) (number : ℕ) (w : Standing)
+      → IsPart (along c service tei number (due_in c service tei number) w (moments m front)) (along c service tei number (due_in c service tei number) w (moments m (front ++ behind)))
+  unfolding moments along
+  due-front c m [] behind number w = of-nothing (along c service tei number (due_in c service tei number) w (moments m behind))
+  due-front c m (e ∷ front) behind number w =
+      let now = fold (stand c service tei) w (traces.seen_in number (moment-of m e)) in
+      let first = due_in c service tei number w now (moment-of m e) in
+      both first first (along c service tei number (due_in c service tei number) now (moments (cards.after e m) front))
+      (along c service tei number (due_in c service tei number) now (moments (cards.after e m) (front ++ behind))) (of-itself first) (due-front c (cards.after e m) front behind number now)
+
+  -- Nothing waits on any link where nothing waits at the line.
+  none-waits : (c : Config) (l : Line) → IsSound c l → HasNothing c l → waits service tei l ≡ []
+  none-waits c l s h = go (place_in l tei) refl
+    where
+      go : (o : Option ℕ) → place_in l tei ≡ o → controls (option_map_or (link_in l service) o fresh_link).waiting ≡ []
+      go None is = refl
+      go (Some place) is =
+          let number = link_number place service in
+          let at = (place_of-is l.management.places tei place is).1 in
+          let few : number < link_count c = number_within place c.terminals service (omega (arith, s.places, at-within l.management.places place tei at)) in
+          ap controls (h.links number few tei (ap (λ p. tei_at p l) (place_at-number place service) ∙ at)).waiting
+
+pub only-due-go : Always OnlyDueGo
+only-due-go c events number ranged all within service tei =
+    let m = fresh c in
+    let off : link_of service tei (line_at number m) ≡ fresh_link =
+    ap (link_of service tei) (get_or-replicate c.lines number (fresh_line c) (fresh_line c) within) ∙ ap (λ o. option_map_or (link_in (fresh_line c) service) o fresh_link) (nowhere c tei) in
+    let ran = run-only service tei m events number 0 false false (fresh_is_sound c ranged) (begins-timely-card c) all
+    (λ up. ap (λ (k : Link). k.r) off, subst (λ (k : Link). IsStanding k false false) (sym off) fresh-stands) in
+    let begun = flat_map (controls_at c service tei) (trace_of c events number) in
+    let last = waits service tei (line_at number (after_all m events)) in
+    let due = along c service tei number (may_go_in c service tei number) at_first (moments m events) in
+    through begun (begun ++ last) due (more begun last) (subst (λ (k : Link). IsPart (begun ++ last) (controls k.waiting ++ due)) off ran)
+
+pub all-due-go : Always AllDueGo
+all-due-go c events number ranged all within service tei before meanwhile pulls split only enough on =
+    let whole = subst (AreAtLines (fresh c)) split all in
+    let m = after_all (fresh c) before in
+    let same-config : m.config ≡ c = config-stays (fresh c) before in
+    let first = all-left (IsAtLine (fresh c)) before (meanwhile ++ pulls) whole in
+    let sound = always_sound (fresh c) before (fresh_is_sound c ranged) first in
+    let timely = timely-all (fresh c) before (fresh_is_sound c ranged) (begins-timely-card c) first in
+    let later : AreAtLines m (meanwhile ++ pulls) =
+    subst (λ (c : Config). All (λ (e : card.Event). e.line < c.lines) (meanwhile ++ pulls)) (sym same-config) (all-right (IsAtLine (fresh c)) before (meanwhile ++ pulls) whole) in
+    let then = after_all m meanwhile in
+    let then-sound = always_sound m meanwhile sound (all-left (IsAtLine m) meanwhile pulls later) in
+    let then-at : AreAtLines then pulls = subst (λ (c : Config). All (λ (e : card.Event). e.line < c.lines) pulls) (sym (config-stays m meanwhile)) (all-right (IsAtLine m) meanwhile pulls later) in
+    let stays = then-on tei m meanwhile pulls number on (pulls-keep tei then pulls number then-sound then-at only) in
+    let known = run-stands c before number ranged first within service tei in
+    let w = fold (stand c service tei) at_first (trace_of c before number) in
+    let ran = subst (Ran m w) same-config (run-all service tei m (meanwhile ++ pulls) number w.told.count w.busy w.rejected sound timely later (known.2, known.3) stays) in
+    let due = along c service tei number (due_in c service tei number) w (moments m (meanwhile ++ pulls)) in
+    let due-known : along c service tei number (due_in c service tei number) (calm w.told.count w.busy w.rejected) (moments m (meanwhile ++ pulls)) ≡ due =
+    ap (λ v. along c service tei number (due_in c service tei number) v (moments m (meanwhile ++ pulls))) (sym (as-calm w known.1)) in
+    let at-first = waits service tei (line_at number m) in
+    let shown = flat_map (controls_at c service tei) (trace number (moments m (meanwhile ++ pulls))) in
+    through (along c service tei number (due_in c service tei number) w (moments m meanwhile)) due shown (due-front service tei c m meanwhile pulls number w)
+    (through due (at-first ++ due) shown (behind at-first due)
+    (subst (IsPart (at-first ++ due)) (append-nil shown)
+    (subst (λ xs. IsPart (at-first ++ due) (shown ++ xs)) nothing-left (subst (λ ds. IsPart (at-first ++ ds) (shown ++ waits service tei (line_at number (after_all m (meanwhile ++ pulls))))) due-known ran))))
+  where
+    Ran : Card → Standing → Config → Type 0
+    Ran m w d =
+        IsPart (waits service tei (line_at number m) ++ along d service tei number (due_in d service tei number) (calm w.told.count w.busy w.rejected) (moments m (meanwhile ++ pulls)))
+        (controls_begun d service tei (trace number (moments m (meanwhile ++ pulls))) ++ waits service tei (line_at number (after_all m (meanwhile ++ pulls))))
+
+    -- the run from the start on
+    front : List card.Event
+    front = before ++ meanwhile
+
+    same : events ≡ front ++ pulls
+    same = split ∙ sym (append_assoc before meanwhile pulls)
+
+    end-is : after_all (fresh c) events ≡ after_all (after_all (fresh c) before) (meanwhile ++ pulls)
+    end-is = ap (after_all (fresh c)) split ∙ after-both (fresh c) before (meanwhile ++ pulls)
+
+    end-sound : IsSound c (line_at number (after_all (fresh c) events))
+    end-sound =
+        let card-is = always_sound (fresh c) events (fresh_is_sound c ranged) all in
+        let same-config = config-stays (fresh c) events in
+        subst (λ (d : Config). IsSound d (line_at number (after_all (fresh c) events))) same-config
+        (line_sound (after_all (fresh c) events) number (has_lines (after_all (fresh c) events) card-is) (subst (λ (c : Config). number < c.lines) (sym same-config) within))
+
+    nothing : HasNothing c (line_at number (after_all (fresh c) events))
+    nothing =
+        let idle = (enough-pulls (fresh c) events (fresh_is_sound c ranged) all number within (begins-with-few c number within)).ends front pulls same
+        pulls [] (sym (append-nil pulls)) only (subst (λ c. most_pulls c ≤ pulls_at number pulls) (sym (config-stays (fresh c) front)) enough) in
+        after-none c (after_all (after_all (fresh c) front) pulls) events number (ap (after_all (fresh c)) same ∙ after-both (fresh c) front pulls) idle.nothing
+
+    nothing-left : waits service tei (line_at number (after_all (after_all (fresh c) before) (meanwhile ++ pulls))) ≡ []
+    nothing-left = ap (λ m. waits service tei (line_at number m)) (sym end-is) ∙ none-waits service tei c (line_at number (after_all (fresh c) events)) end-sound nothing

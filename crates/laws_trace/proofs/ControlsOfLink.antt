@@ -1,0 +1,342 @@
+-- What an event of a link puts is what it makes due.
+use Rattle.std.proofs.Common.{◌≡◌, ℕ, ◌+◌, ◌-◌, ◌≤◌, ◌==◌, ◌&&◌, ◌||◌, Bool, true, false, cond, List, [], ◌∷◌, ◌++◌, length, take, drop, zero, suc, Some, refl, sym, ap, ◌∙◌, subst, arith, true≢false}
+use Rattle.std.specs.Prelude.{not}
+use Rattle.std.proofs.lemmas.Grind.{flat_map-append}
+use Rattle.std.proofs.lemmas.List.{length-drop}
+use Rattle.std.proofs.lemmas.List.Elements.{All-take}
+use Rattle.lapd_frame.specs.declared.controls.Control.{Control}
+use Rattle.lapd_frame.specs.declared.controls.Control.TheVariants.{Information, ReceiveReady, ReceiveNotReady, Reject, Sabme, Disc, Ui, Ua, Dm, Frmr, Xid}
+use Rattle.lapd_frame.specs.Grammar.{Parts}
+use Rattle.lapd_seq.specs.Numbers.{seq}
+use Rattle.laws_two_links.specs.Needed.{HasItsTimer, needed_in}
+use Rattle.model_link.specs.declared.states.State.{State}
+use Rattle.model_link.specs.declared.states.State.TheVariants.{TeiAssigned, AwaitingEstablishment, AwaitingRelease, Established, TimerRecovery}
+use Rattle.model_link.specs.declared.frames.ControlFrame.{ControlFrame}
+use Rattle.model_link.specs.declared.terms.Terms.{Terms}
+use Rattle.model_link.specs.declared.timers.LinkTimer.{LinkTimer}
+use Rattle.model_link.specs.declared.timers.LinkTimer.TheVariants.{T200, T203}
+use Rattle.model_link.specs.Deliveries.{restarts}
+use Rattle.model_link.specs.Events.{Event, frame, undefined, wrong_size, overlong, Request, Establish, Release, Data, SetBusy, ClearBusy, received, expired, requested, offer, cleared}
+use Rattle.model_link.specs.Link.{Link, is_multiple_frame, may_repeat, state_number}
+use Rattle.model_link.specs.Machine as links
+use Rattle.model_link.specs.Told.{runs}
+use Rattle.laws_link.proofs.Restarts.{establishes}
+use Rattle.laws_link.specs.Flags.{busy_asked, takes_contents}
+use Rattle.laws_link.specs.States.{as_heard, moves, by_expiry, state_after}
+use Rattle.laws_link.specs.Waiting as waiting
+use Rattle.laws_link.specs.Waiting.{receipt_as, as_response, as_command, is_next, to_supervisory, to_sabme, to_disc, answers_to, answers, command_in, commands, put, room, behind, waiting_left}
+use Rattle.laws_link.proofs.Follows.{event-follows}
+use Rattle.laws_trace.specs.ControlFrames.{control_in, receipt, polled, to_information, while_up, answer_to, changed, command_of}
+use Rattle.laws_trace.specs.Deliveries.{Standing}
+use Rattle.laws_trace.proofs.CommandsCaused.{enquiry, leads, IsNoOther, caused}
+use Rattle.laws_trace.proofs.ControlsDue.{controls, answers_of, put_by, IsControl, all-put, all-controls}
+use Rattle.laws_trace.proofs.MovesOfLink.{ticks}
+use Rattle.laws_trace.proofs.StandingOfLink.{calm, rejected_behind}
+
+-- V(R), own busy and whether REJ stands while the link is up, before an event and behind it.
+abbrev pub number_after : Event → Link → ℕ
+number_after e l = cond (takes_contents e l) (l.r + 1) l.r
+
+pub record IsNumbered (t : Terms) (e : Event) (l : Link) (m : ℕ) (busy rejected : Bool) (n : ℕ) (busy_now rejected_now : Bool) : Type 0 where
+  pub number_is : is_multiple_frame l.state ≡ true → l.r ≡ m
+  pub busy_is : is_multiple_frame l.state ≡ true → l.own_busy ≡ busy
+  pub rejected_is : is_multiple_frame l.state ≡ true → l.rejecting ≡ rejected
+  pub number_on : is_multiple_frame l.state ≡ true → restarts t e l ≡ false → number_after (as_heard t e) l ≡ n
+  pub busy_on : is_multiple_frame l.state ≡ true → restarts t e l ≡ false → busy_asked e busy ≡ busy_now
+  pub rejected_on : is_multiple_frame l.state ≡ true → restarts t e l ≡ false → rejected_behind false (takes_contents (as_heard t e) l) e busy rejected ≡ rejected_now
+
+-- An I-frame is answered.
+by-information : (busy next rejecting p : Bool) (r : ℕ)
+    → cond (not busy && (not next && not rejecting)) (as_response (Reject (seq r) p)) (cond p (as_response (receipt_as busy (cond (not busy && next) (r + 1) r) true)) [])
+    ≡ to_information p (calm r busy rejecting) (calm (cond (not busy && next) (r + 1) r) busy (cond (not busy && next) false (cond (not busy) true rejecting)))
+by-information true next true p r = refl
+by-information true next false p r = refl
+by-information false true rejecting p r = refl
+by-information false false true p r = refl
+by-information false false false p r = refl
+
+-- SetBusy and ClearBusy.
+by-set : (busy rejected : Bool) (r : ℕ) → cond (not busy) (as_response (receipt_as true r false)) [] ≡ changed (calm r busy rejected) (calm r true rejected)
+by-set true rejected r = refl
+by-set false rejected r = refl
+
+by-clear : (busy rejected : Bool) (r : ℕ) → cond busy (as_response (receipt_as false r false)) [] ≡ changed (calm r busy rejected) (calm r false rejected)
+by-clear true rejected r = refl
+by-clear false rejected r = refl
+
+by-none : (busy rejected : Bool) (r : ℕ) → [] ≡ changed (calm r busy rejected) (calm r busy rejected)
+by-none true rejected r = refl
+by-none false rejected r = refl
+
+-- SABME and DISC.
+by-sabme : (s : State) (p : Bool) → to_sabme s p ≡ cond (state_number s == 6) (Dm p) (Ua p)
+by-sabme TeiAssigned p = refl
+by-sabme AwaitingEstablishment p = refl
+by-sabme AwaitingRelease p = refl
+by-sabme Established p = refl
+by-sabme TimerRecovery p = refl
+
+by-disc : (s : State) (p : Bool) → to_disc s p ≡ cond (state_number s == 4 || state_number s == 5) (Dm p) (Ua p)
+by-disc TeiAssigned p = refl
+by-disc AwaitingEstablishment p = refl
+by-disc AwaitingRelease p = refl
+by-disc Established p = refl
+by-disc TimerRecovery p = refl
+
+either-none : (b : Bool) → cond {A = List ControlFrame} b [] [] ≡ []
+either-none true = refl
+either-none false = refl
+
+if-both : (a b : Bool) (xs : List ControlFrame) → cond (a && b) xs [] ≡ cond a (cond b xs []) []
+if-both true b xs = refl
+if-both false b xs = refl
+
+-- States 7 and 8 are those of multiple-frame operation.
+pub both-up : (s : State) (xs ys : List ControlFrame) → (is_multiple_frame s ≡ true → xs ≡ ys) → cond (is_multiple_frame s) xs [] ≡ while_up (state_number s) ys
+both-up TeiAssigned xs ys h = refl
+both-up AwaitingEstablishment xs ys h = refl
+both-up AwaitingRelease xs ys h = refl
+both-up Established xs ys h = h refl
+both-up TimerRecovery xs ys h = h refl
+
+module _ (t : Terms) (l : Link) (m : ℕ) (busy rejected : Bool) (n : ℕ) (busy_now rejected_now : Bool) where
+  abbrev Seen : Event → Type 0
+  Seen e = IsNumbered t e l m busy rejected n busy_now rejected_now
+
+  abbrev was : Standing
+  was = calm m busy rejected
+
+  abbrev now : Standing
+  now = calm n busy_now rejected_now
+
+  abbrev Answers : Event → List ControlFrame
+  Answers e = answers_of was now (state_number l.state) e
+
+  -- numbers begin by no frame but these
+  goes-on : (e : Event) → (restarts t e l ≡ true → ⊥) → restarts t e l ≡ false
+  goes-on e never = go (restarts t e l) never
+    where
+      go : (b : Bool) → (b ≡ true → ⊥) → b ≡ false
+      go true h = absurd (h refl)
+      go false h = refl
+
+  -- what is due by the link's own fields is due by what a watcher has in mind
+  as-seen : (e : Event) (D : Standing → Standing → List ControlFrame) (xs : List ControlFrame) → Seen e → is_multiple_frame l.state ≡ true → restarts t e l ≡ false
+      → xs ≡ D (calm l.r l.own_busy l.rejecting)
+      (calm (number_after (as_heard t e) l) (busy_asked e l.own_busy) (rejected_behind false (takes_contents (as_heard t e) l) e l.own_busy l.rejecting))
+      → xs ≡ D was now
+  as-seen e D xs h up on due =
+      let number = number_after (as_heard t e) l in
+      let takes = takes_contents (as_heard t e) l in
+      subst (λ r. xs ≡ D was (calm n busy_now r)) (h.rejected_on up on)
+      (subst (λ b. xs ≡ D was (calm n b (rejected_behind false takes e busy rejected))) (h.busy_on up on)
+      (subst (λ n. xs ≡ D was (calm n (busy_asked e busy) (rejected_behind false takes e busy rejected))) (h.number_on up on)
+      (subst (λ r. xs ≡ D (calm m busy r) (calm number (busy_asked e busy) (rejected_behind false takes e busy r))) (h.rejected_is up)
+      (subst (λ b. xs ≡ D (calm m b l.rejecting) (calm number (busy_asked e b) (rejected_behind false takes e b l.rejecting))) (h.busy_is up)
+      (subst (λ m. xs ≡ D (calm m l.own_busy l.rejecting) (calm number (busy_asked e l.own_busy) (rejected_behind false takes e l.own_busy l.rejecting))) (h.number_is up) due)))))
+
+  -- A frame whose information is not too long.
+  by-frame : (f : Parts) (control : Control) → let e = received (frame (record f { control = control })) in
+      as_heard t e ≡ e → Seen e → answers_to f.address.command control l ≡ answer_to was now (state_number l.state) f.address.command control
+  by-frame f (Information ns nr p) heard h =
+      let e = received (frame (record f { control = Information ns nr p })) in
+      both-up l.state (waiting.to_information (is_next ns l) p l) (to_information p was now)
+      (λ up. as-seen e (to_information p) (waiting.to_information (is_next ns l) p l) h up (goes-on e (λ is. (establishes t l e is).by))
+      (subst (λ x. waiting.to_information (is_next ns l) p l ≡ to_information p (calm l.r l.own_busy l.rejecting)
+      (calm (number_after x l) (busy_asked e l.own_busy) (rejected_behind false (takes_contents x l) e l.own_busy l.rejecting))) (sym heard)
+      (by-information l.own_busy (is_next ns l) l.rejecting p l.r)))
+  by-frame f (ReceiveReady nr p) heard h =
+      let e = received (frame (record f { control = ReceiveReady nr p })) in
+      both-up l.state _ _ (λ up. as-seen e (λ was now. polled now (f.address.command && p)) (to_supervisory f.address.command p l) h up (goes-on e (λ is. (establishes t l e is).by)) refl)
+  by-frame f (ReceiveNotReady nr p) heard h =
+      let e = received (frame (record f { control = ReceiveNotReady nr p })) in
+      both-up l.state _ _ (λ up. as-seen e (λ was now. polled now (f.address.command && p)) (to_supervisory f.address.command p l) h up (goes-on e (λ is. (establishes t l e is).by)) refl)
+  by-frame f (Reject nr p) heard h =
+      let e = received (frame (record f { control = Reject nr p })) in
+      both-up l.state _ _ (λ up. as-seen e (λ was now. polled now (f.address.command && p)) (to_supervisory f.address.command p l) h up (goes-on e (λ is. (establishes t l e is).by)) refl)
+  by-frame f (Sabme p) heard h = ap as_response (by-sabme l.state p)
+  by-frame f (Disc p) heard h = ap as_response (by-disc l.state p)
+  by-frame f (Ui p) heard h = either-none (is_multiple_frame l.state)
+  by-frame f (Ua p) heard h = either-none (is_multiple_frame l.state)
+  by-frame f (Dm p) heard h = either-none (is_multiple_frame l.state)
+  by-frame f (Frmr p) heard h = either-none (is_multiple_frame l.state)
+  by-frame f (Xid p) heard h = either-none (is_multiple_frame l.state)
+
+  by-request : (r : Request) (full : Bool) → let e = requested r full in
+      (xs : List ControlFrame) → Seen e → xs ≡ changed (calm l.r l.own_busy l.rejecting) (calm l.r (busy_asked e l.own_busy) l.rejecting)
+      → cond (is_multiple_frame l.state) xs [] ≡ while_up (state_number l.state) (changed was now)
+  by-request r full xs h due =
+      let e = requested r full in
+      both-up l.state xs (changed was now) (λ up. as-seen e changed xs h up (goes-on e (λ is. establishes t l e is)) due)
+
+  answers-are : (e : Event) → IsNoOther e → as_heard t e ≡ e → Seen e → answers e l ≡ Answers e
+  answers-are (received (frame f)) other heard h = by-frame f f.control heard h
+  answers-are (received undefined) other heard h = refl
+  answers-are (received wrong_size) other heard h = refl
+  answers-are (received overlong) other heard h = refl
+  answers-are (expired timer) other heard h = refl
+  answers-are (requested Establish full) other heard h = sym (either-none (is_multiple_frame l.state)) ∙ by-request Establish full [] h (by-none l.own_busy l.rejecting l.r)
+  answers-are (requested Release full) other heard h = sym (either-none (is_multiple_frame l.state)) ∙ by-request Release full [] h (by-none l.own_busy l.rejecting l.r)
+  answers-are (requested (Data contents) full) other heard h = sym (either-none (is_multiple_frame l.state)) ∙ by-request (Data contents) full [] h (by-none l.own_busy l.rejecting l.r)
+  answers-are (requested SetBusy full) other heard h =
+      if-both (is_multiple_frame l.state) (not l.own_busy) (as_response (receipt_as true l.r false))
+      ∙ by-request SetBusy full (cond (not l.own_busy) (as_response (receipt_as true l.r false)) []) h (by-set l.own_busy l.rejecting l.r)
+  answers-are (requested ClearBusy full) other heard h =
+      if-both (is_multiple_frame l.state) l.own_busy (as_response (receipt_as false l.r false))
+      ∙ by-request ClearBusy full (cond l.own_busy (as_response (receipt_as false l.r false)) []) h (by-clear l.own_busy l.rejecting l.r)
+  answers-are offer other heard h = absurd other
+  answers-are cleared other heard h = absurd other
+
+  -- Commands: those of a state that awaits an answer, where T200 expires, or the link comes there.
+  never-other : (e : Event) → IsNoOther e → let to = state_after t e l in (moves l.state to || waiting.is_time e l) ≡ true → leads enquiry to ≡ true → (timer : LinkTimer) × (e ≡ expired timer)
+  never-other (expired timer) other move lead = (timer, refl)
+  never-other (received what) other move lead = absurd (true≢false (sym (caused enquiry t (received what) l tt move lead)))
+  never-other (requested r full) other move lead = absurd (true≢false (sym (caused enquiry t (requested r full) l tt move lead)))
+  never-other offer other move lead = absurd other
+  never-other cleared other move lead = absurd other
+
+  by-expiry-up : (s : State) (timer : LinkTimer) (ran again : Bool) → leads enquiry (cond ran (by_expiry s timer again) s) ≡ true → is_multiple_frame s ≡ true
+  by-expiry-up Established timer ran again up = refl
+  by-expiry-up TimerRecovery timer ran again up = refl
+  by-expiry-up TeiAssigned timer true again up = absurd (true≢false (sym up))
+  by-expiry-up TeiAssigned timer false again up = absurd (true≢false (sym up))
+  by-expiry-up AwaitingEstablishment T200 true true up = absurd (true≢false (sym up))
+  by-expiry-up AwaitingEstablishment T200 true false up = absurd (true≢false (sym up))
+  by-expiry-up AwaitingEstablishment T203 true again up = absurd (true≢false (sym up))
+  by-expiry-up AwaitingEstablishment timer false again up = absurd (true≢false (sym up))
+  by-expiry-up AwaitingRelease T200 true true up = absurd (true≢false (sym up))
+  by-expiry-up AwaitingRelease T200 true false up = absurd (true≢false (sym up))
+  by-expiry-up AwaitingRelease T203 true again up = absurd (true≢false (sym up))
+  by-expiry-up AwaitingRelease timer false again up = absurd (true≢false (sym up))
+
+  command-is : (to : State) → (leads enquiry to ≡ true → as_command (receipt_as l.own_busy l.r true) ≡ as_command (receipt now true)) → command_in to l ≡ command_of now (Some (state_number to))
+  command-is TeiAssigned h = refl
+  command-is AwaitingEstablishment h = refl
+  command-is AwaitingRelease h = refl
+  command-is Established h = refl
+  command-is TimerRecovery h = h refl
+
+  enquired : (e : Event) (timer : LinkTimer) → e ≡ expired timer → Seen e → leads enquiry (state_after t e l) ≡ true
+      → as_command (receipt_as l.own_busy l.r true) ≡ as_command (receipt now true)
+  enquired e timer is h lead =
+      let seen : Seen (expired timer) = subst Seen is h in
+      as-seen (expired timer) (λ was now. as_command (receipt now true)) (as_command (receipt_as l.own_busy l.r true)) seen
+      (by-expiry-up l.state timer (runs timer l.running) (may_repeat t l) (subst (λ e. leads enquiry (state_after t e l) ≡ true) is lead))
+      (goes-on (expired timer) (λ is. establishes t l (expired timer) is)) refl
+
+  commands-are : (e : Event) → IsNoOther e → Seen e → let to = state_after t e l in
+      commands e l to ≡ cond (moves l.state to || waiting.is_time e l) (command_of now (Some (state_number to))) []
+  commands-are e other h = go (moves l.state to || waiting.is_time e l) refl
+    where
+      to : State
+      to = state_after t e l
+
+      go : (b : Bool) → (moves l.state to || waiting.is_time e l) ≡ b → cond b (command_in to l) [] ≡ cond b (command_of now (Some (state_number to))) []
+      go false move = refl
+      go true move = command-is to (λ lead. let x = never-other e other move lead in enquired e x.0 x.1 h lead)
+
+  -- Where a command is due by the timer, T200 runs.
+  again : (e : Event) → l.running ≡ Some T200 → waiting.is_time e l ≡ (ticks e == 1)
+  again (expired T200) is = ap (runs T200) is
+  again (expired T203) is = refl
+  again (received (frame f)) is = refl
+  again (received undefined) is = refl
+  again (received wrong_size) is = refl
+  again (received overlong) is = refl
+  again (requested asked full) is = refl
+  again offer is = refl
+  again cleared is = refl
+
+  if-same : (b d : Bool) → cond {A = List ControlFrame} b [] [] ≡ cond d [] []
+  if-same b d = either-none b ∙ sym (either-none d)
+
+  abbrev Whenever : Event → State → State → Type 0
+  Whenever e from to =
+      cond (moves from to || waiting.is_time e l) (command_of now (Some (state_number to))) [] ≡ cond (moves from to || ticks e == 1) (command_of now (Some (state_number to))) []
+
+  while-there : (e : Event) (to : State) → l.running ≡ Some T200
+      → cond (waiting.is_time e l) (command_of now (Some (state_number to))) [] ≡ cond (ticks e == 1) (command_of now (Some (state_number to))) []
+  while-there e to is = ap (λ b. cond b (command_of now (Some (state_number to))) []) (again e is)
+
+  whenever : (e : Event) (from to : State) → l.running ≡ needed_in from l → Whenever e from to
+  whenever e from TeiAssigned is = if-same (moves from TeiAssigned || waiting.is_time e l) (moves from TeiAssigned || ticks e == 1)
+  whenever e from Established is = if-same (moves from Established || waiting.is_time e l) (moves from Established || ticks e == 1)
+  whenever e TeiAssigned AwaitingEstablishment is = refl
+  whenever e AwaitingEstablishment AwaitingEstablishment is = while-there e AwaitingEstablishment is
+  whenever e AwaitingRelease AwaitingEstablishment is = refl
+  whenever e Established AwaitingEstablishment is = refl
+  whenever e TimerRecovery AwaitingEstablishment is = refl
+  whenever e TeiAssigned AwaitingRelease is = refl
+  whenever e AwaitingEstablishment AwaitingRelease is = refl
+  whenever e AwaitingRelease AwaitingRelease is = while-there e AwaitingRelease is
+  whenever e Established AwaitingRelease is = refl
+  whenever e TimerRecovery AwaitingRelease is = refl
+  whenever e TeiAssigned TimerRecovery is = refl
+  whenever e AwaitingEstablishment TimerRecovery is = refl
+  whenever e AwaitingRelease TimerRecovery is = refl
+  whenever e Established TimerRecovery is = refl
+  whenever e TimerRecovery TimerRecovery is = while-there e TimerRecovery is
+
+  put-is : (e : Event) → IsNoOther e → as_heard t e ≡ e → HasItsTimer l → Seen e → let to = state_after t e l in put e l to ≡ put_by was now e l.state to
+  put-is e other heard timed h =
+      let to = state_after t e l in
+      ap (λ xs. xs ++ commands e l to) (answers-are e other heard h)
+      ∙ ap (λ xs. Answers e ++ xs) (commands-are e other h ∙ whenever e l.state to timed.running)
+
+-- Of those that are put as many wait as there is room for.
+as-many : (n : ℕ) (xs : List ControlFrame) → take n xs ≡ take (length xs - length (drop n xs)) xs
+as-many zero xs = ap (λ n. take n xs) (none-left (length xs))
+  where
+    none-left : (n : ℕ) → 0 ≡ n - n
+    none-left n = omega arith
+as-many (suc n) [] = refl
+as-many (suc n) (x ∷ xs) =
+    ap (λ ys. x ∷ ys) (as-many n xs)
+    ∙ ap (λ k. take k (x ∷ xs)) (one-more (length xs) (length (drop n xs)) (subst (λ k. k ≤ length xs) (sym (length-drop n xs)) (fewer (length xs) n)))
+  where
+    fewer : (k n : ℕ) → k - n ≤ k
+    fewer k n = omega arith
+
+    one-more : (k d : ℕ) → d ≤ k → suc (k - d) ≡ suc k - d
+    one-more k d h = omega (arith, h)
+
+-- What waits behind those that waited.
+pub puts : (t : Terms) (e : Event) (l : Link) (m : ℕ) (busy rejected : Bool) (n : ℕ) (busy_now rejected_now : Bool) → IsNoOther e → as_heard t e ≡ e → HasItsTimer l
+    → IsNumbered t e l m busy rejected n busy_now rejected_now
+    → let due = put_by (calm m busy rejected) (calm n busy_now rejected_now) e l.state (links.after t e l).state in
+    controls (links.after t e l).waiting ≡ controls l.waiting ++ take (length due - (links.told t e l).lost) due
+puts t e l m busy rejected n busy_now rejected_now other heard timed h =
+    ap controls waits ∙ flat_map-append (λ (f : ControlFrame). control_in f.command f.control) l.waiting (take (room t l) due)
+    ∙ ap (λ xs. controls l.waiting ++ xs) (all-controls (take (room t l) due) (All-take IsControl (room t l) due (all-put was now e l.state to)) ∙ as-many (room t l) due
+    ∙ ap (λ k. take (length due - k) due) (sym lost-is))
+  where
+    was : Standing
+    was = calm m busy rejected
+
+    now : Standing
+    now = calm n busy_now rejected_now
+
+    to : State
+    to = (links.after t e l).state
+
+    due : List ControlFrame
+    due = put_by was now e l.state to
+
+    to-is : to ≡ state_after t e l
+    to-is = (event-follows t e l).leaves.state ∙ ap (λ e. state_after t e l) heard
+
+    is : put e l to ≡ due
+    is = subst (λ s. put e l s ≡ put_by was now e l.state s) (sym to-is) (put-is t l m busy rejected n busy_now rejected_now e other heard timed h)
+
+    others : (e : Event) → IsNoOther e → waiting_left t e l to ≡ behind t l (put e l to)
+    others (received what) other = refl
+    others (expired timer) other = refl
+    others (requested r full) other = refl
+    others offer other = absurd other
+    others cleared other = absurd other
+
+    waits : (links.after t e l).waiting ≡ l.waiting ++ take (room t l) due
+    waits = (event-follows t e l).leaves.waiting ∙ ap (λ e. waiting_left t e l to) heard ∙ others e other ∙ ap (λ fs. l.waiting ++ take (room t l) fs) is
+
+    lost-is : (links.told t e l).lost ≡ length (drop (room t l) due)
+    lost-is = (event-follows t e l).leaves.lost_is ∙ ap (λ e. waiting.lost_by t e l to) heard ∙ ap (λ fs. length (drop (room t l) fs)) is

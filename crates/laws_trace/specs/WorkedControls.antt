@@ -1,0 +1,147 @@
+-- Worked values: control frames that are due, and that begin; and some that break the laws.
+use Rattle.std.specs.Prelude.{◌≡◌, List, [], ◌∷◌, ◌++◌, true, false, Bool, fold, flat_map, None, refl}
+use Rattle.std.proofs.Common.{ap, sym, ◌∙◌}
+use Rattle.model_bits.specs.Bits.{low_bits}
+use Rattle.model_bits.specs.Stream as stream
+use Rattle.lapd_frame.specs.declared.controls.Control.{Control}
+use Rattle.lapd_frame.specs.declared.controls.Control.TheVariants.{ReceiveReady, ReceiveNotReady, Reject, Sabme, Disc, Ua, Dm, Xid}
+use Rattle.lapd_frame.specs.declared.services.Service.TheVariants.{Call, Packet}
+use Rattle.lapd_frame.specs.declared.timers.Timer.TheVariants.{T200, T203}
+use Rattle.lapd_frame.specs.Reading.{reading, header_of, control_of, unnumbered_of, supervisory_of}
+use Rattle.lapd_seq.specs.Circle.{named, distance_of}
+use Rattle.lapd_seq.specs.Numbers.{seq}
+use Rattle.lapd_tei.specs.Events as teis
+use Rattle.laws_link.specs.Waiting.{as_response, as_command}
+use Rattle.model_link.specs.declared.frames.ControlFrame.{ControlFrame}
+use Rattle.model_line.specs.Event.{expiry}
+use Rattle.model_line.specs.Machine as lines
+use Rattle.model_line.specs.Request.{Assign, Establish, Release, SetBusy, ClearBusy}
+use Rattle.model_card.specs.Card.{fresh}
+use Rattle.model_card.specs.Event.{Event, at}
+use Rattle.model_card.specs.Run.{moments}
+use Rattle.laws_card.specs.Worked.{usual, on_0, up, hears}
+use Rattle.laws_trace.specs.ControlFrames.{controls_at, answer_to, answers_at, due_in, may_go_in, along, IsPart, none, left_out, taken}
+use Rattle.laws_trace.specs.Deliveries.{Standing, at_first, stand}
+use Rattle.laws_trace.specs.Trace.{Seen, heard, noted, lost, begun, trace_of}
+use Rattle.laws_trace.specs.WorkedDeliveries.{i_frame}
+use Rattle.laws_trace.specs.WorkedUnits.{pulls}
+
+abbrev due : List Event → List ControlFrame
+due events = along usual Call 64 0 (due_in usual Call 64 0) at_first (moments (fresh usual) events)
+
+abbrev may_go : List Event → List ControlFrame
+may_go events = along usual Call 64 0 (may_go_in usual Call 64 0) at_first (moments (fresh usual) events)
+
+abbrev gone : List Event → List ControlFrame
+gone events = flat_map (controls_at usual Call 64) (trace_of usual events 0)
+
+-- SABME is heard, and UA is due, which begins; the packet link of the same TEI has none.
+ua_due : due up ≡ as_response (Ua true)
+unfolding moments along lines.after lines.answer lines.takes_slot teis.course teis.refusal low_bits reading header_of control_of unnumbered_of
+ua_due = refl
+
+ua_begins : gone (up ++ pulls 2) ≡ as_response (Ua true)
+unfolding moments lines.after lines.answer lines.takes_slot teis.course teis.refusal low_bits reading header_of control_of unnumbered_of
+ua_begins = refl
+
+none_of_another : flat_map (controls_at usual Packet 64) (trace_of usual (up ++ pulls 2) 0) ≡ []
+unfolding moments lines.after lines.answer lines.takes_slot teis.course teis.refusal low_bits reading header_of control_of unnumbered_of
+none_of_another = refl
+
+-- In state 6 SABME is answered by DM, and in state 4 DISC; XID by nothing.
+by_dm : answer_to at_first at_first 6 true (Sabme true) ++ answer_to at_first at_first 4 true (Disc false) ≡ as_response (Dm true) ++ as_response (Dm false)
+by_dm = refl
+
+by_none : answer_to at_first at_first 7 true (Xid true) ≡ []
+by_none = refl
+
+-- An I-frame is told, and behind the UA its acknowledgement goes by itself: RR with N(R)=1, which may go as it begins.
+abbrev acknowledged : List Event
+acknowledged = up ++ (i_frame ++ hears 0xFC ∷ pulls 8)
+
+rr_begins : gone acknowledged ≡ as_response (Ua true) ++ as_response (ReceiveReady (seq 1) false)
+unfolding moments lines.after lines.answer lines.takes_slot teis.course teis.refusal low_bits seq distance_of named reading header_of control_of unnumbered_of supervisory_of
+rr_begins = refl
+
+rr_may_go : may_go acknowledged ≡ as_response (Ua true) ++ as_response (ReceiveReady (seq 1) false)
+unfolding moments along lines.after lines.answer lines.takes_slot teis.course teis.refusal low_bits seq distance_of named reading header_of control_of unnumbered_of supervisory_of
+rr_may_go = refl
+
+-- Layer 3 becomes busy on a link that is up, and is so no more: RNR, and RR, begin behind the UA, and are due.
+abbrev changes : List Event
+changes = up ++ (on_0 (SetBusy Call 64) ∷ on_0 (ClearBusy Call 64) ∷ [])
+
+abbrev of_changes : List ControlFrame
+of_changes = as_response (Ua true) ++ as_response (ReceiveNotReady (seq 0) false) ++ as_response (ReceiveReady (seq 0) false)
+
+changes_begin : gone (changes ++ pulls 16) ≡ of_changes
+unfolding moments lines.after lines.answer lines.takes_slot teis.course teis.refusal low_bits seq distance_of named reading header_of control_of unnumbered_of supervisory_of
+changes_begin = refl
+
+changes_due : due changes ≡ of_changes
+unfolding moments along lines.after lines.answer lines.takes_slot teis.course teis.refusal low_bits seq distance_of named reading header_of control_of unnumbered_of supervisory_of
+changes_due = refl
+
+-- SABME is due as layer 3 asks for it, and again as T200 expires; and an enquiry as T203 does, and DISC as the link is released.
+two_due : due (on_0 (Assign 64) ∷ on_0 (Establish Call 64) ∷ at 0 (expiry (T200 Call 64)) ∷ []) ≡ as_command (Sabme true) ++ as_command (Sabme true)
+unfolding moments along lines.after lines.answer lines.takes_slot teis.course teis.refusal low_bits
+two_due = refl
+
+an_enquiry : due (up ++ at 0 (expiry (T203 Call 64)) ∷ on_0 (Release Call 64) ∷ [])
+    ≡ as_response (Ua true) ++ as_command (ReceiveReady (seq 0) true) ++ as_command (Disc true)
+unfolding moments along lines.after lines.answer lines.takes_slot teis.course teis.refusal low_bits seq reading header_of control_of unnumbered_of supervisory_of
+an_enquiry = refl
+
+-- An I-frame with N(S)=1 and P=0, of which nothing is told, is answered by REJ with N(R)=0 in state 7, and by nothing in state 5; a
+-- second one by nothing.
+abbrev out_of_sequence : List Seen
+out_of_sequence = heard (stream.frame (0x00 ∷ 0x81 ∷ 0x02 ∷ 0x00 ∷ 0x41 ∷ [])) ∷ noted [] None ∷ lost 0 ∷ []
+
+abbrev once_rejected : Standing
+once_rejected = fold (stand usual Call 64) at_first out_of_sequence
+
+rej_due : flat_map (answers_at usual Call 64 at_first once_rejected 7) out_of_sequence ≡ as_response (Reject (seq 0) false)
+unfolding seq reading header_of control_of unnumbered_of supervisory_of
+rej_due = refl
+
+none_due : flat_map (answers_at usual Call 64 at_first once_rejected 5) out_of_sequence
+    ++ flat_map (answers_at usual Call 64 once_rejected (fold (stand usual Call 64) once_rejected out_of_sequence) 7) out_of_sequence ≡ []
+unfolding seq reading header_of control_of unnumbered_of supervisory_of
+none_due = refl
+
+-- Where DM begins in place of the UA that is due, both laws are broken; where nothing does, the second one is.
+dm_begins : controls_at usual Call 64 (begun (0x00 ∷ 0x81 ∷ 0x1F ∷ [])) ≡ as_response (Dm true)
+unfolding reading header_of control_of unnumbered_of
+dm_begins = refl
+
+is_ua : Control → Bool
+is_ua (Ua f) = true
+is_ua other = false
+
+no_other : (some all : List ControlFrame) → IsPart some all → (x : ControlFrame) → some ≡ x ∷ [] → all ≡ [] → ⊥
+no_other xs ys none u e f = cc e
+no_other xs ys (left_out x some all h) u e f = cc f
+no_other xs ys (taken x some all h) u e f = cc f
+
+alone : (x y : ControlFrame) → (x ≡ y → ⊥) → (some all : List ControlFrame) → IsPart some all → some ≡ x ∷ [] → all ≡ y ∷ [] → ⊥
+alone x y apart xs ys none e f = cc e
+alone x y apart xs ys (left_out z some all h) e f = no_other some all h x e (cc f)
+alone x y apart xs ys (taken z some all h) e f =
+    let one : z ≡ x = cc e in
+    let other : z ≡ y = cc f in
+    apart (sym one ∙ other)
+
+dm_for_ua : IsPart (as_response (Dm true)) (as_response (Ua true)) → ⊥
+unfolding is_ua
+dm_for_ua part =
+    alone (record { command = false; control = Dm true }) (record { command = false; control = Ua true })
+    (λ e. let same : false ≡ true = ap (λ (f : ControlFrame). is_ua f.control) e in cc same) _ _ part refl refl
+
+ua_for_dm : IsPart (as_response (Ua true)) (as_response (Dm true)) → ⊥
+unfolding is_ua
+ua_for_dm part =
+    alone (record { command = false; control = Ua true }) (record { command = false; control = Dm true })
+    (λ e. let same : true ≡ false = ap (λ (f : ControlFrame). is_ua f.control) e in cc same) _ _ part refl refl
+
+never_answered : IsPart (as_response (Ua true)) [] → ⊥
+never_answered part = no_other _ _ part (record { command = false; control = Ua true }) refl refl

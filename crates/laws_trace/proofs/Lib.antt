@@ -74,6 +74,8 @@ pub mod TimersOfLine
 pub mod TimersOfEvent
 pub mod TimersStarted
 pub mod TimersAreTimely
+pub mod OrdersHaveReasons
+pub mod ChecksAreTimely
 pub mod AllGoesAgain
 pub mod MovesOfLink
 pub mod LinkLed

@@ -23,6 +23,7 @@ ghost use Rattle.laws_trace.specs.ReceiptsCount.{ReceiptsCount};
 ghost use Rattle.laws_trace.specs.TeisAgree.{TeisAgree, HeldForOne};
 ghost use Rattle.laws_trace.specs.TeisAreGiven.{TeisAreGiven};
 ghost use Rattle.laws_trace.specs.TimersAreTimely.{TimersRun, TimersAreStarted};
+ghost use Rattle.laws_trace.specs.ChecksAreTimely.{ChecksAreTimed, OrdersHaveReasons};
 ghost use Rattle.laws_trace.specs.TurnsMeanwhile.{LinksTakeTurnsMeanwhile};
 ghost use Rattle.laws_trace.specs.UnitsAreHeard.{UnitsAreHeard, AllUnitsAreHeard};
 ghost use Rattle.laws_trace.specs.UnitsGoOut.{UnitsGoOut, AllUnitsGoOut};
@@ -211,11 +212,15 @@ pub fn messages_are_owed()
 /// state 7, because of a frame. For T200 this is RNR, and RR, or I while the terminal is not busy, whose N(R) acknowledges an
 /// I-frame; for T203 it is RR, REJ, I or SABME (`started`). So T200 runs on from an earlier I-frame or enquiry when further I-frames
 /// go (clause 5.6.1), when a frame acknowledges nothing, and in state 8 until the enquiry is answered (clause 5.6.7); and no UI,
-/// XID, UA, request for data or pull starts a timer anew that runs (Q.921 clauses 5.5.1, 5.5.3, 5.6.1 to 5.6.7, 5.9.1, 5.9.8 and
-/// 5.10.3).
+/// XID, UA, request for data or pull starts a timer anew that runs. T201 runs exactly while a TEI is checked (`checks`). It is
+/// started only where it does not run, or has just expired: so as a check begins, and as its second period does; and each timer is
+/// stopped only where it ran before the event (`ordered`; Q.921 clauses 5.3.3.2, 5.3.5, 5.5.1, 5.5.3, 5.6.1 to 5.6.7, 5.9.1, 5.9.8
+/// and 5.10.3).
 pub fn timers_are_timely()
     ensures run { Always TimersRun }
     ensures started { Always TimersAreStarted }
+    ensures checks { Always ChecksAreTimed }
+    ensures ordered { Always OrdersHaveReasons }
 {}
 
 /// Links move as they are led. After an event at its line a link is in the state that this has for the state before: 7 by SABME in

@@ -178,8 +178,8 @@ pub fn all_are_acknowledged()
     ensures { Always AllAreAcknowledged }
 {}
 
-/// Nothing is lost in vain. Behind a moment that tells a frame as lost, four messages of TEI management wait on the line, or as
-/// many control frames of one link as the configuration says: so a part of the line had no room; which, is not said (profile).
+/// Nothing is lost in vain. Behind a moment that tells a frame as lost, all but four of the messages that are owed have begun, or as
+/// many control frames of one link wait as the configuration says: so a part of the line had no room; which, is not said (profile).
 pub fn nothing_is_lost_in_vain()
     ensures { Always NoLossInVain }
 {}

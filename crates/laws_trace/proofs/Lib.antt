@@ -89,6 +89,7 @@ pub mod NewsOfLink
 pub mod NewsOfOthers
 pub mod NewsSeen
 pub mod NewsOfEvent
+pub mod LossIsTold
 pub mod News
 pub mod OtherSide
 pub mod AcknowledgedOfLink

@@ -1,5 +1,5 @@
 -- What layer 3 is told of establishments and releases: the law.
-use Rattle.std.proofs.Common.{◌≡◌, ℕ, ◌<◌, ◌==◌, ◌&&◌, Bool, true, false, cond, List, [], ◌∷◌, get_or, set, Option, Some, refl, sym, ap, ◌∙◌, subst, arith, eqb-true, eq-eqb, true≢false}
+use Rattle.std.proofs.Common.{◌≡◌, ℕ, ◌<◌, ◌==◌, ◌&&◌, not, Bool, true, false, cond, List, [], ◌∷◌, get_or, set, Option, Some, refl, sym, ap, ◌∙◌, subst, arith, eqb-true, eq-eqb, true≢false}
 use Rattle.std.specs.Prelude.{fold, filter}
 use Rattle.std.specs.List.{list_any}
 use Rattle.std.specs.Option.{option_map_or}
@@ -7,6 +7,7 @@ use Rattle.std.proofs.lemmas.Bool.{and_parts}
 use Rattle.std.proofs.lemmas.List.{get_or-set_same, get_or-replicate}
 use Rattle.std.proofs.lemmas.List.Elements.{All-head, All-tail}
 use Rattle.lapd_frame.specs.declared.refusals.Refusal.TheVariants.{PoolFull}
+use Rattle.lapd_frame.specs.declared.notes.Note.{Note}
 use Rattle.lapd_frame.specs.declared.services.Service.{Service}
 use Rattle.model_link.specs.Link.{Link, fresh as fresh_link}
 use Rattle.model_line.specs.declared.config.Config.{Config}
@@ -14,6 +15,7 @@ use Rattle.model_line.specs.Event as line_event
 use Rattle.model_line.specs.Event.{octet, expiry, request, pull, Answer, refused}
 use Rattle.model_line.specs.Line.{Line, fresh_line, link_of, link_in, state_of}
 use Rattle.model_line.specs.Machine as lines
+use Rattle.model_line.specs.Sound.{IsInRange}
 use Rattle.model_line.specs.Request.{Request, Establish, Release, Data, Assign, Remove, Check, SetBusy, ClearBusy}
 use Rattle.model_card.specs.Card.{Card, fresh, line_at, is_full}
 use Rattle.model_card.specs.Event.{Event, at}
@@ -25,12 +27,14 @@ use Rattle.model_card.proofs.Steps.{has_lines, by_room, line_sound}
 use Rattle.laws_line.specs.Heard.{notes_of}
 use Rattle.laws_line.proofs.TimersFollow.{nowhere}
 use Rattle.laws_trace.specs.News.{is_news, is_indicated, establishes, releases, begins, asked, due, NewsIsTold}
-use Rattle.laws_trace.specs.TimersAreTimely.{is_state, differ}
+use Rattle.laws_trace.specs.TimersAreTimely.{nothing_yet, watch, is_state, differ}
 use Rattle.laws_trace.specs.Trace.{seen, Always}
 use Rattle.laws_trace.proofs.LinksMove.{differ-self}
 use Rattle.laws_trace.proofs.NewsOfLink.{Asks}
 use Rattle.laws_trace.proofs.PullRuns.{apart}
-use Rattle.laws_trace.proofs.TimersAreTimely.{sound-now, config-now, front-at, itself}
+use Rattle.laws_trace.proofs.LossIsTold.{told-lost}
+use Rattle.laws_trace.proofs.Runs.{nothing-seen}
+use Rattle.laws_trace.proofs.TimersAreTimely.{sound-now, config-now, true-now, front-at, itself}
 use Rattle.laws_trace.proofs.NewsOfEvent.{IsAskedOf, event-asks, event-due}
 
 module _ (service : Service) (tei number : ℕ) where
@@ -134,10 +138,13 @@ module _ (service : Service) (tei number : ℕ) where
       run-asked (after e card) events (after_is_sound card e s here) (All-tail (IsAtLine card) e events all)
       (asked service tei number was (record { card = card; event = e; answer = answer e card })) (moment-asked card s e here was asks)
 
-pub news-is-told : Always NewsIsTold
-news-is-told c events number ranged all within service tei before what behind is =
-    let whole = subst (AreAtLines (fresh c)) is all in
-    let front = front-at (fresh c) before (at number what) behind whole in
+-- With what is noted itself.
+told-so : (c : Config) (number : ℕ) → IsInRange c → number < c.lines → (service : Service) (tei : ℕ) (before : List Event) (what : line_event.Event) → AreAtLines (fresh c) before
+    → let card = after_all (fresh c) before in let a = answer (at number what) card in let was = fold (asked service tei number) false (moments (fresh c) before) in
+    (from to : ℕ) → state_of service tei (line_at number card) ≡ Some from → state_of service tei (line_at number (after (at number what) card)) ≡ Some to →
+    filter (is_news service tei) (notes_of a) ≡ due service tei was (list_any (begins c service tei) (cond (number == number) (seen card.config what (line_at number card) a) []))
+    (releases service tei what a) (list_any (is_indicated service tei) (notes_of a)) from to
+told-so c number ranged within service tei before what front =
     let card = after_all (fresh c) before in
     let e = at number what in
     let was = fold (asked service tei number) false (moments (fresh c) before) in
@@ -157,3 +164,44 @@ news-is-told c events number ranged all within service tei before what behind is
     ≡ due service tei was (list_any (begins d service tei) (seen card.config what (line_at number card) (answer e card))) (releases service tei what (answer e card))
     (list_any (is_indicated service tei) (notes_of (answer e card))) from to) kept
     (own-due service tei number card (sound-now c before number ranged front within service tei) e here was asks from to was-in is-in))
+
+-- The note of a lost content is due by what is known, where it is due at all.
+module _ (service : Service) (tei : ℕ) (was released : Bool) (from to : ℕ) where
+  abbrev Dues : Bool → Bool → List Note
+  Dues sabme lost = due service tei was sabme released lost from to
+
+  swapped : (sabme noted known : Bool) → ((from == 4) ≡ false → (from == 5) ≡ false → sabme ≡ true → noted ≡ known) → Dues sabme noted ≡ Dues sabme (cond (from == 5) noted known)
+  swapped sabme noted known same = by-5 (from == 5) refl
+    where
+      by-sabme : (from == 5) ≡ false → (from == 4) ≡ false → (b : Bool) → sabme ≡ b → Dues sabme noted ≡ Dues sabme known
+      by-sabme five four true anew = ap (Dues sabme) (same four five anew)
+      by-sabme five four false none = rw (none, five, four) refl
+
+      by-4 : (from == 5) ≡ false → (b : Bool) → (from == 4) ≡ b → Dues sabme noted ≡ Dues sabme known
+      by-4 five true four = rw (five, four) refl
+      by-4 five false four = by-sabme five four sabme refl
+
+      by-5 : (b : Bool) → (from == 5) ≡ b → Dues sabme noted ≡ Dues sabme (cond (from == 5) noted known)
+      by-5 true five = sym (ap (λ b. Dues sabme (cond b noted known)) five)
+      by-5 false five = by-4 five (from == 4) refl ∙ sym (ap (λ b. Dues sabme (cond b noted known)) five)
+
+pub news-is-told : Always NewsIsTold
+news-is-told c events number ranged all within service tei before what behind is from to was is_now =
+    let front = front-at (fresh c) before (at number what) behind (subst (AreAtLines (fresh c)) is all) in
+    let card = after_all (fresh c) before in
+    let a = answer (at number what) card in
+    let k = fold (watch c service tei number) nothing_yet (moments (fresh c) before) in
+    let l = line_at number card in
+    let kept : card.config ≡ c = config-now c before number ranged front within service tei in
+    let s = sound-now c before number ranged front within service tei in
+    let here : number < card.config.lines = subst (λ (c : Config). number < c.lines) (sym kept) within in
+    told-so c number ranged within service tei before what front from to was is_now
+    ∙ swapped service tei (fold (asked service tei number) false (moments (fresh c) before)) (releases service tei what a) from to
+    (list_any (begins c service tei) (cond (number == number) (seen card.config what l a) [])) (list_any (is_indicated service tei) (notes_of a)) (not (k.next == k.acknowledged))
+    (λ four five.
+    subst (λ b. list_any (begins c service tei) (cond b (seen card.config what l a) []) ≡ true → list_any (is_indicated service tei) (notes_of a) ≡ not (k.next == k.acknowledged)) (sym (itself number))
+    (subst (λ (d : Config). list_any (begins d service tei) (seen card.config what l a) ≡ true → list_any (is_indicated service tei) (notes_of a) ≡ not (k.next == k.acknowledged)) kept
+    (by_room (λ ls a. list_any (begins card.config service tei) (seen card.config what l a) ≡ true → list_any (is_indicated service tei) (notes_of a) ≡ not (k.next == k.acknowledged)) (at number what) card
+    (λ full anew.
+    absurd (true≢false (sym anew ∙ ap (list_any (begins card.config service tei)) (nothing-seen card.config what l (and_parts (lines.takes_slot card.config what l) (is_full card) full).0))))
+    (λ room. told-lost card.config s.config l (line_sound card number (has_lines card s) here) service tei k (true-now c before number ranged front within service tei) what from was four five))))

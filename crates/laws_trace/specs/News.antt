@@ -1,5 +1,5 @@
 -- What layer 3 is told of establishments and releases.
-use Rattle.std.specs.Prelude.{◌≡◌, ℕ, ◌==◌, ◌&&◌, ◌||◌, Bool, true, false, List, [], ◌∷◌, ◌++◌, fold, filter, Some, if◌then◌else◌}
+use Rattle.std.specs.Prelude.{◌≡◌, ℕ, ◌==◌, ◌&&◌, ◌||◌, not, Bool, true, false, List, [], ◌∷◌, ◌++◌, fold, filter, Some, if◌then◌else◌}
 use Rattle.std.specs.List.{list_any}
 use Rattle.std.specs.Option.{option_map_or}
 use Rattle.lapd_frame.specs.declared.controls.Control.{Control}
@@ -19,7 +19,7 @@ use Rattle.model_card.specs.Machine.{answer}
 use Rattle.model_card.specs.Run.{Moment, moments, after_all}
 use Rattle.laws_trace.specs.CommandsHaveCauses.{is_own}
 use Rattle.laws_trace.specs.Deliveries.{frame_of}
-use Rattle.laws_trace.specs.TimersAreTimely.{control_in, is_state, state_before, state_after, differ}
+use Rattle.laws_trace.specs.TimersAreTimely.{nothing_yet, watch, control_in, is_state, state_before, state_after, differ}
 use Rattle.laws_trace.specs.Trace.{Seen, heard, seen_in}
 
 -- The notes that say that a link is up, or down (Q.921 clauses 4.1.1.1 and 4.1.1.2).
@@ -64,16 +64,17 @@ asked service tei number was m =
 -- state 4 from state 6, and where layer 3 releases a link in state 4, that is a confirm, and from other states an indication
 -- (clauses 5.5.1.2, 5.5.1.3, 5.5.3.2 and 5.5.3.3).
 abbrev pub due : Service → ℕ → Bool → Bool → Bool → Bool → ℕ → ℕ → List Note
-due service tei was_asked sabme released indicated from to =
+due service tei was_asked sabme released lost from to =
     if to == 7 then
     (if from == 4 then EstablishIndication service tei ∷ [] else if from == 5 && was_asked then EstablishConfirm service tei ∷ []
-    else if (from == 5 || sabme) && indicated then EstablishIndication service tei ∷ [] else [])
+    else if (from == 5 || sabme) && lost then EstablishIndication service tei ∷ [] else [])
     else if to == 4 then
     (if from == 6 || (from == 4 && released) then ReleaseConfirm service tei ∷ [] else if from == 4 then [] else ReleaseIndication service tei ∷ [])
     else []
 
 -- So the notes of a link, of these kinds, in the answer to an event at the line are exactly what is due, where its TEI is on the line
--- before and after it. (Where its TEI leaves, `notes_tell` of `Promises` says that the link is down then.)
+-- before and after it. Where a terminal establishes a link anew, contents are lost where an I-frame that went is not acknowledged; where
+-- this side did, that is not said. (Where a TEI leaves, `notes_tell` of `Promises` says that the link is down then.)
 abbrev pub NewsIsTold : Config → List Event → ℕ → Type 0
 NewsIsTold c events number =
     (service : Service) (tei : ℕ) (before : List Event) (what : line_event.Event) (behind : List Event) →
@@ -81,7 +82,9 @@ NewsIsTold c events number =
     let card = after_all (fresh c) before in
     let m : Moment = record { card = card; event = at number what; answer = answer (at number what) card } in
     let was_asked = fold (asked service tei number) false (moments (fresh c) before) in
+    let k = fold (watch c service tei number) nothing_yet (moments (fresh c) before) in
+    let indicated = list_any (is_indicated service tei) (notes_of m.answer) in
     (from to : ℕ) → state_before service tei number m ≡ Some from → state_after service tei number m ≡ Some to →
     filter (is_news service tei) (notes_of m.answer)
     ≡ due service tei was_asked (list_any (begins c service tei) (seen_in number m)) (releases service tei what m.answer)
-    (list_any (is_indicated service tei) (notes_of m.answer)) from to
+    (if from == 5 then indicated else not (k.next == k.acknowledged)) from to

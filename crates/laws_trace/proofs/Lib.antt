@@ -88,8 +88,8 @@ pub mod NewsRows
 pub mod NewsOfLink
 pub mod NewsOfOthers
 pub mod NewsSeen
+pub mod OwedOfEvent
 pub mod NewsOfEvent
-pub mod LossIsTold
 pub mod News
 pub mod OtherSide
 pub mod AcknowledgedOfLink

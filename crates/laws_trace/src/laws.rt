@@ -124,8 +124,8 @@ pub fn what_is_told_was_heard()
 /// Data goes out. Of each link, since its numbers began: the contents of new I-frames that begin are the first of the data
 /// that was granted, in order, each once; N(S) counts them from 0 on, modulo 128; and an I-frame that goes again, which is one
 /// of the last 127, has the contents that its number had. N(R) of each I-frame is the number of contents told of the link
-/// since then, modulo 128. Where numbers begin, contents that had not gone stay, and take the first numbers, or none stays;
-/// whether those that had gone stay is not said (`front`). And all of it has gone, once the line was only pulled, as often as the configuration says, on a link in state 7
+/// since then, modulo 128. Where numbers begin, contents that had not gone stay, and take the first numbers, or none stays,
+/// as where an indication of an establishment is told (`front`). And all of it has gone, once the line was only pulled, as often as the configuration says, on a link in state 7
 /// whose terminal is not busy, with fewer than k I-frames outstanding, by what was heard and what began; and the number that goes
 /// next is then behind all of it, though REJ and the end of a recovery set it back to their N(R); each I-frame that begins sets
 /// it behind its own (`again`). And each has that number, so that they go again in order, from there on, and none is passed over

@@ -10,7 +10,7 @@ use Rattle.lapd_tei.specs.Events as teis
 use Rattle.model_line.specs.Event.{expiry}
 use Rattle.model_line.specs.Machine as lines
 use Rattle.model_line.specs.Request.{Assign, Check, Establish}
-use Rattle.model_card.specs.Card.{fresh, line_at}
+use Rattle.model_card.specs.Card.{fresh}
 use Rattle.model_card.specs.Event.{Event, at}
 use Rattle.model_card.specs.Run.{moments, after_all}
 use Rattle.laws_card.specs.Worked.{usual, on_0, hears}
@@ -51,12 +51,9 @@ no_turns : TakeTurns (call ∷ call ∷ packet ∷ []) → ⊥
 no_turns law = let x = law call packet [] [] [] [] apart refl in none_among x.front x.back x.split
 
 -- The packet link has its SABME to send meanwhile; where that of call control goes twice before it, the law is broken.
-abbrev packet_waits : Type 0
-packet_waits = HasToSend usual (line_at 0 (after_all (fresh usual) both_up)) 1 64
-
-it_waits : packet_waits
+packet_waits : HasToSend (after_all (fresh usual) both_up) 0 1 64
 unfolding after_all lines.after lines.answer lines.takes_slot teis.course teis.refusal
-it_waits = record { few = omega arith; on_line = refl; speaks = λ silent. cc silent.waiting }
+packet_waits = record { few = omega arith; on_line = refl; pulls = 16; begins = record { front = call ∷ []; back = call ∷ []; split = turns_taken } }
 
 its_name : name_of 1 64 ≡ packet
 its_name = refl

@@ -90,7 +90,7 @@ pub fn links_take_turns()
 {}
 
 /// Links take turns, whatever else happens at the line meanwhile. Between two frames that begin for one link, which keeps its
-/// place on the line, begins one of every other link that has something to send all the while (profile).
+/// place on the line, begins one of every other link that would begin one all the while, were the line only pulled (profile).
 pub fn links_take_turns_meanwhile()
     ensures { Always LinksTakeTurnsMeanwhile }
 {}

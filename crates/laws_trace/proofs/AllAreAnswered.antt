@@ -104,7 +104,7 @@ module _ (service : Service) (tei : ℕ) where
       (run-serves later events number (after_is_sound m e s here) (All-tail (IsAtLine m) e events all) on.1)
 
   -- Pulls keep a TEI on the line.
-  pull-keeps : (c : Config) (l : Line) → IsSound c l → has_tei tei l ≡ true → has_tei tei (after c pull l) ≡ true
+  pub pull-keeps : (c : Config) (l : Line) → IsSound c l → has_tei tei l ≡ true → has_tei tei (after c pull l) ≡ true
   unfolding after
   pull-keeps c l s on = go (is_due l) (taken c l) (taken-one c l s)
     where

@@ -97,4 +97,5 @@ pub mod AcknowledgedOfEvent
 pub mod AllAreAcknowledged
 pub mod TeisAreGiven
 pub mod LossesOfParts
+pub mod Crowded
 pub mod NoLossInVain

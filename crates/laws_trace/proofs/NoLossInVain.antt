@@ -1,10 +1,10 @@
 -- Nothing is told as lost in vain: the law.
-use Rattle.std.proofs.Common.{◌≡◌, ℕ, ◌<◌, ◌==◌, ◌&&◌, Bool, true, false, cond, List, [], ◌∷◌, ◌++◌, length, map, get_or, Option, Some, None, option_map, refl, sym, ap, ◌∙◌, subst, arith, eqb-true, eq-eqb, true≢false, ◌⊎◌, inl, inr, ◌+◌, append-nil, length-append}
+use Rattle.std.proofs.Common.{◌≡◌, ℕ, ◌<◌, ◌==◌, ◌&&◌, Bool, true, false, cond, List, [], ◌∷◌, ◌++◌, length, map, get_or, Option, Some, None, option_map, refl, sym, ap, ◌∙◌, subst, arith, eqb-true, eq-eqb, true≢false, ◌⊎◌, inl, inr, append-nil}
 use Rattle.std.specs.Prelude.{flat_map, option_to_list}
 use Rattle.std.specs.Option.{option_map_or}
 use Rattle.std.proofs.lemmas.Bool.{and_parts}
 use Rattle.std.proofs.lemmas.Grind.{flat_map-append}
-use Rattle.std.proofs.lemmas.List.{get_or-set_same, length-map}
+use Rattle.std.proofs.lemmas.List.{get_or-set_same}
 use Rattle.std.proofs.lemmas.List.Elements.{All-nil, All-cons, All-append, All-head}
 use Rattle.model_bits.specs.Stream as stream
 use Rattle.lapd_frame.specs.declared.refusals.Refusal.{Refusal}
@@ -14,7 +14,6 @@ use Rattle.lapd_frame.specs.declared.timers.Timer.TheVariants as timers
 use Rattle.lapd_tei.specs.Events as teis
 use Rattle.lapd_tei.specs.Machine.{Management}
 use Rattle.lapd_tei.specs.Sound.{IsSound as IsSoundManagement}
-use Rattle.lapd_tei.specs.Messages.{frame_of}
 use Rattle.lapd_tei.specs.Words.{Course}
 use Rattle.lapd_tei.proofs.Tables.{place_of-is}
 use Rattle.laws_link.specs.Waiting.{behind}
@@ -52,8 +51,7 @@ use Rattle.laws_card.proofs.Wherever.{all-left, all-right, config-stays}
 use Rattle.laws_line.specs.Frames.{lost_in}
 use Rattle.laws_line.specs.Steady.{IsBy}
 use Rattle.laws_line.proofs.Obeyed.{service-same}
-use Rattle.laws_trace.specs.MessagesAreOwed.{messages_begun, all_owed}
-use Rattle.laws_trace.specs.NoLossInVain.{IsCrowded, IsFull as IsFullAfter, NoLossInVain}
+use Rattle.laws_trace.specs.NoLossInVain.{NoLossInVain}
 use Rattle.laws_trace.specs.Trace as traces
 use Rattle.laws_trace.specs.Trace.{Seen, heard, noted, lost, seen, seen_told, seen_granted, trace_of, IsAmong, Always}
 use Rattle.laws_trace.proofs.AllAreTold.{none-among}
@@ -62,12 +60,8 @@ use Rattle.laws_trace.proofs.ManagingNotes as managing
 use Rattle.laws_trace.proofs.OneLink.{Goes, is_at_link, event-goes}
 use Rattle.laws_trace.proofs.Runs.{nothing-seen}
 use Rattle.laws_trace.proofs.LossesOfParts.{management-kept, link-full}
-use Rattle.laws_trace.proofs.MessagesAreOwed.{passes}
+use Rattle.laws_trace.proofs.Crowded.{HasFullLink, IsFull, by-trace}
 use Rattle.laws_trace.proofs.UnitsGoOut.{after-both}
-
--- A part of a line has no room.
-abbrev IsFull : Config → Line → Type 0
-IsFull c l = (length l.management.waiting ≡ 4) ⊎ IsCrowded c l
 
 -- One event of a line.
 abbrev NoLoss : Aim → Type 0
@@ -276,15 +270,6 @@ module _ (m : Card) (e : card.Event) (s : card_sound.IsSound m) (n : ℕ) (some 
   at-card number here true is among =
       subst (λ number. Fulls number (seen m.config e.what (line_at number m) (answer e m))) (eqb-true e.line number is) (own here) among
   at-card number here false other among = absurd (none-among (lost n) among.front among.back among.split)
-
--- Four messages wait where all but four of those that are owed have begun.
-by-trace : (c : Config) (events : List card.Event) (number : ℕ) → IsInRange c → AreAtLines (cards.fresh c) events → number < c.lines
-    → IsFull c (line_at number (after_all (cards.fresh c) events)) → IsFullAfter c events number
-by-trace c events number ranged all within (inl four) =
-    let begun = messages_begun c (trace_of c events number) in
-    let waiting = map (frame_of c.side) (line_at number (after_all (cards.fresh c) events)).management.waiting in
-    inl (sym (ap length (passes c events number ranged all within)) ∙ length-append begun waiting ∙ ap (λ n. length begun + n) (length-map (line_at number (after_all (cards.fresh c) events)).management.waiting (frame_of c.side) ∙ four))
-by-trace c events number ranged all within (inr one) = inr one
 
 pub no-loss-in-vain : Always NoLossInVain
 unfolding moments after_all

@@ -56,11 +56,11 @@ record Speaks (c : Config) (l : Line) (number tei : ℕ) : Type 0 where
   on_line : tei_at (place_at number) l ≡ Some tei
   speaks : IsSilentAt c l number → ⊥
 
-pulls-alone : (number n : ℕ) → ArePullsAt number (replicate n (at number pull))
+pub pulls-alone : (number n : ℕ) → ArePullsAt number (replicate n (at number pull))
 pulls-alone number zero = All-nil (λ e. e.line ≡ number → e.what ≡ pull)
 pulls-alone number (suc n) = All-cons (λ e. e.line ≡ number → e.what ≡ pull) (at number pull) (replicate n (at number pull)) (λ same. refl) (pulls-alone number n)
 
-pulls-there : (card : Card) (number n : ℕ) → number < card.config.lines → AreAtLines card (replicate n (at number pull))
+pub pulls-there : (card : Card) (number n : ℕ) → number < card.config.lines → AreAtLines card (replicate n (at number pull))
 pulls-there card number zero few = All-nil (IsAtLine card)
 pulls-there card number (suc n) few = All-cons (IsAtLine card) (at number pull) (replicate n (at number pull)) few (pulls-there card number n few)
 

@@ -179,7 +179,8 @@ pub fn all_are_acknowledged()
 {}
 
 /// Nothing is lost in vain. Behind a moment that tells a frame as lost, all but four of the messages that are owed have begun, or as
-/// many control frames of one link wait as the configuration says: so a part of the line had no room; which, is not said (profile).
+/// many control frames of one link as the configuration says would begin, were the line only pulled: so a part of the line had no
+/// room; which, is not said (profile).
 pub fn nothing_is_lost_in_vain()
     ensures { Always NoLossInVain }
 {}

@@ -21,3 +21,4 @@ pub mod PromisesOfPulls
 pub mod WorkedAmong
 pub mod Frames
 pub mod WorkedBroken
+pub mod WorkedClauses

@@ -26,6 +26,7 @@ use Rattle.laws_trace.specs.Trace.{Seen, seen, trace_of, Always}
 use Rattle.laws_trace.proofs.AcknowledgedOfLink.{numbers, IsAcked}
 use Rattle.laws_trace.proofs.AllDataGoesOut.{silent-there, line-at-end}
 use Rattle.laws_trace.proofs.AllFramesGoOut as frames
+use Rattle.laws_trace.proofs.Deliveries.{up-is}
 use Rattle.laws_trace.proofs.DeliveriesRun as deliveries
 use Rattle.laws_trace.proofs.DeliveriesRun.{IsCount}
 use Rattle.laws_trace.proofs.Runs.{run-shows}
@@ -94,9 +95,12 @@ steps c ranged e l s stands = (
 )
 
 pub all-are-acknowledged : Always AllAreAcknowledged
-all-are-acknowledged c events number ranged all within service tei before pulls split only enough up some_told none =
+all-are-acknowledged c events number ranged all within service tei before pulls split only enough is_up some_told none =
     go (ran.knows up some_told none) (silent-there c l (line-at-end c events number ranged all within) there service tei on.0 on.1)
   where
+    up : is_multiple_frame (link_of service tei (line_at number (after_all (cards.fresh c) events))).state ≡ true
+    up = sym (up-is service tei (line_at number (after_all (cards.fresh c) events))) ∙ is_up
+
     off : link_of service tei (line_at number (cards.fresh c)) ≡ fresh
     off =
         ap (link_of service tei) (get_or-replicate c.lines number (fresh_line c) (fresh_line c) within)

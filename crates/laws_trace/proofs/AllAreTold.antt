@@ -43,7 +43,7 @@ use Rattle.laws_card.proofs.Wherever.{all-left, all-right, config-stays}
 use Rattle.laws_trace.specs.Trace as traces
 use Rattle.laws_trace.specs.Trace.{Seen, heard, noted, lost, seen, seen_told, seen_granted, trace_of, IsAmong, Always}
 use Rattle.laws_trace.specs.Deliveries.{at_first, parts_of, frame_of, is_for, number_in, stand, IsTold, AllAreTold}
-use Rattle.laws_trace.proofs.Deliveries.{frame_by, brings-frame, brings-none}
+use Rattle.laws_trace.proofs.Deliveries.{up-is, frame_by, brings-frame, brings-none}
 use Rattle.laws_trace.proofs.DeliveriesKept.{run-stands}
 use Rattle.laws_trace.proofs.DeliveriesRun.{IsCount, event-aims, data-noted}
 use Rattle.laws_trace.proofs.OneLink.{Goes, event-goes}
@@ -264,10 +264,11 @@ all-are-told c events number ranged all within service tei before e behind split
     let kept : m.config ≡ c = config-stays (cards.fresh c) before in
     let w = fold (stand c service tei) at_first (trace_of c before number) in
     let x = run-stands c before number ranged first within service tei in
+    let up = sym (up-is service tei (line_at number m)) ∙ may.up in
     let t = cond (e.line == number) (seen m.config e.what (line_at number m) (answer e m)) [] in
     subst (IsTold service tei f.info) (sym (append-nil t))
     (at-card m e (always_sound (cards.fresh c) before (fresh_is_sound c ranged) first) service tei w.told.count octets f (subst (λ c. reading (heard_side c) octets ≡ Ok f) (sym kept) read) for number
     (subst (λ (c : Config). e.line < c.lines) (sym kept) here) (e.line == number) refl x.2
     (subst (λ c. MayBeTaken c (link_of service tei (line_at number m)) w.told.count f) (sym kept)
-    (record { up = may.up; free = x.3.busy_is may.up ∙ may.free; size = may.size; next = may.next }))
+    (record { up = up; free = x.3.busy_is up ∙ may.free; size = may.size; next = may.next }))
     (subst (IsAmong (heard (stream.frame octets))) (append-nil t) among))

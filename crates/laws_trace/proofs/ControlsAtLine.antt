@@ -36,9 +36,9 @@ use Rattle.laws_line.specs.Timers.{HaveTheirTimers}
 use Rattle.model_card.specs.Pulled.{frame_in}
 use Rattle.laws_trace.specs.ControlFrames.{receipt, changed, command_of, acknowledged_at, IsPart}
 use Rattle.laws_trace.specs.Deliveries.{Standing}
-use Rattle.laws_trace.specs.LinksMove.{is_up, expired_of, one_more}
+use Rattle.laws_trace.specs.LinksMove.{expired_of, one_more}
 use Rattle.laws_trace.specs.TimersAreTimely.{nothing_yet, differ}
-use Rattle.laws_trace.specs.Trace.{Seen, seen}
+use Rattle.laws_trace.specs.Trace.{is_up, Seen, seen}
 use Rattle.laws_trace.proofs.Addressed.{at-some-place, as-is}
 use Rattle.laws_trace.proofs.CommandsCaused.{IsNoOther}
 use Rattle.laws_trace.proofs.ControlsDue.{controls, answers_of, put_by}

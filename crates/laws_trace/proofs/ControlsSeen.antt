@@ -46,7 +46,7 @@ use Rattle.laws_line.proofs.Obeyed.{both-true}
 use Rattle.model_card.specs.Pulled.{frame_taken, frame_in, octet_in}
 use Rattle.laws_trace.specs.ControlFrames.{of_link, control_in, controls_at, while_up, answer_to, changed, answers_at, acknowledged_by, acknowledged_at, IsPart}
 use Rattle.laws_trace.specs.Deliveries.{Standing}
-use Rattle.laws_trace.specs.LinksMove.{is_up}
+use Rattle.laws_trace.specs.Trace.{is_up}
 use Rattle.laws_trace.specs.Trace as traces
 use Rattle.laws_trace.specs.Trace.{Seen, heard, put, seen, seen_told, seen_granted}
 use Rattle.laws_trace.proofs.Addressed.{addressed-is}

@@ -1,11 +1,15 @@
 -- What is known of the contents of a link, by what goes out, is heard and is noted, over one of its events.
-use Rattle.std.proofs.Common.{◌≡◌, ℕ, ◌+◌, ◌%◌, ◌≤◌, ◌<◌, ◌==◌, Bool, true, false, cond, List, [], ◌++◌, length, drop, slice_get, Option, Some, None, refl, sym, ap, ◌∙◌, subst, true≢false, arith, ◌⊎◌, inl, inr, append-nil, drop-drop, length-take-le, length-append, eqb-true, eq-eqb}
+use Rattle.std.proofs.Common.{◌≡◌, ℕ, ◌+◌, ◌%◌, ◌≤◌, ◌<◌, ◌==◌, Bool, true, false, cond, List, [], ◌∷◌, ◌++◌, ◌||◌, length, drop, slice_get, Option, Some, None, refl, sym, ap, ◌∙◌, subst, true≢false, arith, ◌⊎◌, inl, inr, append-nil, drop-drop, length-take-le, length-append, eqb-true, eq-eqb}
 use Rattle.std.specs.Prelude.{All, IfSome, nat_lt, unwrap_or}
+use Rattle.std.specs.List.{list_any}
 use Rattle.std.specs.Option.{option_map_or}
 use Rattle.std.proofs.lemmas.Bool.{ltb-true, ltb-false}
 use Rattle.std.proofs.lemmas.List.{drop_all}
 use Rattle.std.proofs.lemmas.List.Elements.{All-head}
 use Rattle.lapd_seq.specs.Numbers.{seq}
+use Rattle.lapd_frame.specs.declared.notes.Note.{Note}
+use Rattle.lapd_frame.specs.declared.notes.Note.TheVariants as notes
+use Rattle.lapd_frame.specs.declared.services.Service.{Service}
 use Rattle.lapd_frame.specs.declared.controls.Control.{Control}
 use Rattle.lapd_frame.specs.declared.controls.Control.TheVariants.{Information, ReceiveReady, ReceiveNotReady, Reject, Sabme, Disc, Ui, Ua, Dm, Frmr, Xid}
 use Rattle.model_link.specs.declared.frames.ControlFrame.{ControlFrame}
@@ -14,11 +18,11 @@ use Rattle.model_link.specs.declared.terms.Terms.{Terms}
 use Rattle.model_link.specs.Deliveries.{restarts, Establishes}
 use Rattle.model_link.specs.Events.{Event, received, frame, undefined, wrong_size, overlong, expired, requested, offer, cleared}
 use Rattle.model_link.specs.Link.{Link, is_multiple_frame}
-use Rattle.model_link.specs.Machine.{after, given}
+use Rattle.model_link.specs.Machine.{after, told, given}
 use Rattle.model_link.specs.Sound.{IsSound, IsWaitingFrame, is_information}
 use Rattle.model_link.specs.Told.{Given}
 use Rattle.laws_link.proofs.Restarts.{establishes}
-use Rattle.laws_link.specs.Accepted.{accepted, acknowledged, empties}
+use Rattle.laws_link.specs.Accepted.{accepted, acknowledged, ends, is_loss, tells_loss, empties}
 use Rattle.laws_link.specs.History.{History, with_share}
 use Rattle.laws_link.specs.InOrder.{IsInOrder, IsOldest, IsInformation, IsAcknowledgement}
 use Rattle.laws_link.specs.Offered.{IsOffered, one, is_i_frame, i_frames}
@@ -27,9 +31,37 @@ use Rattle.laws_link.proofs.Keeping.{event-done}
 use Rattle.laws_link.proofs.Offering.{given-is-offered}
 use Rattle.laws_trace.specs.Deliveries.{Watched}
 use Rattle.laws_line.specs.Pulls.{IsSilent}
-use Rattle.laws_trace.specs.DataGoesOut.{Sent, sent_by, HasNumber, gone_with}
+use Rattle.laws_trace.specs.DataGoesOut.{is_indicated, Sent, sent_by, HasNumber, gone_with}
 use Rattle.laws_trace.proofs.Begins.{up-before}
 use Rattle.laws_trace.proofs.DataOfLink.{acknowledged-went, none-acknowledged, none-accepted, nothing-kept-down}
+
+-- An indication of an establishment tells that nothing is kept.
+or-false : (a b : Bool) → (a || b) ≡ false → b ≡ false
+or-false true b e = absurd (true≢false e)
+or-false false b e = e
+
+both-false : (a b c d : Bool) → (c ≡ true → a ≡ true) → (b ≡ false → d ≡ false) → (a || b) ≡ false → (c || d) ≡ false
+both-false true b c d h i e = absurd (true≢false e)
+both-false false b true d h i e = absurd (true≢false (sym (h refl)))
+both-false false b false d h i e = i e
+
+lost-so : (service : Service) (tei : ℕ) (n : Note) → is_indicated service tei n ≡ true → is_loss n ≡ true
+lost-so service tei (notes.EstablishIndication s n) is = refl
+lost-so service tei (notes.EstablishConfirm s n) is = absurd (true≢false (sym is))
+lost-so service tei (notes.ReleaseIndication s n) is = refl
+lost-so service tei (notes.ReleaseConfirm s n) is = refl
+lost-so service tei (notes.Data s n) is = absurd (true≢false (sym is))
+lost-so service tei (notes.Unit s n) is = absurd (true≢false (sym is))
+lost-so service tei (notes.Error s n k) is = absurd (true≢false (sym is))
+lost-so service tei (notes.Assigned n) is = absurd (true≢false (sym is))
+lost-so service tei (notes.Removed n) is = absurd (true≢false (sym is))
+lost-so service tei (notes.Doubled n) is = absurd (true≢false (sym is))
+lost-so service tei (notes.Xid s n) is = absurd (true≢false (sym is))
+
+none-indicated : (service : Service) (tei : ℕ) (ns : List Note) → tells_loss ns ≡ false → list_any (is_indicated service tei) ns ≡ false
+none-indicated service tei [] none = refl
+none-indicated service tei (n ∷ ns) none =
+    both-false (is_loss n) (list_any is_loss ns) (is_indicated service tei n) (list_any (is_indicated service tei) ns) (lost-so service tei n) (none-indicated service tei ns) none
 
 -- In states 7 and 8 all contents that have numbers are known, and how many have gone; in others, unless nothing is kept.
 pub record IsUp (k : Link) (all : List (List ℕ)) (gone : ℕ) : Type 0 where
@@ -151,10 +183,14 @@ module _ (t : Terms) (k : Link) (s : IsSound t k) (e : Event) (all : List (List 
     none-more offer is = refl
     none-more cleared is = refl
 
-    abbrev Begun : Type 0
-    Begun = (n : ℕ) × ((n ≤ gone) ⊎ (length all ≤ n)) × Knows next (drop n all) 0
+    -- all leave where an indication is told
+    abbrev May : ℕ → Type 0
+    May n = ((n ≤ gone) × (list_any (is_indicated t.service t.tei) (told t e k).notes ≡ false)) ⊎ (length all ≤ n)
 
-    begun-with : (n : ℕ) → ((n ≤ gone) ⊎ (length all ≤ n)) → next.contents ≡ drop n all → Begun
+    abbrev Begun : Type 0
+    Begun = (n : ℕ) × May n × Knows next (drop n all) 0
+
+    begun-with : (n : ℕ) → May n → next.contents ≡ drop n all → Begun
     begun-with n may is =
         let zero = zero-of e next (establishes t k e anew) in
         let a : next.a ≡ 0 = zero.0 in
@@ -173,7 +209,7 @@ module _ (t : Terms) (k : Link) (s : IsSound t k) (e : Event) (all : List (List 
     begun-by : (b : Bool) → empties t e k ≡ b → ((k.contents ≡ all) × (k.a ≤ gone)) ⊎ (length k.contents ≡ k.a) → Begun
     begun-by true none known = all-gone (by-share true true anew none).0
     begun-by false some (inl x) =
-        begun-with (k.a + acknowledged t e k) (inl (few-gone x.1 (is_multiple_frame k.state) refl))
+        begun-with (k.a + acknowledged t e k) (inl (few-gone x.1 (is_multiple_frame k.state) refl, none-indicated t.service t.tei (told t e k).notes (or-false (ends t e k) (tells_loss (told t e k).notes) some)))
         ((by-share true false anew some).0 ∙ ap (λ xs. drop (acknowledged t e k) (drop k.a k.contents) ++ xs) (none-more e anew)
         ∙ append-nil (drop (acknowledged t e k) (drop k.a k.contents)) ∙ drop-drop (acknowledged t e k) k.a k.contents
         ∙ ap (drop (k.a + acknowledged t e k)) x.0)

@@ -1,6 +1,7 @@
 -- Data goes out: over runs.
 use Rattle.std.proofs.Common.{◌≡◌, ℕ, ◌≤◌, ◌<◌, Bool, true, false, cond, List, [], ◌∷◌, ◌++◌, length, drop, map, Option, Some, None, option_map, refl, sym, ap, ◌∙◌, subst, arith, true≢false, ◌⊎◌, inl, inr, append-nil}
 use Rattle.std.specs.Prelude.{All, IfSome, option_to_list, unwrap_or}
+use Rattle.std.specs.List.{list_any}
 use Rattle.std.specs.Option.{option_map_or}
 use Rattle.std.proofs.lemmas.List.{get_or-replicate}
 use Rattle.std.proofs.lemmas.List.Elements.{All-head}
@@ -46,7 +47,7 @@ use Rattle.model_card.specs.Event as card
 use Rattle.model_card.specs.Run.{after_all, AreAtLines}
 use Rattle.laws_trace.specs.Trace.{Seen, seen, trace_of, Always}
 use Rattle.laws_trace.specs.Deliveries.{Watched, is_for, begins_by, begins, counted}
-use Rattle.laws_trace.specs.DataGoesOut.{Going, Sent, sent_by, HasNumber, data_asked, gone_with, goes_on, none_yet, Reaches, DataGoesOut}
+use Rattle.laws_trace.specs.DataGoesOut.{Going, Sent, sent_by, HasNumber, data_asked, gone_with, goes_on, none_yet, Reaches, DataGoesOut, is_indicated}
 use Rattle.laws_trace.proofs.DataKnown.{Knows, goes-on-so, begins-anew, given-known, none-given-known}
 use Rattle.laws_trace.proofs.DataGoesOut.{quiet, fresh-known, foreign, own-sent, sent_of, sent_with, reach-told, reach-asked, reach-pulled}
 use Rattle.laws_trace.proofs.Deliveries.{frame_by, one-begins}
@@ -94,7 +95,7 @@ module _ (c : Config) (ranged : IsInRange c) (l : Line) (s : IsSound c l) (servi
 
   record Chosen (e : Event) : Type 0 where
     n : ℕ
-    may : (n ≤ gone) ⊎ (length all ≤ n)
+    may : ((n ≤ gone) × (list_any (is_indicated service tei) (notes_of (answer c e l)) ≡ false)) ⊎ (length all ≤ n)
     knows : Knows (link_of service tei (after c e l)) (cond (anew e) (drop n all) all) (cond {A = ℕ} (anew e) 0 gone)
 
   module _ (e : Event) (no-request : (r : Request) → e ≡ request r → ⊥) (no-pull : e ≡ pull → ⊥) where
@@ -115,7 +116,7 @@ module _ (c : Config) (ranged : IsInRange c) (l : Line) (s : IsSound c l) (servi
             let y = begins-anew t k sound x.event all gone known is in
             record {
               n = y.0;
-              may = y.1;
+              may = subst (λ ns. ((y.0 ≤ gone) × (list_any (is_indicated service tei) ns ≡ false)) ⊎ (length all ≤ y.0)) (sym x.notes) y.1;
               knows =
                   subst (λ b. Knows (link_of service tei (after c e l)) (cond b (drop y.0 all) all) (cond {A = ℕ} b 0 gone)) (sym (begins-is ∙ is))
                   (subst (λ k. Knows k (drop y.0 all) 0) (sym x.is) y.2);
@@ -124,10 +125,10 @@ module _ (c : Config) (ranged : IsInRange c) (l : Line) (s : IsSound c l) (servi
             let y = goes-on-so t k sound x.event all gone known is bare.1 in
             let same : all ++ accepted t x.event k ≡ all = ap (λ xs. all ++ xs) bare.0 ∙ append-nil all in
             record {
-              n = 0;
-              may = inl (omega arith);
+              n = length all;
+              may = inr (omega arith);
               knows =
-                  subst (λ b. Knows (link_of service tei (after c e l)) (cond b all all) (cond {A = ℕ} b 0 gone)) (sym (begins-is ∙ is))
+                  subst (λ b. Knows (link_of service tei (after c e l)) (cond b (drop (length all) all) all) (cond {A = ℕ} b 0 gone)) (sym (begins-is ∙ is))
                   (subst (λ k. Knows k all gone) (sym x.is) (subst (λ xs. Knows (links.after t x.event k) xs gone) same y));
             }
 
@@ -146,15 +147,15 @@ module _ (c : Config) (ranged : IsInRange c) (l : Line) (s : IsSound c l) (servi
         go o is true starts =
             let new = by-frame (frame_by c e l) refl starts in
             record {
-              n = 0;
-              may = inl (omega arith);
-              knows = kept-same e (cond (anew e) all all) (cond {A = ℕ} (anew e) 0 gone) (fresh-known k (cond (anew e) all all) (cond {A = ℕ} (anew e) 0 gone) new) x;
+              n = length all;
+              may = inr (omega arith);
+              knows = kept-same e (cond (anew e) (drop (length all) all) all) (cond {A = ℕ} (anew e) 0 gone) (fresh-known k (cond (anew e) (drop (length all) all) all) (cond {A = ℕ} (anew e) 0 gone) new) x;
             }
         go o is false on =
             record {
-              n = 0;
-              may = inl (omega arith);
-              knows = kept-same e (cond (anew e) all all) (cond {A = ℕ} (anew e) 0 gone) (subst (λ b. Knows k (cond b all all) (cond {A = ℕ} b 0 gone)) (sym on) known) x;
+              n = length all;
+              may = inr (omega arith);
+              knows = kept-same e (cond (anew e) (drop (length all) all) all) (cond {A = ℕ} (anew e) 0 gone) (subst (λ b. Knows k (cond b (drop (length all) all) all) (cond {A = ℕ} b 0 gone)) (sym on) known) x;
             }
 
     chosen : Chosen e
@@ -332,7 +333,7 @@ module _ (c : Config) (ranged : IsInRange c) (l : Line) (s : IsSound c l) (servi
   unfolding answer
   event-shown (octet value) = octet-shown value
   event-shown (expiry timer) =
-      expiry-shown (expiry timer) refl (chosen (expiry timer) (λ r same. cc same) (λ same. cc same)) (tt, (0, inl (omega arith), (tt, (0, inl (omega arith), refl))))
+      expiry-shown (expiry timer) refl (chosen (expiry timer) (λ r same. cc same) (λ same. cc same)) (tt, (length all, inr (omega arith), (tt, (0, inl (omega arith, refl), refl))))
   event-shown (request r) = request-shown r (added r)
   event-shown pull = record {
     count_now = m;

@@ -1,5 +1,5 @@
 -- What is told is what was heard.
-use Rattle.std.proofs.Common.{◌≡◌, ℕ, ◌%◌, ◌≤◌, ◌==◌, ◌&&◌, Bool, true, false, cond, List, [], ◌∷◌, length, Option, Some, None, refl, sym, ap, ◌∙◌, arith, eq-eqb, true≢false, ◌⊎◌, inl, inr}
+use Rattle.std.proofs.Common.{◌≡◌, ℕ, ◌%◌, ◌≤◌, ◌==◌, ◌&&◌, Bool, true, false, cond, List, [], ◌∷◌, length, Option, Some, None, option_map, refl, sym, ap, ◌∙◌, arith, eq-eqb, true≢false, ◌⊎◌, inl, inr}
 use Rattle.std.specs.Prelude.{All, ◌||◌, not, nat_le, count_by, option_to_list}
 use Rattle.std.specs.List.{list_any}
 use Rattle.std.specs.Option.{option_map_or}
@@ -22,14 +22,16 @@ use Rattle.model_link.specs.declared.terms.Terms.{Terms}
 use Rattle.model_link.specs.Deliveries.{Arrived, restarts, eligible, eligible_of, is_eligible, information_of}
 use Rattle.model_link.specs.Events as link
 use Rattle.model_link.specs.Notes.{IsOwn}
-use Rattle.model_link.specs.Link.{Link, is_multiple_frame}
+use Rattle.model_link.specs.declared.states.State.{State}
+use Rattle.model_link.specs.declared.states.State.TheVariants.{TeiAssigned, AwaitingEstablishment, AwaitingRelease, Established, TimerRecovery}
+use Rattle.model_link.specs.Link.{Link, fresh, is_multiple_frame, state_number}
 use Rattle.model_link.specs.Machine as links
 use Rattle.model_link.proofs.OwnNotes.{notes-own}
 use Rattle.laws_link.proofs.Restarts.{establishes}
 use Rattle.laws_link.specs.Heard.{unit_heard, in_ui_frame}
 use Rattle.model_line.specs.declared.config.Config.{Config}
 use Rattle.model_line.specs.Event.{Event, octet, expiry, request, pull, Answer}
-use Rattle.model_line.specs.Line.{Line, link_in, terms}
+use Rattle.model_line.specs.Line.{Line, link_in, link_of, place_in, state_in, state_of, terms}
 use Rattle.model_line.specs.Machine.{aim_of, answer}
 use Rattle.model_line.specs.Octet.{gained, heard_side, group_tei}
 use Rattle.model_line.specs.Sound.{IsInRange, IsSound}
@@ -42,6 +44,7 @@ use Rattle.laws_line.proofs.Hearing.{sapi-is, frame-aim, one-event}
 use Rattle.laws_line.proofs.ToldOnce.{told-once}
 use Rattle.laws_line.proofs.Grouping.{group-unit}
 use Rattle.laws_trace.specs.Deliveries.{parts_of, frame_of, is_for, begins_by, begins, number_in, IsOfFrame}
+use Rattle.laws_trace.specs.Trace.{is_up}
 use Rattle.laws_trace.specs.Units.{is_ui}
 use Rattle.laws_trace.proofs.Begins.{unless, begins-is}
 use Rattle.laws_trace.proofs.OneLink.{is_at_link}
@@ -52,6 +55,21 @@ frame_by c (octet value) l = option_map_or (frame_of c) (gained c.n201 l.receive
 frame_by c (expiry timer) l = None
 frame_by c (request r) l = None
 frame_by c pull l = None
+
+-- A link is up where the number of its state says so.
+pub up-is : (service : Service) (tei : ℕ) (l : Line) → option_map_or is_up (state_of service tei l) false ≡ is_multiple_frame (link_of service tei l).state
+up-is service tei l = go (place_in l tei)
+  where
+    by-state : (state : State) → is_up (state_number state) ≡ is_multiple_frame state
+    by-state TeiAssigned = refl
+    by-state AwaitingEstablishment = refl
+    by-state AwaitingRelease = refl
+    by-state Established = refl
+    by-state TimerRecovery = refl
+
+    go : (o : Option ℕ) → option_map_or is_up (option_map (state_in l service) o) false ≡ is_multiple_frame (option_map_or (link_in l service) o fresh).state
+    go None = refl
+    go (Some place) = by-state (link_in l service place).state
 
 -- What is noted of contents is counted, and what a link notes is its own.
 any-counted : (p q : Note → Bool) → ((n : Note) → p n ≡ true → q n ≡ true) → (ns : List Note) → list_any p ns ≡ true → 1 ≤ count_by q ns

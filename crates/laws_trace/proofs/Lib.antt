@@ -70,6 +70,8 @@ pub mod TimersOfLine
 pub mod TimersOfEvent
 pub mod TimersStarted
 pub mod TimersAreTimely
+pub mod OrdersHaveReasons
+pub mod ChecksAreTimely
 pub mod AllGoesAgain
 pub mod MovesOfLink
 pub mod LinkLed
@@ -78,6 +80,7 @@ pub mod NewsRows
 pub mod NewsOfLink
 pub mod NewsOfOthers
 pub mod NewsSeen
+pub mod OwedOfEvent
 pub mod NewsOfEvent
 pub mod News
 pub mod OtherSide
@@ -86,4 +89,5 @@ pub mod AcknowledgedOfEvent
 pub mod AllAreAcknowledged
 pub mod TeisAreGiven
 pub mod LossesOfParts
+pub mod Crowded
 pub mod NoLossInVain

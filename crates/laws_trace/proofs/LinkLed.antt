@@ -41,10 +41,10 @@ use Rattle.laws_line.proofs.Ending.{gained-is}
 use Rattle.laws_line.proofs.Hearing.{addressed-is, sapi-is}
 use Rattle.laws_line.proofs.Obeyed.{service-same, both-true}
 use Rattle.laws_trace.specs.Deliveries.{parts_of, is_for}
-use Rattle.laws_trace.specs.LinksMove.{is_up, by_frame, is_faulty, is_faulty_long, by_parts, by_request, by_seen, by_expiry, expired_of, one_more, led}
+use Rattle.laws_trace.specs.LinksMove.{by_frame, is_faulty, is_faulty_long, by_parts, by_request, by_seen, by_expiry, expired_of, one_more, led}
 use Rattle.laws_trace.specs.TimersAreTimely.{Known}
 use Rattle.laws_trace.specs.Trace as traces
-use Rattle.laws_trace.specs.Trace.{is_own, seen, seen_told, seen_granted}
+use Rattle.laws_trace.specs.Trace.{is_own, seen, seen_told, seen_granted, is_up}
 use Rattle.laws_trace.proofs.MovesOfLink.{expected, ticks}
 use Rattle.laws_trace.proofs.OneLink.{is_at_link}
 

@@ -104,13 +104,13 @@ module _ (c : Config) (ranged : line.IsInRange c) (l : Line) (s : line.IsSound c
       subst (λ fs. Walk c l (map named_in (filter (is_of_a_link c.side) fs) ++ names)) (sym (pulled-frames (begun c l) (lines.answer c pull l))) (by-pull (begun c l) (served c l s) names walk)
 
 -- A run.
-abbrev WalksBy : Config → Line → List (List ℕ) → Type 0
+abbrev pub WalksBy : Config → Line → List (List ℕ) → Type 0
 WalksBy c l frames = Walk c l (map named_in (filter (is_of_a_link c.side) frames))
 
 names-append : (c : Config) (front behind : List (List ℕ)) → map named_in (filter (is_of_a_link c.side) (front ++ behind)) ≡ map named_in (filter (is_of_a_link c.side) front) ++ map named_in (filter (is_of_a_link c.side) behind)
 names-append c front behind = ap (map named_in) (filter-append (is_of_a_link c.side) front behind) ∙ map-append named_in (filter (is_of_a_link c.side) front) (filter (is_of_a_link c.side) behind)
 
-pull-walks-by : (c : Config) → line.IsInRange c → (l : Line) → line.IsSound c l → NoneWaits c l → (frames : List (List ℕ)) → WalksBy c (lines.after c pull l) frames
+pub pull-walks-by : (c : Config) → line.IsInRange c → (l : Line) → line.IsSound c l → NoneWaits c l → (frames : List (List ℕ)) → WalksBy c (lines.after c pull l) frames
     → WalksBy c l (frames_begun (seen c pull l (lines.answer c pull l)) ++ frames)
 pull-walks-by c ranged l s plain frames walk =
     subst (Walk c l) (sym (names-append c (frames_begun (seen c pull l (lines.answer c pull l))) frames)) (pull-walks c ranged l s plain (map named_in (filter (is_of_a_link c.side) frames)) walk)

@@ -28,6 +28,29 @@ use Rattle.model_link.specs.Machine as links
 use Rattle.model_link.specs.Sound as link_sound
 use Rattle.laws_trace.proofs.CommandsCaused.{IsNoOther}
 
+-- What holds of the rows of each message of a terminal, and of one that is not served, holds of any.
+module _ (m : Management) (P : Course → Type 0) (requested : (ri : ℕ) → P (rows.request ri (begun m))) (responded : (tei : ℕ) → P (rows.respond tei m.check (begun m)))
+    (verified : (tei : ℕ) → P (rows.verify tei (begun m))) (unserved : P (words.unserved (begun m))) where
+  pick : {X : Type 0} (P : X → Type 0) (b : Bool) (u v : X) → P u → P v → P (cond b u v)
+  pick P true u v h k = h
+  pick P false u v h k = k
+
+  by-type : (type ri action : ℕ) → P (rows.serve (heard_of_type type ri action) (begun m))
+  by-type type ri action =
+      pick (λ o. P (rows.serve o (begun m))) (type == 1 && action == 127) _ _ (requested ri)
+      (pick (λ o. P (rows.serve o (begun m))) (type == 5) _ _ (responded action)
+      (pick (λ o. P (rows.serve o (begun m))) (type == 7) _ _ (verified action) unserved))
+
+  pub served-by : (info : List ℕ) → P (rows.serve (heard_in info) (begun m))
+  served-by [] = unserved
+  served-by (a ∷ []) = unserved
+  served-by (a ∷ high ∷ []) = unserved
+  served-by (a ∷ high ∷ low ∷ []) = unserved
+  served-by (a ∷ high ∷ low ∷ type ∷ []) = unserved
+  served-by (a ∷ high ∷ low ∷ type ∷ last ∷ []) =
+      pick (λ o. P (rows.serve o (begun m))) (a == 0x0F && last % 2 == 1) _ _ (by-type type (256 * high + low) (last / 2)) unserved
+  served-by (a ∷ high ∷ low ∷ type ∷ last ∷ sixth ∷ more) = unserved
+
 -- TEI management: what is lost found four messages, which wait still.
 module _ (m : Management) (s : IsSoundManagement m) where
   abbrev Kept : Course → Type 0
@@ -75,25 +98,8 @@ module _ (m : Management) (s : IsSoundManagement m) where
       go true false = inl refl
       go false b = inl refl
 
-  pick : {X : Type 0} (P : X → Type 0) (b : Bool) (u v : X) → P u → P v → P (cond b u v)
-  pick P true u v h k = h
-  pick P false u v h k = k
-
-  by-type : (type ri action : ℕ) → Kept (rows.serve (heard_of_type type ri action) (begun m))
-  by-type type ri action =
-      pick (λ o. Kept (rows.serve o (begun m))) (type == 1 && action == 127) _ _ (requested ri)
-      (pick (λ o. Kept (rows.serve o (begun m))) (type == 5) _ _ (responded action m.check)
-      (pick (λ o. Kept (rows.serve o (begun m))) (type == 7) _ _ (verified action) (inl refl)))
-
   served : (info : List ℕ) → Kept (rows.serve (heard_in info) (begun m))
-  served [] = inl refl
-  served (a ∷ []) = inl refl
-  served (a ∷ high ∷ []) = inl refl
-  served (a ∷ high ∷ low ∷ []) = inl refl
-  served (a ∷ high ∷ low ∷ type ∷ []) = inl refl
-  served (a ∷ high ∷ low ∷ type ∷ last ∷ []) =
-      pick (λ o. Kept (rows.serve o (begun m))) (a == 0x0F && last % 2 == 1) _ _ (by-type type (256 * high + low) (last / 2)) (inl refl)
-  served (a ∷ high ∷ low ∷ type ∷ last ∷ sixth ∷ more) = inl refl
+  served = served-by m Kept requested (λ tei. responded tei m.check) verified (inl refl)
 
   expired : (o : Option Check) → Kept (rows.expire_check o (begun m))
   expired None = inl refl

@@ -169,7 +169,7 @@ module _ (c : Config) (events : List Event) (number : ℕ) (ranged : line.IsInRa
   ran : Runs (fresh c) events number none_on
   ran = run (fresh c) events number none_on (fresh_is_sound c ranged) all (subst (λ (l : Line). Knows (hearing [] none_on) l.management) (sym start) (fresh-known c))
 
-  passes : messages_begun c (trace_of c events number) ++ map (frame_of c.side) end.management.waiting ≡ all_owed c events number
+  pub passes : messages_begun c (trace_of c events number) ++ map (frame_of c.side) end.management.waiting ≡ all_owed c events number
   passes = ran.waits ∙ ap (λ (l : Line). map (frame_of c.side) (l.management.waiting ++ owed c number none_on (moments (fresh c) events))) start
 
   pub front : MessagesAreOwed c events number

@@ -25,7 +25,8 @@ use Rattle.laws_link.specs.States as states
 use Rattle.laws_link.specs.States.{as_heard, state_after, moves}
 use Rattle.laws_link.specs.Waiting.{is_time}
 use Rattle.laws_link.proofs.Follows.{event-follows}
-use Rattle.laws_trace.specs.LinksMove.{is_up, steps, is_invalid, by_frame, by_expiry, one_more}
+use Rattle.laws_trace.specs.Trace.{is_up}
+use Rattle.laws_trace.specs.LinksMove.{steps, is_invalid, by_frame, by_expiry, one_more}
 use Rattle.laws_trace.specs.TimersAreTimely.{Known, awaits}
 use Rattle.laws_trace.proofs.TimerClaims.{IsKnown, Agrees}
 use Rattle.laws_trace.proofs.TimerRows.{in_state}

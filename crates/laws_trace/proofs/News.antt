@@ -1,5 +1,5 @@
 -- What layer 3 is told of establishments and releases: the law.
-use Rattle.std.proofs.Common.{◌≡◌, ℕ, ◌<◌, ◌==◌, ◌&&◌, Bool, true, false, cond, List, [], ◌∷◌, get_or, set, Option, Some, refl, sym, ap, ◌∙◌, subst, arith, eqb-true, eq-eqb, true≢false}
+use Rattle.std.proofs.Common.{◌≡◌, ℕ, ◌<◌, ◌==◌, ◌&&◌, not, Bool, true, false, cond, List, [], ◌∷◌, get_or, set, Option, Some, refl, sym, ap, ◌∙◌, subst, arith, eqb-true, eq-eqb, true≢false}
 use Rattle.std.specs.Prelude.{fold, filter}
 use Rattle.std.specs.List.{list_any}
 use Rattle.std.specs.Option.{option_map_or}
@@ -18,24 +18,29 @@ use Rattle.model_line.specs.Request.{Request, Establish, Release, Data, Assign, 
 use Rattle.model_card.specs.Card.{Card, fresh, line_at, is_full}
 use Rattle.model_card.specs.Event.{Event, at}
 use Rattle.model_card.specs.Machine.{after, answer}
-use Rattle.model_card.specs.Run.{moments, after_all, IsAtLine, AreAtLines}
+use Rattle.model_card.specs.Run.{Moment, moments, after_all, IsAtLine, AreAtLines}
 use Rattle.model_card.specs.Sound as card_sound
 use Rattle.model_card.proofs.CardSound.{fresh_is_sound, after_is_sound}
 use Rattle.model_card.proofs.Steps.{has_lines, by_room, line_sound}
+use Rattle.laws_card.specs.Timers.{AllHaveTheirTimers}
+use Rattle.laws_card.proofs.TimersRun.{timely-after, begins-timely-card}
 use Rattle.laws_line.specs.Heard.{notes_of}
 use Rattle.laws_line.proofs.TimersFollow.{nowhere}
-use Rattle.laws_trace.specs.News.{is_news, is_indicated, establishes, releases, begins, asked, due, NewsIsTold}
-use Rattle.laws_trace.specs.TimersAreTimely.{is_state, differ}
+use Rattle.laws_trace.specs.News.{is_news, establishes, releases, begins, asked, Owing, none_owed, owing, due, NewsIsTold}
+use Rattle.laws_trace.specs.TimersAreTimely.{Known, watch, is_state, differ}
 use Rattle.laws_trace.specs.Trace.{seen, Always}
 use Rattle.laws_trace.proofs.LinksMove.{differ-self}
 use Rattle.laws_trace.proofs.NewsOfLink.{Asks}
 use Rattle.laws_trace.proofs.PullRuns.{apart}
-use Rattle.laws_trace.proofs.TimersAreTimely.{sound-now, config-now, front-at, itself}
+use Rattle.laws_trace.proofs.OwedOfEvent.{IsOwed, known-owes, five-owes}
+use Rattle.laws_trace.proofs.TimersAreTimely.{moment-known, begins-true, sound-now, config-now, front-at, itself}
+use Rattle.laws_trace.proofs.TimersOfEvent.{IsTrueOf}
 use Rattle.laws_trace.proofs.NewsOfEvent.{IsAskedOf, event-asks, event-due}
 
 module _ (service : Service) (tei number : ℕ) where
   -- One event of a card.
-  module _ (card : Card) (s : card_sound.IsSound card) (e : Event) (here : IsAtLine card e) (was : Bool) (asks : IsAskedOf service tei was (line_at e.line card)) where
+  module _ (card : Card) (s : card_sound.IsSound card) (e : Event) (here : IsAtLine card e) (was : Bool) (asks : IsAskedOf service tei was (line_at e.line card))
+      (outstanding : Bool) (owes : IsOwed service tei outstanding (line_at e.line card)) where
     abbrev l : Line
     l = line_at e.line card
 
@@ -61,21 +66,21 @@ module _ (service : Service) (tei number : ℕ) where
         (λ full. subst (λ b. IsAskedOf service tei b l) (sym (still (state_of service tei l) (refused PoolFull))) asks)
         (λ room.
         subst (λ x. IsAskedOf service tei (asked_then (state_of service tei x) (lines.answer card.config e.what l)) x) (sym now)
-        (event-asks card.config l (line_sound card e.line (has_lines card s) here) service tei was asks e.what))
+        (event-asks card.config l (line_sound card e.line (has_lines card s) here) service tei was asks outstanding owes e.what))
 
     abbrev IsDue : Line → Answer → Type 0
     IsDue x b =
         (from to : ℕ) → state_of service tei l ≡ Some from → state_of service tei x ≡ Some to →
         filter (is_news service tei) (notes_of b)
-        ≡ due service tei was (list_any (begins card.config service tei) (seen card.config e.what l b)) (releases service tei e.what b) (list_any (is_indicated service tei) (notes_of b)) from to
+        ≡ due service tei was (list_any (begins card.config service tei) (seen card.config e.what l b)) (releases service tei e.what b) outstanding from to
 
     refused-due : (what : line_event.Event) → lines.takes_slot card.config what l ≡ true → (from to : ℕ) → from ≡ to
-        → [] ≡ due service tei was (list_any (begins card.config service tei) (seen card.config what l (refused PoolFull))) (releases service tei what (refused PoolFull)) false from to
+        → [] ≡ due service tei was (list_any (begins card.config service tei) (seen card.config what l (refused PoolFull))) (releases service tei what (refused PoolFull)) outstanding from to
     unfolding lines.takes_slot
     refused-due (octet value) takes from to same = absurd (true≢false (sym takes))
     refused-due (expiry timer) takes from to same = absurd (true≢false (sym takes))
     refused-due (request r) takes from to same =
-        sym (ap (λ b. due service tei was false b false from to) (no-release r) ∙ ap (λ n. due service tei was false false false n to) same ∙ nothing-due to)
+        sym (ap (λ b. due service tei was false b outstanding from to) (no-release r) ∙ ap (λ n. due service tei was false false outstanding n to) same ∙ nothing-due to)
       where
         no-release : (r : Request) → releases service tei (request r) (refused PoolFull) ≡ false
         no-release (Establish its by) = refl
@@ -88,12 +93,12 @@ module _ (service : Service) (tei number : ℕ) where
         no-release (SetBusy its by) = refl
         no-release (ClearBusy its by) = refl
 
-        nothing-due : (n : ℕ) → due service tei was false false false n n ≡ []
+        nothing-due : (n : ℕ) → due service tei was false false outstanding n n ≡ []
         nothing-due n = go (n == 7) refl (n == 4) refl
           where
-            go : (x : Bool) → (n == 7) ≡ x → (y : Bool) → (n == 4) ≡ y → due service tei was false false false n n ≡ []
-            go true is y other = subst (λ n. due service tei was false false false n n ≡ []) (sym (eqb-true n 7 is)) refl
-            go false is true other = subst (λ n. due service tei was false false false n n ≡ []) (sym (eqb-true n 4 other)) refl
+            go : (x : Bool) → (n == 7) ≡ x → (y : Bool) → (n == 4) ≡ y → due service tei was false false outstanding n n ≡ []
+            go true is y other = subst (λ n. due service tei was false false outstanding n n ≡ []) (sym (eqb-true n 7 is)) refl
+            go false is true other = subst (λ n. due service tei was false false outstanding n n ≡ []) (sym (eqb-true n 4 other)) refl
             go false is false other = rw (is, other) refl
     refused-due pull takes from to same = absurd (true≢false (sym takes))
 
@@ -104,56 +109,103 @@ module _ (service : Service) (tei number : ℕ) where
         refused-due e.what (and_parts (lines.takes_slot card.config e.what l) (is_full card) full).0 from to (number-same from to (sym was-in ∙ is-in)))
         (λ room.
         subst (λ x. IsDue x (lines.answer card.config e.what l)) (sym now)
-        (event-due card.config l (line_sound card e.line (has_lines card s) here) service tei was asks e.what))
+        (event-due card.config l (line_sound card e.line (has_lines card s) here) service tei was asks outstanding owes e.what))
       where
         number-same : (n m : ℕ) → Some n ≡ Some m → n ≡ m
         number-same n m is = cc is
 
   -- Over a run.
-  moment-asked : (card : Card) → card_sound.IsSound card → (e : Event) → IsAtLine card e → (was : Bool) → IsAskedOf service tei was (line_at number card)
-      → IsAskedOf service tei (asked service tei number was (record { card = card; event = e; answer = answer e card })) (line_at number (after e card))
-  moment-asked card s e here was asks = go (e.line == number) refl
-    where
-      go : (b : Bool) → (e.line == number) ≡ b
-          → IsAskedOf service tei (cond (b && is_state 5 (state_of service tei (line_at number (after e card)))
-          && differ (state_of service tei (line_at number card)) (state_of service tei (line_at number (after e card)))) (establishes service tei e.what (answer e card)) was) (line_at number (after e card))
-      go true is =
-          let same = eqb-true e.line number is in
-          subst (λ m. IsAskedOf service tei (cond (is_state 5 (state_of service tei (line_at m (after e card)))
-          && differ (state_of service tei (line_at m card)) (state_of service tei (line_at m (after e card)))) (establishes service tei e.what (answer e card)) was) (line_at m (after e card))) same
-          (own-asked card s e here was (subst (λ m. IsAskedOf service tei was (line_at m card)) (sym same) asks))
-      go false other =
-          subst (IsAskedOf service tei was) (sym (apart card e number (λ same. true≢false (sym (eq-eqb e.line number (sym same)) ∙ other)))) asks
+  abbrev Stands : Bool → Owing → Line → Type 0
+  Stands was w l = IsAskedOf service tei was l × IsTrueOf service tei w.known l × IsOwed service tei w.outstanding l
 
-  run-asked : (card : Card) (events : List Event) → card_sound.IsSound card → AreAtLines card events → (was : Bool) → IsAskedOf service tei was (line_at number card)
-      → IsAskedOf service tei (fold (asked service tei number) was (moments card events)) (line_at number (after_all card events))
+  module _ (card : Card) (s : card_sound.IsSound card) (timely : AllHaveTheirTimers card) (e : Event) (here : IsAtLine card e) (within : number < card.config.lines) where
+    abbrev m : Moment
+    m = record { card = card; event = e; answer = answer e card }
+
+    abbrev later : Line
+    later = line_at number (after e card)
+
+    moment-asked : (was : Bool) → IsAskedOf service tei was (line_at number card) → (outstanding : Bool) → IsOwed service tei outstanding (line_at number card)
+        → IsAskedOf service tei (asked service tei number was m) later
+    moment-asked was asks outstanding owes = go (e.line == number) refl
+      where
+        go : (b : Bool) → (e.line == number) ≡ b
+            → IsAskedOf service tei (cond (b && is_state 5 (state_of service tei later) && differ (state_of service tei (line_at number card)) (state_of service tei later)) (establishes service tei e.what (answer e card)) was) later
+        go true is =
+            let same = eqb-true e.line number is in
+            subst (λ m. IsAskedOf service tei (cond (is_state 5 (state_of service tei (line_at m (after e card)))
+            && differ (state_of service tei (line_at m card)) (state_of service tei (line_at m (after e card)))) (establishes service tei e.what (answer e card)) was) (line_at m (after e card))) same
+            (own-asked card s e here was (subst (λ m. IsAskedOf service tei was (line_at m card)) (sym same) asks) outstanding (subst (λ m. IsOwed service tei outstanding (line_at m card)) (sym same) owes))
+        go false other =
+            subst (IsAskedOf service tei was) (sym (apart card e number (λ same. true≢false (sym (eq-eqb e.line number (sym same)) ∙ other)))) asks
+
+    -- in state 5 what is outstanding stays
+    own-owes : (k : Known) → IsTrueOf service tei k (line_at e.line card) → (outstanding : Bool) → IsOwed service tei outstanding (line_at e.line card)
+        → is_state 5 (state_of service tei (line_at e.line (after e card))) ≡ true → IsOwed service tei outstanding (line_at e.line (after e card))
+    own-owes k agrees outstanding owes =
+        by_room (λ ls b. let x = get_or ls e.line (fresh_line card.config) in is_state 5 (state_of service tei x) ≡ true → IsOwed service tei outstanding x) e card
+        (λ full in_5. owes)
+        (λ room.
+        subst (λ x. is_state 5 (state_of service tei x) ≡ true → IsOwed service tei outstanding x)
+        (sym (get_or-set_same card.lines e.line (lines.after card.config e.what (line_at e.line card)) (fresh_line card.config) (omega (arith, s.count, here))))
+        (five-owes card.config s.config (line_at e.line card) (line_sound card e.line (has_lines card s) here) (timely.lines e.line here) service tei k agrees e.what outstanding owes))
+
+    five-stays : (k : Known) → IsTrueOf service tei k (line_at number card) → (outstanding : Bool) → IsOwed service tei outstanding (line_at number card)
+        → is_state 5 (state_of service tei later) ≡ true → IsOwed service tei outstanding later
+    five-stays k agrees outstanding owes = go (e.line == number) refl
+      where
+        go : (b : Bool) → (e.line == number) ≡ b → is_state 5 (state_of service tei later) ≡ true → IsOwed service tei outstanding later
+        go true is =
+            let same = eqb-true e.line number is in
+            subst (λ n. is_state 5 (state_of service tei (line_at n (after e card))) ≡ true → IsOwed service tei outstanding (line_at n (after e card))) same
+            (own-owes k (subst (λ n. IsTrueOf service tei k (line_at n card)) (sym same) agrees) outstanding (subst (λ n. IsOwed service tei outstanding (line_at n card)) (sym same) owes))
+        go false other = λ in_5. subst (IsOwed service tei outstanding) (sym (apart card e number (λ same. true≢false (sym (eq-eqb e.line number (sym same)) ∙ other)))) owes
+
+    moment-stands : (was : Bool) (w : Owing) → Stands was w (line_at number card) → Stands (asked service tei number was m) (owing card.config service tei number w m) later
+    moment-stands was w h = (moment-asked was h.0 w.outstanding h.2, known, go (is_state 5 (state_of service tei later)) refl)
+      where
+        next : Known
+        next = watch card.config service tei number w.known m
+
+        known : IsTrueOf service tei next later
+        known = moment-known service tei number card s timely e here w.known h.1
+
+        sound-later : card_sound.IsSound (after e card)
+        sound-later = after_is_sound card e s here
+
+        go : (b : Bool) → is_state 5 (state_of service tei later) ≡ b → IsOwed service tei (cond b w.outstanding (not (next.next == next.acknowledged))) later
+        go true in_5 = five-stays w.known h.1 w.outstanding h.2 in_5
+        go false off = known-owes card.config s.config later (line_sound (after e card) number (has_lines (after e card) sound-later) within) service tei next known off
+
+  run-stands : (card : Card) (events : List Event) → card_sound.IsSound card → AllHaveTheirTimers card → AreAtLines card events → number < card.config.lines → (was : Bool) (w : Owing)
+      → Stands was w (line_at number card)
+      → Stands (fold (asked service tei number) was (moments card events)) (fold (owing card.config service tei number) w (moments card events)) (line_at number (after_all card events))
   unfolding moments after_all
-  run-asked card [] s all was asks = asks
-  run-asked card (e ∷ events) s all was asks =
+  run-stands card [] s timely all within was w h = h
+  run-stands card (e ∷ events) s timely all within was w h =
       let here = All-head (IsAtLine card) e events all in
-      run-asked (after e card) events (after_is_sound card e s here) (All-tail (IsAtLine card) e events all)
-      (asked service tei number was (record { card = card; event = e; answer = answer e card })) (moment-asked card s e here was asks)
+      let m : Moment = record { card = card; event = e; answer = answer e card } in
+      run-stands (after e card) events (after_is_sound card e s here) (timely-after card e s timely here) (All-tail (IsAtLine card) e events all) within
+      (asked service tei number was m) (owing card.config service tei number w m) (moment-stands card s timely e here within was w h)
 
 pub news-is-told : Always NewsIsTold
-news-is-told c events number ranged all within service tei before what behind is =
-    let whole = subst (AreAtLines (fresh c)) is all in
-    let front = front-at (fresh c) before (at number what) behind whole in
+news-is-told c events number ranged all within service tei before what behind is from to was_in is_in =
+    let front = front-at (fresh c) before (at number what) behind (subst (AreAtLines (fresh c)) is all) in
     let card = after_all (fresh c) before in
     let e = at number what in
     let was = fold (asked service tei number) false (moments (fresh c) before) in
+    let w = fold (owing c service tei number) none_owed (moments (fresh c) before) in
     let kept = config-now c before number ranged front within service tei in
     let here : number < card.config.lines = subst (λ (c : Config). number < c.lines) (sym kept) within in
     let start : line_at number (fresh c) ≡ fresh_line c = get_or-replicate c.lines number (fresh_line c) (fresh_line c) within in
     let off : link_of service tei (line_at number (fresh c)) ≡ fresh_link =
     ap (link_of service tei) start ∙ ap (λ o. option_map_or (link_in (fresh_line c) service) o fresh_link) (nowhere c tei) in
-    let begun : IsAskedOf service tei false (line_at number (fresh c)) = subst (λ (y : Link). Asks y.state false y.asked) (sym off) tt in
-    let asks : IsAskedOf service tei was (line_at number card) = run-asked service tei number (fresh c) before (fresh_is_sound c ranged) front false begun in
-    λ from to was-in is-in.
+    let begun : Stands service tei number false none_owed (line_at number (fresh c)) =
+    (subst (λ (y : Link). Asks y.state false y.asked) (sym off) tt, begins-true c before number ranged front within service tei, sym (ap (λ (y : Link). not (y.s == y.a)) off)) in
+    let h = run-stands service tei number (fresh c) before (fresh_is_sound c ranged) (begins-timely-card c) front within false none_owed begun in
     subst (λ b. filter (is_news service tei) (notes_of (answer e card))
-    ≡ due service tei was (list_any (begins c service tei) (cond b (seen card.config what (line_at number card) (answer e card)) [])) (releases service tei what (answer e card))
-    (list_any (is_indicated service tei) (notes_of (answer e card))) from to)
+    ≡ due service tei was (list_any (begins c service tei) (cond b (seen card.config what (line_at number card) (answer e card)) [])) (releases service tei what (answer e card)) w.outstanding from to)
     (sym (itself number))
     (subst (λ (d : Config). filter (is_news service tei) (notes_of (answer e card))
-    ≡ due service tei was (list_any (begins d service tei) (seen card.config what (line_at number card) (answer e card))) (releases service tei what (answer e card))
-    (list_any (is_indicated service tei) (notes_of (answer e card))) from to) kept
-    (own-due service tei number card (sound-now c before number ranged front within service tei) e here was asks from to was-in is-in))
+    ≡ due service tei was (list_any (begins d service tei) (seen card.config what (line_at number card) (answer e card))) (releases service tei what (answer e card)) w.outstanding from to) kept
+    (own-due service tei number card (sound-now c before number ranged front within service tei) e here was h.0 w.outstanding h.2 from to was_in is_in))

@@ -18,7 +18,7 @@ use Rattle.model_line.specs.Machine as lines
 use Rattle.model_line.specs.Sound.{IsSound}
 use Rattle.laws_line.specs.Heard.{notes_of}
 use Rattle.laws_link.specs.States.{moves}
-use Rattle.laws_trace.specs.News.{is_news, is_indicated, establishes, releases, begins, due}
+use Rattle.laws_trace.specs.News.{is_news, establishes, releases, begins, due}
 use Rattle.laws_trace.specs.TimersAreTimely.{is_state, differ}
 use Rattle.laws_trace.specs.Trace.{seen}
 use Rattle.laws_trace.proofs.LinkLed.{on-line}
@@ -26,6 +26,7 @@ use Rattle.laws_trace.proofs.LinksMove.{differs, no-event}
 use Rattle.laws_trace.proofs.NewsOfOthers.{none-filtered, others-silent}
 use Rattle.laws_trace.proofs.NewsRows.{sabme_of, released_of}
 use Rattle.laws_trace.proofs.NewsOfLink.{event-news, Asks, event-asking}
+use Rattle.laws_trace.proofs.OwedOfEvent.{IsOwed}
 use Rattle.laws_trace.proofs.OneLink.{HasOne, HasNone, Goes, event-goes}
 use Rattle.laws_trace.proofs.TimerClaims.{told_state}
 use Rattle.laws_trace.proofs.TimersOfEvent.{state-on, off-fresh, off-state}
@@ -35,7 +36,8 @@ abbrev pub IsAskedOf : Service → ℕ → Bool → Line → Type 0
 IsAskedOf service tei was l = let x = link_of service tei l in Asks x.state was x.asked
 
 -- One event of a line.
-module _ (c : Config) (l : Line) (s : IsSound c l) (service : Service) (tei : ℕ) (was : Bool) (asks : IsAskedOf service tei was l) (e : line_event.Event) where
+module _ (c : Config) (l : Line) (s : IsSound c l) (service : Service) (tei : ℕ) (was : Bool) (asks : IsAskedOf service tei was l) (outstanding : Bool) (owes : IsOwed service tei outstanding l)
+    (e : line_event.Event) where
   abbrev a : Answer
   a = lines.answer c e l
 
@@ -53,12 +55,12 @@ module _ (c : Config) (l : Line) (s : IsSound c l) (service : Service) (tei : �
   no-bit false = refl
 
   -- nothing is due where the link stays in its state
-  unmoved : (state : State) (indicated : Bool) → due service tei was false false indicated (state_number state) (state_number state) ≡ []
-  unmoved TeiAssigned indicated = refl
-  unmoved AwaitingEstablishment indicated = refl
-  unmoved AwaitingRelease indicated = refl
-  unmoved Established indicated = refl
-  unmoved TimerRecovery indicated = refl
+  unmoved : (state : State) (outstanding : Bool) → due service tei was false false outstanding (state_number state) (state_number state) ≡ []
+  unmoved TeiAssigned outstanding = refl
+  unmoved AwaitingEstablishment outstanding = refl
+  unmoved AwaitingRelease outstanding = refl
+  unmoved Established outstanding = refl
+  unmoved TimerRecovery outstanding = refl
 
   same-state : (state : State) → moves state state ≡ false
   same-state TeiAssigned = refl
@@ -76,7 +78,7 @@ module _ (c : Config) (l : Line) (s : IsSound c l) (service : Service) (tei : �
   abbrev Due : ℕ → ℕ → Type 0
   Due from to =
       filter (is_news service tei) (notes_of a)
-      ≡ due service tei was (list_any (begins c service tei) (seen c e l a)) (releases service tei e a) (list_any (is_indicated service tei) (notes_of a)) from to
+      ≡ due service tei was (list_any (begins c service tei) (seen c e l a)) (releases service tei e a) outstanding from to
 
   module _ (place there : ℕ) (on : place_in l tei ≡ Some place) (still : place_in (lines.after c e l) tei ≡ Some there) where
     -- no event of the link
@@ -93,10 +95,10 @@ module _ (c : Config) (l : Line) (s : IsSound c l) (service : Service) (tei : �
       none-due : Due (state_number own.state) (state_number next.state)
       none-due =
           none-filtered service tei (notes_of a) (others-silent service tei c e l s x.aims (on-line (lines.after c e l) tei there still))
-          ∙ sym (ap (λ (y : Link). due service tei was (list_any (begins c service tei) (seen c e l a)) (releases service tei e a) (list_any (is_indicated service tei) (notes_of a)) (state_number own.state) (state_number y.state)) same
-          ∙ ap (λ b. due service tei was b (releases service tei e a) (list_any (is_indicated service tei) (notes_of a)) (state_number own.state) (state_number own.state)) no-sabme
-          ∙ ap (λ b. due service tei was false b (list_any (is_indicated service tei) (notes_of a)) (state_number own.state) (state_number own.state)) no-release
-          ∙ unmoved own.state (list_any (is_indicated service tei) (notes_of a)))
+          ∙ sym (ap (λ (y : Link). due service tei was (list_any (begins c service tei) (seen c e l a)) (releases service tei e a) outstanding (state_number own.state) (state_number y.state)) same
+          ∙ ap (λ b. due service tei was b (releases service tei e a) outstanding (state_number own.state) (state_number own.state)) no-sabme
+          ∙ ap (λ b. due service tei was false b outstanding (state_number own.state) (state_number own.state)) no-release
+          ∙ unmoved own.state outstanding)
 
       none-asked : Asks next.state (then_asked (told_state own.state) (told_state next.state)) next.asked
       none-asked =
@@ -113,25 +115,24 @@ module _ (c : Config) (l : Line) (s : IsSound c l) (service : Service) (tei : �
       some : x.event ≡ link.cleared → ⊥
       some = no-event x.event c l e a service tei x.by
 
-      asked-now : (state : State) → Asks state was own.asked → (sabme released indicated : Bool) (to : ℕ)
-          → due service tei own.asked sabme released indicated (state_number state) to ≡ due service tei was sabme released indicated (state_number state) to
-      asked-now AwaitingEstablishment is sabme released indicated to = ap (λ b. due service tei b sabme released indicated 5 to) (sym is)
-      asked-now TeiAssigned is sabme released indicated to = refl
-      asked-now AwaitingRelease is sabme released indicated to = refl
-      asked-now Established is sabme released indicated to = refl
-      asked-now TimerRecovery is sabme released indicated to = refl
+      asked-now : (state : State) → Asks state was own.asked → (sabme released outstanding : Bool) (to : ℕ)
+          → due service tei own.asked sabme released outstanding (state_number state) to ≡ due service tei was sabme released outstanding (state_number state) to
+      asked-now AwaitingEstablishment is sabme released outstanding to = ap (λ b. due service tei b sabme released outstanding 5 to) (sym is)
+      asked-now TeiAssigned is sabme released outstanding to = refl
+      asked-now AwaitingRelease is sabme released outstanding to = refl
+      asked-now Established is sabme released outstanding to = refl
+      asked-now TimerRecovery is sabme released outstanding to = refl
 
       one-due : Due (state_number own.state) (state_number next.state)
       one-due =
           let ns = (links.told t x.event own).notes in
           let later = links.after t x.event own in
-          let indicated = list_any (is_indicated service tei) (notes_of a) in
           ap (filter (is_news service tei)) x.notes ∙ event-news t own x.event some
-          ∙ ap (λ ms. due service tei own.asked (sabme_of x.event) (released_of x.event) (list_any (is_indicated service tei) ms) (state_number own.state) (state_number later.state)) (sym x.notes)
-          ∙ asked-now own.state asks (sabme_of x.event) (released_of x.event) indicated (state_number later.state)
-          ∙ ap (λ b. due service tei was b (released_of x.event) indicated (state_number own.state) (state_number later.state)) (sym (one-begins c service tei e l a x.event x.by))
-          ∙ ap (λ b. due service tei was (list_any (begins c service tei) (seen c e l a)) b indicated (state_number own.state) (state_number later.state)) (sym (one-releases c service tei e l a x.event x.by))
-          ∙ ap (λ (y : Link). due service tei was (list_any (begins c service tei) (seen c e l a)) (releases service tei e a) indicated (state_number own.state) (state_number y.state)) (sym x.is)
+          ∙ ap (λ b. due service tei own.asked (sabme_of x.event) (released_of x.event) b (state_number own.state) (state_number later.state)) (sym owes)
+          ∙ asked-now own.state asks (sabme_of x.event) (released_of x.event) outstanding (state_number later.state)
+          ∙ ap (λ b. due service tei was b (released_of x.event) outstanding (state_number own.state) (state_number later.state)) (sym (one-begins c service tei e l a x.event x.by))
+          ∙ ap (λ b. due service tei was (list_any (begins c service tei) (seen c e l a)) b outstanding (state_number own.state) (state_number later.state)) (sym (one-releases c service tei e l a x.event x.by))
+          ∙ ap (λ (y : Link). due service tei was (list_any (begins c service tei) (seen c e l a)) (releases service tei e a) outstanding (state_number own.state) (state_number y.state)) (sym x.is)
 
       one-asked : Asks next.state (then_asked (told_state own.state) (told_state next.state)) next.asked
       one-asked =

@@ -1,5 +1,5 @@
 -- What a link tells of establishments and releases: each event of it; and who asked for the establishment that it awaits.
-use Rattle.std.proofs.Common.{◌≡◌, ◌==◌, ◌&&◌, Bool, true, false, cond, [], refl, sym, ap, ◌∙◌, subst}
+use Rattle.std.proofs.Common.{◌≡◌, ◌==◌, ◌&&◌, not, Bool, true, false, cond, [], refl, sym, ap, ◌∙◌, subst}
 use Rattle.std.specs.Prelude.{filter}
 use Rattle.std.specs.List.{list_any}
 use Rattle.lapd_frame.specs.Grammar.{Parts}
@@ -17,8 +17,8 @@ use Rattle.laws_link.specs.Flags.{asked_left, asks_establishment}
 use Rattle.laws_link.specs.States.{as_heard, state_after, moves, by_expiry}
 use Rattle.laws_link.specs.Telling.{told_by, told_expired}
 use Rattle.laws_link.proofs.Follows.{event-follows}
-use Rattle.laws_trace.specs.News.{is_news, is_indicated, due}
-use Rattle.laws_trace.proofs.NewsRows.{all-news, all-indicated, sabme_of, released_of, Fits, Told, nothing-fits, by-control}
+use Rattle.laws_trace.specs.News.{is_news, due}
+use Rattle.laws_trace.proofs.NewsRows.{all-news, sabme_of, released_of, Fits, Told, nothing-fits, by-control}
 
 module _ (t : Terms) (l : Link) where
   malformed : (here : State) (what : Received) → ((f : Parts) → what ≡ frame f → ⊥) → Told t l here (received what)
@@ -125,7 +125,7 @@ module _ (t : Terms) (l : Link) where
   -- The notes of an event of a link.
   pub event-news : (e : Event) → (e ≡ cleared → ⊥) → let ns = (links.told t e l).notes in
       filter (is_news t.service t.tei) ns
-      ≡ due t.service t.tei l.asked (sabme_of e) (released_of e) (list_any (is_indicated t.service t.tei) ns) (state_number l.state) (state_number (links.after t e l).state)
+      ≡ due t.service t.tei l.asked (sabme_of e) (released_of e) (not (l.s == l.a)) (state_number l.state) (state_number (links.after t e l).state)
   event-news e some =
       let leaves = (event-follows t e l).leaves in
       let ns = (links.told t e l).notes in
@@ -133,7 +133,6 @@ module _ (t : Terms) (l : Link) where
       subst (λ ns. Fits t l (sabme_of e) (released_of e) l.state (links.after t e l).state ns) (sym leaves.tells)
       (subst (λ to. Fits t l (sabme_of e) (released_of e) l.state to (told_by t (as_heard t e) l to)) (sym leaves.state) (told e some)) in
       all-news t ns (notes-own t e l) ∙ fits
-      ∙ ap (λ b. due t.service t.tei l.asked (sabme_of e) (released_of e) b (state_number l.state) (state_number (links.after t e l).state)) (sym (all-indicated t ns (notes-own t e l)))
 
 -- Who asked for the establishment that is awaited.
 abbrev pub Asks : State → Bool → Bool → Type 0

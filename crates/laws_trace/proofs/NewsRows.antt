@@ -34,10 +34,6 @@ is_kind (notes.ReleaseIndication s n) = true
 is_kind (notes.ReleaseConfirm s n) = true
 is_kind other = false
 
-abbrev pub is_indication : Note → Bool
-is_indication (notes.EstablishIndication s n) = true
-is_indication other = false
-
 its : (t : Terms) (s : Service) (n : ℕ) → (s ≡ t.service) × (n ≡ t.tei) → is_own t.service t.tei s n ≡ true
 its t s n own = ap (λ z. is_own t.service t.tei z n) own.0 ∙ ap (λ m. is_own t.service t.tei t.service m) own.1 ∙ own-is t.service t.tei
 
@@ -54,30 +50,11 @@ own-news t (notes.Removed n) own = refl
 own-news t (notes.Doubled n) own = refl
 own-news t (notes.Xid s n) own = refl
 
-own-indicated : (t : Terms) (n : Note) → IsOwn t n → is_indicated t.service t.tei n ≡ is_indication n
-own-indicated t (notes.EstablishIndication s n) own = its t s n own
-own-indicated t (notes.EstablishConfirm s n) own = refl
-own-indicated t (notes.ReleaseIndication s n) own = refl
-own-indicated t (notes.ReleaseConfirm s n) own = refl
-own-indicated t (notes.Data s n) own = refl
-own-indicated t (notes.Unit s n) own = refl
-own-indicated t (notes.Error s n k) own = refl
-own-indicated t (notes.Assigned n) own = refl
-own-indicated t (notes.Removed n) own = refl
-own-indicated t (notes.Doubled n) own = refl
-own-indicated t (notes.Xid s n) own = refl
-
 pub all-news : (t : Terms) (ns : List Note) → All (IsOwn t) ns → filter (is_news t.service t.tei) ns ≡ filter is_kind ns
 all-news t [] all = refl
 all-news t (n ∷ ns) all =
     ap (λ b. cond b (n ∷ filter (is_news t.service t.tei) ns) (filter (is_news t.service t.tei) ns)) (own-news t n (All-head (IsOwn t) n ns all))
     ∙ ap (λ ms. cond (is_kind n) (n ∷ ms) ms) (all-news t ns (All-tail (IsOwn t) n ns all))
-
-pub all-indicated : (t : Terms) (ns : List Note) → All (IsOwn t) ns → list_any (is_indicated t.service t.tei) ns ≡ list_any is_indication ns
-all-indicated t [] all = refl
-all-indicated t (n ∷ ns) all =
-    ap (λ b. b || list_any (is_indicated t.service t.tei) ns) (own-indicated t n (All-head (IsOwn t) n ns all))
-    ∙ ap (λ b. is_indication n || b) (all-indicated t ns (All-tail (IsOwn t) n ns all))
 
 abbrev pub sabme_of : Event → Bool
 sabme_of (received (frame f)) = is_sabme f.control
@@ -90,17 +67,17 @@ released_of other = false
 module _ (t : Terms) (l : Link) where
   -- What is told, and what is due.
   abbrev pub Fits : Bool → Bool → State → State → List Note → Type 0
-  Fits sabme released from to ns = filter is_kind ns ≡ due t.service t.tei l.asked sabme released (list_any is_indication ns) (state_number from) (state_number to)
+  Fits sabme released from to ns = filter is_kind ns ≡ due t.service t.tei l.asked sabme released (not (l.s == l.a)) (state_number from) (state_number to)
 
-  stays : (here : State) (indicated : Bool) → due t.service t.tei l.asked false false indicated (state_number here) (state_number here) ≡ []
-  stays TeiAssigned indicated = refl
-  stays AwaitingEstablishment indicated = refl
-  stays AwaitingRelease indicated = refl
-  stays Established indicated = refl
-  stays TimerRecovery indicated = refl
+  stays : (here : State) (outstanding : Bool) → due t.service t.tei l.asked false false outstanding (state_number here) (state_number here) ≡ []
+  stays TeiAssigned outstanding = refl
+  stays AwaitingEstablishment outstanding = refl
+  stays AwaitingRelease outstanding = refl
+  stays Established outstanding = refl
+  stays TimerRecovery outstanding = refl
 
   pub nothing-fits : (here : State) (ns : List Note) → filter is_kind ns ≡ [] → Fits false false here here ns
-  nothing-fits here ns none = none ∙ sym (stays here (list_any is_indication ns))
+  nothing-fits here ns none = none ∙ sym (stays here (not (l.s == l.a)))
 
   unit-fits : (here : State) (long : Bool) → Fits false false here here (cond long [] (notes.Unit t.service t.tei ∷ []))
   unit-fits here true = nothing-fits here [] refl
@@ -136,16 +113,16 @@ module _ (t : Terms) (l : Link) where
   final-8 false false = refl
 
   -- SABME in states 7 and 8, and UA with F=1 in state 5, by whether contents are outstanding.
-  anew-7 : (none : Bool) → Fits true false Established Established (notes.Error t.service t.tei code.F ∷ cond none [] (notes.EstablishIndication t.service t.tei ∷ []))
+  anew-7 : (none : Bool) → filter is_kind (notes.Error t.service t.tei code.F ∷ cond none [] (notes.EstablishIndication t.service t.tei ∷ [])) ≡ due t.service t.tei l.asked true false (not none) 7 7
   anew-7 true = refl
   anew-7 false = refl
 
-  anew-8 : (none : Bool) → Fits true false TimerRecovery Established (notes.Error t.service t.tei code.F ∷ cond none [] (notes.EstablishIndication t.service t.tei ∷ []))
+  anew-8 : (none : Bool) → filter is_kind (notes.Error t.service t.tei code.F ∷ cond none [] (notes.EstablishIndication t.service t.tei ∷ [])) ≡ due t.service t.tei l.asked true false (not none) 8 7
   anew-8 true = refl
   anew-8 false = refl
 
   agreed : (asked none : Bool) → let ns = cond asked (notes.EstablishConfirm t.service t.tei ∷ []) (cond none [] (notes.EstablishIndication t.service t.tei ∷ [])) in
-      filter is_kind ns ≡ due t.service t.tei asked false false (list_any is_indication ns) 5 7
+      filter is_kind ns ≡ due t.service t.tei asked false false (not none) 5 7
   agreed true true = refl
   agreed true false = refl
   agreed false true = refl

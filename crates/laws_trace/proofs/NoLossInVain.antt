@@ -5,7 +5,7 @@ use Rattle.std.specs.Option.{option_map_or}
 use Rattle.std.proofs.lemmas.Bool.{and_parts}
 use Rattle.std.proofs.lemmas.Grind.{flat_map-append}
 use Rattle.std.proofs.lemmas.List.{get_or-set_same}
-use Rattle.std.proofs.lemmas.List.Elements.{All-head}
+use Rattle.std.proofs.lemmas.List.Elements.{All-nil, All-cons, All-append, All-head}
 use Rattle.model_bits.specs.Stream as stream
 use Rattle.lapd_frame.specs.declared.refusals.Refusal.{Refusal}
 use Rattle.lapd_frame.specs.declared.services.Service.{Service}
@@ -51,15 +51,17 @@ use Rattle.laws_card.proofs.Wherever.{all-left, all-right, config-stays}
 use Rattle.laws_line.specs.Frames.{lost_in}
 use Rattle.laws_line.specs.Steady.{IsBy}
 use Rattle.laws_line.proofs.Obeyed.{service-same}
-use Rattle.laws_trace.specs.NoLossInVain.{IsFull, NoLossInVain}
+use Rattle.laws_trace.specs.NoLossInVain.{NoLossInVain}
 use Rattle.laws_trace.specs.Trace as traces
-use Rattle.laws_trace.specs.Trace.{Seen, heard, noted, lost, seen, seen_told, seen_granted, IsAmong, Always}
+use Rattle.laws_trace.specs.Trace.{Seen, heard, noted, lost, seen, seen_told, seen_granted, trace_of, IsAmong, Always}
 use Rattle.laws_trace.proofs.AllAreTold.{none-among}
 use Rattle.laws_trace.proofs.CommandsCaused.{IsNoOther}
 use Rattle.laws_trace.proofs.ManagingNotes as managing
 use Rattle.laws_trace.proofs.OneLink.{Goes, is_at_link, event-goes}
 use Rattle.laws_trace.proofs.Runs.{nothing-seen}
 use Rattle.laws_trace.proofs.LossesOfParts.{management-kept, link-full}
+use Rattle.laws_trace.proofs.Crowded.{HasFullLink, IsFull, by-trace}
+use Rattle.laws_trace.proofs.UnitsGoOut.{after-both}
 
 -- One event of a line.
 abbrev NoLoss : Aim → Type 0
@@ -270,7 +272,7 @@ module _ (m : Card) (e : card.Event) (s : card_sound.IsSound m) (n : ℕ) (some 
   at-card number here false other among = absurd (none-among (lost n) among.front among.back among.split)
 
 pub no-loss-in-vain : Always NoLossInVain
-unfolding moments
+unfolding moments after_all
 no-loss-in-vain c events number ranged all within before e behind split n among some =
     let m = after_all (cards.fresh c) before in
     let these = subst (AreAtLines (cards.fresh c)) split all in
@@ -278,6 +280,10 @@ no-loss-in-vain c events number ranged all within before e behind split n among 
     let here = All-head (IsAtLine (cards.fresh c)) e behind (all-right (IsAtLine (cards.fresh c)) before (e ∷ behind) these) in
     let kept : m.config ≡ c = config-stays (cards.fresh c) before in
     let t = cond (e.line == number) (seen m.config e.what (line_at number m) (answer e m)) [] in
-    subst (λ c. IsFull c (line_at number (after e m))) kept
+    let last : after_all (cards.fresh c) (before ++ e ∷ []) ≡ after e m = after-both (cards.fresh c) before (e ∷ []) in
+    let now = All-append (IsAtLine (cards.fresh c)) before (e ∷ []) first (All-cons (IsAtLine (cards.fresh c)) e [] here (All-nil (IsAtLine (cards.fresh c)))) in
+    by-trace c (before ++ e ∷ []) number ranged now within
+    (subst (λ d. IsFull d (line_at number (after_all (cards.fresh c) (before ++ e ∷ [])))) kept
+    (subst (λ x. IsFull m.config (line_at number x)) (sym last)
     (at-card m e (always_sound (cards.fresh c) before (fresh_is_sound c ranged) first) n some number (subst (λ (c : Config). e.line < c.lines) (sym kept) here) (e.line == number) refl
-    (subst (IsAmong (lost n)) (append-nil t) among))
+    (subst (IsAmong (lost n)) (append-nil t) among))))

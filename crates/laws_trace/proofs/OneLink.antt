@@ -256,7 +256,7 @@ module _ (c : Config) (l : Line) (s : IsSound c l) (service : Service) (tei : �
   Took t = ((link_of service tei t.line ≡ link_of service tei l) × IsForeign c service tei t.frame × StartNone service tei t.orders) ⊎ Takes t
 
   -- what a link gives, it orders as well
-  given-orders : (t : Terms) (x : Link) (g : Given) → links.given t x ≡ Some g → g.orders ≡ (links.told t link.offer x).orders
+  pub given-orders : (t : Terms) (x : Link) (g : Given) → links.given t x ≡ Some g → g.orders ≡ (links.told t link.offer x).orders
   given-orders t x g = go (links.course t link.offer x).sent
     where
       go : (o : Option Sent) → links.given_of t x (links.course t link.offer x) o ≡ Some g → g.orders ≡ (links.told t link.offer x).orders

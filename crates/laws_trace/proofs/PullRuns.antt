@@ -65,7 +65,7 @@ module _ (Begins : Config → Line → List (List ℕ) → Type 0) (none : (c : 
   moment card e number s here only plain false other frames begins =
       subst (λ (x : Line). Begins card.config x frames) (apart card e number (λ same. true≢false (sym (eq-eqb e.line number (sym same)) ∙ other))) begins
 
-  run-begins : (card : Card) (events : List Event) (number : ℕ) → IsSound card → AreAtLines card events → ArePullsAt number events → NoneWaits card.config (line_at number card)
+  pub run-begins : (card : Card) (events : List Event) (number : ℕ) → IsSound card → AreAtLines card events → ArePullsAt number events → NoneWaits card.config (line_at number card)
       → Begins card.config (line_at number card) (frames_begun (trace number (moments card events)))
   unfolding moments
   run-begins card [] number s all only plain = none card.config (line_at number card)

@@ -44,10 +44,19 @@ heard_by from to k o =
 abbrev pub anew_by : LinkTimer → State → State → Known → Option Control → Bool
 anew_by timer from to k o = differ (told_state from) (told_state to) || (is_state 7 (told_state from) && option_map_or (renews timer k) o false)
 
+-- In state 5 V(A) and V(S) are as they were where the link came there.
+abbrev pub Kept : State → Timing → Timing → Type 0
+Kept AwaitingEstablishment x y = (y.a ≡ x.a) × (y.s ≡ x.s)
+Kept TeiAssigned x y = Unit {0}
+Kept AwaitingRelease x y = Unit {0}
+Kept Established x y = Unit {0}
+Kept TimerRecovery x y = Unit {0}
+
 -- A timer that ran, which had not just expired, and that runs afterwards, is started exactly where one of the causes is there.
 pub record Good (k : Known) (ran : LinkTimer → Bool) (x y : Timing) (o : Option Control) : Type 0 where
   pub agrees : Agrees y.state (heard_by x.state y.state k o) y.a y.s y.busy
   pub anew : (timer : LinkTimer) → ran timer ≡ true → runs timer y.running ≡ true → runs timer y.started ≡ anew_by timer x.state y.state k o
+  pub kept : Kept y.state x y
 
 abbrev pub ran_by : Option LinkTimer → LinkTimer → Bool
 ran_by r timer = runs timer r
@@ -72,20 +81,20 @@ module _ (k : Known) (ran : LinkTimer → Bool) (a s : ℕ) (busy : Bool) (r : O
 
   -- No timer runs afterwards, or none but T200, which awaits the answer to DISC.
   pub ended : (from : State) (o : Option Control) → Good k ran (at from) (ends (at from)) o
-  ended from o = record { agrees = refl; anew = λ timer was now. not-both false refl now }
+  ended from o = record { agrees = refl; anew = λ timer was now. not-both false refl now; kept = tt }
 
   pub stopped : (from : State) (o : Option Control) → Good k ran (at from) (record (acts.stops (at from)) { state = TeiAssigned }) o
-  stopped from o = record { agrees = refl; anew = λ timer was now. not-both false refl now }
+  stopped from o = record { agrees = refl; anew = λ timer was now. not-both false refl now; kept = tt }
 
   pub released-7 : Good k ran (at Established) (record (awaits AwaitingRelease (at Established)) { s = a }) None
-  released-7 = record { agrees = refl; anew = go }
+  released-7 = record { agrees = refl; anew = go; kept = tt }
     where
       go : (timer : LinkTimer) → ran timer ≡ true → runs timer (Some T200) ≡ true → runs timer (Some T200) ≡ anew_by timer Established AwaitingRelease k None
       go T200 was now = refl
       go T203 was now = not-t203 now
 
   pub released-8 : Good k ran (at TimerRecovery) (record (awaits AwaitingRelease (at TimerRecovery)) { s = a }) None
-  released-8 = record { agrees = refl; anew = go }
+  released-8 = record { agrees = refl; anew = go; kept = tt }
     where
       go : (timer : LinkTimer) → ran timer ≡ true → runs timer (Some T200) ≡ true → runs timer (Some T200) ≡ anew_by timer TimerRecovery AwaitingRelease k None
       go T200 was now = refl
@@ -93,7 +102,7 @@ module _ (k : Known) (ran : LinkTimer → Bool) (a s : ℕ) (busy : Bool) (r : O
 
   -- T200 or T203 expires in state 7.
   pub expired-7 : IsKnown k a s busy → Good k ran (at Established) (awaits TimerRecovery (at Established)) None
-  expired-7 known = record { agrees = known; anew = go }
+  expired-7 known = record { agrees = known; anew = go; kept = tt }
     where
       go : (timer : LinkTimer) → ran timer ≡ true → runs timer (Some T200) ≡ true → runs timer (Some T200) ≡ anew_by timer Established TimerRecovery k None
       go T200 was now = refl
@@ -105,23 +114,23 @@ module _ (k : Known) (ran : LinkTimer → Bool) (a s : ℕ) (busy : Bool) (r : O
     never timer some = not-both (ran timer) (none timer) some
 
     pub same-4 : (o : Option Control) → Good k ran (at TeiAssigned) (at TeiAssigned) o
-    same-4 o = record { agrees = refl; anew = λ timer was now. never timer was }
+    same-4 o = record { agrees = refl; anew = λ timer was now. never timer was; kept = tt }
 
     pub sabme-4 : (p : Bool) → Good k ran (at TeiAssigned) (with_busy false (begins (at TeiAssigned))) (Some (Sabme p))
-    sabme-4 p = record { agrees = record { acknowledged = refl; next = refl; busy_is = refl }; anew = λ timer was now. never timer was }
+    sabme-4 p = record { agrees = record { acknowledged = refl; next = refl; busy_is = refl }; anew = λ timer was now. never timer was; kept = tt }
 
     pub asked-4 : Good k ran (at TeiAssigned) (fails (at TeiAssigned)) None
-    asked-4 = record { agrees = refl; anew = λ timer was now. never timer was }
+    asked-4 = record { agrees = refl; anew = λ timer was now. never timer was; kept = (refl, refl) }
 
     -- T200 has expired, and awaits the answer to another command
     pub again-5 : Good k ran (at AwaitingEstablishment) (awaits AwaitingEstablishment (at AwaitingEstablishment)) None
-    again-5 = record { agrees = refl; anew = λ timer was now. never timer was }
+    again-5 = record { agrees = refl; anew = λ timer was now. never timer was; kept = (refl, refl) }
 
     pub again-6 : Good k ran (at AwaitingRelease) (awaits AwaitingRelease (at AwaitingRelease)) None
-    again-6 = record { agrees = refl; anew = λ timer was now. never timer was }
+    again-6 = record { agrees = refl; anew = λ timer was now. never timer was; kept = tt }
 
     pub again-8 : IsKnown k a s busy → Good k ran (at TimerRecovery) (awaits TimerRecovery (at TimerRecovery)) None
-    again-8 known = record { agrees = known; anew = λ timer was now. never timer was }
+    again-8 known = record { agrees = known; anew = λ timer was now. never timer was; kept = tt }
 
   -- T200 runs, and it awaits an answer to SABME or DISC.
   module _ (only : ran T203 ≡ false) where
@@ -131,29 +140,31 @@ module _ (k : Known) (ran : LinkTimer → Bool) (a s : ℕ) (busy : Bool) (r : O
     by-t200 y from o h T203 was now = not-both (ran T203) only was
 
     pub same-5 : (o : Option Control) → Good k ran (at AwaitingEstablishment) (at AwaitingEstablishment) o
-    same-5 o = record { agrees = refl; anew = λ timer was now. refl }
+    same-5 o = record { agrees = refl; anew = λ timer was now. refl; kept = (refl, refl) }
 
     pub agreed-5 : k ≡ nothing_yet → busy ≡ false → Good k ran (at AwaitingEstablishment) (begins (at AwaitingEstablishment)) (Some (Ua true))
     agreed-5 none calm = record {
       agrees = subst (λ k. IsKnown k 0 0 busy) (sym none) (record { acknowledged = refl; next = refl; busy_is = sym calm });
       anew = by-t200 (begins (at AwaitingEstablishment)) AwaitingEstablishment (Some (Ua true)) (λ was now. not-t200 now);
+      kept = tt;
     }
 
     pub same-6 : (o : Option Control) → Good k ran (at AwaitingRelease) (at AwaitingRelease) o
-    same-6 o = record { agrees = refl; anew = λ timer was now. refl }
+    same-6 o = record { agrees = refl; anew = λ timer was now. refl; kept = tt }
 
     -- State 8, in which T200 runs.
     module _ (known : IsKnown k a s busy) where
       pub same-8 : (o : Option Control) → option_map_or (hears false false k) o k ≡ k → Good k ran (at TimerRecovery) (at TimerRecovery) o
-      same-8 o same = record { agrees = subst (λ k. IsKnown k a s busy) (sym same) known; anew = λ timer was now. refl }
+      same-8 o same = record { agrees = subst (λ k. IsKnown k a s busy) (sym same) known; anew = λ timer was now. refl; kept = tt }
 
       pub failed-8 : (b : Bool) (o : Option Control) → Good k ran (at TimerRecovery) (fails (with_busy b (at TimerRecovery))) o
-      failed-8 b o = record { agrees = refl; anew = by-t200 (fails (with_busy b (at TimerRecovery))) TimerRecovery o (λ was now. refl) }
+      failed-8 b o = record { agrees = refl; anew = by-t200 (fails (with_busy b (at TimerRecovery))) TimerRecovery o (λ was now. refl); kept = (refl, refl) }
 
       pub sabme-8 : (p : Bool) → Good k ran (at TimerRecovery) (with_busy false (begins (at TimerRecovery))) (Some (Sabme p))
       sabme-8 p = record {
         agrees = record { acknowledged = refl; next = refl; busy_is = refl };
         anew = by-t200 (with_busy false (begins (at TimerRecovery))) TimerRecovery (Some (Sabme p)) (λ was now. not-t200 now);
+        kept = tt;
       }
 
       named-value : (nr : Seq) (n : ℕ) → named a s nr ≡ Some n → nr.value ≡ n % 128
@@ -166,7 +177,7 @@ module _ (k : Known) (ran : LinkTimer → Bool) (a s : ℕ) (busy : Bool) (r : O
           go : (o : Option ℕ) → named a s nr ≡ o → Good k ran (at TimerRecovery) (by_name o fails acknowledges (at TimerRecovery)) (Some (Information ns nr p))
           go None is = failed-8 busy (Some (Information ns nr p))
           go (Some n) is =
-              record { agrees = record { acknowledged = named-value nr n is; next = known.next; busy_is = known.busy_is }; anew = λ timer was now. refl }
+              record { agrees = record { acknowledged = named-value nr n is; next = known.next; busy_is = known.busy_is }; anew = λ timer was now. refl; kept = tt }
 
       pub ready-8 : (final : Bool) (nr : Seq) (p : Bool) → Good k ran (at TimerRecovery) (supervises false nr (recovers T203 final) (at TimerRecovery)) (Some (ReceiveReady nr p))
       ready-8 final nr p = go final (named a s nr) refl
@@ -177,8 +188,9 @@ module _ (k : Known) (ran : LinkTimer → Bool) (a s : ℕ) (busy : Bool) (r : O
           go true (Some n) is = record {
             agrees = record { acknowledged = named-value nr n is; next = named-value nr n is; busy_is = refl };
             anew = by-t200 (recovers T203 true n (with_busy false (at TimerRecovery))) TimerRecovery (Some (ReceiveReady nr p)) (λ was now. not-t200 now);
+            kept = tt;
           }
-          go false (Some n) is = record { agrees = record { acknowledged = named-value nr n is; next = known.next; busy_is = refl }; anew = λ timer was now. refl }
+          go false (Some n) is = record { agrees = record { acknowledged = named-value nr n is; next = known.next; busy_is = refl }; anew = λ timer was now. refl; kept = tt }
 
       pub not-ready-8 : (final : Bool) (nr : Seq) (p : Bool) → Good k ran (at TimerRecovery) (supervises true nr (recovers T200 final) (at TimerRecovery)) (Some (ReceiveNotReady nr p))
       not-ready-8 final nr p = go final (named a s nr) refl
@@ -189,8 +201,9 @@ module _ (k : Known) (ran : LinkTimer → Bool) (a s : ℕ) (busy : Bool) (r : O
           go true (Some n) is = record {
             agrees = record { acknowledged = named-value nr n is; next = named-value nr n is; busy_is = refl };
             anew = by-t200 (recovers T200 true n (with_busy true (at TimerRecovery))) TimerRecovery (Some (ReceiveNotReady nr p)) (λ was now. refl);
+            kept = tt;
           }
-          go false (Some n) is = record { agrees = record { acknowledged = named-value nr n is; next = known.next; busy_is = refl }; anew = λ timer was now. refl }
+          go false (Some n) is = record { agrees = record { acknowledged = named-value nr n is; next = known.next; busy_is = refl }; anew = λ timer was now. refl; kept = tt }
 
       pub reject-8 : (final : Bool) (nr : Seq) (p : Bool) → Good k ran (at TimerRecovery) (supervises false nr (recovers T203 final) (at TimerRecovery)) (Some (Reject nr p))
       reject-8 final nr p = go final (named a s nr) refl
@@ -201,21 +214,22 @@ module _ (k : Known) (ran : LinkTimer → Bool) (a s : ℕ) (busy : Bool) (r : O
           go true (Some n) is = record {
             agrees = record { acknowledged = named-value nr n is; next = named-value nr n is; busy_is = refl };
             anew = by-t200 (recovers T203 true n (with_busy false (at TimerRecovery))) TimerRecovery (Some (Reject nr p)) (λ was now. not-t200 now);
+            kept = tt;
           }
-          go false (Some n) is = record { agrees = record { acknowledged = named-value nr n is; next = known.next; busy_is = refl }; anew = λ timer was now. refl }
+          go false (Some n) is = record { agrees = record { acknowledged = named-value nr n is; next = known.next; busy_is = refl }; anew = λ timer was now. refl; kept = tt }
 
   -- State 7: T200 runs where an acknowledgement is awaited, or the terminal is busy, else T203.
   module _ (ordered : a ≤ s) (within : s ≤ a + 127) (known : IsKnown k a s busy) (idle : ran T203 ≡ true → (s ≡ a) × (busy ≡ false)) where
     pub same-7 : (o : Option Control) → option_map_or (hears false true k) o k ≡ k → ((timer : LinkTimer) → option_map_or (renews timer k) o false ≡ false)
         → Good k ran (at Established) (at Established) o
-    same-7 o same none = record { agrees = subst (λ k. IsKnown k a s busy) (sym same) known; anew = λ timer was now. sym (none timer) }
+    same-7 o same none = record { agrees = subst (λ k. IsKnown k a s busy) (sym same) known; anew = λ timer was now. sym (none timer); kept = tt }
 
     failing : (b : Bool) (o : Option Control) (timer : LinkTimer) → runs timer (Some T200) ≡ true → runs timer (Some T200) ≡ anew_by timer Established AwaitingEstablishment k o
     failing b o T200 now = refl
     failing b o T203 now = not-t203 now
 
     pub failed-7 : (b : Bool) (o : Option Control) → Good k ran (at Established) (fails (with_busy b (at Established))) o
-    failed-7 b o = record { agrees = refl; anew = λ timer was now. failing b o timer now }
+    failed-7 b o = record { agrees = refl; anew = λ timer was now. failing b o timer now; kept = (refl, refl) }
 
     by-t203 : (o : Option Control) (timer : LinkTimer) → renews T203 k (Sabme true) ≡ true → option_map_or (renews T203 k) o false ≡ true → runs timer (Some T203) ≡ true
         → runs timer (Some T203) ≡ anew_by timer Established Established k o
@@ -231,6 +245,7 @@ module _ (k : Known) (ran : LinkTimer → Bool) (a s : ℕ) (busy : Bool) (r : O
     sabme-7 p = record {
       agrees = record { acknowledged = refl; next = refl; busy_is = refl };
       anew = λ timer was now. by-t203 (Some (Sabme p)) timer refl refl now;
+      kept = tt;
     }
 
     value-7 : (nr : Seq) (n : ℕ) → named a s nr ≡ Some n → nr.value ≡ n % 128
@@ -271,16 +286,17 @@ module _ (k : Known) (ran : LinkTimer → Bool) (a s : ℕ) (busy : Bool) (r : O
 
           go : (all : Bool) → (n == s) ≡ all → (more : Bool) → nat_lt a n ≡ more
               → Good k ran (at Established) (cond all (starts T203 (acknowledges n x)) (cond more (starts T200 (acknowledges n x)) x)) o
-          go true e more f = record { agrees = numbers n refl; anew = λ timer was now. by-t203 o timer refl t203_by now }
+          go true e more f = record { agrees = numbers n refl; anew = λ timer was now. by-t203 o timer refl t203_by now; kept = tt }
           go false e true f = record {
             agrees = numbers n refl;
             anew = λ timer was now. by-t200-7 o timer (t200_by ∙ other-number nr n is (ltb-true a n f)) now;
+            kept = tt;
           }
           go false e false f =
               let low : a ≤ n = (named-within a s n nr is).0 in
               let high : n ≤ a = ltb-false a n f in
               let same : n ≡ a = omega (arith, low, high) in
-              record { agrees = numbers a same; anew = λ timer was now. quiet-now n is same e timer was }
+              record { agrees = numbers a same; anew = λ timer was now. quiet-now n is same e timer was; kept = tt }
 
     pub ready-7 : (nr : Seq) (p : Bool) → Good k ran (at Established) (supervises false nr acts.acknowledged (at Established)) (Some (ReceiveReady nr p))
     ready-7 nr p = go (named a s nr) refl
@@ -299,6 +315,7 @@ module _ (k : Known) (ran : LinkTimer → Bool) (a s : ℕ) (busy : Bool) (r : O
         go (Some n) is = record {
           agrees = record { acknowledged = value-7 nr n is; next = known.next; busy_is = refl };
           anew = λ timer was now. by-t200-7 (Some (ReceiveNotReady nr p)) timer refl now;
+          kept = tt;
         }
 
     pub reject-7 : (nr : Seq) (p : Bool)
@@ -311,6 +328,7 @@ module _ (k : Known) (ran : LinkTimer → Bool) (a s : ℕ) (busy : Bool) (r : O
         go (Some n) is = record {
           agrees = record { acknowledged = value-7 nr n is; next = value-7 nr n is; busy_is = refl };
           anew = λ timer was now. by-t203 (Some (Reject nr p)) timer refl refl now;
+          kept = tt;
         }
 
     pub informed-7 : (over : Bool) (ns nr : Seq) (p : Bool) → Good k ran (at Established) (informs over nr informed (at Established)) (Some (Information ns nr p))
@@ -329,6 +347,7 @@ module _ (k : Known) (ran : LinkTimer → Bool) (a s : ℕ) (busy : Bool) (r : O
         by-busy true is n names = record {
           agrees = record { acknowledged = value-7 nr n names; next = known.next; busy_is = known.busy_is };
           anew = λ timer was now. while-busy is timer was;
+          kept = tt;
         }
         by-busy false is n names =
             acknowledged-7 o nr busy (ap (λ b. number_heard nr.value false b k) known.busy_is)

@@ -30,7 +30,7 @@ use Rattle.laws_trace.specs.DataGoesOut.{Sent, sent_by}
 use Rattle.laws_trace.specs.TimersAreTimely.{Known, nothing_yet, is_state, sends}
 use Rattle.laws_trace.proofs.DataKnown.{none-sent}
 use Rattle.laws_trace.proofs.TimerActs.{Timing, timing}
-use Rattle.laws_trace.proofs.TimerClaims.{Agrees, told_state}
+use Rattle.laws_trace.proofs.TimerClaims.{Agrees, Kept, told_state}
 
 -- What is known behind an I-frame that begins, or behind none.
 abbrev pub sent_known : State → Known → Option Sent → Known
@@ -41,9 +41,24 @@ pub record Offered (k : Known) (l : Link) (y : Timing) (o : Option Sent) : Type 
   pub agrees : Agrees y.state (sent_known y.state k o) y.a y.s y.busy
   pub quiet : (timer : LinkTimer) → runs timer l.running ≡ true → runs timer y.running ≡ true → runs timer y.started ≡ false
   pub next : IfSome o (is_next k)
+  pub kept : Kept y.state (timing (begun l)) y
 
 abbrev pub given_sent : Given → Option Sent
 given_sent g = sent_by g.frame.control (unwrap_or g.contents [])
+
+same-kept : (here : State) (x : Timing) → Kept here x x
+same-kept TeiAssigned x = tt
+same-kept AwaitingEstablishment x = (refl, refl)
+same-kept AwaitingRelease x = tt
+same-kept Established x = tt
+same-kept TimerRecovery x = tt
+
+up-kept : (here : State) → is_established here ≡ true → (x y : Timing) → Kept here x y
+up-kept TeiAssigned up x y = tt
+up-kept AwaitingEstablishment up x y = absurd (true≢false (sym up))
+up-kept AwaitingRelease up x y = tt
+up-kept Established up x y = tt
+up-kept TimerRecovery up x y = tt
 
 pub same-known : (here : State) (k : Known) (a s : ℕ) (busy : Bool) → Agrees here k a s busy → Agrees here (sent_known here k None) a s busy
 same-known TeiAssigned k a s busy h = refl
@@ -82,7 +97,7 @@ module _ (t : Terms) (k : Known) (l : Link) (s : IsSound t l) (agrees : Agrees l
   stays c same none =
       subst (λ y. Offered k l y (option_map_or given_sent (links.given_of t l c c.sent) None)) (sym same)
       (subst (Offered k l (timing (begun l))) (sym none)
-      (record { state = refl; agrees = same-known l.state k l.a l.s l.peer_busy agrees; quiet = λ timer was now. refl; next = tt }))
+      (record { state = refl; agrees = same-known l.state k l.a l.s l.peer_busy agrees; quiet = λ timer was now. refl; next = tt; kept = same-kept l.state (timing (begun l)) }))
 
   by-waiting : (ws : List ControlFrame) → All (IsWaitingFrame t) ws → Claim (Offers.offer_among t ws (begun l))
   unfolding seq
@@ -106,8 +121,8 @@ module _ (t : Terms) (k : Known) (l : Link) (s : IsSound t l) (agrees : Agrees l
       newly T203 off was now = refl
 
       by-timer : is_established l.state ≡ true → (b : Bool) → runs T200 l.running ≡ b → Claim (cond b sent (Words.start T200 sent))
-      by-timer up true on = record { state = refl; agrees = went up; quiet = λ timer was now. refl; next = its-next l.state k l.a l.s l.peer_busy up agrees }
-      by-timer up false off = record { state = refl; agrees = went up; quiet = λ timer was now. newly timer off was now; next = its-next l.state k l.a l.s l.peer_busy up agrees }
+      by-timer up true on = record { state = refl; agrees = went up; quiet = λ timer was now. refl; next = its-next l.state k l.a l.s l.peer_busy up agrees; kept = up-kept l.state up (timing (begun l)) (timing sent) }
+      by-timer up false off = record { state = refl; agrees = went up; quiet = λ timer was now. newly timer off was now; next = its-next l.state k l.a l.s l.peer_busy up agrees; kept = up-kept l.state up (timing (begun l)) (timing (Words.start T200 sent)) }
 
       by-send : (b : Bool) → Offers.may_send_information t l ≡ b
           → Claim (cond b (Offers.send_information (begun l)) (cond l.pending (Offers.send_acknowledgement (begun l)) (begun l)))

@@ -220,7 +220,7 @@ module _ (service : Service) (tei : ℕ) (k : Known) where
   Run state running = (runs T200 running ≡ awaits k state) × (runs T203 running ≡ (is_state 7 state && not (awaits k state)))
 
   -- an I-frame is outstanding where V(S) is not V(A), also modulo 128
-  outstanding-is : (a s : ℕ) → a ≤ s → s ≤ a + 127 → (s % 128 == a % 128) ≡ (s == a)
+  pub outstanding-is : (a s : ℕ) → a ≤ s → s ≤ a + 127 → (s % 128 == a % 128) ≡ (s == a)
   outstanding-is a s ordered within = go (s == a) refl (s % 128 == a % 128) refl
     where
       go : (b : Bool) → (s == a) ≡ b → (d : Bool) → (s % 128 == a % 128) ≡ d → (s % 128 == a % 128) ≡ b

@@ -1,11 +1,11 @@
 -- Links take turns, whatever else happens meanwhile: the law.
-use Rattle.std.proofs.Common.{◌≡◌, ◌≢◌, ℕ, ◌+◌, ◌<◌, ◌≤◌, ◌==◌, ◌⊎◌, ⊎_elim, Bool, true, false, cond, List, [], ◌∷◌, ◌++◌, get_or, map, Option, Some, None, option_map, refl, sym, ap, ◌∙◌, subst, inl, inr, arith, eqb-true, eq-eqb, true≢false}
-use Rattle.std.specs.Prelude.{All, filter, option_to_list}
+use Rattle.std.proofs.Common.{◌≡◌, ◌≢◌, ℕ, zero, suc, ◌+◌, ◌<◌, ◌≤◌, ◌==◌, ◌⊎◌, ⊎_elim, Bool, true, false, cond, List, [], ◌∷◌, ◌++◌, get_or, map, Option, Some, None, option_map, refl, sym, ap, ◌∙◌, subst, inl, inr, arith, eqb-true, eq-eqb, true≢false}
+use Rattle.std.specs.Prelude.{All, filter, option_to_list, replicate}
 use Rattle.std.specs.Option.{unwrap_or}
 use Rattle.std.proofs.lemmas.Bool.{and_parts}
 use Rattle.std.proofs.lemmas.Grind.{flat_map-append}
 use Rattle.std.proofs.lemmas.List.{get_or-set_same, get_or-replicate, map-append}
-use Rattle.std.proofs.lemmas.List.Elements.{All-head, All-tail, filter-append}
+use Rattle.std.proofs.lemmas.List.Elements.{All-nil, All-cons, All-head, All-tail, filter-append}
 use Rattle.lapd_frame.specs.declared.addresses.Address.{Address}
 use Rattle.lapd_frame.specs.declared.services.Service.{Service}
 use Rattle.lapd_frame.specs.declared.services.Service.TheVariants.{Call, Packet}
@@ -24,13 +24,14 @@ use Rattle.laws_line.specs.Pulls.{in_turn, IsSilentAt, IsOfLink, IsOwed, IsIdle,
 use Rattle.laws_line.proofs.InRounds.{comes-first}
 use Rattle.laws_line.proofs.Serving.{served, turn-stays}
 use Rattle.model_card.specs.Card.{Card, fresh, line_at, is_full}
-use Rattle.model_card.specs.Event.{Event}
+use Rattle.model_card.specs.Event.{Event, at}
 use Rattle.model_card.specs.Machine.{after, answer}
 use Rattle.model_card.specs.Pulled.{frame_taken}
 use Rattle.model_card.specs.Run.{moments, after_all, IsAtLine, AreAtLines}
 use Rattle.model_card.specs.Sound.{IsSound}
 use Rattle.model_card.proofs.CardSound.{after_is_sound, always_sound, fresh_is_sound}
 use Rattle.model_card.proofs.Steps.{has_lines, by_room, line_sound}
+use Rattle.laws_card.specs.Among.{ArePullsAt}
 use Rattle.laws_card.specs.PromisesOfPulls.{StaysAt}
 use Rattle.laws_card.proofs.Wherever.{all-left, all-right, config-stays}
 use Rattle.laws_trace.specs.Trace as traces
@@ -38,14 +39,43 @@ use Rattle.laws_trace.specs.Trace.{Always, Seen, seen, trace, frames_begun, IsAm
 use Rattle.laws_trace.specs.LinksTakeTurns.{LinkName, named_in, is_of_a_link, links_begun}
 use Rattle.laws_trace.specs.TurnsMeanwhile.{name_of, HasToSend, HasToSendAllTheWhile, LinksTakeTurnsMeanwhile}
 use Rattle.laws_trace.proofs.Octets.{no-frame, no-frame-asked}
-use Rattle.laws_trace.proofs.PullRuns.{apart, none-after}
+use Rattle.laws_trace.proofs.LinksTakeTurns.{WalksBy, pull-walks-by}
+use Rattle.laws_trace.proofs.PullRuns.{apart, none-after, run-begins}
 use Rattle.laws_trace.proofs.Runs.{nothing-seen, run-shows}
 use Rattle.laws_trace.proofs.Turns.{link-frame, ui-frame, name-is}
 use Rattle.laws_trace.proofs.Units.{NoneWaits, fresh-none, Passes, rests, joins, steps, pulled-frames, plain-order, first-of}
-use Rattle.laws_trace.proofs.Walking.{same-number}
+use Rattle.laws_trace.proofs.Walking as turns
+use Rattle.laws_trace.proofs.Walking.{same-number, later}
 
 some-same : {n k : ℕ} → Some n ≡ Some k → n ≡ k
 some-same both = cc both
+
+-- A link that would begin a frame has something to send.
+record Speaks (c : Config) (l : Line) (number tei : ℕ) : Type 0 where
+  few : number < link_count c
+  on_line : tei_at (place_at number) l ≡ Some tei
+  speaks : IsSilentAt c l number → ⊥
+
+pub pulls-alone : (number n : ℕ) → ArePullsAt number (replicate n (at number pull))
+pulls-alone number zero = All-nil (λ e. e.line ≡ number → e.what ≡ pull)
+pulls-alone number (suc n) = All-cons (λ e. e.line ≡ number → e.what ≡ pull) (at number pull) (replicate n (at number pull)) (λ same. refl) (pulls-alone number n)
+
+pub pulls-there : (card : Card) (number n : ℕ) → number < card.config.lines → AreAtLines card (replicate n (at number pull))
+pulls-there card number zero few = All-nil (IsAtLine card)
+pulls-there card number (suc n) few = All-cons (IsAtLine card) (at number pull) (replicate n (at number pull)) few (pulls-there card number n few)
+
+would-speak : (card : Card) (number link tei : ℕ) → IsSound card → number < card.config.lines → NoneWaits card.config (line_at number card) → HasToSend card number link tei
+    → Speaks card.config (line_at number card) link tei
+would-speak card number link tei s few plain h = record {
+  few = h.few;
+  on_line = h.on_line;
+  speaks = λ silent.
+      let pulls = replicate h.pulls (at number pull) in
+      let walk =
+      run-begins WalksBy (λ c l. turns.ends l) (λ c ranged l s plain frames walk. pull-walks-by c ranged l s plain frames walk) card pulls number s (pulls-there card number h.pulls few)
+      (pulls-alone number h.pulls) plain in
+      later card.config (line_at number card) (links_begun card.config (trace number (moments card pulls))) walk link tei h.few h.on_line h.begins.front h.begins.back h.begins.split silent;
+}
 
 -- A run of a line in which one link keeps its place, and another has something to send, with the links of the frames that begin.
 module _ (c : Config) (one tei other its : ℕ) where
@@ -55,7 +85,7 @@ module _ (c : Config) (one tei other its : ℕ) where
   record Meets (l : Line) : Type 0 where
     sound : line.IsSound c l
     here : tei_at (place_at one) l ≡ Some tei
-    there : HasToSend c l other its
+    there : Speaks c l other its
 
   record Goes (l m : Line) (number by : ℕ) : Type 0 where
     on_line : tei_at (place_at number) l ≡ Some by
@@ -72,7 +102,7 @@ module _ (c : Config) (one tei other its : ℕ) where
 
   comes : (l m : Line) (number by : ℕ) → Meets l → Goes l m number by → (other ≡ number) ⊎ (way (number + 1) + 1 ≤ way l.turn)
   comes l m number by h g =
-      turned (comes-first (link_count c) l.turn h.sound.turn (IsSilentAt c l) other number g.passed g.behind h.there.few g.place g.all_silent (λ q. h.there.speaks (q its h.there.on_line)))
+      turned (comes-first (link_count c) l.turn h.sound.turn (IsSilentAt c l) other number g.passed g.behind h.there.few g.place g.all_silent h.there.speaks)
     where
       turned : (number ≡ other) ⊎ (way (number + 1) + 1 ≤ way l.turn) → (other ≡ number) ⊎ (way (number + 1) + 1 ≤ way l.turn)
       turned (inl same) = inl (sym same)
@@ -225,7 +255,7 @@ module _ (number one tei other its : ℕ) where
       let here = All-head (IsAtLine card) e events all in
       let first = cond (e.line == number) (seen card.config e.what (line_at number card) (answer e card)) [] in
       let rest = trace number (moments (after e card) events) in
-      let meets : Meets card.config one tei other its (line_at number card) = record { sound = line_sound card number (has_lines card s) few; here = stays.0; there = speaks.0 } in
+      let meets : Meets card.config one tei other its (line_at number card) = record { sound = line_sound card number (has_lines card s) few; here = stays.0; there = would-speak card number other its s few plain speaks.0 } in
       subst (WalkOf card (line_at number card)) (sym (names-both card.config first rest))
       (moment-walk card e s here meets plain (e.line == number) refl (links_begun card.config rest)
       (walks (after e card) events (after_is_sound card e s here) few (All-tail (IsAtLine card) e events all) stays.1 speaks.1 (none-after card e number s here plain)))

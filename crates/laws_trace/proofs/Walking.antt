@@ -101,7 +101,7 @@ module _ (c : Config) where
       }
 
   -- It has something to send already.
-  later : (l : Line) (names : List LinkName) → Walk l names → (number tei : ℕ) → number < link_count c → tei_at (place_at number) l ≡ Some tei
+  pub later : (l : Line) (names : List LinkName) → Walk l names → (number tei : ℕ) → number < link_count c → tei_at (place_at number) l ≡ Some tei
       → (front behind : List LinkName) → names ≡ front ++ named number tei ∷ behind → IsSilentAt c l number → ⊥
   later k ns (ends l) number tei few on [] behind e silent = cc e
   later k ns (ends l) number tei few on (x ∷ front) behind e silent = cc e

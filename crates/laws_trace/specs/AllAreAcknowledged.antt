@@ -1,13 +1,13 @@
 -- All that is told of a link is acknowledged.
 use Rattle.std.specs.Prelude.{◌≡◌, ◌≤◌, ◌<◌, ℕ, ◌%◌, ◌==◌, Bool, true, false, List, [], ◌∷◌, ◌++◌, fold, flat_map, if◌then◌else◌}
 use Rattle.std.specs.List.{list_any}
+use Rattle.std.specs.Option.{option_map_or}
 use Rattle.lapd_frame.specs.declared.controls.Control.{Control}
 use Rattle.lapd_frame.specs.declared.controls.Control.TheVariants.{Information, ReceiveReady, ReceiveNotReady, Reject}
 use Rattle.lapd_frame.specs.declared.services.Service.{Service}
 use Rattle.lapd_frame.specs.Reading.{reading}
-use Rattle.model_link.specs.Link.{is_multiple_frame}
 use Rattle.model_line.specs.declared.config.Config.{Config}
-use Rattle.model_line.specs.Line.{link_of}
+use Rattle.model_line.specs.Line.{state_of}
 use Rattle.laws_line.specs.Drains.{most_pulls}
 use Rattle.laws_line.specs.Heard.{is_data_of}
 use Rattle.model_card.specs.Card.{fresh, line_at}
@@ -16,7 +16,7 @@ use Rattle.model_card.specs.Run.{after_all}
 use Rattle.laws_card.specs.Among.{ArePullsAt, pulls_at}
 use Rattle.laws_trace.specs.ControlFrames.{of_link}
 use Rattle.laws_trace.specs.Deliveries.{nothing_yet, watch}
-use Rattle.laws_trace.specs.Trace.{Seen, noted, begun, lost, trace_of}
+use Rattle.laws_trace.specs.Trace.{Seen, noted, begun, lost, trace_of, is_up}
 
 -- The N(R) of the frames of a link that begin: of I-frames, RR, RNR and REJ (Q.921 clause 3.5.2.6).
 abbrev pub number_in : Bool → Control → List ℕ
@@ -48,5 +48,5 @@ AllAreAcknowledged c events number =
     (service : Service) (tei : ℕ) (before pulls : List Event) → events ≡ before ++ pulls → ArePullsAt number pulls → most_pulls c ≤ pulls_at number pulls →
     let t = trace_of c events number in
     let count = (fold (watch c service tei) nothing_yet t).count in
-    is_multiple_frame (link_of service tei (line_at number (after_all (fresh c) events))).state ≡ true →
+    option_map_or is_up (state_of service tei (line_at number (after_all (fresh c) events))) false ≡ true →
     0 < count → fold (lost_since service tei) false t ≡ false → IsLast (count % 128) (flat_map (numbers_at c service tei) t)

@@ -23,9 +23,9 @@ use Rattle.model_card.specs.Machine.{after}
 use Rattle.model_card.specs.Run.{Moment, moments, after_all}
 use Rattle.laws_card.specs.Among.{ArePullsAt, pulls_at}
 use Rattle.laws_trace.specs.Deliveries.{Standing, at_first, stand}
-use Rattle.laws_trace.specs.LinksMove.{is_up, expired_of, one_more}
+use Rattle.laws_trace.specs.LinksMove.{expired_of, one_more}
 use Rattle.laws_trace.specs.TimersAreTimely.{is_state, state_before, state_after, differ}
-use Rattle.laws_trace.specs.Trace.{Seen, heard, begun, granted, seen_in, trace, trace_of}
+use Rattle.laws_trace.specs.Trace.{is_up, Seen, heard, begun, granted, seen_in, trace, trace_of}
 
 -- What a frame of the link of a service with a TEI shows.
 abbrev pub of_link : {X : Type 0} → Service → ℕ → (Bool → Control → List X) → Result Parts ReadFault → List X

@@ -1,8 +1,11 @@
 -- Data goes out.
-use Rattle.std.specs.Prelude.{◌≡◌, ◌⊎◌, ◌≤◌, ◌==◌, ◌&&◌, ℕ, ◌+◌, ◌%◌, List, [], ◌∷◌, ◌++◌, length, drop, slice_get, Option, Some, None, IfSome, Result, Ok, Err, if◌then◌else◌}
+use Rattle.std.specs.Prelude.{◌≡◌, ◌⊎◌, ◌≤◌, ◌==◌, ◌&&◌, ℕ, ◌+◌, ◌%◌, Bool, false, List, [], ◌∷◌, ◌++◌, length, drop, slice_get, Option, Some, None, IfSome, Result, Ok, Err, if◌then◌else◌}
+use Rattle.std.specs.List.{list_any}
 use Rattle.lapd_frame.specs.declared.controls.Control.{Control}
 use Rattle.lapd_frame.specs.declared.controls.Control.TheVariants.{Information}
 use Rattle.lapd_frame.specs.declared.faults.ReadFault.{ReadFault}
+use Rattle.lapd_frame.specs.declared.notes.Note.{Note}
+use Rattle.lapd_frame.specs.declared.notes.Note.TheVariants.{EstablishIndication}
 use Rattle.lapd_frame.specs.declared.services.Service.{Service}
 use Rattle.lapd_frame.specs.Grammar.{Parts}
 use Rattle.lapd_frame.specs.Reading.{reading}
@@ -12,7 +15,7 @@ use Rattle.model_line.specs.Request as asked
 use Rattle.model_line.specs.Request.{Request}
 use Rattle.model_card.specs.Event.{Event}
 use Rattle.laws_trace.specs.Deliveries.{Watched, nothing_yet, is_for, begins, watch}
-use Rattle.laws_trace.specs.Trace.{Seen, begun, noted, granted, trace_of}
+use Rattle.laws_trace.specs.Trace.{is_own, Seen, begun, noted, granted, trace_of}
 
 -- Whoever watches the link of a service with a TEI keeps in mind what was told of it, the contents that have numbers 0, 1, ..
 -- since its numbers began, and how many of these have gone.
@@ -73,11 +76,20 @@ goes_on c service tei n g (noted ns contents) =
 goes_on c service tei n g other = record g { told = watch c service tei g.told other }
 
 -- From one thing seen to the next, up to what is kept in mind at the end. Contents that leave where the numbers begin had gone,
--- or none stays (clauses 5.5.1.2 and 5.7).
+-- and no indication of an establishment is told; or none stays (clauses 5.5.1.2 and 5.7).
+abbrev pub is_indicated : Service → ℕ → Note → Bool
+is_indicated service tei (EstablishIndication of by) = is_own service tei of by
+is_indicated service tei other = false
+
+abbrev pub indicates : Service → ℕ → Seen → Bool
+indicates service tei (noted ns contents) = list_any (is_indicated service tei) ns
+indicates service tei other = false
+
 abbrev pub Reaches : Config → Service → ℕ → Going → List Seen → Going → Type 0
 Reaches c service tei g [] end = g ≡ end
 Reaches c service tei g (x ∷ t) end =
-    IsSent c service tei g x × ((n : ℕ) × ((n ≤ g.gone) ⊎ (length g.contents ≤ n)) × Reaches c service tei (goes_on c service tei n g x) t end)
+    IsSent c service tei g x
+    × ((n : ℕ) × (((n ≤ g.gone) × (indicates service tei x ≡ false)) ⊎ (length g.contents ≤ n)) × Reaches c service tei (goes_on c service tei n g x) t end)
 
 -- So it is of every link, from the start of the card on: the contents of new I-frames are the first of the data granted, in
 -- order, each once, and those of I-frames that go again are what their number had.

@@ -1,6 +1,7 @@
 -- What layer 3 is told of what is heard.
 use Rattle.std.specs.Prelude.{◌≡◌, ◌≤◌, ℕ, ◌+◌, ◌%◌, ◌==◌, ◌&&◌, ◌||◌, not, Bool, true, false, List, [], ◌∷◌, ◌++◌, length, fold, option_to_list, count_by, Option, Some, None, Result, Ok, Err, if◌then◌else◌}
 use Rattle.std.specs.List.{list_any}
+use Rattle.std.specs.Option.{option_map_or}
 use Rattle.model_bits.specs.Stream as stream
 use Rattle.lapd_frame.specs.declared.addresses.Address.{Address}
 use Rattle.lapd_frame.specs.declared.controls.Control.{Control}
@@ -13,16 +14,15 @@ use Rattle.lapd_frame.specs.declared.services.Service.{Service}
 use Rattle.lapd_frame.specs.Grammar.{Parts}
 use Rattle.lapd_frame.specs.Reading.{reading}
 use Rattle.lapd_frame.specs.Services.{sapi_of}
-use Rattle.model_link.specs.Link.{Link, is_multiple_frame}
 use Rattle.model_line.specs.declared.config.Config.{Config}
-use Rattle.model_line.specs.Line.{link_of}
+use Rattle.model_line.specs.Line.{state_of}
 use Rattle.model_line.specs.Octet.{heard_side}
 use Rattle.model_line.specs.Request.{Request, SetBusy, ClearBusy}
 use Rattle.model_card.specs.Card.{fresh, line_at}
 use Rattle.model_card.specs.Event.{Event}
 use Rattle.model_card.specs.Run.{moments, after_all}
 use Rattle.laws_line.specs.Heard.{is_data_of, is_unit_of, tells_contents}
-use Rattle.laws_trace.specs.Trace.{is_own, Seen, heard, noted, granted, trace, trace_of, IsAmong}
+use Rattle.laws_trace.specs.Trace.{is_own, Seen, heard, noted, granted, trace, trace_of, IsAmong, is_up}
 use Rattle.laws_trace.specs.Units.{is_ui}
 
 -- Whoever watches the link of a service with a TEI keeps in mind the frame that was heard right before, as the grammar
@@ -145,8 +145,8 @@ Deliveries c events number =
 
 -- And contents that may be told are told, in the moment of their frame: an I-frame for a link in state 7 or 8, while layer 3 is
 -- not busy, of at most N201 octets, whose N(S) is the number of contents told, modulo 128 (clauses 5.6.2 and 5.6.6).
-pub record MayBeTold (c : Config) (l : Link) (w : Standing) (frame : Parts) : Type 0 where
-  pub up : is_multiple_frame l.state ≡ true
+pub record MayBeTold (c : Config) (state : Option ℕ) (w : Standing) (frame : Parts) : Type 0 where
+  pub up : option_map_or is_up state false ≡ true
   pub free : w.busy ≡ false
   pub size : length frame.info ≤ c.n201
   pub next : number_in frame.control ≡ Some (w.told.count % 128)
@@ -163,4 +163,4 @@ AllAreTold c events number =
     let now = trace number (moments card (e ∷ [])) in
     let w = fold (stand c service tei) at_first (trace_of c before number) in
     (octets : List ℕ) (frame : Parts) → IsAmong (heard (stream.frame octets)) now → reading (heard_side c) octets ≡ Ok frame →
-    is_for service tei frame.address ≡ true → MayBeTold c (link_of service tei (line_at number card)) w frame → IsTold service tei frame.info now
+    is_for service tei frame.address ≡ true → MayBeTold c (state_of service tei (line_at number card)) w frame → IsTold service tei frame.info now

@@ -19,10 +19,12 @@ pub mod TeisAgree
 pub mod TeisAreGiven
 pub mod NoLossInVain
 pub mod TimersAreTimely
+pub mod ChecksAreTimely
 pub mod AllGoesAgain
 pub mod LinksMove
 pub mod News
 pub mod WorkedTimers
+pub mod WorkedChecks
 pub mod WorkedUnits
 pub mod WorkedFrames
 pub mod WorkedTurns

@@ -1,5 +1,5 @@
 -- Which state a link moves to.
-use Rattle.std.specs.Prelude.{◌≡◌, ℕ, ◌+◌, ◌-◌, ◌%◌, ◌==◌, ◌&&◌, ◌||◌, not, nat_le, nat_lt, Bool, false, List, ◌∷◌, ◌++◌, length, fold, Option, Some, None, IfSome, Result, Ok, Err, if◌then◌else◌}
+use Rattle.std.specs.Prelude.{◌≡◌, ℕ, ◌+◌, ◌-◌, ◌%◌, ◌==◌, ◌&&◌, ◌||◌, not, nat_lt, Bool, false, List, ◌∷◌, ◌++◌, length, fold, Option, Some, None, IfSome, Result, Ok, Err, if◌then◌else◌}
 use Rattle.std.specs.Option.{option_map_or}
 use Rattle.model_bits.specs.Stream as stream
 use Rattle.lapd_frame.specs.declared.controls.Control.{Control}
@@ -26,11 +26,7 @@ use Rattle.model_card.specs.Machine.{answer}
 use Rattle.model_card.specs.Run.{Moment, moments, after_all}
 use Rattle.laws_trace.specs.Deliveries.{is_for, frame_of}
 use Rattle.laws_trace.specs.TimersAreTimely.{Known, nothing_yet, watch, state_before, state_after, awaits, differ}
-use Rattle.laws_trace.specs.Trace.{is_own, Seen, heard, granted, seen_in}
-
--- States 7 and 8 are those of multiple-frame operation; a state is the number that `Card::state` tells (Q.921 annex B).
-abbrev pub is_up : ℕ → Bool
-is_up state = nat_le 7 state
+use Rattle.laws_trace.specs.Trace.{is_own, is_up, Seen, heard, granted, seen_in}
 
 -- An N(R) is invalid where it is none of V(A) to V(S), counted upwards from V(A) (clauses 3.5.2.3 and 5.8.2).
 abbrev pub steps : ℕ → ℕ → ℕ

@@ -1,5 +1,5 @@
 -- What an observer of one line of a card sees, in order of time.
-use Rattle.std.specs.Prelude.{◌≡◌, ℕ, ◌==◌, ◌<◌, ◌&&◌, Bool, List, [], ◌∷◌, ◌++◌, map, flat_map, Option, option_to_list, if◌then◌else◌}
+use Rattle.std.specs.Prelude.{◌≡◌, ℕ, ◌==◌, ◌<◌, ◌&&◌, Bool, List, [], ◌∷◌, ◌++◌, map, flat_map, Option, option_to_list, if◌then◌else◌, nat_le}
 use Rattle.model_bits.specs.Stream as stream
 use Rattle.lapd_frame.specs.declared.notes.Note.{Note}
 use Rattle.lapd_frame.specs.declared.services.Service.{Service}
@@ -73,6 +73,10 @@ octet_put other = []
 
 abbrev pub octets_put : List Seen → List ℕ
 octets_put t = flat_map octet_put t
+
+-- States 7 and 8 are those of multiple-frame operation; a state is the number that `Card::state` tells (Q.921 annex B).
+abbrev pub is_up : ℕ → Bool
+is_up state = nat_le 7 state
 
 -- One list is a front of another.
 pub record IsFront {X : Type 0} (front whole : List X) : Type 0 where

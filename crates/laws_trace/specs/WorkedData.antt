@@ -1,6 +1,6 @@
 -- Worked values: I-frames that go out, and traces that break the law.
-use Rattle.std.specs.Prelude.{◌≡◌, ◌≤◌, ℕ, ◌%◌, List, [], ◌∷◌, ◌++◌, slice_get, Some, flat_map, option_to_list, refl}
-use Rattle.std.proofs.Common.{zero, suc, arith}
+use Rattle.std.specs.Prelude.{◌≡◌, ◌≤◌, ℕ, ◌%◌, false, List, [], ◌∷◌, ◌++◌, drop, length, slice_get, Some, None, flat_map, option_to_list, refl}
+use Rattle.std.proofs.Common.{zero, suc, arith, ◌⊎◌, inl, inr}
 use Rattle.model_bits.specs.Bits.{low_bits}
 use Rattle.lapd_seq.specs.Circle.{named, distance_of}
 use Rattle.lapd_seq.specs.Numbers.{seq}
@@ -12,8 +12,9 @@ use Rattle.model_line.specs.Machine as lines
 use Rattle.model_line.specs.Request.{Data}
 use Rattle.model_card.specs.Run.{moments}
 use Rattle.laws_card.specs.Worked.{usual, on_0, up}
-use Rattle.laws_trace.specs.DataGoesOut.{Going, Sent, sent_in, none_yet, Reaches}
-use Rattle.laws_trace.specs.Trace.{Seen, begun, granted, trace_of, frames_begun}
+use Rattle.lapd_frame.specs.declared.notes.Note.TheVariants.{EstablishIndication}
+use Rattle.laws_trace.specs.DataGoesOut.{Going, Sent, sent_in, none_yet, indicates, Reaches}
+use Rattle.laws_trace.specs.Trace.{Seen, begun, noted, granted, trace_of, frames_begun}
 use Rattle.laws_trace.specs.WorkedUnits.{pulls}
 
 -- The I-frames of the link of call control of TEI 64.
@@ -43,3 +44,14 @@ others end law = let x = law.1.2.0 in go x.number x.next_or_again x.is
     go : (n : ℕ) → n ≤ 0 → slice_get {X = List ℕ} ((7 ∷ []) ∷ []) n ≡ Some (8 ∷ []) → ⊥
     go zero few is = cc is
     go (suc n) few is = absurd (omega (arith, few))
+
+-- Where an indication is told as the numbers begin, and contents stay, the law is broken.
+abbrev indicated : Seen
+indicated = noted (EstablishIndication Call 64 ∷ []) None
+
+stays : (n : ℕ) → ((n ≤ 1) × (indicates Call 64 indicated ≡ false)) ⊎ (2 ≤ n) → drop {A = List ℕ} n ((7 ∷ []) ∷ (8 ∷ []) ∷ []) ≡ (8 ∷ []) ∷ [] → ⊥
+stays n (inl h) is = cc h.1
+stays zero (inr all) is = cc is
+stays (suc zero) (inr all) is = omega (arith, all)
+stays (suc (suc zero)) (inr all) is = cc is
+stays (suc (suc (suc n))) (inr all) is = cc is

@@ -1,5 +1,5 @@
 -- Worked values: what a receiver hears in the octets that a line puts, and octets and frames that break the laws.
-use Rattle.std.specs.Prelude.{◌≡◌, ℕ, ◌<◌, List, [], ◌∷◌, map, All, true, false, refl}
+use Rattle.std.specs.Prelude.{◌≡◌, ℕ, ◌<◌, ◌≤◌, List, [], ◌∷◌, ◌++◌, length, map, All, true, false, refl}
 use Rattle.std.proofs.Common.{arith, lit<}
 use Rattle.std.proofs.lemmas.List.Elements.{All-head, All-tail}
 use Rattle.model_bits.specs.Bits.{low_bits}
@@ -48,6 +48,15 @@ is_not_out out = cc out.heard
 is_not_all : map stream.frame (spelled 1 ∷ []) ≡ stream.heard_in 260 (0x7E ∷ 0x02 ∷ 0xFF ∷ []) → ⊥
 unfolding low_bits
 is_not_all all = cc all
+
+-- Where two frames of octets began, and none is heard, that a receiver hears what begins as it is is broken.
+none_heard : GoOut 260 [] (spelled 1 ∷ spelled 2 ∷ []) → ⊥
+none_heard out = go out.on_its_way out.one out.heard
+  where
+    go : (ways : List (List ℕ)) → length ways ≤ 1 → map stream.frame (spelled 1 ∷ spelled 2 ∷ []) ≡ stream.heard_in 260 [] ++ map stream.frame ways → ⊥
+    go [] one e = cc e
+    go (x ∷ []) one e = cc e
+    go (x ∷ y ∷ ways) one e = omega (arith, one)
 
 -- Each of the two is one of the grammar, and of octets.
 unit_parts : ℕ → Parts

@@ -56,3 +56,7 @@ none_there (x ∷ front) back e = cc e
 
 never : IsAmong ua [] → ⊥
 never among = none_there among.front among.back among.split
+
+-- Where nothing is put, and unit data was granted, that all of it is heard is broken.
+unheard : units_heard usual [] ≡ map as_octets (spelled 1 ∷ []) → ⊥
+unheard all = cc all

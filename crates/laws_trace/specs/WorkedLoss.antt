@@ -1,19 +1,22 @@
 -- Worked values: a message that finds no room, and a line that breaks the law.
-use Rattle.std.specs.Prelude.{◌≡◌, List, [], ◌∷◌, length, None, refl}
-use Rattle.std.proofs.Common.{inl, inr}
+use Rattle.std.specs.Prelude.{◌≡◌, ◌≤◌, ◌+◌, List, [], ◌∷◌, ◌++◌, length, flat_map, None, refl}
+use Rattle.std.proofs.Common.{inl, inr, arith}
 use Rattle.model_bits.specs.Bits.{low_bits}
 use Rattle.model_bits.specs.Stream as stream
-use Rattle.lapd_frame.specs.Reading.{reading, header_of, control_of, unnumbered_of}
+use Rattle.lapd_frame.specs.declared.services.Service.TheVariants.{Call}
+use Rattle.lapd_frame.specs.Reading.{reading, header_of, control_of, unnumbered_of, supervisory_of}
+use Rattle.lapd_seq.specs.Circle.{named, distance_of}
+use Rattle.lapd_seq.specs.Numbers.{seq}
 use Rattle.lapd_tei.specs.Events as teis
-use Rattle.model_line.specs.Line.{fresh_line, link_of}
 use Rattle.model_line.specs.Machine as lines
 use Rattle.model_line.specs.Request.{Assign, Remove}
-use Rattle.model_card.specs.Card.{fresh, line_at}
+use Rattle.model_card.specs.Card.{fresh}
 use Rattle.model_card.specs.Event.{Event}
-use Rattle.model_card.specs.Machine.{after}
 use Rattle.model_card.specs.Run.{moments, after_all}
 use Rattle.laws_card.specs.Worked.{usual, on_0, hears}
-use Rattle.laws_trace.specs.NoLossInVain.{IsFull}
+use Rattle.laws_trace.specs.Managing.{owed_through}
+use Rattle.laws_trace.specs.MessagesAreOwed.{messages_begun, owed, all_owed}
+use Rattle.laws_trace.specs.NoLossInVain.{control_at, IsCrowded, IsFull}
 use Rattle.laws_trace.specs.Trace.{heard, noted, lost, trace}
 
 -- Four removals wait; the answer to a terminal that asks for a TEI is told as lost, and four messages wait behind it.
@@ -28,14 +31,26 @@ one_is_lost : trace 0 (moments (after_all (fresh usual) four) (hears 0xF7 ∷ []
 unfolding moments after_all lines.after lines.answer lines.takes_slot teis.course teis.refusal low_bits reading header_of control_of unnumbered_of
 one_is_lost = refl
 
-is_full : IsFull usual (line_at 0 (after (hears 0xF7) (after_all (fresh usual) four)))
-unfolding after_all lines.after lines.answer lines.takes_slot teis.course teis.refusal low_bits reading header_of control_of unnumbered_of
+is_full : IsFull usual (four ++ hears 0xF7 ∷ []) 0
+unfolding moments owed owed_through lines.after lines.answer lines.takes_slot teis.course teis.refusal low_bits reading header_of control_of unnumbered_of
 is_full = inl refl
 
--- Where a frame is told as lost, and nothing waits, the law is broken.
-in_vain : IsFull usual (fresh_line usual) → ⊥
-in_vain (inl four) = cc four
-in_vain (inr one) = go one.as_many
-  where
-    go : length (link_of one.service one.tei (fresh_line usual)).waiting ≡ 4 → ⊥
-    go e = cc e
+-- UA and the answers to three polls wait: they are four control frames of one link, which would begin.
+abbrev three_polls : List Event
+three_polls =
+    on_0 (Assign 64) ∷ hears 0x7E ∷ hears 0x00 ∷ hears 0x81 ∷ hears 0xEF ∷ hears 0x50 ∷ hears 0xB1 ∷ hears 0xFD ∷ hears 0x00
+    ∷ hears 0x02 ∷ hears 0x03 ∷ hears 0x02 ∷ hears 0xBE ∷ hears 0x8A ∷ hears 0xFA ∷ hears 0x01
+    ∷ hears 0x04 ∷ hears 0x06 ∷ hears 0x04 ∷ hears 0x7C ∷ hears 0x15 ∷ hears 0xF5 ∷ hears 0x03
+    ∷ hears 0x08 ∷ hears 0x0C ∷ hears 0x08 ∷ hears 0xF8 ∷ hears 0x2A ∷ hears 0xEA ∷ hears 0xF7 ∷ []
+
+is_crowded : IsCrowded (after_all (fresh usual) three_polls) 0
+unfolding moments after_all lines.after lines.answer lines.takes_slot teis.course teis.refusal low_bits seq distance_of named reading header_of control_of unnumbered_of supervisory_of
+is_crowded = record { service = Call; tei = 64; pulls = 24; as_many = omega arith }
+
+-- Where a frame is told as lost, and no message is owed, nor any control frame begins, the law is broken.
+none_owed : length (all_owed usual [] 0) ≡ length (messages_begun usual []) + 4 → ⊥
+unfolding moments owed
+none_owed e = cc e
+
+none_begins : usual.control ≤ length (flat_map (control_at usual Call 64) []) → ⊥
+none_begins few = let four : 4 ≤ 0 = few in omega (arith, four)

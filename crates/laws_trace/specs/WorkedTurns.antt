@@ -16,7 +16,8 @@ use Rattle.model_card.specs.Run.{moments, after_all}
 use Rattle.laws_card.specs.Worked.{usual, on_0, hears}
 use Rattle.laws_trace.specs.LinksTakeTurns.{LinkName, links_begun, TakeTurns}
 use Rattle.laws_trace.specs.MessagesComeFirst.{rank, AreByRank}
-use Rattle.laws_trace.specs.Trace.{trace, frames_begun}
+use Rattle.laws_trace.specs.Trace.{trace, frames_begun, IsAmong}
+use Rattle.laws_trace.specs.TurnsMeanwhile.{name_of, HasToSend}
 use Rattle.laws_trace.specs.WorkedUnits.{unit, pulls, spelled}
 
 -- Both links of TEI 64 send SABME, and that of call control sends it again.
@@ -48,6 +49,17 @@ none_among (y ∷ front) back e = cc e
 
 no_turns : TakeTurns (call ∷ call ∷ packet ∷ []) → ⊥
 no_turns law = let x = law call packet [] [] [] [] apart refl in none_among x.front x.back x.split
+
+-- The packet link has its SABME to send meanwhile; where that of call control goes twice before it, the law is broken.
+packet_waits : HasToSend (after_all (fresh usual) both_up) 0 1 64
+unfolding after_all lines.after lines.answer lines.takes_slot teis.course teis.refusal
+packet_waits = record { few = omega arith; on_line = refl; pulls = 16; begins = record { front = call ∷ []; back = call ∷ []; split = turns_taken } }
+
+its_name : name_of 1 64 ≡ packet
+its_name = refl
+
+passed_over : IsAmong packet [] → ⊥
+passed_over among = none_among among.front among.back among.split
 
 -- A check of TEI management, unit data, and SABME, in this order, whatever was asked for first.
 in_their_order : map (rank Network) (frames_begun (trace 0 (moments (after_all (fresh usual) (on_0 (Assign 64) ∷ on_0 (Establish Call 64) ∷ on_0 (unit 1) ∷ on_0 (Check 64) ∷ [])) (pulls 22))))

@@ -52,3 +52,7 @@ second_destroyed = granted (unit 1) ∷ granted (unit 2) ∷ granted (unit 3) �
 is_no_front : IsFront (units_begun usual second_destroyed) (units_granted usual second_destroyed) → ⊥
 unfolding reading header_of control_of unnumbered_of
 is_no_front front = cc front.whole_is
+
+-- Where one is granted, and never begins, that all of it goes out is broken.
+never_begun : units_begun usual (granted (unit 1) ∷ []) ≡ units_granted usual (granted (unit 1) ∷ []) → ⊥
+never_begun all = cc all

@@ -1,0 +1,134 @@
+-- Whether I-frames are outstanding, as an observer knows it: one event of a line.
+use Rattle.std.proofs.Common.{◌≡◌, ℕ, ◌+◌, ◌%◌, ◌≤◌, ◌==◌, not, Bool, true, false, List, length, Option, Some, None, refl, sym, ap, ◌∙◌, subst, arith, eq-eqb, true≢false, ◌⊎◌, inl, inr}
+use Rattle.std.specs.Option.{option_map_or}
+use Rattle.lapd_frame.specs.declared.services.Service.{Service}
+use Rattle.lapd_tei.specs.Sound.{IsAt}
+use Rattle.lapd_tei.proofs.Tables.{place_of-is}
+use Rattle.model_link.specs.declared.states.State.{State}
+use Rattle.model_link.specs.declared.states.State.TheVariants.{TeiAssigned, AwaitingEstablishment, AwaitingRelease, Established, TimerRecovery}
+use Rattle.model_link.specs.declared.terms.Terms.{Terms}
+use Rattle.model_link.specs.Events as link
+use Rattle.model_link.specs.Link.{Link, fresh}
+use Rattle.model_link.specs.Machine as links
+use Rattle.model_link.specs.Sound as link_sound
+use Rattle.model_link.specs.Steps as steps
+use Rattle.model_line.specs.declared.config.Config.{Config}
+use Rattle.model_line.specs.Event.{Event, Answer}
+use Rattle.model_line.specs.Line.{Line, link_in, link_of, place_in, state_of, terms}
+use Rattle.model_line.specs.Machine.{after, answer}
+use Rattle.model_line.specs.Sound.{IsInRange, IsSound}
+use Rattle.model_line.proofs.LinksSound.{sound_in}
+use Rattle.model_line.proofs.Ranges.{terms_in_range}
+use Rattle.laws_line.specs.Timers.{HaveTheirTimers}
+use Rattle.laws_trace.specs.TimersAreTimely.{Known, is_state}
+use Rattle.laws_trace.proofs.OneLink.{HasOne, Goes, event-goes}
+use Rattle.laws_trace.proofs.TimerActs.{Timing, timing}
+use Rattle.laws_trace.proofs.TimerClaims.{Agrees, IsKnown, Kept, told_state}
+use Rattle.laws_trace.proofs.TimerEvents.{event-good}
+use Rattle.laws_trace.proofs.TimersAreTimely.{outstanding-is}
+use Rattle.laws_trace.proofs.TimersOfEvent as events
+use Rattle.laws_trace.proofs.TimersOfEvent.{IsTrueOf, state-on, off-fresh, off-state}
+
+abbrev pub IsOwed : Service → ℕ → Bool → Line → Type 0
+IsOwed service tei outstanding l = let x = link_of service tei l in outstanding ≡ not (x.s == x.a)
+
+-- What is known says it, except in state 5.
+module _ (c : Config) (ranged : IsInRange c) (l : Line) (s : IsSound c l) (service : Service) (tei : ℕ) (k : Known) (agrees : IsTrueOf service tei k l) where
+  abbrev own : Link
+  own = link_of service tei l
+
+  none-owed : Agrees TeiAssigned k own.a own.s own.peer_busy → own.s ≡ own.a → not (k.next == k.acknowledged) ≡ not (own.s == own.a)
+  none-owed none same = ap (λ (k : Known). not (k.next == k.acknowledged)) none ∙ sym (ap not (eq-eqb own.s own.a same))
+
+  while-known : own.a ≤ own.s → own.s ≤ own.a + 127 → IsKnown k own.a own.s own.peer_busy → not (k.next == k.acknowledged) ≡ not (own.s == own.a)
+  while-known ordered within known =
+      ap (λ n. not (n == k.acknowledged)) known.next ∙ ap (λ n. not (own.s % 128 == n)) known.acknowledged
+      ∙ ap not (outstanding-is service tei k own.a own.s ordered within)
+
+  settled : link_sound.IsSound (terms c service tei) own → length own.contents ≡ own.a → own.s ≡ own.a
+  settled sound all = let low : own.a ≤ own.s = sound.ordered in let high : own.s ≤ length own.contents = sound.accepted in omega (arith, low, high, all)
+
+  by-state : (here : State) → is_state 5 (told_state here) ≡ false → Agrees here k own.a own.s own.peer_busy → link_sound.IsSettledIn here own
+      → link_sound.IsSound (terms c service tei) own → own.s ≤ own.a + 127 → not (k.next == k.acknowledged) ≡ not (own.s == own.a)
+  by-state TeiAssigned off known rest sound within = none-owed known (settled sound rest)
+  by-state AwaitingEstablishment off known rest sound within = absurd (true≢false off)
+  by-state AwaitingRelease off known rest sound within = none-owed known (settled sound rest)
+  by-state Established off known rest sound within = while-known sound.ordered within known
+  by-state TimerRecovery off known rest sound within = while-known sound.ordered within known
+
+  pub known-owes : is_state 5 (state_of service tei l) ≡ false → IsOwed service tei (not (k.next == k.acknowledged)) l
+  known-owes off = go (place_in l tei) refl
+    where
+      go : (o : Option ℕ) → place_in l tei ≡ o → not (k.next == k.acknowledged) ≡ not (own.s == own.a)
+      go None gone =
+          let new : own ≡ fresh = off-fresh service tei l gone in
+          none-owed (subst (λ (x : Link). Agrees x.state k x.a x.s x.peer_busy) new agrees) (ap (λ (x : Link). x.s) new ∙ sym (ap (λ (x : Link). x.a) new))
+      go (Some place) on =
+          let placed = (place_of-is l.management.places tei place on).1 in
+          let sound : link_sound.IsSound (terms c service tei) own =
+          subst (link_sound.IsSound (terms c service tei)) (sym (ap (λ o. option_map_or (link_in l service) o fresh) on)) (sound_in c ranged l s service tei place placed) in
+          let high : own.s ≤ own.a + (terms c service tei).k = sound.within in
+          let small : (terms c service tei).k ≤ 127 = (terms_in_range c ranged service tei (s.management.table.range place tei placed)).k_high in
+          by-state own.state (sym (ap (is_state 5) (state-on service tei l place on)) ∙ off) agrees sound.settled sound (omega (arith, high, small))
+
+-- In state 5 nothing changes.
+module _ (c : Config) (ranged : IsInRange c) (l : Line) (s : IsSound c l) (timed : HaveTheirTimers l) (service : Service) (tei : ℕ) (k : Known) (agrees : IsTrueOf service tei k l) (e : Event) where
+  abbrev next : Link
+  next = link_of service tei (after c e l)
+
+  abbrev was : Link
+  was = link_of service tei l
+
+  abbrev Same : Link → Type 0
+  Same y = not (y.s == y.a) ≡ not (was.s == was.a)
+
+  by-kept : (y : Link) → is_state 5 (told_state y.state) ≡ true → Kept y.state (timing (steps.begun was)) (record (timing (steps.begun was)) { a = y.a; s = y.s }) → Same y
+  by-kept y in_5 kept = go y.state in_5 kept
+    where
+      go : (here : State) → is_state 5 (told_state here) ≡ true → Kept here (timing (steps.begun was)) (record (timing (steps.begun was)) { a = y.a; s = y.s }) → Same y
+      go TeiAssigned is kept = absurd (true≢false (sym is))
+      go AwaitingEstablishment is kept = ap (λ n. not (n == y.a)) kept.1 ∙ ap (λ n. not (was.s == n)) kept.0
+      go AwaitingRelease is kept = absurd (true≢false (sym is))
+      go Established is kept = absurd (true≢false (sym is))
+      go TimerRecovery is kept = absurd (true≢false (sym is))
+
+  shape : (here : State) (y : Timing) → Kept here (timing (steps.begun was)) y → Kept here (timing (steps.begun was)) (record (timing (steps.begun was)) { a = y.a; s = y.s })
+  shape TeiAssigned y kept = tt
+  shape AwaitingEstablishment y kept = kept
+  shape AwaitingRelease y kept = tt
+  shape Established y kept = tt
+  shape TimerRecovery y kept = tt
+
+  pub five-owes : (outstanding : Bool) → IsOwed service tei outstanding l → is_state 5 (state_of service tei (after c e l)) ≡ true → IsOwed service tei outstanding (after c e l)
+  five-owes outstanding owes in_5 = go (place_in (after c e l) tei) refl
+    where
+      go : (o : Option ℕ) → place_in (after c e l) tei ≡ o → outstanding ≡ not (next.s == next.a)
+      go None off = absurd (true≢false (sym in_5 ∙ ap (is_state 5) (off-state service tei (after c e l) off)))
+      go (Some there) on = owes ∙ sym (by-goes (event-goes c e l service tei s))
+        where
+          now : is_state 5 (told_state next.state) ≡ true
+          now = sym (ap (is_state 5) (state-on service tei (after c e l) there on)) ∙ in_5
+
+          by-one : HasOne c service tei e l (after c e l) (answer c e l) → Same next
+          by-one x =
+              let t = terms c service tei in
+              let y = links.after t x.event was in
+              let then : is_state 5 (told_state y.state) ≡ true = sym (ap (λ (y : Link). is_state 5 (told_state y.state)) x.is) ∙ now in
+              subst Same (sym x.is)
+              (events.either c ranged l s timed service tei k agrees e x
+              (λ o.
+              by-kept y then (shape y.state (timing (links.course t x.event was))
+              (event-good t k was (events.sound c ranged l s timed service tei k agrees e x) (events.range c ranged l s timed service tei k agrees e x).k_high
+              (events.own-timed c ranged l s timed service tei k agrees e x.place x.placed) agrees x.event o.no_offer o.no_cleared).kept))
+              (λ is offered.
+              subst (λ event. Same (links.after t event was)) (sym offered)
+              (by-kept (links.after t link.offer was) (ap (λ event. is_state 5 (told_state (links.after t event was).state)) (sym offered) ∙ then)
+              (shape (links.after t link.offer was).state (timing (links.course t link.offer was)) (events.offers c ranged l s timed service tei k agrees e x).kept))))
+
+          by-goes : Goes c service tei e l (after c e l) (answer c e l) → Same next
+          by-goes (inr x) = by-one x
+          by-goes (inl x) = either x.is
+            where
+              either : (next ≡ was) ⊎ (next ≡ fresh) → Same next
+              either (inl same) = ap (λ (y : Link). not (y.s == y.a)) same
+              either (inr new) = absurd (true≢false (sym now ∙ ap (λ (y : Link). is_state 5 (told_state y.state)) new))

@@ -166,7 +166,7 @@ module _ (service : Service) (tei : ℕ) where
             omega (arith, none)
         go (Some place) on =
             let there : has_tei tei l ≡ true = is_on-at l.management.places place tei (place_of-is l.management.places tei place on).1 in
-            let same : length (waits next) ≡ length (waits l) = ap (λ (y : Link). length (controls y.waiting)) (x.stays there (pull-keeps service tei c l s there)) in
+            let same : length (waits next) ≡ length (waits l) = ap (λ (y : Link). length (controls y.waiting)) (x.stays there (pull-keeps tei c l s there)) in
             omega (arith, same)
 
     one-goes : HasOne c service tei pull l next (answer c pull l) → Goes-on

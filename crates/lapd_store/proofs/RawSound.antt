@@ -25,10 +25,6 @@ taken region lens width (slot ∷ rest) first list ne =
 none_used : IsSome {T = List ℕ} None → ⊥
 none_used e = cc
 
--- a slot that is used as a caller sees it
-pub is_used : (a : Inside) (s : Store) (n m : ℕ) → raw_store a ≡ s → n ≡ m → IsUsed s m → IsUsed (raw_store a) n
-is_used a s n m view same used = subst (IsUsed (raw_store a)) (sym same) (subst (λ t. IsUsed t m) (sym view) used)
-
 module _ (a : Inside) (sound : IsSound a) where
   pub contents_of-raw : (slot : ℕ) → contents_of (raw_store a) slot ≡ slot_contents a.region a.width slot (get_or a.lengths.items slot free_mark)
   contents_of-raw slot = get_raw a.region a.width a.lengths.items slot
@@ -44,10 +40,6 @@ module _ (a : Inside) (sound : IsSound a) where
   pub slot_within : (slot : ℕ) → slot < length a.lengths.items → slot * a.width + a.width ≤ length a.region
   slot_within slot lt = omega (arith, slot_ends slot (length a.lengths.items) a.width lt, sound.covered)
 
-  -- the region is small enough for every sum
-  pub small : length a.region ≤ 2129920
-  small = omega (arith, sound.covered, times_le (length a.lengths.items) 8192 a.width sound.few, sound.most)
-
   -- octets that lie in a used slot are its contents
   pub held : (slot : ℕ) (xs : List ℕ) → get_or a.lengths.items slot free_mark ≢ free_mark → length xs ≡ get_or a.lengths.items slot free_mark → length xs ≤ a.width → Holds a.region (slot * a.width) xs → contents_of (raw_store a) slot ≡ Some xs
   held slot xs used long fits holds =
@@ -56,13 +48,6 @@ module _ (a : Inside) (sound : IsSound a) where
   -- a used slot's contents
   pub used_held : (slot : ℕ) (used : get_or a.lengths.items slot free_mark ≢ free_mark) → contents_of (raw_store a) slot ≡ Some (sound.filled slot used).octets
   used_held slot used = let f = sound.filled slot used in held slot f.octets used f.long f.fits f.holds
-
-  -- a used slot makes the counts more than nothing
-  pub used_counts : (slot : ℕ) (used : get_or a.lengths.items slot free_mark ≢ free_mark) → (1 ≤ a.used) × (get_or a.lengths.items slot free_mark ≤ a.octets)
-  used_counts slot used =
-      let fewer = used_slots-without (raw_store a) slot _ (used_held slot used) in
-      let less = stored_octets-without (raw_store a) slot _ (used_held slot used) in
-      (omega (arith, fewer, sound.counted), omega (arith, less, sound.measured, (sound.filled slot used).long))
 
   -- at the end of the free list every slot is used
   pub full_at_end : a.first ≡ list_end → used_slots (raw_store a) ≡ length a.lengths.items
@@ -122,6 +107,36 @@ module _ (a : Inside) (sound : IsSound a) where
           subst (λ (u : List ℕ × ℕ). IsFreeList b.region u.0 u.1 free first) (λ i. (sym items i, sym wide i))
           (list_kept a.region b.region a.lengths.items (set a.lengths.items slot mark) a.width slot len same short (omega (arith, sound.least))
           (λ q ne. get_or-set_other a.lengths.items slot q mark 0 ne) free first apart list)
+
+-- a used slot: its octets are written, they lie in the region, and the counts are more than nothing
+pub record Used (a : Inside) (slot : ℕ) : Type 0 where
+  pub used : IsUsed (raw_store a) slot
+  pub mark : get_or a.lengths.items slot free_mark ≢ free_mark
+  pub there : slot < length a.lengths.items
+  pub within : slot * a.width + a.width ≤ length a.region
+  pub small : length a.region ≤ 2129920
+  pub filled : IsFilled a.region a.lengths.items a.width slot
+  pub one : 1 ≤ a.used
+  pub octets : get_or a.lengths.items slot free_mark ≤ a.octets
+
+-- as a caller names it
+pub used_slot : {a : Inside} {s : Store} {n m : ℕ} → IsSound a → raw_store a ≡ s → n ≡ m → IsUsed s m → Used a n
+used_slot {a} {s} {n} {m} sound view same is =
+    let used = subst (IsUsed (raw_store a)) (sym same) (subst (λ t. IsUsed t m) (sym view) is) in
+    let mark = used_mark a sound n used in
+    let there = used_within a.lengths.items n mark in
+    let filled = sound.filled n mark in
+    let contents = used_held a sound n mark in
+    record {
+      used = used;
+      mark = mark;
+      there = there;
+      within = slot_within a sound n there;
+      small = omega (arith, sound.covered, times_le (length a.lengths.items) 8192 a.width sound.few, sound.most);
+      filled = filled;
+      one = omega (arith, used_slots-without (raw_store a) n _ contents, sound.counted);
+      octets = omega (arith, stored_octets-without (raw_store a) n _ contents, sound.measured, filled.long);
+    }
 
 -- a put in the first free slot
 module _ (a b : Inside) (sound : IsSound a) (ne : a.first ≢ list_end) (xs : List ℕ) (same : SameOutside a.region b.region (a.first * a.width) (length xs)) (holds : Holds b.region (a.first * a.width) xs)

@@ -108,6 +108,32 @@ module _ (a : Inside) (sound : IsSound a) where
           (list_kept a.region b.region a.lengths.items (set a.lengths.items slot mark) a.width slot len same short (omega (arith, sound.least))
           (λ q ne. get_or-set_other a.lengths.items slot q mark 0 ne) free first apart list)
 
+      -- so the store is as before but at the slot,
+      store-new : (contents : finmap.FinMap nat_cmp (List ℕ)) → slot_contents b.region a.width slot (get_or (set a.lengths.items slot mark) slot free_mark) ≡ finmap.get contents slot
+          → ((q : ℕ) → q ≢ slot → finmap.get contents q ≡ contents_of (raw_store a) q) → raw_store b ≡ record (raw_store a) { contents = contents }
+      store-new contents here others =
+          let all = same_entries _ _ (each_key _ slot (get-new slot ∙ here) (λ q ne. get-others q ne ∙ sym (others q ne ∙ contents_of-raw q))) in
+          λ i. record { contents = all i; slots = as_long i; width = wide i }
+
+      -- and the shelf is sound where that slot is
+      sound-new : (s : Store) → raw_store b ≡ s → (free : List ℕ) → IsFreeList b.region b.lengths.items b.width free b.first
+          → (get_or (set a.lengths.items slot mark) slot free_mark ≢ free_mark → IsFilled b.region (set a.lengths.items slot mark) a.width slot)
+          → length free + b.used ≡ length a.lengths.items → b.used ≡ used_slots s → b.octets ≡ stored_octets s → IsWithinLimits s → IsSound b
+      sound-new s is free linked filled total counted measured within = record {
+        free = free;
+        linked = linked;
+        filled = subst (λ (u : List ℕ × ℕ). (q : ℕ) → get_or u.0 q free_mark ≢ free_mark → IsFilled b.region u.0 u.1 q) (λ i. (sym items i, sym wide i))
+            (each_key (λ q. get_or (set a.lengths.items slot mark) q free_mark ≢ free_mark → IsFilled b.region (set a.lengths.items slot mark) a.width q) slot filled filled-others);
+        total = total ∙ sym as_long;
+        counted = counted ∙ sym (ap used_slots is);
+        measured = measured ∙ sym (ap stored_octets is);
+        within = subst IsWithinLimits (sym is) within;
+        covered = covered-new;
+        few = omega (arith, sound.few, as_long);
+        least = omega (arith, sound.least, wide);
+        most = omega (arith, sound.most, wide);
+      }
+
 -- a used slot: its octets are written, they lie in the region, and the counts are more than nothing
 pub record Used (a : Inside) (slot : ℕ) : Type 0 where
   pub used : IsUsed (raw_store a) slot
@@ -151,37 +177,21 @@ module _ (a b : Inside) (sound : IsSound a) (ne : a.first ≢ list_end) (xs : Li
 
   pub raw_store-put : raw_store b ≡ with_contents (raw_store a) a.first xs
   raw_store-put =
-      let contents = same_entries _ _ (each_key _ a.first
-      (get-new a sound b a.first (length xs) same short (length xs) items wide a.first
-      ∙ ap (slot_contents b.region a.width a.first) (get_or-set_same a.lengths.items a.first (length xs) free_mark inside) ∙ in_place ∙ sym (get-insert_same _ a.first xs))
-      (λ q other. get-others a sound b a.first (length xs) same short (length xs) items wide q other ∙ sym (get-insert_other _ a.first xs q other ∙ contents_of-raw a sound q))) in
-      λ i. record { contents = contents i; slots = as_long a sound b a.first (length xs) same short (length xs) items wide i; width = wide i }
+      store-new a sound b a.first (length xs) same short (length xs) items wide _
+      (ap (slot_contents b.region a.width a.first) (get_or-set_same a.lengths.items a.first (length xs) free_mark inside) ∙ in_place ∙ sym (get-insert_same _ a.first xs))
+      (λ q other. get-insert_other _ a.first xs q other)
 
-  module _ (octets : b.octets ≡ a.octets + length xs) (used : b.used ≡ a.used + 1) (first : b.first ≡ (first_slot a sound ne).next) where
-    pub IsSound-put : IsSound b
-    IsSound-put =
-        let t = first_slot a sound ne in
-        let is = raw_store-put in
-        let long = as_long a sound b a.first (length xs) same short (length xs) items wide in
-        let room : used_slots (raw_store a) < length a.lengths.items = omega (arith, sound.total, sound.counted, t.more) in
-        record {
-          free = t.rest;
-          linked = subst (IsFreeList b.region b.lengths.items b.width t.rest) (sym first) (list-new a sound b a.first (length xs) same short (length xs) items wide t.rest t.next t.apart t.list);
-          filled = subst (λ (u : List ℕ × ℕ). (q : ℕ) → get_or u.0 q free_mark ≢ free_mark → IsFilled b.region u.0 u.1 q) (λ i. (sym items i, sym wide i)) (λ q mark.
-              elim (cases_eq q a.first) [
-                | inl e ↦ subst (λ k. IsFilled b.region (set a.lengths.items a.first (length xs)) a.width k) (sym e)
-                    (record { octets = xs; long = sym (get_or-set_same a.lengths.items a.first (length xs) free_mark inside); fits = short; holds = holds })
-                | inr other ↦ filled-others a sound b a.first (length xs) same short (length xs) items wide q other mark
-              ]);
-          total = omega (arith, sound.total, used, long, t.more);
-          counted = used ∙ ap (λ n. n + 1) sound.counted ∙ sym (ap used_slots is ∙ used_slots-with_contents (raw_store a) a.first xs (first_free a sound ne));
-          measured = octets ∙ ap (λ n. n + length xs) sound.measured ∙ sym (ap stored_octets is ∙ stored_octets-with_contents (raw_store a) a.first xs (first_free a sound ne));
-          within = subst IsWithinLimits (sym is) (IsWithinLimits-with_contents (raw_store a) a.first xs (first_free a sound ne) room short sound.within);
-          covered = covered-new a sound b a.first (length xs) same short (length xs) items wide;
-          few = omega (arith, sound.few, long);
-          least = omega (arith, sound.least, wide);
-          most = omega (arith, sound.most, wide);
-        }
+  pub IsSound-put : b.octets ≡ a.octets + length xs → b.used ≡ a.used + 1 → b.first ≡ (first_slot a sound ne).next → IsSound b
+  IsSound-put octets used first =
+      let t = first_slot a sound ne in
+      let room : used_slots (raw_store a) < length a.lengths.items = omega (arith, sound.total, sound.counted, t.more) in
+      sound-new a sound b a.first (length xs) same short (length xs) items wide _ raw_store-put t.rest
+      (subst (IsFreeList b.region b.lengths.items b.width t.rest) (sym first) (list-new a sound b a.first (length xs) same short (length xs) items wide t.rest t.next t.apart t.list))
+      (λ _. record { octets = xs; long = sym (get_or-set_same a.lengths.items a.first (length xs) free_mark inside); fits = short; holds = holds })
+      (omega (arith, sound.total, used, t.more))
+      (used ∙ ap (λ n. n + 1) sound.counted ∙ sym (used_slots-with_contents (raw_store a) a.first xs (first_free a sound ne)))
+      (octets ∙ ap (λ n. n + length xs) sound.measured ∙ sym (stored_octets-with_contents (raw_store a) a.first xs (first_free a sound ne)))
+      (IsWithinLimits-with_contents (raw_store a) a.first xs (first_free a sound ne) room short sound.within)
 
 -- a release of a used slot
 module _ (a b : Inside) (sound : IsSound a) (slot : ℕ) (was : IsUsed (raw_store a) slot) (same : SameOutside a.region b.region (slot * a.width) 2) (holds : Holds b.region (slot * a.width) (link a.first))
@@ -206,38 +216,22 @@ module _ (a b : Inside) (sound : IsSound a) (slot : ℕ) (was : IsUsed (raw_stor
 
   pub raw_store-release : raw_store b ≡ without (raw_store a) slot
   raw_store-release =
-      let all = same_entries _ _ (each_key _ slot
-      (get-new a sound b slot 2 same two free_mark items wide slot ∙ contents_free b.region a.width slot _ now_free ∙ sym (get-remove_same _ slot))
-      (λ q other. get-others a sound b slot 2 same two free_mark items wide q other ∙ sym (get-remove_other _ slot q other ∙ contents_of-raw a sound q))) in
-      λ i. record { contents = all i; slots = as_long a sound b slot 2 same two free_mark items wide i; width = wide i }
+      store-new a sound b slot 2 same two free_mark items wide _ (contents_free b.region a.width slot _ now_free ∙ sym (get-remove_same _ slot)) (λ q other. get-remove_other _ slot q other)
 
-  module _ (octets : b.octets + get_or a.lengths.items slot free_mark ≡ a.octets) (used : b.used + 1 ≡ a.used) (first : b.first ≡ slot) where
-    pub IsSound-release : IsSound b
-    IsSound-release =
-        let is = raw_store-release in
-        let long = as_long a sound b slot 2 same two free_mark items wide in
-        let apart = apart_used a.region a.lengths.items a.width sound.free a.first slot mark sound.linked in
-        let fewer = used_slots-without (raw_store a) slot contents was_held in
-        let less = stored_octets-without (raw_store a) slot contents was_held in
-        record {
-          free = slot ∷ sound.free;
-          linked = (
-            first,
-            ap (λ l. get_or l slot 0) items ∙ get_or-set_same a.lengths.items slot free_mark 0 was_within,
-            apart,
-            (a.first, subst (λ w. Holds b.region (slot * w) (link a.first)) (sym wide) holds, list-new a sound b slot 2 same two free_mark items wide sound.free a.first apart sound.linked),
-          );
-          filled = subst (λ (u : List ℕ × ℕ). (q : ℕ) → get_or u.0 q free_mark ≢ free_mark → IsFilled b.region u.0 u.1 q) (λ i. (sym items i, sym wide i)) (λ q other_mark.
-              filled-others a sound b slot 2 same two free_mark items wide q (λ e. other_mark (ap (λ k. get_or (set a.lengths.items slot free_mark) k free_mark) e ∙ now_free)) other_mark);
-          total = omega (arith, sound.total, used, long);
-          counted = omega (arith, ap used_slots is, fewer, used, sound.counted);
-          measured = omega (arith, ap stored_octets is, less, octets, sound.measured, (sound.filled slot mark).long);
-          within = subst IsWithinLimits (sym is) (IsWithinLimits-without (raw_store a) slot contents was_held sound.within);
-          covered = covered-new a sound b slot 2 same two free_mark items wide;
-          few = omega (arith, sound.few, long);
-          least = omega (arith, sound.least, wide);
-          most = omega (arith, sound.most, wide);
-        }
+  pub IsSound-release : b.octets + get_or a.lengths.items slot free_mark ≡ a.octets → b.used + 1 ≡ a.used → b.first ≡ slot → IsSound b
+  IsSound-release octets used first =
+      let apart = apart_used a.region a.lengths.items a.width sound.free a.first slot mark sound.linked in
+      sound-new a sound b slot 2 same two free_mark items wide _ raw_store-release (slot ∷ sound.free) (
+        first,
+        ap (λ l. get_or l slot 0) items ∙ get_or-set_same a.lengths.items slot free_mark 0 was_within,
+        apart,
+        (a.first, subst (λ w. Holds b.region (slot * w) (link a.first)) (sym wide) holds, list-new a sound b slot 2 same two free_mark items wide sound.free a.first apart sound.linked),
+      )
+      (λ other_mark. absurd (other_mark now_free))
+      (omega (arith, sound.total, used))
+      (omega (arith, used_slots-without (raw_store a) slot contents was_held, used, sound.counted))
+      (omega (arith, stored_octets-without (raw_store a) slot contents was_held, octets, sound.measured, (sound.filled slot mark).long))
+      (IsWithinLimits-without (raw_store a) slot contents was_held sound.within)
 
 -- the two as the code reaches them: by a number, and a width that was cast
 module _ (a b : Inside) (sound : IsSound a) (number from : ℕ) (wide_from : from ≡ a.width) (wide : b.width ≡ a.width) where

@@ -16,10 +16,10 @@ pub record Taken (region : List (Option ℕ)) (lens : List ℕ) (width first cou
   pub list : IsFreeList region lens width rest next
   pub more : count ≡ length rest + 1
 
-taken : (region : List (Option ℕ)) (lens : List ℕ) (width : ℕ) (free : List ℕ) (first : ℕ) → IsFreeList region lens width free first → first ≢ list_end → Taken region lens width first (length free)
-taken region lens width [] first list ne = absurd (ne list)
-taken region lens width (slot ∷ rest) first list ne =
-    subst (λ k. Taken region lens width k (suc (length rest))) (sym list.0)
+taken : (region : List (Option ℕ)) (lens : List ℕ) (width : ℕ) (free : List ℕ) (first slot : ℕ) → IsFreeList region lens width free first → first ≢ list_end → slot ≡ first → Taken region lens width slot (length free)
+taken region lens width [] first number list ne is = absurd (ne list)
+taken region lens width (slot ∷ rest) first number list ne is =
+    subst (λ k. Taken region lens width k (suc (length rest))) (sym list.0 ∙ sym is)
     (record { rest = rest; next = list.3.0; mark = list.1; apart = list.2; holds = list.3.1; list = list.3.2; more = omega arith })
 
 none_used : IsSome {T = List ℕ} None → ⊥
@@ -30,8 +30,8 @@ module _ (a : Inside) (sound : IsSound a) where
   contents_of-raw slot = get_raw a.region a.width a.lengths.items slot
 
   -- where the free list is not at its end, its first slot
-  pub first_slot : a.first ≢ list_end → Taken a.region a.lengths.items a.width a.first (length sound.free)
-  first_slot ne = taken a.region a.lengths.items a.width sound.free a.first sound.linked ne
+  pub first_slot : a.first ≢ list_end → (slot : ℕ) → slot ≡ a.first → Taken a.region a.lengths.items a.width slot (length sound.free)
+  first_slot ne slot is = taken a.region a.lengths.items a.width sound.free a.first slot sound.linked ne is
 
   -- a used slot has a length
   pub used_mark : (slot : ℕ) → IsUsed (raw_store a) slot → get_or a.lengths.items slot free_mark ≢ free_mark
@@ -62,11 +62,11 @@ module _ (a : Inside) (sound : IsSound a) where
       let bound = stored_octets_bound (raw_store a) 260 sound.most sound.within in
       omega (arith, bound, sound.measured, sound.within.count, sound.few, sound.most, fits)
 
-  pub first_within : (ne : a.first ≢ list_end) → a.first < length a.lengths.items
-  first_within ne = marked_within a.lengths.items a.first (first_slot ne).mark
+  pub first_within : a.first ≢ list_end → (slot : ℕ) → slot ≡ a.first → slot < length a.lengths.items
+  first_within ne slot is = marked_within a.lengths.items slot (first_slot ne slot is).mark
 
-  pub first_free : a.first ≢ list_end → IsFree (raw_store a) a.first
-  first_free ne = contents_of-raw a.first ∙ contents_free a.region a.width a.first _ (marked a.lengths.items a.first (first_slot ne).mark)
+  pub first_free : a.first ≢ list_end → (slot : ℕ) → slot ≡ a.first → IsFree (raw_store a) slot
+  first_free ne slot is = contents_of-raw slot ∙ contents_free a.region a.width slot _ (marked a.lengths.items slot (first_slot ne slot is).mark)
 
   module _ (b : Inside) (slot len : ℕ) (same : SameOutside a.region b.region (slot * a.width) len) (short : len ≤ a.width) where
     -- another slot's contents stay
@@ -164,110 +164,79 @@ used_slot {a} {s} {n} {m} sound view same is =
       octets = omega (arith, stored_octets-without (raw_store a) n _ contents, sound.measured, filled.long);
     }
 
--- a put in the first free slot
-module _ (a b : Inside) (sound : IsSound a) (ne : a.first ≢ list_end) (xs : List ℕ) (same : SameOutside a.region b.region (a.first * a.width) (length xs)) (holds : Holds b.region (a.first * a.width) xs)
-    (short : length xs ≤ a.width) (items : b.lengths.items ≡ set a.lengths.items a.first (length xs)) (wide : b.width ≡ a.width) where
-  inside : a.first < length a.lengths.items
-  inside = first_within a sound ne
+-- as the code reaches a slot: by a number, and a width that was cast
+module _ (a b : Inside) (sound : IsSound a) (slot from : ℕ) (wide_from : from ≡ a.width) (wide : b.width ≡ a.width) where
+  -- a put in the first free slot
+  module _ (ne : a.first ≢ list_end) (is_first : slot ≡ a.first) (xs : List ℕ) (outside : SameOutside a.region b.region (slot * from) (length xs)) (lies : Holds b.region (slot * from) xs)
+      (short : length xs ≤ a.width) (items : b.lengths.items ≡ set a.lengths.items slot (length xs)) where
+    same : SameOutside a.region b.region (slot * a.width) (length xs)
+    same = subst (λ w. SameOutside a.region b.region (slot * w) (length xs)) wide_from outside
 
-  in_place : slot_contents b.region a.width a.first (length xs) ≡ Some xs
-  in_place =
-      let within = slot_within a sound a.first inside in
-      contents_held b.region a.width a.first (length xs) xs refl (λ e. omega (arith, e, short, sound.most)) (omega (arith, within, short, same.size)) holds
+    holds : Holds b.region (slot * a.width) xs
+    holds = subst (λ w. Holds b.region (slot * w) xs) wide_from lies
 
-  pub raw_store-put : raw_store b ≡ with_contents (raw_store a) a.first xs
-  raw_store-put =
-      store-new a sound b a.first (length xs) same short (length xs) items wide _
-      (ap (slot_contents b.region a.width a.first) (get_or-set_same a.lengths.items a.first (length xs) free_mark inside) ∙ in_place ∙ sym (get-insert_same _ a.first xs))
-      (λ q other. get-insert_other _ a.first xs q other)
+    inside : slot < length a.lengths.items
+    inside = first_within a sound ne slot is_first
 
-  pub IsSound-put : b.octets ≡ a.octets + length xs → b.used ≡ a.used + 1 → b.first ≡ (first_slot a sound ne).next → IsSound b
-  IsSound-put octets used first =
-      let t = first_slot a sound ne in
-      let room : used_slots (raw_store a) < length a.lengths.items = omega (arith, sound.total, sound.counted, t.more) in
-      sound-new a sound b a.first (length xs) same short (length xs) items wide _ raw_store-put t.rest
-      (subst (IsFreeList b.region b.lengths.items b.width t.rest) (sym first) (list-new a sound b a.first (length xs) same short (length xs) items wide t.rest t.next t.apart t.list))
-      (λ _. record { octets = xs; long = sym (get_or-set_same a.lengths.items a.first (length xs) free_mark inside); fits = short; holds = holds })
-      (omega (arith, sound.total, used, t.more))
-      (used ∙ ap (λ n. n + 1) sound.counted ∙ sym (used_slots-with_contents (raw_store a) a.first xs (first_free a sound ne)))
-      (octets ∙ ap (λ n. n + length xs) sound.measured ∙ sym (stored_octets-with_contents (raw_store a) a.first xs (first_free a sound ne)))
-      (IsWithinLimits-with_contents (raw_store a) a.first xs (first_free a sound ne) room short sound.within)
+    free : IsFree (raw_store a) slot
+    free = first_free a sound ne slot is_first
 
--- a release of a used slot
-module _ (a b : Inside) (sound : IsSound a) (slot : ℕ) (was : IsUsed (raw_store a) slot) (same : SameOutside a.region b.region (slot * a.width) 2) (holds : Holds b.region (slot * a.width) (link a.first))
-    (items : b.lengths.items ≡ set a.lengths.items slot free_mark) (wide : b.width ≡ a.width) where
-  abbrev mark : get_or a.lengths.items slot free_mark ≢ free_mark
-  mark = used_mark a sound slot was
+    in_place : slot_contents b.region a.width slot (length xs) ≡ Some xs
+    in_place =
+        let within = slot_within a sound slot inside in
+        contents_held b.region a.width slot (length xs) xs refl (λ e. omega (arith, e, short, sound.most)) (omega (arith, within, short, outside.size)) holds
 
-  two : 2 ≤ a.width
-  two = omega (arith, sound.least)
+    pub put_stored : raw_store b ≡ with_contents (raw_store a) slot xs
+    put_stored =
+        store-new a sound b slot (length xs) same short (length xs) items wide _
+        (ap (slot_contents b.region a.width slot) (get_or-set_same a.lengths.items slot (length xs) free_mark inside) ∙ in_place ∙ sym (get-insert_same _ slot xs))
+        (λ q other. get-insert_other _ slot xs q other)
 
-  was_within : slot < length a.lengths.items
-  was_within = used_within a.lengths.items slot mark
-
-  abbrev contents : List ℕ
-  contents = (sound.filled slot mark).octets
-
-  was_held : contents_of (raw_store a) slot ≡ Some contents
-  was_held = used_held a sound slot mark
-
-  now_free : get_or (set a.lengths.items slot free_mark) slot free_mark ≡ free_mark
-  now_free = get_or-set_same a.lengths.items slot free_mark free_mark was_within
-
-  pub raw_store-release : raw_store b ≡ without (raw_store a) slot
-  raw_store-release =
-      store-new a sound b slot 2 same two free_mark items wide _ (contents_free b.region a.width slot _ now_free ∙ sym (get-remove_same _ slot)) (λ q other. get-remove_other _ slot q other)
-
-  pub IsSound-release : b.octets + get_or a.lengths.items slot free_mark ≡ a.octets → b.used + 1 ≡ a.used → b.first ≡ slot → IsSound b
-  IsSound-release octets used first =
-      let apart = apart_used a.region a.lengths.items a.width sound.free a.first slot mark sound.linked in
-      sound-new a sound b slot 2 same two free_mark items wide _ raw_store-release (slot ∷ sound.free) (
-        first,
-        ap (λ l. get_or l slot 0) items ∙ get_or-set_same a.lengths.items slot free_mark 0 was_within,
-        apart,
-        (a.first, subst (λ w. Holds b.region (slot * w) (link a.first)) (sym wide) holds, list-new a sound b slot 2 same two free_mark items wide sound.free a.first apart sound.linked),
-      )
-      (λ other_mark. absurd (other_mark now_free))
-      (omega (arith, sound.total, used))
-      (omega (arith, used_slots-without (raw_store a) slot contents was_held, used, sound.counted))
-      (omega (arith, stored_octets-without (raw_store a) slot contents was_held, octets, sound.measured, (sound.filled slot mark).long))
-      (IsWithinLimits-without (raw_store a) slot contents was_held sound.within)
-
--- the two as the code reaches them: by a number, and a width that was cast
-module _ (a b : Inside) (sound : IsSound a) (number from : ℕ) (wide_from : from ≡ a.width) (wide : b.width ≡ a.width) where
-  module _ (ne : a.first ≢ list_end) (is_first : number ≡ a.first) (xs : List ℕ) (same : SameOutside a.region b.region (number * from) (length xs)) (holds : Holds b.region (number * from) xs) (short : length xs ≤ a.width) (items : b.lengths.items ≡ set a.lengths.items number (length xs)) where
-    place : number * from ≡ a.first * a.width
-    place i = is_first i * wide_from i
-
-    same_there : SameOutside a.region b.region (a.first * a.width) (length xs)
-    same_there = subst (λ k. SameOutside a.region b.region k (length xs)) place same
-
-    holds_there : Holds b.region (a.first * a.width) xs
-    holds_there = subst (λ k. Holds b.region k xs) place holds
-
-    items_there : b.lengths.items ≡ set a.lengths.items a.first (length xs)
-    items_there = items ∙ ap (λ k. set a.lengths.items k (length xs)) is_first
-
-    pub put_stored : raw_store b ≡ with_contents (raw_store a) number xs
-    put_stored = raw_store-put a b sound ne xs same_there holds_there short items_there wide ∙ ap (λ k. with_contents (raw_store a) k xs) (sym is_first)
-
-    pub put_sound : b.octets ≡ a.octets + length xs → b.used ≡ a.used + 1 → ((next : ℕ) → Holds a.region (number * from) (link next) → b.first ≡ next) → IsSound b
+    pub put_sound : b.octets ≡ a.octets + length xs → b.used ≡ a.used + 1 → ((next : ℕ) → Holds a.region (slot * from) (link next) → b.first ≡ next) → IsSound b
     put_sound octets used read =
-        let t = first_slot a sound ne in
-        IsSound-put a b sound ne xs same_there holds_there short items_there wide octets used (read t.next (subst (λ k. Holds a.region k (link t.next)) (sym place) t.holds))
+        let t = first_slot a sound ne slot is_first in
+        let first = read t.next (subst (λ w. Holds a.region (slot * w) (link t.next)) (sym wide_from) t.holds) in
+        let room : used_slots (raw_store a) < length a.lengths.items = omega (arith, sound.total, sound.counted, t.more) in
+        sound-new a sound b slot (length xs) same short (length xs) items wide _ put_stored t.rest
+        (subst (IsFreeList b.region b.lengths.items b.width t.rest) (sym first) (list-new a sound b slot (length xs) same short (length xs) items wide t.rest t.next t.apart t.list))
+        (λ _. record { octets = xs; long = sym (get_or-set_same a.lengths.items slot (length xs) free_mark inside); fits = short; holds = holds })
+        (omega (arith, sound.total, used, t.more))
+        (used ∙ ap (λ n. n + 1) sound.counted ∙ sym (used_slots-with_contents (raw_store a) slot xs free))
+        (octets ∙ ap (λ n. n + length xs) sound.measured ∙ sym (stored_octets-with_contents (raw_store a) slot xs free))
+        (IsWithinLimits-with_contents (raw_store a) slot xs free room short sound.within)
 
-  module _ (was : IsUsed (raw_store a) number) (same : SameOutside a.region b.region (number * from) 2) (holds : Holds b.region (number * from) (link a.first)) (items : b.lengths.items ≡ set a.lengths.items number free_mark) where
-    same_here : SameOutside a.region b.region (number * a.width) 2
-    same_here = subst (λ w. SameOutside a.region b.region (number * w) 2) wide_from same
+  -- a release of a used slot
+  module _ (was : Used a slot) (outside : SameOutside a.region b.region (slot * from) 2) (lies : Holds b.region (slot * from) (link a.first)) (items : b.lengths.items ≡ set a.lengths.items slot free_mark) where
+    left : SameOutside a.region b.region (slot * a.width) 2
+    left = subst (λ w. SameOutside a.region b.region (slot * w) 2) wide_from outside
 
-    holds_here : Holds b.region (number * a.width) (link a.first)
-    holds_here = subst (λ w. Holds b.region (number * w) (link a.first)) wide_from holds
+    two : 2 ≤ a.width
+    two = omega (arith, sound.least)
 
-    pub release_stored : raw_store b ≡ without (raw_store a) number
-    release_stored = raw_store-release a b sound number was same_here holds_here items wide
+    was_held : contents_of (raw_store a) slot ≡ Some (sound.filled slot was.mark).octets
+    was_held = used_held a sound slot was.mark
 
-    pub release_sound : b.octets + get_or a.lengths.items number free_mark ≡ a.octets → b.used + 1 ≡ a.used → b.first ≡ number → IsSound b
-    release_sound = IsSound-release a b sound number was same_here holds_here items wide
+    now_free : get_or (set a.lengths.items slot free_mark) slot free_mark ≡ free_mark
+    now_free = get_or-set_same a.lengths.items slot free_mark free_mark was.there
+
+    pub release_stored : raw_store b ≡ without (raw_store a) slot
+    release_stored =
+        store-new a sound b slot 2 left two free_mark items wide _ (contents_free b.region a.width slot _ now_free ∙ sym (get-remove_same _ slot)) (λ q other. get-remove_other _ slot q other)
+
+    pub release_sound : b.octets + get_or a.lengths.items slot free_mark ≡ a.octets → b.used + 1 ≡ a.used → b.first ≡ slot → IsSound b
+    release_sound octets used first =
+        let apart = apart_used a.region a.lengths.items a.width sound.free a.first slot was.mark sound.linked in
+        sound-new a sound b slot 2 left two free_mark items wide _ release_stored (slot ∷ sound.free) (
+          first,
+          ap (λ l. get_or l slot 0) items ∙ get_or-set_same a.lengths.items slot free_mark 0 was.there,
+          apart,
+          (a.first, subst (λ w. Holds b.region (slot * w) (link a.first)) (wide_from ∙ sym wide) lies, list-new a sound b slot 2 left two free_mark items wide sound.free a.first apart sound.linked),
+        )
+        (λ other_mark. absurd (other_mark now_free))
+        (omega (arith, sound.total, used))
+        (omega (arith, used_slots-without (raw_store a) slot _ was_held, used, sound.counted))
+        (omega (arith, stored_octets-without (raw_store a) slot _ was_held, octets, sound.measured, (sound.filled slot was.mark).long))
+        (IsWithinLimits-without (raw_store a) slot _ was_held sound.within)
 
 -- a start: every slot is free, by rising number
 abbrev count_from : ℕ → ℕ → List ℕ

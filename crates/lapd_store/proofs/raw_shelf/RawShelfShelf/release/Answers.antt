@@ -41,7 +41,7 @@ invariant_of-self c =
     let len = read_length a.lengths.items n c.index.result.now u.there c.index.ensures in
     let octets : a.octets - c.from.result + get_or a.lengths.items n free_mark ≡ a.octets = omega (arith, u.octets, c.from.ensures, len) in
     let used : a.used - 1 + 1 ≡ a.used = omega (arith, u.one) in
-    release_sound a _ c.self.invariant n c.from-2.result c.from-2.ensures refl u.used c.write_link.ensures.others c.write_link.ensures.linked refl octets used refl
+    release_sound a _ c.self.invariant n c.from-2.result c.from-2.ensures refl u c.write_link.ensures.others c.write_link.ensures.linked refl octets used refl
 
 pub returns-clause-released : goal.returns-clause-released
 returns-clause-released c =
@@ -50,7 +50,7 @@ returns-clause-released c =
     let u = used_slot c.self.invariant c.self.view_is c.slot.view_is c.requires in
     rw (← c.self.view_is, ← c.slot.view_is)
     (release_stored a (record { region = c.write_link.new.region; lengths = with_item a.lengths n 65535; octets = a.octets - c.from.result; used = a.used - 1; first = n; width = a.width })
-    c.self.invariant n c.from-2.result c.from-2.ensures refl u.used c.write_link.ensures.others c.write_link.ensures.linked refl)
+    c.self.invariant n c.from-2.result c.from-2.ensures refl u c.write_link.ensures.others c.write_link.ensures.linked refl)
 
 pub returns-clause-within : goal.returns-clause-within
 returns-clause-within c = (invariant_of-self c).within

@@ -18,13 +18,9 @@ of_itself : (line : ℕ) (timer : Timer) → (line == line && is_same timer time
 of_itself line timer = ap (λ b. b && is_same timer timer) (nat_eq_equiv.refl line) ∙ (eq_by_cmp_equiv timer_total).refl timer
 
 -- a timer that is taken out has no moment, and the others keep theirs
-moment_of-without : (line : ℕ) (timer : Timer) (es : List Expiry) → moment_of line timer (without line timer es) ≡ None
-moment_of-without line timer [] = refl
-moment_of-without line timer (e ∷ es) =
-    (elim (is_of line timer e) as (λ b. is_of line timer e ≡ b → moment_of line timer (cond (not b) (e ∷ without line timer es) (without line timer es)) ≡ None) [
-      | true ↦ λ _. moment_of-without line timer es
-      | false ↦ λ h. ap (λ b. cond b (Some e.moment) (moment_of line timer (without line timer es))) h ∙ moment_of-without line timer es
-    ]) refl
+moment_of-none : (line : ℕ) (timer : Timer) (es : List Expiry) → AllByRecursion (λ e. is_of line timer e ≡ false) es → moment_of line timer es ≡ None
+moment_of-none line timer [] none = refl
+moment_of-none line timer (e ∷ es) none = ap (λ b. cond b (Some e.moment) (moment_of line timer es)) none.0 ∙ moment_of-none line timer es none.1
 
 moment_of-others : (line l : ℕ) (timer t : Timer) (es : List Expiry) → (line == l && is_same timer t) ≡ false → moment_of l t (without line timer es) ≡ moment_of l t es
 moment_of-others line l timer t [] apart = refl
@@ -66,6 +62,6 @@ start_moves_one c line timer now found =
 pub stop_moves_one : (c : Timers) (line : ℕ) (timer : Timer) (now : ℕ) → MovesOne line timer None c (with_order c line (Stop timer) now)
 unfolding with_order
 stop_moves_one c line timer now = record {
-  own = moment_of-without line timer c.running;
+  own = moment_of-none line timer _ (none_of-without line timer c.running);
   others = λ l t apart. moment_of-others line l timer t c.running apart;
 }

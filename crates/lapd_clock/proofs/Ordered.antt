@@ -1,5 +1,6 @@
 -- Lists in an order: what `put_in_order` and an insertion sort do to them.
-use Rattle.lapd_clock.proofs.Vocabulary.{◌++◌, ◌≡◌, ℕ, suc, ◌+◌, Bool, true, false, cond, not, List, [], ◌∷◌, length, filter, count_by, refl, sym, ap, ◌∙◌, arith, subst, false≢true, sum_by-cons, sum_by-insert, IsStrictWeakOrder, AllByRecursion, prefix_len, insert, position_or_len, sum_by, put_in_order, IsInOrder}
+use Rattle.lapd_clock.proofs.Vocabulary.{◌++◌, ◌≡◌, ℕ, suc, ◌+◌, Bool, true, false, cond, not, List, [], ◌∷◌, length, filter, count_by, refl, sym, ap, ◌∙◌, arith, subst, false≢true, sum_by-cons, sum_by-insert, IsStrictWeakOrder, AllByRecursion, prefix_len, insert, position_or_len, sum_by, put_in_order, IsInOrder, recursion_from_All, All-from_recursion, length-insert, prefix_len-le-length}
+use Rattle.std.proofs.lemmas.List.Elements as lists
 
 -- a count over one more element
 pub count_by-cons : {X : Type 0} (p : X → Bool) (x : X) (xs : List X) → count_by p (x ∷ xs) ≡ cond (p x) 1 0 + count_by p xs
@@ -7,12 +8,7 @@ count_by-cons p x xs = sum_by-cons (λ y. cond (p y) 1 0) x xs
 
 -- what holds of all holds of what a filter keeps
 pub All-filter : {X : Type 0} (P : X → Type 0) (p : X → Bool) (ys : List X) → AllByRecursion P ys → AllByRecursion P (filter p ys)
-All-filter P p [] h = tt
-All-filter P p (y ∷ ys) h =
-    elim (p y) as (λ b. AllByRecursion P (cond b (y ∷ filter p ys) (filter p ys))) [
-      | true ↦ (h.0, All-filter P p ys h.1)
-      | false ↦ All-filter P p ys h.1
-    ]
+All-filter P p ys h = recursion_from_All P (filter p ys) (lists.All-filter p P ys (All-from_recursion P ys h))
 
 -- what holds of two lists holds of both joined
 pub All-append : {X : Type 0} (P : X → Type 0) (xs ys : List X) → AllByRecursion P xs → AllByRecursion P ys → AllByRecursion P (xs ++ ys)
@@ -49,19 +45,6 @@ module _ {X : Type 0} (before : X → X → Bool) where
   All-from_put_in_order P x (y ∷ ys) =
       by_place x y ys (λ zs. AllByRecursion P zs → AllByRecursion P (y ∷ ys)) (λ _ h. (h.0, All-from_put_in_order P x ys h.1)) (λ _ h. h.1)
 
-  -- one more in its place is one more to count
-  pub count_by-put_in_order : (p : X → Bool) (x : X) (ys : List X) → count_by p (put_in_order before x ys) ≡ cond (p x) 1 0 + count_by p ys
-  count_by-put_in_order p x [] = omega arith
-  count_by-put_in_order p x (y ∷ ys) =
-      by_place x y ys (λ zs. count_by p zs ≡ cond (p x) 1 0 + count_by p (y ∷ ys))
-      (λ _. count_by-cons p y (put_in_order before x ys) ∙ omega (arith, count_by-put_in_order p x ys, count_by-cons p y ys))
-      (λ _. count_by-cons p x (y ∷ ys))
-
-  pub length-put_in_order : (x : X) (ys : List X) → length (put_in_order before x ys) ≡ length ys + 1
-  length-put_in_order x [] = refl
-  length-put_in_order x (y ∷ ys) =
-      by_place x y ys (λ zs. length zs ≡ length (y ∷ ys) + 1) (λ _. omega (arith, length-put_in_order x ys)) (λ _. omega arith)
-
   one_more : (n : ℕ) → 1 + n ≡ suc n
   one_more n = omega arith
 
@@ -77,6 +60,13 @@ module _ {X : Type 0} (before : X → X → Bool) where
   -- and adds to a sum what x counts
   pub sum_by-put_in_order : (f : X → ℕ) (x : X) (ys : List X) → sum_by f (put_in_order before x ys) ≡ sum_by f ys + f x
   sum_by-put_in_order f x ys = ap (sum_by f) (sym (insert-place x ys)) ∙ sum_by-insert f ys _ x
+
+  -- and to a count, and to the length
+  pub count_by-put_in_order : (p : X → Bool) (x : X) (ys : List X) → count_by p (put_in_order before x ys) ≡ cond (p x) 1 0 + count_by p ys
+  count_by-put_in_order p x ys = omega (arith, sum_by-put_in_order (λ y. cond (p y) 1 0) x ys)
+
+  pub length-put_in_order : (x : X) (ys : List X) → length (put_in_order before x ys) ≡ length ys + 1
+  length-put_in_order x ys = ap length (sym (insert-place x ys)) ∙ length-insert ys _ x (prefix_len-le-length (λ y. not (not (before y x))) ys)
 
   module _ (order : IsStrictWeakOrder before) where
     -- what does not come before y does not come before an x that y does not come before

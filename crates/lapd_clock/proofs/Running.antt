@@ -1,16 +1,12 @@
 -- What the calls do to a set of running timers.
-use Rattle.lapd_clock.proofs.Vocabulary.{◌≡◌, ℕ, ◌+◌, ◌<◌, ◌≤◌, Bool, true, false, cond, not, ◌&&◌, ◌||◌, ◌==◌, nat_lt, nat_le, List, [], ◌∷◌, filter, refl, sym, ap, ◌∙◌, subst, arith, AllByRecursion, false≢true, nat_tests, All-from_recursion, recursion_from_All, put_in_order, Timer, Lengths, AreInRange, Order, Start, Stop, duration, is_same, Expiry, Timers, is_before, is_of, is_held, without, count_on, finds_place, with_order, after_first_due, IsSound, IsOneEach}
+use Rattle.lapd_clock.proofs.Vocabulary.{◌≡◌, ℕ, ◌+◌, ◌<◌, ◌≤◌, Bool, true, false, cond, not, ◌&&◌, ◌||◌, ◌==◌, nat_lt, nat_le, List, [], ◌∷◌, filter, refl, sym, ap, ◌∙◌, subst, arith, AllByRecursion, false≢true, nat_tests, All-from_recursion, recursion_from_All, put_in_order, Timer, Lengths, AreInRange, Order, Start, Stop, duration, is_same, Expiry, Timers, is_before, is_of, is_held, without, count_on, finds_place, with_order, after_first_due, IsSound, IsOneEach, sum_by-filter_both, All-weaker, filter_passes}
 use Rattle.lapd_clock.proofs.Ordered.{by_place, IsInOrder-put_in_order, IsInOrder-filter, All-put_in_order, All-filter, count_by-put_in_order, count_by-cons}
 use Rattle.lapd_clock.proofs.TimerOrder.{before_order, is_same_both_ways}
 
 -- taking a timer out frees its place, if it has one
 count_on-without : (line : ℕ) (timer : Timer) (l : ℕ) (es : List Expiry) → count_on l (without line timer es) ≤ count_on l es
-count_on-without line timer l [] = omega arith
-count_on-without line timer l (e ∷ es) =
-    (elim (is_of line timer e) as (λ b. count_on l (cond (not b) (e ∷ without line timer es) (without line timer es)) ≤ count_on l (e ∷ es)) [
-      | true ↦ omega (arith, count_by-cons (λ x. x.line == l) e es, count_on-without line timer l es)
-      | false ↦ omega (arith, count_by-cons (λ x. x.line == l) e es, count_by-cons (λ x. x.line == l) e (without line timer es), count_on-without line timer l es)
-    ])
+count_on-without line timer l es =
+    omega (arith, sum_by-filter_both (λ e. not (is_of line timer e)) (λ e. not (not (is_of line timer e))) (λ _. refl) (λ e. cond (e.line == l) 1 0) es)
 
 count_on-held : (line : ℕ) (timer : Timer) (es : List Expiry) → is_held line timer es ≡ true → count_on line (without line timer es) < count_on line es
 count_on-held line timer [] = λ h. absurd (false≢true h)
@@ -75,12 +71,13 @@ IsOneEach-put_in_order e (x ∷ xs) others h =
     (λ _. (others, h))
 
 pub none_of-without : (line : ℕ) (timer : Timer) (es : List Expiry) → AllByRecursion (λ other. is_of line timer other ≡ false) (without line timer es)
-none_of-without line timer [] = tt
-none_of-without line timer (e ∷ es) =
-    (elim (is_of line timer e) as (λ b. is_of line timer e ≡ b → AllByRecursion (λ other. is_of line timer other ≡ false) (cond (not b) (e ∷ without line timer es) (without line timer es))) [
-      | true ↦ λ _. none_of-without line timer es
-      | false ↦ λ h. (h, none_of-without line timer es)
-    ]) refl
+none_of-without line timer es =
+    recursion_from_All (λ other. is_of line timer other ≡ false) _
+    (All-weaker (λ other. not (is_of line timer other) ≡ true) (λ other. is_of line timer other ≡ false) (λ other h. is_false (is_of line timer other) h) _ (filter_passes (λ other. not (is_of line timer other)) es))
+  where
+    is_false : (b : Bool) → not b ≡ true → b ≡ false
+    is_false true h = sym h
+    is_false false h = refl
 
 without_sound : (c : Timers) (line : ℕ) (timer : Timer) → IsSound c → IsSound (record c { running = without line timer c.running })
 without_sound c line timer h = record {

@@ -7,7 +7,8 @@ pub use Rattle.std.proofs.lemmas.Fn.{filter_same}
 pub use Rattle.std.proofs.lemmas.Iterator.{YieldsList-from_slice}
 pub use Rattle.std.proofs.lemmas.Iterator.Search.{position_from_yields_List}
 pub use Rattle.std.proofs.lemmas.List.{append_assoc, get_or_default, set-get_or, take_more}
-pub use Rattle.std.proofs.lemmas.List.Elements.{All-from_recursion, All-nil, filter-append, recursion_from_All}
+pub use Rattle.std.proofs.lemmas.List.Edits.{length-insert}
+pub use Rattle.std.proofs.lemmas.List.Elements.{All-from_recursion, All-nil, All-weaker, filter-append, filter_passes, recursion_from_All}
 pub use Rattle.std.proofs.lemmas.Option.{none-some, same_Some}
 pub use Rattle.std.proofs.lemmas.List.Filters.{sum_by-filter_both}
 pub use Rattle.std.proofs.lemmas.List.Sorted.{ranks_by}

@@ -1,5 +1,5 @@
 -- The entries of a finite map whose keys are numbers, as a list in any order.
-use Rattle.lapd_store.proofs.Vocabulary.{◌≡◌, ◌≢◌, ℕ, ◌<◌, Bool, true, false, cond, T, Option, Some, None, List, [], ◌∷◌, map, refl, sym, ap, subst, ◌∙◌, ◌⊎◌, inl, inr, arith, eqb, get_or, eqb-false, ne_eqb, eq-eqb, cases_eq, and_parts, cond-true, cond-false, nat_tests, nil_from_length, All-nil, All-cons, All-head, All-tail, All-contains, All-map, recursion_from_All, Contains-append_right, IsPermutation-refl, IsPermutation-sym, IsPermutation-cons, IsPermutation-trans, IsPermutation-middle, IsPermutation-map, All-permutation, IsDistinct-head, IsDistinct-tail, IsDistinct-cons, IsDistinct-from_apart, IsDistinct-IsPermutation, none-some, same_Some, nat_cmp_total, unsigned_tied, ranked, Ordering, Less, Equal, Greater, by_order, below_all, find, put, is_sorted, All, AllByRecursion, Contains, IsDistinct, IsPermutation, nat_cmp, is_lt, is_eq, eq_by_cmp}
+use Rattle.lapd_store.proofs.Vocabulary.{zero, suc, ◌+◌, option_map, entries_from, ◌≡◌, ◌≢◌, ℕ, ◌<◌, Bool, true, false, cond, T, Option, Some, None, List, [], ◌∷◌, map, refl, sym, ap, subst, ◌∙◌, ◌⊎◌, inl, inr, arith, eqb, get_or, eqb-false, ne_eqb, eq-eqb, cases_eq, and_parts, cond-true, cond-false, nat_tests, nil_from_length, All-nil, All-cons, All-head, All-tail, All-contains, All-map, recursion_from_All, Contains-append_right, IsPermutation-refl, IsPermutation-sym, IsPermutation-cons, IsPermutation-trans, IsPermutation-middle, IsPermutation-map, All-permutation, IsDistinct-head, IsDistinct-tail, IsDistinct-cons, IsDistinct-from_apart, IsDistinct-IsPermutation, none-some, same_Some, nat_cmp_total, unsigned_tied, ranked, Ordering, Less, Equal, Greater, by_order, below_all, find, put, is_sorted, All, AllByRecursion, Contains, IsDistinct, IsPermutation, nat_cmp, is_lt, is_eq, eq_by_cmp}
 use Rattle.std.specs.FinMap as finmap
 
 holds : (b : Bool) → T b → b ≡ true
@@ -185,3 +185,27 @@ module _ {X : Type 0} where
       let free = finmap.get-from_entries nat_cmp_total es k ∙ apart_unfound k es (IsDistinct-head eqb k _ distinct) in
       let is = ap (λ n. finmap.remove n k) (sym (from_entries_permuted m ((k, v) ∷ es) order)) ∙ remove-insert_same (finmap.from_entries es) k v free in
       subst (λ n. IsPermutation es (finmap.entries n)) (sym is) (entries-from_entries es (IsDistinct-tail eqb k _ distinct))
+
+-- the entries of a list of places, found by their number
+find_before : {X : Type 0} (key q : ℕ) (places : List (Option X)) → q < key → find nat_cmp q (entries_from key places) ≡ None
+find_before key q [] low = refl
+find_before key q (None ∷ rest) low = find_before (key + 1) q rest (omega arith)
+find_before key q (Some v ∷ rest) low =
+    find-tail q (key, v) (entries_from (key + 1) rest) (omega arith) ∙ find_before (key + 1) q rest (omega arith)
+
+pub find_from : {X : Type 0} (key i q : ℕ) (places : List (Option X)) → q ≡ key + i → find nat_cmp q (entries_from key places) ≡ get_or places i None
+find_from key i q [] is = refl
+find_from key zero q (None ∷ rest) is = find_before (key + 1) q rest (omega arith)
+find_from key (suc i) q (None ∷ rest) is = find_from (key + 1) i q rest (omega arith)
+find_from key zero q (Some v ∷ rest) is = find-head q (key, v) (entries_from (key + 1) rest) (omega arith)
+find_from key (suc i) q (Some v ∷ rest) is =
+    find-tail q (key, v) (entries_from (key + 1) rest) (omega arith) ∙ find_from (key + 1) i q rest (omega arith)
+
+-- each value of a list of entries changed
+pub find_changed : {X Y : Type 0} (f : X → Y) (q : ℕ) (es : List (ℕ × X)) → find nat_cmp q (map (λ e. (e.0, f e.1)) es) ≡ option_map f (find nat_cmp q es)
+find_changed f q [] = refl
+find_changed f q (e ∷ es) =
+    elim (eq_by_cmp nat_cmp q e.0) as (λ b. cond b (Some (f e.1)) (find nat_cmp q (map (λ e. (e.0, f e.1)) es)) ≡ option_map f (cond b (Some e.1) (find nat_cmp q es))) [
+      | true ↦ refl
+      | false ↦ find_changed f q es
+    ]

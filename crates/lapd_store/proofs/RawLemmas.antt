@@ -1,24 +1,9 @@
 -- A region of slots as a store.
-use Rattle.lapd_store.proofs.Vocabulary.{◌≡◌, ◌≢◌, ℕ, zero, suc, ◌+◌, ◌*◌, ◌<◌, ◌≤◌, ◌⊎◌, inl, inr, Option, Some, None, List, [], ◌∷◌, map, length, get_or, refl, sym, ap, ◌∙◌, arith, find, filter_map, nat_cmp, nat_cmp_total, cond-true, cond-false, ne_eqb, eq-eqb, get_or_default_zero, entries_from, Holds, SameOutside, free_mark, link, octets_at, slot_contents, contents_from, IsApart, IsFreeList}
+use Rattle.lapd_store.proofs.Vocabulary.{◌≡◌, ◌≢◌, ℕ, zero, suc, ◌+◌, ◌*◌, ◌<◌, ◌≤◌, ◌⊎◌, inl, inr, Option, Some, None, List, [], ◌∷◌, map, length, get_or, refl, sym, ap, ◌∙◌, arith, filter_map, nat_cmp, nat_cmp_total, cond-true, cond-false, ne_eqb, eq-eqb, get_or_default_zero, entries_from, Holds, SameOutside, free_mark, link, octets_at, slot_contents, contents_from, IsApart, IsFreeList}
 use native.Mathlib.Nat.{zero-mul, suc-mul}
 use Rattle.std.specs.FinMap as finmap
 use Rattle.lapd_store.proofs.Runs.{run_of}
-use Rattle.lapd_store.proofs.Entries.{find-head, find-tail}
-
--- the entries of a list of places, found by their number
-find_before : {X : Type 0} (key q : ℕ) (places : List (Option X)) → q < key → find nat_cmp q (entries_from key places) ≡ None
-find_before key q [] low = refl
-find_before key q (None ∷ rest) low = find_before (key + 1) q rest (omega arith)
-find_before key q (Some v ∷ rest) low =
-    find-tail q (key, v) (entries_from (key + 1) rest) (omega arith) ∙ find_before (key + 1) q rest (omega arith)
-
-find_from : {X : Type 0} (key i q : ℕ) (places : List (Option X)) → q ≡ key + i → find nat_cmp q (entries_from key places) ≡ get_or places i None
-find_from key i q [] is = refl
-find_from key zero q (None ∷ rest) is = find_before (key + 1) q rest (omega arith)
-find_from key (suc i) q (None ∷ rest) is = find_from (key + 1) i q rest (omega arith)
-find_from key zero q (Some v ∷ rest) is = find-head q (key, v) (entries_from (key + 1) rest) (omega arith)
-find_from key (suc i) q (Some v ∷ rest) is =
-    find-tail q (key, v) (entries_from (key + 1) rest) (omega arith) ∙ find_from (key + 1) i q rest (omega arith)
+use Rattle.lapd_store.proofs.Entries.{find_from}
 
 get_contents : (region : List (Option ℕ)) (width slot i s : ℕ) (lens : List ℕ) → s ≡ slot + i → get_or (contents_from region width slot lens) i None ≡ slot_contents region width s (get_or lens i free_mark)
 get_contents region width slot i s [] is = refl

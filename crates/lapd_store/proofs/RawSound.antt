@@ -16,26 +16,22 @@ pub record Taken (region : List (Option ℕ)) (lens : List ℕ) (width first cou
   pub list : IsFreeList region lens width rest next
   pub more : count ≡ length rest + 1
 
-taken : (region : List (Option ℕ)) (lens : List ℕ) (width : ℕ) (free : List ℕ) (first : ℕ) → IsFreeList region lens width free first → first ≢ list_end → Taken region lens width first (length free)
-taken region lens width [] first list ne = absurd (ne list)
-taken region lens width (slot ∷ rest) first list ne =
-    subst (λ k. Taken region lens width k (suc (length rest))) (sym list.0)
+taken : (region : List (Option ℕ)) (lens : List ℕ) (width : ℕ) (free : List ℕ) (first slot : ℕ) → IsFreeList region lens width free first → first ≢ list_end → slot ≡ first → Taken region lens width slot (length free)
+taken region lens width [] first number list ne is = absurd (ne list)
+taken region lens width (slot ∷ rest) first number list ne is =
+    subst (λ k. Taken region lens width k (suc (length rest))) (sym list.0 ∙ sym is)
     (record { rest = rest; next = list.3.0; mark = list.1; apart = list.2; holds = list.3.1; list = list.3.2; more = omega arith })
 
 none_used : IsSome {T = List ℕ} None → ⊥
 none_used e = cc
-
--- a slot that is used as a caller sees it
-pub is_used : (a : Inside) (s : Store) (n m : ℕ) → raw_store a ≡ s → n ≡ m → IsUsed s m → IsUsed (raw_store a) n
-is_used a s n m view same used = subst (IsUsed (raw_store a)) (sym same) (subst (λ t. IsUsed t m) (sym view) used)
 
 module _ (a : Inside) (sound : IsSound a) where
   pub contents_of-raw : (slot : ℕ) → contents_of (raw_store a) slot ≡ slot_contents a.region a.width slot (get_or a.lengths.items slot free_mark)
   contents_of-raw slot = get_raw a.region a.width a.lengths.items slot
 
   -- where the free list is not at its end, its first slot
-  pub first_slot : a.first ≢ list_end → Taken a.region a.lengths.items a.width a.first (length sound.free)
-  first_slot ne = taken a.region a.lengths.items a.width sound.free a.first sound.linked ne
+  pub first_slot : a.first ≢ list_end → (slot : ℕ) → slot ≡ a.first → Taken a.region a.lengths.items a.width slot (length sound.free)
+  first_slot ne slot is = taken a.region a.lengths.items a.width sound.free a.first slot sound.linked ne is
 
   -- a used slot has a length
   pub used_mark : (slot : ℕ) → IsUsed (raw_store a) slot → get_or a.lengths.items slot free_mark ≢ free_mark
@@ -43,10 +39,6 @@ module _ (a : Inside) (sound : IsSound a) where
 
   pub slot_within : (slot : ℕ) → slot < length a.lengths.items → slot * a.width + a.width ≤ length a.region
   slot_within slot lt = omega (arith, slot_ends slot (length a.lengths.items) a.width lt, sound.covered)
-
-  -- the region is small enough for every sum
-  pub small : length a.region ≤ 2129920
-  small = omega (arith, sound.covered, times_le (length a.lengths.items) 8192 a.width sound.few, sound.most)
 
   -- octets that lie in a used slot are its contents
   pub held : (slot : ℕ) (xs : List ℕ) → get_or a.lengths.items slot free_mark ≢ free_mark → length xs ≡ get_or a.lengths.items slot free_mark → length xs ≤ a.width → Holds a.region (slot * a.width) xs → contents_of (raw_store a) slot ≡ Some xs
@@ -56,13 +48,6 @@ module _ (a : Inside) (sound : IsSound a) where
   -- a used slot's contents
   pub used_held : (slot : ℕ) (used : get_or a.lengths.items slot free_mark ≢ free_mark) → contents_of (raw_store a) slot ≡ Some (sound.filled slot used).octets
   used_held slot used = let f = sound.filled slot used in held slot f.octets used f.long f.fits f.holds
-
-  -- a used slot makes the counts more than nothing
-  pub used_counts : (slot : ℕ) (used : get_or a.lengths.items slot free_mark ≢ free_mark) → (1 ≤ a.used) × (get_or a.lengths.items slot free_mark ≤ a.octets)
-  used_counts slot used =
-      let fewer = used_slots-without (raw_store a) slot _ (used_held slot used) in
-      let less = stored_octets-without (raw_store a) slot _ (used_held slot used) in
-      (omega (arith, fewer, sound.counted), omega (arith, less, sound.measured, (sound.filled slot used).long))
 
   -- at the end of the free list every slot is used
   pub full_at_end : a.first ≡ list_end → used_slots (raw_store a) ≡ length a.lengths.items
@@ -77,11 +62,11 @@ module _ (a : Inside) (sound : IsSound a) where
       let bound = stored_octets_bound (raw_store a) 260 sound.most sound.within in
       omega (arith, bound, sound.measured, sound.within.count, sound.few, sound.most, fits)
 
-  pub first_within : (ne : a.first ≢ list_end) → a.first < length a.lengths.items
-  first_within ne = marked_within a.lengths.items a.first (first_slot ne).mark
+  pub first_within : a.first ≢ list_end → (slot : ℕ) → slot ≡ a.first → slot < length a.lengths.items
+  first_within ne slot is = marked_within a.lengths.items slot (first_slot ne slot is).mark
 
-  pub first_free : a.first ≢ list_end → IsFree (raw_store a) a.first
-  first_free ne = contents_of-raw a.first ∙ contents_free a.region a.width a.first _ (marked a.lengths.items a.first (first_slot ne).mark)
+  pub first_free : a.first ≢ list_end → (slot : ℕ) → slot ≡ a.first → IsFree (raw_store a) slot
+  first_free ne slot is = contents_of-raw slot ∙ contents_free a.region a.width slot _ (marked a.lengths.items slot (first_slot ne slot is).mark)
 
   module _ (b : Inside) (slot len : ℕ) (same : SameOutside a.region b.region (slot * a.width) len) (short : len ≤ a.width) where
     -- another slot's contents stay
@@ -123,142 +108,135 @@ module _ (a : Inside) (sound : IsSound a) where
           (list_kept a.region b.region a.lengths.items (set a.lengths.items slot mark) a.width slot len same short (omega (arith, sound.least))
           (λ q ne. get_or-set_other a.lengths.items slot q mark 0 ne) free first apart list)
 
--- a put in the first free slot
-module _ (a b : Inside) (sound : IsSound a) (ne : a.first ≢ list_end) (xs : List ℕ) (same : SameOutside a.region b.region (a.first * a.width) (length xs)) (holds : Holds b.region (a.first * a.width) xs)
-    (short : length xs ≤ a.width) (items : b.lengths.items ≡ set a.lengths.items a.first (length xs)) (wide : b.width ≡ a.width) where
-  inside : a.first < length a.lengths.items
-  inside = first_within a sound ne
+      -- so the store is as before but at the slot,
+      store-new : (contents : finmap.FinMap nat_cmp (List ℕ)) → slot_contents b.region a.width slot (get_or (set a.lengths.items slot mark) slot free_mark) ≡ finmap.get contents slot
+          → ((q : ℕ) → q ≢ slot → finmap.get contents q ≡ contents_of (raw_store a) q) → raw_store b ≡ record (raw_store a) { contents = contents }
+      store-new contents here others =
+          let all = same_entries _ _ (each_key _ slot (get-new slot ∙ here) (λ q ne. get-others q ne ∙ sym (others q ne ∙ contents_of-raw q))) in
+          λ i. record { contents = all i; slots = as_long i; width = wide i }
 
-  in_place : slot_contents b.region a.width a.first (length xs) ≡ Some xs
-  in_place =
-      let within = slot_within a sound a.first inside in
-      contents_held b.region a.width a.first (length xs) xs refl (λ e. omega (arith, e, short, sound.most)) (omega (arith, within, short, same.size)) holds
+      -- and the shelf is sound where that slot is
+      sound-new : (s : Store) → raw_store b ≡ s → (free : List ℕ) → IsFreeList b.region b.lengths.items b.width free b.first
+          → (get_or (set a.lengths.items slot mark) slot free_mark ≢ free_mark → IsFilled b.region (set a.lengths.items slot mark) a.width slot)
+          → length free + b.used ≡ length a.lengths.items → b.used ≡ used_slots s → b.octets ≡ stored_octets s → IsWithinLimits s → IsSound b
+      sound-new s is free linked filled total counted measured within = record {
+        free = free;
+        linked = linked;
+        filled = subst (λ (u : List ℕ × ℕ). (q : ℕ) → get_or u.0 q free_mark ≢ free_mark → IsFilled b.region u.0 u.1 q) (λ i. (sym items i, sym wide i))
+            (each_key (λ q. get_or (set a.lengths.items slot mark) q free_mark ≢ free_mark → IsFilled b.region (set a.lengths.items slot mark) a.width q) slot filled filled-others);
+        total = total ∙ sym as_long;
+        counted = counted ∙ sym (ap used_slots is);
+        measured = measured ∙ sym (ap stored_octets is);
+        within = subst IsWithinLimits (sym is) within;
+        covered = covered-new;
+        few = omega (arith, sound.few, as_long);
+        least = omega (arith, sound.least, wide);
+        most = omega (arith, sound.most, wide);
+      }
 
-  pub raw_store-put : raw_store b ≡ with_contents (raw_store a) a.first xs
-  raw_store-put =
-      let contents = same_entries _ _ (each_key _ a.first
-      (get-new a sound b a.first (length xs) same short (length xs) items wide a.first
-      ∙ ap (slot_contents b.region a.width a.first) (get_or-set_same a.lengths.items a.first (length xs) free_mark inside) ∙ in_place ∙ sym (get-insert_same _ a.first xs))
-      (λ q other. get-others a sound b a.first (length xs) same short (length xs) items wide q other ∙ sym (get-insert_other _ a.first xs q other ∙ contents_of-raw a sound q))) in
-      λ i. record { contents = contents i; slots = as_long a sound b a.first (length xs) same short (length xs) items wide i; width = wide i }
+-- a used slot: its octets are written, they lie in the region, and the counts are more than nothing
+pub record Used (a : Inside) (slot : ℕ) : Type 0 where
+  pub used : IsUsed (raw_store a) slot
+  pub mark : get_or a.lengths.items slot free_mark ≢ free_mark
+  pub there : slot < length a.lengths.items
+  pub within : slot * a.width + a.width ≤ length a.region
+  pub small : length a.region ≤ 2129920
+  pub filled : IsFilled a.region a.lengths.items a.width slot
+  pub one : 1 ≤ a.used
+  pub octets : get_or a.lengths.items slot free_mark ≤ a.octets
 
-  module _ (octets : b.octets ≡ a.octets + length xs) (used : b.used ≡ a.used + 1) (first : b.first ≡ (first_slot a sound ne).next) where
-    pub IsSound-put : IsSound b
-    IsSound-put =
-        let t = first_slot a sound ne in
-        let is = raw_store-put in
-        let long = as_long a sound b a.first (length xs) same short (length xs) items wide in
-        let room : used_slots (raw_store a) < length a.lengths.items = omega (arith, sound.total, sound.counted, t.more) in
-        record {
-          free = t.rest;
-          linked = subst (IsFreeList b.region b.lengths.items b.width t.rest) (sym first) (list-new a sound b a.first (length xs) same short (length xs) items wide t.rest t.next t.apart t.list);
-          filled = subst (λ (u : List ℕ × ℕ). (q : ℕ) → get_or u.0 q free_mark ≢ free_mark → IsFilled b.region u.0 u.1 q) (λ i. (sym items i, sym wide i)) (λ q mark.
-              elim (cases_eq q a.first) [
-                | inl e ↦ subst (λ k. IsFilled b.region (set a.lengths.items a.first (length xs)) a.width k) (sym e)
-                    (record { octets = xs; long = sym (get_or-set_same a.lengths.items a.first (length xs) free_mark inside); fits = short; holds = holds })
-                | inr other ↦ filled-others a sound b a.first (length xs) same short (length xs) items wide q other mark
-              ]);
-          total = omega (arith, sound.total, used, long, t.more);
-          counted = used ∙ ap (λ n. n + 1) sound.counted ∙ sym (ap used_slots is ∙ used_slots-with_contents (raw_store a) a.first xs (first_free a sound ne));
-          measured = octets ∙ ap (λ n. n + length xs) sound.measured ∙ sym (ap stored_octets is ∙ stored_octets-with_contents (raw_store a) a.first xs (first_free a sound ne));
-          within = subst IsWithinLimits (sym is) (IsWithinLimits-with_contents (raw_store a) a.first xs (first_free a sound ne) room short sound.within);
-          covered = covered-new a sound b a.first (length xs) same short (length xs) items wide;
-          few = omega (arith, sound.few, long);
-          least = omega (arith, sound.least, wide);
-          most = omega (arith, sound.most, wide);
-        }
+-- as a caller names it
+pub used_slot : {a : Inside} {s : Store} {n m : ℕ} → IsSound a → raw_store a ≡ s → n ≡ m → IsUsed s m → Used a n
+used_slot {a} {s} {n} {m} sound view same is =
+    let used = subst (IsUsed (raw_store a)) (sym same) (subst (λ t. IsUsed t m) (sym view) is) in
+    let mark = used_mark a sound n used in
+    let there = used_within a.lengths.items n mark in
+    let filled = sound.filled n mark in
+    let contents = used_held a sound n mark in
+    record {
+      used = used;
+      mark = mark;
+      there = there;
+      within = slot_within a sound n there;
+      small = omega (arith, sound.covered, times_le (length a.lengths.items) 8192 a.width sound.few, sound.most);
+      filled = filled;
+      one = omega (arith, used_slots-without (raw_store a) n _ contents, sound.counted);
+      octets = omega (arith, stored_octets-without (raw_store a) n _ contents, sound.measured, filled.long);
+    }
 
--- a release of a used slot
-module _ (a b : Inside) (sound : IsSound a) (slot : ℕ) (was : IsUsed (raw_store a) slot) (same : SameOutside a.region b.region (slot * a.width) 2) (holds : Holds b.region (slot * a.width) (link a.first))
-    (items : b.lengths.items ≡ set a.lengths.items slot free_mark) (wide : b.width ≡ a.width) where
-  abbrev mark : get_or a.lengths.items slot free_mark ≢ free_mark
-  mark = used_mark a sound slot was
+-- as the code reaches a slot: by a number, and a width that was cast
+module _ (a b : Inside) (sound : IsSound a) (slot from : ℕ) (wide_from : from ≡ a.width) (wide : b.width ≡ a.width) where
+  -- a put in the first free slot
+  module _ (ne : a.first ≢ list_end) (is_first : slot ≡ a.first) (xs : List ℕ) (outside : SameOutside a.region b.region (slot * from) (length xs)) (lies : Holds b.region (slot * from) xs)
+      (short : length xs ≤ a.width) (items : b.lengths.items ≡ set a.lengths.items slot (length xs)) where
+    same : SameOutside a.region b.region (slot * a.width) (length xs)
+    same = subst (λ w. SameOutside a.region b.region (slot * w) (length xs)) wide_from outside
 
-  two : 2 ≤ a.width
-  two = omega (arith, sound.least)
+    holds : Holds b.region (slot * a.width) xs
+    holds = subst (λ w. Holds b.region (slot * w) xs) wide_from lies
 
-  was_within : slot < length a.lengths.items
-  was_within = used_within a.lengths.items slot mark
+    inside : slot < length a.lengths.items
+    inside = first_within a sound ne slot is_first
 
-  abbrev contents : List ℕ
-  contents = (sound.filled slot mark).octets
+    free : IsFree (raw_store a) slot
+    free = first_free a sound ne slot is_first
 
-  was_held : contents_of (raw_store a) slot ≡ Some contents
-  was_held = used_held a sound slot mark
+    in_place : slot_contents b.region a.width slot (length xs) ≡ Some xs
+    in_place =
+        let within = slot_within a sound slot inside in
+        contents_held b.region a.width slot (length xs) xs refl (λ e. omega (arith, e, short, sound.most)) (omega (arith, within, short, outside.size)) holds
 
-  now_free : get_or (set a.lengths.items slot free_mark) slot free_mark ≡ free_mark
-  now_free = get_or-set_same a.lengths.items slot free_mark free_mark was_within
+    pub put_stored : raw_store b ≡ with_contents (raw_store a) slot xs
+    put_stored =
+        store-new a sound b slot (length xs) same short (length xs) items wide _
+        (ap (slot_contents b.region a.width slot) (get_or-set_same a.lengths.items slot (length xs) free_mark inside) ∙ in_place ∙ sym (get-insert_same _ slot xs))
+        (λ q other. get-insert_other _ slot xs q other)
 
-  pub raw_store-release : raw_store b ≡ without (raw_store a) slot
-  raw_store-release =
-      let all = same_entries _ _ (each_key _ slot
-      (get-new a sound b slot 2 same two free_mark items wide slot ∙ contents_free b.region a.width slot _ now_free ∙ sym (get-remove_same _ slot))
-      (λ q other. get-others a sound b slot 2 same two free_mark items wide q other ∙ sym (get-remove_other _ slot q other ∙ contents_of-raw a sound q))) in
-      λ i. record { contents = all i; slots = as_long a sound b slot 2 same two free_mark items wide i; width = wide i }
-
-  module _ (octets : b.octets + get_or a.lengths.items slot free_mark ≡ a.octets) (used : b.used + 1 ≡ a.used) (first : b.first ≡ slot) where
-    pub IsSound-release : IsSound b
-    IsSound-release =
-        let is = raw_store-release in
-        let long = as_long a sound b slot 2 same two free_mark items wide in
-        let apart = apart_used a.region a.lengths.items a.width sound.free a.first slot mark sound.linked in
-        let fewer = used_slots-without (raw_store a) slot contents was_held in
-        let less = stored_octets-without (raw_store a) slot contents was_held in
-        record {
-          free = slot ∷ sound.free;
-          linked = (
-            first,
-            ap (λ l. get_or l slot 0) items ∙ get_or-set_same a.lengths.items slot free_mark 0 was_within,
-            apart,
-            (a.first, subst (λ w. Holds b.region (slot * w) (link a.first)) (sym wide) holds, list-new a sound b slot 2 same two free_mark items wide sound.free a.first apart sound.linked),
-          );
-          filled = subst (λ (u : List ℕ × ℕ). (q : ℕ) → get_or u.0 q free_mark ≢ free_mark → IsFilled b.region u.0 u.1 q) (λ i. (sym items i, sym wide i)) (λ q other_mark.
-              filled-others a sound b slot 2 same two free_mark items wide q (λ e. other_mark (ap (λ k. get_or (set a.lengths.items slot free_mark) k free_mark) e ∙ now_free)) other_mark);
-          total = omega (arith, sound.total, used, long);
-          counted = omega (arith, ap used_slots is, fewer, used, sound.counted);
-          measured = omega (arith, ap stored_octets is, less, octets, sound.measured, (sound.filled slot mark).long);
-          within = subst IsWithinLimits (sym is) (IsWithinLimits-without (raw_store a) slot contents was_held sound.within);
-          covered = covered-new a sound b slot 2 same two free_mark items wide;
-          few = omega (arith, sound.few, long);
-          least = omega (arith, sound.least, wide);
-          most = omega (arith, sound.most, wide);
-        }
-
--- the two as the code reaches them: by a number, and a width that was cast
-module _ (a b : Inside) (sound : IsSound a) (number from : ℕ) (wide_from : from ≡ a.width) (wide : b.width ≡ a.width) where
-  module _ (ne : a.first ≢ list_end) (is_first : number ≡ a.first) (xs : List ℕ) (same : SameOutside a.region b.region (number * from) (length xs)) (holds : Holds b.region (number * from) xs) (short : length xs ≤ a.width) (items : b.lengths.items ≡ set a.lengths.items number (length xs)) where
-    place : number * from ≡ a.first * a.width
-    place i = is_first i * wide_from i
-
-    same_there : SameOutside a.region b.region (a.first * a.width) (length xs)
-    same_there = subst (λ k. SameOutside a.region b.region k (length xs)) place same
-
-    holds_there : Holds b.region (a.first * a.width) xs
-    holds_there = subst (λ k. Holds b.region k xs) place holds
-
-    items_there : b.lengths.items ≡ set a.lengths.items a.first (length xs)
-    items_there = items ∙ ap (λ k. set a.lengths.items k (length xs)) is_first
-
-    pub put_stored : raw_store b ≡ with_contents (raw_store a) number xs
-    put_stored = raw_store-put a b sound ne xs same_there holds_there short items_there wide ∙ ap (λ k. with_contents (raw_store a) k xs) (sym is_first)
-
-    pub put_sound : b.octets ≡ a.octets + length xs → b.used ≡ a.used + 1 → ((next : ℕ) → Holds a.region (number * from) (link next) → b.first ≡ next) → IsSound b
+    pub put_sound : b.octets ≡ a.octets + length xs → b.used ≡ a.used + 1 → ((next : ℕ) → Holds a.region (slot * from) (link next) → b.first ≡ next) → IsSound b
     put_sound octets used read =
-        let t = first_slot a sound ne in
-        IsSound-put a b sound ne xs same_there holds_there short items_there wide octets used (read t.next (subst (λ k. Holds a.region k (link t.next)) (sym place) t.holds))
+        let t = first_slot a sound ne slot is_first in
+        let first = read t.next (subst (λ w. Holds a.region (slot * w) (link t.next)) (sym wide_from) t.holds) in
+        let room : used_slots (raw_store a) < length a.lengths.items = omega (arith, sound.total, sound.counted, t.more) in
+        sound-new a sound b slot (length xs) same short (length xs) items wide _ put_stored t.rest
+        (subst (IsFreeList b.region b.lengths.items b.width t.rest) (sym first) (list-new a sound b slot (length xs) same short (length xs) items wide t.rest t.next t.apart t.list))
+        (λ _. record { octets = xs; long = sym (get_or-set_same a.lengths.items slot (length xs) free_mark inside); fits = short; holds = holds })
+        (omega (arith, sound.total, used, t.more))
+        (used ∙ ap (λ n. n + 1) sound.counted ∙ sym (used_slots-with_contents (raw_store a) slot xs free))
+        (octets ∙ ap (λ n. n + length xs) sound.measured ∙ sym (stored_octets-with_contents (raw_store a) slot xs free))
+        (IsWithinLimits-with_contents (raw_store a) slot xs free room short sound.within)
 
-  module _ (was : IsUsed (raw_store a) number) (same : SameOutside a.region b.region (number * from) 2) (holds : Holds b.region (number * from) (link a.first)) (items : b.lengths.items ≡ set a.lengths.items number free_mark) where
-    same_here : SameOutside a.region b.region (number * a.width) 2
-    same_here = subst (λ w. SameOutside a.region b.region (number * w) 2) wide_from same
+  -- a release of a used slot
+  module _ (was : Used a slot) (outside : SameOutside a.region b.region (slot * from) 2) (lies : Holds b.region (slot * from) (link a.first)) (items : b.lengths.items ≡ set a.lengths.items slot free_mark) where
+    left : SameOutside a.region b.region (slot * a.width) 2
+    left = subst (λ w. SameOutside a.region b.region (slot * w) 2) wide_from outside
 
-    holds_here : Holds b.region (number * a.width) (link a.first)
-    holds_here = subst (λ w. Holds b.region (number * w) (link a.first)) wide_from holds
+    two : 2 ≤ a.width
+    two = omega (arith, sound.least)
 
-    pub release_stored : raw_store b ≡ without (raw_store a) number
-    release_stored = raw_store-release a b sound number was same_here holds_here items wide
+    was_held : contents_of (raw_store a) slot ≡ Some (sound.filled slot was.mark).octets
+    was_held = used_held a sound slot was.mark
 
-    pub release_sound : b.octets + get_or a.lengths.items number free_mark ≡ a.octets → b.used + 1 ≡ a.used → b.first ≡ number → IsSound b
-    release_sound = IsSound-release a b sound number was same_here holds_here items wide
+    now_free : get_or (set a.lengths.items slot free_mark) slot free_mark ≡ free_mark
+    now_free = get_or-set_same a.lengths.items slot free_mark free_mark was.there
+
+    pub release_stored : raw_store b ≡ without (raw_store a) slot
+    release_stored =
+        store-new a sound b slot 2 left two free_mark items wide _ (contents_free b.region a.width slot _ now_free ∙ sym (get-remove_same _ slot)) (λ q other. get-remove_other _ slot q other)
+
+    pub release_sound : b.octets + get_or a.lengths.items slot free_mark ≡ a.octets → b.used + 1 ≡ a.used → b.first ≡ slot → IsSound b
+    release_sound octets used first =
+        let apart = apart_used a.region a.lengths.items a.width sound.free a.first slot was.mark sound.linked in
+        sound-new a sound b slot 2 left two free_mark items wide _ release_stored (slot ∷ sound.free) (
+          first,
+          ap (λ l. get_or l slot 0) items ∙ get_or-set_same a.lengths.items slot free_mark 0 was.there,
+          apart,
+          (a.first, subst (λ w. Holds b.region (slot * w) (link a.first)) (wide_from ∙ sym wide) lies, list-new a sound b slot 2 left two free_mark items wide sound.free a.first apart sound.linked),
+        )
+        (λ other_mark. absurd (other_mark now_free))
+        (omega (arith, sound.total, used))
+        (omega (arith, used_slots-without (raw_store a) slot _ was_held, used, sound.counted))
+        (omega (arith, stored_octets-without (raw_store a) slot _ was_held, octets, sound.measured, (sound.filled slot was.mark).long))
+        (IsWithinLimits-without (raw_store a) slot _ was_held sound.within)
 
 -- a start: every slot is free, by rising number
 abbrev count_from : ℕ → ℕ → List ℕ

@@ -1,31 +1,14 @@
 -- A slab of octet vectors as a store.
-use Rattle.lapd_store.proofs.Vocabulary.{◌≡◌, ℕ, zero, suc, ◌+◌, ◌-◌, ◌^◌, ◌<◌, ◌≤◌, Option, Some, None, IsSome, List, [], ◌∷◌, map, length, refl, sym, ap, subst, ◌∙◌, arith, get_or, find, count_by, option_map, is_some, nat_cmp, nat_cmp_total, Slab, get, slab_len, entries_from, ContainsKey, Updates, ArrayVec, Owned, filled, slab_store, IsSound, empty_store, contents_of, IsUsed, IsFree, used_slots, stored_octets, with_contents, without, IsWithinLimits}
+use Rattle.lapd_store.proofs.Vocabulary.{◌≡◌, ℕ, ◌+◌, ◌-◌, ◌^◌, ◌<◌, ◌≤◌, Option, Some, None, IsSome, List, [], map, length, sym, ap, subst, ◌∙◌, arith, count_by, option_map, is_some, nat_cmp, nat_cmp_total, Slab, get, slab_len, entries_from, ContainsKey, Updates, ArrayVec, filled, slab_store, IsSound, empty_store, contents_of, IsUsed, IsFree, used_slots, stored_octets, with_contents, without, IsWithinLimits}
 use Rattle.std.specs.FinMap as finmap
 use Rattle.lapd_store.specs.declared.slab_shelf.SlabShelf.TheInside.{Inside}
 use Rattle.lapd_store.proofs.StoreLemmas.{used_slots-empty, stored_octets-empty, IsWithinLimits-empty, used_slots-with_contents, stored_octets-with_contents, IsWithinLimits-with_contents, used_slots-without, stored_octets-without, IsWithinLimits-without, stored_octets_bound}
-use Rattle.lapd_store.proofs.Entries.{find-head, find-tail, each_key, same_entries, get-insert_same, get-insert_other, get-remove_same, get-remove_other}
-
--- the pairs of these places, where the first has this key
-abbrev pairs_from : ℕ → List (Option (ArrayVec ℕ)) → List Owned
-pairs_from key slots = map (λ e. (e.0, e.1.items)) (entries_from key slots)
-
-find_before : (key q : ℕ) (slots : List (Option (ArrayVec ℕ))) → q < key → find nat_cmp q (pairs_from key slots) ≡ None
-find_before key q [] low = refl
-find_before key q (None ∷ rest) low = find_before (key + 1) q rest (omega arith)
-find_before key q (Some v ∷ rest) low =
-    find-tail q (key, v.items) (pairs_from (key + 1) rest) (omega arith) ∙ find_before (key + 1) q rest (omega arith)
-
-find_from : (key i q : ℕ) (slots : List (Option (ArrayVec ℕ))) → q ≡ key + i → find nat_cmp q (pairs_from key slots) ≡ option_map (λ v. v.items) (get_or slots i None)
-find_from key i q [] is = refl
-find_from key zero q (None ∷ rest) is = find_before (key + 1) q rest (omega arith)
-find_from key (suc i) q (None ∷ rest) is = find_from (key + 1) i q rest (omega arith)
-find_from key zero q (Some v ∷ rest) is = find-head q (key, v.items) (pairs_from (key + 1) rest) (omega arith)
-find_from key (suc i) q (Some v ∷ rest) is =
-    find-tail q (key, v.items) (pairs_from (key + 1) rest) (omega arith) ∙ find_from (key + 1) i q rest (omega arith)
+use Rattle.lapd_store.proofs.Entries.{find_from, find_changed, each_key, same_entries, get-insert_same, get-insert_other, get-remove_same, get-remove_other}
 
 -- the store has under a key what the slab has
 pub get-filled : (slab : Slab (ArrayVec ℕ)) (q : ℕ) → finmap.get (finmap.from_entries {R = nat_cmp} (filled slab)) q ≡ option_map (λ v. v.items) (get slab q)
-get-filled slab q = finmap.get-from_entries nat_cmp_total (filled slab) q ∙ find_from 0 q q slab.slots (omega arith)
+get-filled slab q =
+    finmap.get-from_entries nat_cmp_total (filled slab) q ∙ find_changed (λ v. v.items) q (entries_from 0 slab.slots) ∙ ap (option_map (λ v. v.items)) (find_from 0 q q slab.slots (omega arith))
 
 -- an insert into the slab is one into the store
 pub filled-insert : (old new : Slab (ArrayVec ℕ)) (key : ℕ) (v : ArrayVec ℕ) → Updates old new key (Some v) → finmap.from_entries {R = nat_cmp} (filled new) ≡ finmap.insert (finmap.from_entries (filled old)) key v.items

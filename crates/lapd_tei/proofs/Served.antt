@@ -1,8 +1,8 @@
 -- What each row of the table keeps.
 use Rattle.lapd_tei.proofs.Vocabulary.{◌≡◌, ℕ, ◌≤◌, true, false, set, Option, Some, None, IfSome, subst, refl, sym, arith, List, option_map, IdentityAssigned, IdentityDenied, IdentityCheckRequest, IdentityRemove, Message, action_of, Places, is_on, place_of, free_place, Management, Check, Remembered, TeiTold, Gained, Course, with_message, freed, left, is_of_other, Event, IsInRange, IsSoundCheck, IsSoundQueue, IsSound, IsSoundMemory, Moves, course, filter}
-use Rattle.lapd_tei.proofs.Tables.{table-put, table-freed, on-newcomer, on-range, free_tei-is, free_place-is, place_of-is}
+use Rattle.lapd_tei.proofs.Tables.{table-freed, on-newcomer, on-range, free_tei-is, free_place-is, place_of-is}
 use Rattle.lapd_tei.proofs.Memories.{memory-put, memory-remember, memory-freed, remembered-range}
-use Rattle.lapd_tei.proofs.SoundWords.{queue-sent, check-put, check-freed, check-begun, check-again, check-counted}
+use Rattle.lapd_tei.proofs.SoundWords.{sound_came, queue-sent, check-freed, check-begun, check-again, check-counted}
 use Rattle.lapd_tei.proofs.Walk.{OfEvents, of_event}
 
 -- Where an event has led, from m on.
@@ -37,7 +37,7 @@ module _ (m : Management) (sound : IsSound m) where
   comes tei place remembered waiting told change off at low memory queue =
       let there = free_place-is m.places place at in
       record {
-        sound = record { table = table-put m.places place tei sound.table off at low; memory = memory; checked = check-put m.places m.check place tei at sound.checked; queue = queue };
+        sound = sound_came m place tei _ remembered waiting sound off at low refl memory queue;
         moves = subst (λ o. Moves m.places o (set m.places place (Some tei))) (sym change)
             (record { lowest = at; within = there.0; was_free = there.1; was_off = off; range = low; is_there = refl });
       }

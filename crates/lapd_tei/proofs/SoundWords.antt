@@ -1,6 +1,6 @@
 -- What the words of the table keep.
-use Rattle.lapd_tei.proofs.Vocabulary.{◌≡◌, ℕ, zero, suc, ◌+◌, ◌≤◌, nat_le, true, false, cond, List, [], ◌∷◌, ◌++◌, length, drop, set, replicate, Option, Some, None, IfSome, refl, arith, length-append, length-drop, IsDistinct, nat_tests, All-nil, All-cons, All-append, All-drop, none-some, Message, action_of, Places, is_on, place_of, free_place, Check, Period, First, Second, no_room, with_message, freed, counted, responses, is_checked, IsAt, IsSoundTable, IsSoundMemory, IsSoundCheck, IsSoundQueue, IsSound, Management, sym, subst}
-use Rattle.lapd_tei.proofs.Tables.{on-put, on-freed, on-range}
+use Rattle.lapd_tei.proofs.Vocabulary.{Remembered, ◌≡◌, ℕ, zero, suc, ◌+◌, ◌≤◌, nat_le, true, false, cond, List, [], ◌∷◌, ◌++◌, length, drop, set, replicate, Option, Some, None, IfSome, refl, arith, length-append, length-drop, IsDistinct, nat_tests, All-nil, All-cons, All-append, All-drop, none-some, Message, action_of, Places, is_on, place_of, free_place, Check, Period, First, Second, no_room, with_message, freed, counted, responses, is_checked, IsAt, IsSoundTable, IsSoundMemory, IsSoundCheck, IsSoundQueue, IsSound, Management, sym, subst}
+use Rattle.lapd_tei.proofs.Tables.{on-put, on-freed, on-range, table-put}
 
 has_room : (n : ℕ) → nat_le 4 n ≡ false → n + 1 ≤ 4
 has_room n e = grind (arith, nat_tests)
@@ -61,6 +61,13 @@ check-counted places check sound few = go check.period check.tei check.first che
     go : (period : Period) (tei first second : ℕ) → is_on tei places ≡ true → first ≤ 1 → second ≤ 1 → nat_le 2 (responses (counted (record { tei = tei; period = period; first = first; second = second }))) ≡ false → IsSoundCheck places (counted (record { tei = tei; period = period; first = first; second = second }))
     go First tei first second on a b e = record { on_line = on; first = below_two (first + 1) e; second = b }
     go Second tei first second on a b e = record { on_line = on; first = a; second = below_two (second + 1) e }
+
+-- a TEI comes to a place,
+pub sound_came : (m : Management) (place tei : ℕ) (places : Places) (remembered : List Remembered) (waiting : List Message) → IsSound m → is_on tei m.places ≡ false → free_place m.places ≡ Some place → tei ≤ 126
+    → places ≡ set m.places place (Some tei) → IsSoundMemory (set m.places place (Some tei)) remembered → IsSoundQueue waiting → IsSound (record m { places = places; remembered = remembered; waiting = waiting })
+sound_came m place tei places remembered waiting sound off at low is memory queue =
+    subst (λ p. IsSound (record m { places = p; remembered = remembered; waiting = waiting })) (sym is)
+    (record { table = table-put m.places place tei sound.table off at low; memory = memory; checked = check-put m.places m.check place tei at sound.checked; queue = queue })
 
 -- as things begin
 nowhere : (places i tei : ℕ) → IsAt (replicate places None) i tei → ⊥

@@ -56,45 +56,34 @@ at_put places place i tei o within e =
           inr (apart, sym (get_or-set_other places place i o None apart) ∙ e)
     ]
 
-pub table-put : (places : Places) (place tei : ℕ) → IsSoundTable places → is_on tei places ≡ false → free_place places ≡ Some place → tei ≤ 126 → IsSoundTable (set places place (Some tei))
-table-put places place tei sound off at low =
-    let within = (free_place-is places place at).0 in
-    record {
-      once = λ i j t a b. once i j t (at_put places place i t (Some tei) within a) (at_put places place j t (Some tei) within b);
-      range = λ i t a. range i t (at_put places place i t (Some tei) within a);
-    }
+table_set : (places : Places) (place : ℕ) (o : Option ℕ) → IsSoundTable places → place < length places → ((tei : ℕ) → o ≡ Some tei → (is_on tei places ≡ false) × (tei ≤ 126)) → IsSoundTable (set places place o)
+table_set places place o sound within comes = record {
+  once = λ i j t a b. once i j t (at_put places place i t o within a) (at_put places place j t o within b);
+  range = λ i t a. range i t (at_put places place i t o within a);
+}
   where
     Stood : ℕ → ℕ → Type 0
-    Stood i t = ((i ≡ place) × (Some tei ≡ Some t)) ⊎ ((i ≡ place → ⊥) × IsAt places i t)
-
-    newcomer : (j t : ℕ) → Some tei ≡ Some t → IsAt places j t → ⊥
-    newcomer j t same b = at-off places j tei off (subst (IsAt places j) (sym (same_Some tei t same)) b)
+    Stood i t = ((i ≡ place) × (o ≡ Some t)) ⊎ ((i ≡ place → ⊥) × IsAt places i t)
 
     once : (i j t : ℕ) → Stood i t → Stood j t → i ≡ j
     once i j t (inl a) (inl b) = a.0 ∙ sym b.0
-    once i j t (inl a) (inr b) = absurd (newcomer j t a.1 b.1)
-    once i j t (inr a) (inl b) = absurd (newcomer i t b.1 a.1)
+    once i j t (inl a) (inr b) = absurd (at-off places j t (comes t a.1).0 b.1)
+    once i j t (inr a) (inl b) = absurd (at-off places i t (comes t b.1).0 a.1)
     once i j t (inr a) (inr b) = sound.once i j t a.1 b.1
 
     range : (i t : ℕ) → Stood i t → t ≤ 126
-    range i t (inl a) = subst (λ n. n ≤ 126) (same_Some tei t a.1) low
+    range i t (inl a) = (comes t a.1).1
     range i t (inr a) = sound.range i t a.1
 
-table_cleared : (places : Places) (place : ℕ) → IsSoundTable places → place < length places → IsSoundTable (set places place None)
-table_cleared places place sound within = record {
-  once = λ i j t a b. sound.once i j t (stays i t (at_put places place i t None within a)) (stays j t (at_put places place j t None within b));
-  range = λ i t a. sound.range i t (stays i t (at_put places place i t None within a));
-}
-  where
-    stays : (i t : ℕ) → ((i ≡ place) × (None ≡ Some t)) ⊎ ((i ≡ place → ⊥) × IsAt places i t) → IsAt places i t
-    stays i t (inl a) = absurd (none-some t a.1)
-    stays i t (inr a) = a.1
+pub table-put : (places : Places) (place tei : ℕ) → IsSoundTable places → is_on tei places ≡ false → free_place places ≡ Some place → tei ≤ 126 → IsSoundTable (set places place (Some tei))
+table-put places place tei sound off at low =
+    table_set places place (Some tei) sound (free_place-is places place at).0 (λ t is. subst (λ n. (is_on n places ≡ false) × (n ≤ 126)) (same_Some tei t is) (off, low))
 
 pub table-freed : (places : Places) (tei : ℕ) → IsSoundTable places → IsSoundTable (freed places (place_of tei places))
 table-freed places tei sound =
     elim (place_of tei places) as (λ o. place_of tei places ≡ o → IsSoundTable (freed places o)) [
       | None ↦ λ e. sound
-      | Some place ↦ λ e. table_cleared places place sound (place_of-is places tei place e).0
+      | Some place ↦ λ e. table_set places place None sound (place_of-is places tei place e).0 (λ t is. absurd (none-some t is))
     ] refl
 
 -- a TEI that is on the line stays while another comes, and while another leaves

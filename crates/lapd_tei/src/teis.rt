@@ -46,6 +46,7 @@ impl Model for Teis {
     ghost invariant = { λ t. IsSound (management_of t) };
 }
 
+#[tactic(auto, unfolding(crate::specs::Events::course, crate::specs::Events::refusal))]
 impl Teis {
     /// TEI management of a line on which no TEI is, with room for `terminals` TEIs, 1 to 8.
     ///
@@ -66,7 +67,6 @@ impl Teis {
 
     /// Serves a message of a terminal: the information of a UI command with SAPI 63 and the group
     /// TEI.
-    #[tactic(auto, unfolding(crate::specs::Events::course, crate::specs::Events::refusal))]
     pub fn message(&mut self, information: &[u8]) -> TeiOutcome
         ensures told { told_of result ≡ told (message information.now) self.old }
         ensures after { self.new ≡ after (message information.now) self.old }
@@ -81,7 +81,6 @@ impl Teis {
     }
 
     /// T201 has expired. Where no check runs, T201 does not run, and nothing happens.
-    #[tactic(auto, unfolding(crate::specs::Events::course, crate::specs::Events::refusal))]
     pub fn expire_t201(&mut self) -> TeiOutcome
         ensures told { told_of result ≡ told expiry self.old }
         ensures after { self.new ≡ after expiry self.old }
@@ -98,7 +97,6 @@ impl Teis {
     /// # Errors
     ///
     /// `TeiTaken` where it is on the line, else `TableFull` where no place is free.
-    #[tactic(auto, unfolding(crate::specs::Events::course, crate::specs::Events::refusal))]
     pub fn assign(&mut self, tei: u8) -> Result<TeiOutcome, Refusal>
         requires { tei ≤ 126 }
         ensures told { IfOk result (λ outcome. told_of outcome ≡ told (assign tei) self.old) }
@@ -127,7 +125,6 @@ impl Teis {
     /// # Errors
     ///
     /// `NoLink` where it is not on the line, else `ControlFull` where no message more may wait.
-    #[tactic(auto, unfolding(crate::specs::Events::course, crate::specs::Events::refusal))]
     pub fn remove(&mut self, tei: u8) -> Result<TeiOutcome, Refusal>
         requires { tei ≤ 126 }
         ensures told { IfOk result (λ outcome. told_of outcome ≡ told (remove tei) self.old) }
@@ -152,7 +149,6 @@ impl Teis {
     ///
     /// `NoLink` where it is not on the line, else `CheckRunning` where a check runs, else
     /// `ControlFull` where no message more may wait.
-    #[tactic(auto, unfolding(crate::specs::Events::course, crate::specs::Events::refusal))]
     pub fn check(&mut self, tei: u8) -> Result<TeiOutcome, Refusal>
         requires { tei ≤ 126 }
         ensures told { IfOk result (λ outcome. told_of outcome ≡ told (check tei) self.old) }

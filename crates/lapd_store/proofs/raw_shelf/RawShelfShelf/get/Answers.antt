@@ -1,62 +1,42 @@
 -- Hand-written answers for `RawShelfShelf::get`.
 use Rattle.lapd_store.proofs.Vocabulary.{◌+◌, ◌*◌, ◌^◌, ◌<◌, ◌≤◌, length, sym, subst, ◌∙◌, arith, Holds}
-use Rattle.lapd_store.proofs.RawLemmas.{used_within, read_length}
-use Rattle.lapd_store.proofs.RawSound.{is_used, used_mark, slot_within, small, held}
+use Rattle.lapd_store.proofs.RawLemmas.{read_length}
+use Rattle.lapd_store.proofs.RawSound.{used_slot, held}
 use Rattle.lapd_store.proofs.raw_shelf.RawShelfShelf.get.Goals as goal
 
 pub overflow_mul-at : goal.overflow_mul-at
 overflow_mul-at c =
-    let a = c.self.inside in
-    let n = c.slot.inside.number in
-    let mark = used_mark a c.self.invariant n (is_used a _ n _ c.self.view_is c.slot.view_is c.requires) in
-    let within = slot_within a c.self.invariant n (used_within a.lengths.items n mark) in
-    let product : n * a.width < 2 ^ 64 = omega (arith, within, small a c.self.invariant) in
-    record { fits = subst (λ w. n * w < 2 ^ 64) (sym c.from.ensures) product }
+    let u = used_slot c.self.invariant c.self.view_is c.slot.view_is c.requires in
+    let product : c.slot.inside.number * c.self.inside.width < 2 ^ 64 = omega (arith, u.within, u.small) in
+    record { fits = subst (λ w. c.slot.inside.number * w < 2 ^ 64) (sym c.from.ensures) product }
 
 pub index-requires : goal.index-requires
-index-requires c =
-    let a = c.self.inside in
-    let n = c.slot.inside.number in
-    let mark = used_mark a c.self.invariant n (is_used a _ n _ c.self.view_is c.slot.view_is c.requires) in
-    omega (arith, used_within a.lengths.items n mark, a.lengths.ok.0)
+index-requires c = let u = used_slot c.self.invariant c.self.view_is c.slot.view_is c.requires in omega (arith, u.there, c.self.inside.lengths.ok.0)
 
 pub lend-requires-clause-within : goal.lend-requires-clause-within
 lend-requires-clause-within c =
-    let a = c.self.inside in
-    let n = c.slot.inside.number in
-    let mark = used_mark a c.self.invariant n (is_used a _ n _ c.self.view_is c.slot.view_is c.requires) in
-    let lt = used_within a.lengths.items n mark in
-    let f = c.self.invariant.filled n mark in
-    let len = read_length a.lengths.items n c.index.result.now lt c.index.ensures in
-    let within : n * a.width + c.from-2.result ≤ length a.region = omega (arith, slot_within a c.self.invariant n lt, f.fits, f.long, c.from-2.ensures, len) in
-    subst (λ w. n * w + c.from-2.result ≤ length a.region) (sym c.from.ensures) within
+    let u = used_slot c.self.invariant c.self.view_is c.slot.view_is c.requires in
+    let len = read_length c.self.inside.lengths.items c.slot.inside.number c.index.result.now u.there c.index.ensures in
+    let within : c.slot.inside.number * c.self.inside.width + c.from-2.result ≤ length c.self.inside.region = omega (arith, u.within, u.filled.fits, u.filled.long, c.from-2.ensures, len) in
+    subst (λ w. c.slot.inside.number * w + c.from-2.result ≤ length c.self.inside.region) (sym c.from.ensures) within
 
 pub lend-requires-clause-written : goal.lend-requires-clause-written
 lend-requires-clause-written c =
-    let a = c.self.inside in
-    let n = c.slot.inside.number in
-    let mark = used_mark a c.self.invariant n (is_used a _ n _ c.self.view_is c.slot.view_is c.requires) in
-    let f = c.self.invariant.filled n mark in
-    let len = read_length a.lengths.items n c.index.result.now (used_within a.lengths.items n mark) c.index.ensures in
-    (f.octets, f.long ∙ sym len ∙ sym c.from-2.ensures, subst (λ w. Holds a.region (n * w) f.octets) (sym c.from.ensures) f.holds)
+    let u = used_slot c.self.invariant c.self.view_is c.slot.view_is c.requires in
+    let len = read_length c.self.inside.lengths.items c.slot.inside.number c.index.result.now u.there c.index.ensures in
+    (u.filled.octets, u.filled.long ∙ sym len ∙ sym c.from-2.ensures, subst (λ w. Holds c.self.inside.region (c.slot.inside.number * w) u.filled.octets) (sym c.from.ensures) u.filled.holds)
 
 pub returns-clause-octets : goal.returns-clause-octets
 returns-clause-octets c =
-    let a = c.self.inside in
-    let n = c.slot.inside.number in
-    let mark = used_mark a c.self.invariant n (is_used a _ n _ c.self.view_is c.slot.view_is c.requires) in
-    let f = c.self.invariant.filled n mark in
-    let len = read_length a.lengths.items n c.index.result.now (used_within a.lengths.items n mark) c.index.ensures in
-    let long = c.lend.ensures.len ∙ c.from-2.ensures ∙ len in
+    let u = used_slot c.self.invariant c.self.view_is c.slot.view_is c.requires in
+    let long = c.lend.ensures.len ∙ c.from-2.ensures ∙ read_length c.self.inside.lengths.items c.slot.inside.number c.index.result.now u.there c.index.ensures in
     rw (← c.self.view_is, ← c.slot.view_is)
-    (held a c.self.invariant n c.lend.result.now mark long (omega (arith, f.long, f.fits, long)) (subst (λ w. Holds a.region (n * w) c.lend.result.now) c.from.ensures c.lend.ensures.octets))
+    (held c.self.inside c.self.invariant c.slot.inside.number c.lend.result.now u.mark long (omega (arith, u.filled.long, u.filled.fits, long))
+    (subst (λ w. Holds c.self.inside.region (c.slot.inside.number * w) c.lend.result.now) c.from.ensures c.lend.ensures.octets))
 
 pub returns-clause-fits : goal.returns-clause-fits
 returns-clause-fits c =
-    let a = c.self.inside in
-    let n = c.slot.inside.number in
-    let mark = used_mark a c.self.invariant n (is_used a _ n _ c.self.view_is c.slot.view_is c.requires) in
-    let f = c.self.invariant.filled n mark in
-    let len = read_length a.lengths.items n c.index.result.now (used_within a.lengths.items n mark) c.index.ensures in
-    let fits : length c.lend.result.now ≤ a.width = omega (arith, f.long, f.fits, c.lend.ensures.len, c.from-2.ensures, len) in
+    let u = used_slot c.self.invariant c.self.view_is c.slot.view_is c.requires in
+    let len = read_length c.self.inside.lengths.items c.slot.inside.number c.index.result.now u.there c.index.ensures in
+    let fits : length c.lend.result.now ≤ c.self.inside.width = omega (arith, u.filled.long, u.filled.fits, c.lend.ensures.len, c.from-2.ensures, len) in
     subst (λ s. length c.lend.result.now ≤ s.width) c.self.view_is fits

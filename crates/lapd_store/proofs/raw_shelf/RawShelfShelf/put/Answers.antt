@@ -12,28 +12,27 @@ returns-then-self-clause-full c =
 pub read_link-self-inside-requires-clause-within : goal.read_link-self-inside-requires-clause-within
 read_link-self-inside-requires-clause-within c =
     let a = c.self.inside in
-    let within = slot_within a c.self.invariant a.first (first_within a c.self.invariant c.if-self.false) in
-    let two : a.first * a.width + 2 ≤ length a.region = omega (arith, within, c.self.invariant.least) in
-    subst (λ k. k + 2 ≤ length a.region) (λ i. sym c.from-number.ensures i * sym c.from.ensures i) two
+    let n = c.from-number.result in
+    let within = slot_within a c.self.invariant n (first_within a c.self.invariant c.if-self.false n c.from-number.ensures) in
+    let two : n * a.width + 2 ≤ length a.region = omega (arith, within, c.self.invariant.least) in
+    subst (λ w. n * w + 2 ≤ length a.region) (sym c.from.ensures) two
 
 pub read_link-self-inside-requires-clause-linked : goal.read_link-self-inside-requires-clause-linked
 read_link-self-inside-requires-clause-linked c =
-    let a = c.self.inside in
-    let t = first_slot a c.self.invariant c.if-self.false in
-    (t.next, subst (λ k. Holds a.region k (link t.next)) (λ i. sym c.from-number.ensures i * sym c.from.ensures i) t.holds)
+    let t = first_slot c.self.inside c.self.invariant c.if-self.false c.from-number.result c.from-number.ensures in
+    (t.next, subst (λ w. Holds c.self.inside.region (c.from-number.result * w) (link t.next)) (sym c.from.ensures) t.holds)
 
 pub write-requires : goal.write-requires
 write-requires c =
     let a = c.self.inside in
-    let within = slot_within a c.self.invariant a.first (first_within a c.self.invariant c.if-self.false) in
+    let n = c.from-number.result in
+    let within = slot_within a c.self.invariant n (first_within a c.self.invariant c.if-self.false n c.from-number.ensures) in
     let fits = subst (λ s. length c.args.octets.now ≤ s.width) (sym c.self.view_is) c.requires in
-    let room : a.first * a.width + length c.args.octets.now ≤ length a.region = omega (arith, within, fits) in
-    record { within = subst (λ k. k + length c.args.octets.now ≤ length a.region) (λ i. sym c.from-number.ensures i * sym c.from.ensures i) room }
+    let room : n * a.width + length c.args.octets.now ≤ length a.region = omega (arith, within, fits) in
+    record { within = subst (λ w. n * w + length c.args.octets.now ≤ length a.region) (sym c.from.ensures) room }
 
 pub index_mut-requires : goal.index_mut-requires
-index_mut-requires c =
-    let a = c.self.inside in
-    omega (arith, first_within a c.self.invariant c.if-self.false, a.lengths.ok.0, c.from-number.ensures)
+index_mut-requires c = omega (arith, first_within c.self.inside c.self.invariant c.if-self.false c.from-number.result c.from-number.ensures, c.self.inside.lengths.ok.0)
 
 pub overflow_add-self : goal.overflow_add-self
 overflow_add-self c = record { fits = octets_fit c.self.inside c.self.invariant (length c.args.octets.now) (subst (λ s. length c.args.octets.now ≤ s.width) (sym c.self.view_is) c.requires) }
@@ -46,9 +45,7 @@ invariant_of-self c =
     c.args.octets.now c.write.ensures.others c.write.ensures.written fits refl refl refl c.read_link-self-inside.ensures
 
 pub returns-clause-free : goal.returns-clause-free
-returns-clause-free c =
-    let free = subst (λ s. IsFree s c.self.inside.first) c.self.view_is (first_free c.self.inside c.self.invariant c.if-self.false) in
-    subst (IsFree c.args.self.now) (sym c.from-number.ensures) free
+returns-clause-free c = subst (λ s. IsFree s c.from-number.result) c.self.view_is (first_free c.self.inside c.self.invariant c.if-self.false c.from-number.result c.from-number.ensures)
 
 pub returns-clause-stored : goal.returns-clause-stored
 returns-clause-stored c =

@@ -1,81 +1,56 @@
 -- Hand-written answers for `RawShelfShelf::release`.
 use Rattle.lapd_store.proofs.Vocabulary.{◌≡◌, ◌+◌, ◌-◌, ◌*◌, ◌^◌, ◌<◌, ◌≤◌, length, get_or, refl, sym, subst, arith, with_item, free_mark}
-use Rattle.lapd_store.proofs.RawLemmas.{used_within, read_length}
-use Rattle.lapd_store.proofs.RawSound.{is_used, used_mark, used_counts, slot_within, small, release_stored, release_sound}
+use Rattle.lapd_store.proofs.RawLemmas.{read_length}
+use Rattle.lapd_store.proofs.RawSound.{used_slot, release_stored, release_sound}
 use Rattle.lapd_store.proofs.raw_shelf.RawShelfShelf.release.Goals as goal
 
 pub index-requires : goal.index-requires
-index-requires c =
-    let a = c.self.inside in
-    let n = c.slot.inside.number in
-    let mark = used_mark a c.self.invariant n (is_used a _ n _ c.self.view_is c.slot.view_is c.requires) in
-    omega (arith, used_within a.lengths.items n mark, a.lengths.ok.0)
+index-requires c = let u = used_slot c.self.invariant c.self.view_is c.slot.view_is c.requires in omega (arith, u.there, c.self.inside.lengths.ok.0)
 
 pub overflow_sub-self : goal.overflow_sub-self
 overflow_sub-self c =
-    let a = c.self.inside in
-    let n = c.slot.inside.number in
-    let mark = used_mark a c.self.invariant n (is_used a _ n _ c.self.view_is c.slot.view_is c.requires) in
-    let len = read_length a.lengths.items n c.index.result.now (used_within a.lengths.items n mark) c.index.ensures in
-    omega (arith, (used_counts a c.self.invariant n mark).1, c.from.ensures, len)
+    let u = used_slot c.self.invariant c.self.view_is c.slot.view_is c.requires in
+    omega (arith, u.octets, c.from.ensures, read_length c.self.inside.lengths.items c.slot.inside.number c.index.result.now u.there c.index.ensures)
 
 pub overflow_sub-self-2 : goal.overflow_sub-self-2
-overflow_sub-self-2 c =
-    let a = c.self.inside in
-    let n = c.slot.inside.number in
-    (used_counts a c.self.invariant n (used_mark a c.self.invariant n (is_used a _ n _ c.self.view_is c.slot.view_is c.requires))).0
+overflow_sub-self-2 c = let u = used_slot c.self.invariant c.self.view_is c.slot.view_is c.requires in u.one
 
 pub index_mut-requires : goal.index_mut-requires
-index_mut-requires c =
-    let a = c.self.inside in
-    let n = c.slot.inside.number in
-    let mark = used_mark a c.self.invariant n (is_used a _ n _ c.self.view_is c.slot.view_is c.requires) in
-    omega (arith, used_within a.lengths.items n mark, a.lengths.ok.0)
+index_mut-requires c = let u = used_slot c.self.invariant c.self.view_is c.slot.view_is c.requires in omega (arith, u.there, c.self.inside.lengths.ok.0)
 
 pub overflow_mul-number : goal.overflow_mul-number
 overflow_mul-number c =
-    let a = c.self.inside in
-    let n = c.slot.inside.number in
-    let mark = used_mark a c.self.invariant n (is_used a _ n _ c.self.view_is c.slot.view_is c.requires) in
-    let within = slot_within a c.self.invariant n (used_within a.lengths.items n mark) in
-    let product : n * a.width < 2 ^ 64 = omega (arith, within, small a c.self.invariant) in
-    record { fits = subst (λ w. n * w < 2 ^ 64) (sym c.from-2.ensures) product }
+    let u = used_slot c.self.invariant c.self.view_is c.slot.view_is c.requires in
+    let product : c.slot.inside.number * c.self.inside.width < 2 ^ 64 = omega (arith, u.within, u.small) in
+    record { fits = subst (λ w. c.slot.inside.number * w < 2 ^ 64) (sym c.from-2.ensures) product }
 
 pub write_link-requires : goal.write_link-requires
 write_link-requires c =
-    let a = c.self.inside in
-    let n = c.slot.inside.number in
-    let mark = used_mark a c.self.invariant n (is_used a _ n _ c.self.view_is c.slot.view_is c.requires) in
-    let two : n * a.width + 2 ≤ length a.region = omega (arith, slot_within a c.self.invariant n (used_within a.lengths.items n mark), c.self.invariant.least) in
-    subst (λ w. n * w + 2 ≤ length a.region) (sym c.from-2.ensures) two
+    let u = used_slot c.self.invariant c.self.view_is c.slot.view_is c.requires in
+    let two : c.slot.inside.number * c.self.inside.width + 2 ≤ length c.self.inside.region = omega (arith, u.within, c.self.invariant.least) in
+    subst (λ w. c.slot.inside.number * w + 2 ≤ length c.self.inside.region) (sym c.from-2.ensures) two
 
 pub overflow_cast-self : goal.overflow_cast-self
-overflow_cast-self c =
-    let a = c.self.inside in
-    let n = c.slot.inside.number in
-    let mark = used_mark a c.self.invariant n (is_used a _ n _ c.self.view_is c.slot.view_is c.requires) in
-    omega (arith, used_within a.lengths.items n mark, c.self.invariant.few)
+overflow_cast-self c = let u = used_slot c.self.invariant c.self.view_is c.slot.view_is c.requires in omega (arith, u.there, c.self.invariant.few)
 
 pub invariant_of-self : goal.invariant_of-self
 invariant_of-self c =
     let a = c.self.inside in
     let n = c.slot.inside.number in
-    let was = is_used a _ n _ c.self.view_is c.slot.view_is c.requires in
-    let mark = used_mark a c.self.invariant n was in
-    let len = read_length a.lengths.items n c.index.result.now (used_within a.lengths.items n mark) c.index.ensures in
-    let counts = used_counts a c.self.invariant n mark in
-    let octets : a.octets - c.from.result + get_or a.lengths.items n free_mark ≡ a.octets = omega (arith, counts.1, c.from.ensures, len) in
-    let used : a.used - 1 + 1 ≡ a.used = omega (arith, counts.0) in
-    release_sound a _ c.self.invariant n c.from-2.result c.from-2.ensures refl was c.write_link.ensures.others c.write_link.ensures.linked refl octets used refl
+    let u = used_slot c.self.invariant c.self.view_is c.slot.view_is c.requires in
+    let len = read_length a.lengths.items n c.index.result.now u.there c.index.ensures in
+    let octets : a.octets - c.from.result + get_or a.lengths.items n free_mark ≡ a.octets = omega (arith, u.octets, c.from.ensures, len) in
+    let used : a.used - 1 + 1 ≡ a.used = omega (arith, u.one) in
+    release_sound a _ c.self.invariant n c.from-2.result c.from-2.ensures refl u c.write_link.ensures.others c.write_link.ensures.linked refl octets used refl
 
 pub returns-clause-released : goal.returns-clause-released
 returns-clause-released c =
     let a = c.self.inside in
     let n = c.slot.inside.number in
-    let was = is_used a _ n _ c.self.view_is c.slot.view_is c.requires in
+    let u = used_slot c.self.invariant c.self.view_is c.slot.view_is c.requires in
     rw (← c.self.view_is, ← c.slot.view_is)
     (release_stored a (record { region = c.write_link.new.region; lengths = with_item a.lengths n 65535; octets = a.octets - c.from.result; used = a.used - 1; first = n; width = a.width })
-    c.self.invariant n c.from-2.result c.from-2.ensures refl was c.write_link.ensures.others c.write_link.ensures.linked refl)
+    c.self.invariant n c.from-2.result c.from-2.ensures refl u c.write_link.ensures.others c.write_link.ensures.linked refl)
 
 pub returns-clause-within : goal.returns-clause-within
 returns-clause-within c = (invariant_of-self c).within

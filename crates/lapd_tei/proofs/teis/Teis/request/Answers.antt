@@ -1,8 +1,8 @@
 -- Hand-written answers for `Teis::request`.
-use Rattle.lapd_tei.proofs.Vocabulary.{IfSome, sym, subst, ◌∙◌, arith, IsSoundTable, IsSoundMemory, IsSoundCheck, IsSoundQueue, IdentityDenied, management_of}
-use Rattle.lapd_tei.proofs.Tables.{table-put, on-newcomer, free_tei-is}
+use Rattle.lapd_tei.proofs.Vocabulary.{sym, subst, ◌∙◌, arith, IsSoundMemory, IsSoundQueue, IdentityDenied, management_of}
+use Rattle.lapd_tei.proofs.Tables.{on-newcomer, free_tei-is}
 use Rattle.lapd_tei.proofs.Memories.{memory-put, memory-remember, remembered-range}
-use Rattle.lapd_tei.proofs.SoundWords.{sound_sent, queue-sent, check-put}
+use Rattle.lapd_tei.proofs.SoundWords.{sound_came, sound_sent, queue-sent}
 use Rattle.lapd_tei.proofs.teis.Teis.request.Goals as goal
 
 pub invariant_of-self : goal.invariant_of-self
@@ -20,12 +20,6 @@ invariant_of-self-2 c =
     let at = sym c.free_place.ensures.place ∙ c.in-Some-free_place.is in
     let free = free_tei-is c.self.inside.table c.in-Some-free_tei.tei (sym c.free_tei.ensures ∙ c.in-Some-free_tei.is) in
     let new = sym c.tei_for.ensures ∙ c.in_default.is in
-    record {
-      table = subst IsSoundTable (sym c.put.ensures) (table-put _ _ _ sound.table free.off at free.most);
-      memory =
-          subst (λ places. IsSoundMemory places c.remember.new.self) (sym c.put.ensures)
-          (subst (IsSoundMemory _) (sym c.remember.ensures)
-          (memory-remember _ _ _ c.args.ri _ sound.memory (memory-put _ _ _ _ at sound.memory) new free.off (on-newcomer _ _ _ at)));
-      checked = subst (λ places. IfSome c.self.inside.check (IsSoundCheck places)) (sym c.put.ensures) (check-put _ _ _ _ at sound.checked);
-      queue = subst IsSoundQueue (sym c.send-2.ensures.waits) (queue-sent _ _ sound.queue (omega (arith, free.most)));
-    }
+    sound_came (management_of c.self.inside) _ _ _ _ _ sound free.off at free.most c.put.ensures
+    (subst (IsSoundMemory _) (sym c.remember.ensures) (memory-remember _ _ _ c.args.ri _ sound.memory (memory-put _ _ _ _ at sound.memory) new free.off (on-newcomer _ _ _ at)))
+    (subst IsSoundQueue (sym c.send-2.ensures.waits) (queue-sent _ _ sound.queue (omega (arith, free.most))))

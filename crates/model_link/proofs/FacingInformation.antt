@@ -23,10 +23,10 @@ pub record Took (l : Link) (nr : Seq) (r : ℕ) (d : Option (List ℕ)) (c : Cou
 
 module _ (t : Terms) (l : Link) where
   pub at-first : Stays l (still l.s) l.a l.r (begun l)
-  at-first = record { stay = record { same = refl; acknowledged = refl; sent = refl; received = refl; reports = no-reports l.r l.waiting } }
+  at-first = record { same = refl; acknowledged = refl; sent = refl; received = refl; reports = no-reports l.r l.waiting }
 
   after-one : (octets : List ℕ) → Stays l (still l.s) l.a (l.r + 1) ((Words.count_received then Words.rejecting_is false then Words.deliver t octets) (begun l))
-  after-one octets = record { stay = record { same = refl; acknowledged = refl; sent = refl; received = refl; reports = no-reports (l.r + 1) l.waiting } }
+  after-one octets = record { same = refl; acknowledged = refl; sent = refl; received = refl; reports = no-reports (l.r + 1) l.waiting }
 
   dropped : (p : Bool) → Halfway l l.r None (MultipleFrame.dropped t p (begun l))
   dropped p =

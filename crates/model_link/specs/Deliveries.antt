@@ -1,12 +1,12 @@
 -- The I-frames that may be delivered, and what is delivered, since the numbers of an establishment began.
-use Rattle.std.specs.Prelude.{◌≡◌, ℕ, ◌&&◌, not, nat_le, Bool, true, false, List, length, Option, None, Some, if◌then◌else◌}
+use Rattle.std.specs.Prelude.{◌≡◌, ℕ, ◌&&◌, not, nat_le, Bool, true, List, length, Option, None, Some, if◌then◌else◌}
 use Rattle.lapd_seq.specs.declared.numbers.Seq.{Seq}
 use Rattle.lapd_frame.specs.declared.controls.Control.{Control}
-use Rattle.lapd_frame.specs.declared.controls.Control.TheVariants.{Information, ReceiveReady, ReceiveNotReady, Reject, Sabme, Disc, Ui, Ua, Dm, Frmr, Xid}
+use Rattle.lapd_frame.specs.declared.controls.Control.TheVariants.{Information, Sabme, Ua}
 use Rattle.model_link.specs.declared.states.State.TheVariants.{Established}
 use Rattle.model_link.specs.declared.terms.Terms.{Terms}
 use Rattle.model_link.specs.Link.{Link, fresh, is_multiple_frame}
-use Rattle.model_link.specs.Events.{frame, undefined, wrong_size, overlong, Event, received, expired, requested, offer, cleared}
+use Rattle.model_link.specs.Events.{frame, Event, received, cleared}
 use Rattle.model_link.specs.Machine.{course}
 
 -- An I-frame that came: its N(S) and its contents.
@@ -16,26 +16,11 @@ pub record Arrived : Type 0 where
 
 abbrev pub information_of : Control → List ℕ → Option Arrived
 information_of (Information ns nr p) octets = Some (record { ns = ns; contents = octets })
-information_of (ReceiveReady nr pf) octets = None
-information_of (ReceiveNotReady nr pf) octets = None
-information_of (Reject nr pf) octets = None
-information_of (Sabme p) octets = None
-information_of (Disc p) octets = None
-information_of (Ui p) octets = None
-information_of (Ua f) octets = None
-information_of (Dm f) octets = None
-information_of (Frmr f) octets = None
-information_of (Xid pf) octets = None
+information_of other octets = None
 
 abbrev pub information_in : Event → Option Arrived
 information_in (received (frame f)) = information_of f.control f.info
-information_in (received undefined) = None
-information_in (received wrong_size) = None
-information_in (received overlong) = None
-information_in (expired timer) = None
-information_in (requested request pool_is_full) = None
-information_in offer = None
-information_in cleared = None
+information_in other = None
 
 -- It is eligible where it has at most N201 octets and meets state 7 or 8 with own busy off.
 abbrev pub is_eligible : Terms → Link → Arrived → Bool
@@ -56,16 +41,7 @@ restarts t e l = (course t e l).zeroed
 abbrev pub MayEstablish : Control → Type 0
 MayEstablish (Sabme p) = Unit {0}
 MayEstablish (Ua true) = Unit {0}
-MayEstablish (Ua false) = ⊥
-MayEstablish (Information ns nr p) = ⊥
-MayEstablish (ReceiveReady nr pf) = ⊥
-MayEstablish (ReceiveNotReady nr pf) = ⊥
-MayEstablish (Reject nr pf) = ⊥
-MayEstablish (Disc p) = ⊥
-MayEstablish (Ui p) = ⊥
-MayEstablish (Dm f) = ⊥
-MayEstablish (Frmr f) = ⊥
-MayEstablish (Xid pf) = ⊥
+MayEstablish other = ⊥
 
 -- After an establishment the link is in state 7 with its numbers zero; after the end of its TEI it is as one that begins.
 pub record IsEstablished (control : Control) (l : Link) : Type 0 where
@@ -77,10 +53,5 @@ pub record IsEstablished (control : Control) (l : Link) : Type 0 where
 
 abbrev pub Establishes : Event → Link → Type 0
 Establishes (received (frame f)) l = IsEstablished f.control l
-Establishes (received undefined) l = ⊥
-Establishes (received wrong_size) l = ⊥
-Establishes (received overlong) l = ⊥
-Establishes (expired timer) l = ⊥
-Establishes (requested request pool_is_full) l = ⊥
-Establishes offer l = ⊥
 Establishes cleared l = l ≡ fresh
+Establishes other l = ⊥

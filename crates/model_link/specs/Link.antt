@@ -95,11 +95,9 @@ may_repeat t l = nat_lt l.repeats t.n200
 
 -- State 7 or 8, as a test of a state.
 abbrev pub is_multiple_frame : State → Bool
-is_multiple_frame TeiAssigned = false
-is_multiple_frame AwaitingEstablishment = false
-is_multiple_frame AwaitingRelease = false
 is_multiple_frame Established = true
 is_multiple_frame TimerRecovery = true
+is_multiple_frame other = false
 
 -- A control frame that waits, as the whole frame that the exchange sends.
 abbrev pub address_at : Terms → Bool → Address

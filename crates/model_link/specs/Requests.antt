@@ -14,10 +14,7 @@ use Rattle.model_link.specs.MultipleFrame.{release_in_7_8, data_in_7_8, set_busy
 -- Which states serve which request (profile).
 abbrev pub is_down : State → Bool
 is_down TeiAssigned = true
-is_down AwaitingEstablishment = false
-is_down AwaitingRelease = false
-is_down Established = false
-is_down TimerRecovery = false
+is_down other = false
 
 abbrev pub serves : State → Request → Bool
 serves state Establish = is_down state

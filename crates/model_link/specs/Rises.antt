@@ -4,13 +4,13 @@ use Rattle.lapd_seq.specs.declared.numbers.Seq.{Seq}
 use Rattle.lapd_seq.specs.Circle.{named}
 use Rattle.lapd_frame.specs.declared.addresses.Side.TheVariants.{Network}
 use Rattle.lapd_frame.specs.declared.controls.Control.{Control}
-use Rattle.lapd_frame.specs.declared.controls.Control.TheVariants.{Information, ReceiveReady, ReceiveNotReady, Reject, Sabme, Disc, Ui, Ua, Dm, Frmr, Xid}
+use Rattle.lapd_frame.specs.declared.controls.Control.TheVariants.{Reject}
 use Rattle.lapd_frame.specs.Grammar.{spelling}
 use Rattle.model_link.specs.declared.states.State.{State}
-use Rattle.model_link.specs.declared.states.State.TheVariants.{TeiAssigned, AwaitingEstablishment, AwaitingRelease, Established, TimerRecovery}
+use Rattle.model_link.specs.declared.states.State.TheVariants.{TimerRecovery}
 use Rattle.model_link.specs.declared.terms.Terms.{Terms}
 use Rattle.model_link.specs.Link.{Link, unsent, is_multiple_frame, frame_of}
-use Rattle.model_link.specs.Events.{frame, undefined, wrong_size, overlong, Establish, Release, Data, SetBusy, ClearBusy, Event, received, expired, requested, offer, cleared}
+use Rattle.model_link.specs.Events.{frame, Data, Event, received, expired, requested, offer, cleared}
 use Rattle.model_link.specs.Requests.{refusal}
 use Rattle.model_link.specs.Machine.{is_running, course, after}
 
@@ -21,11 +21,8 @@ held t l = sum_by (λ f. length (spelling Network (frame_of t f))) l.waiting
 -- What a link may send without anything else happening: the frames that wait, the contents that are unsent, the
 -- acknowledgement that is owed, and in state 8 the window, which the answer to the enquiry may bring back.
 abbrev pub window_back : State → ℕ → ℕ
-window_back TeiAssigned k = 0
-window_back AwaitingEstablishment k = 0
-window_back AwaitingRelease k = 0
-window_back Established k = 0
 window_back TimerRecovery k = k
+window_back other k = 0
 
 abbrev pub may_send : Terms → Link → ℕ
 may_send t l = length l.waiting + unsent l + (if l.pending then 1 else 0) + window_back l.state t.k
@@ -37,16 +34,7 @@ sent t e l = if is_some (course t e l).sent then 1 else 0
 -- The N(R) of an REJ.
 abbrev pub reject_number : Control → Option Seq
 reject_number (Reject nr pf) = Some nr
-reject_number (Information ns nr p) = None
-reject_number (ReceiveReady nr pf) = None
-reject_number (ReceiveNotReady nr pf) = None
-reject_number (Sabme p) = None
-reject_number (Disc p) = None
-reject_number (Ui p) = None
-reject_number (Ua f) = None
-reject_number (Dm f) = None
-reject_number (Frmr f) = None
-reject_number (Xid pf) = None
+reject_number other = None
 
 -- An REJ with a valid N(R) in state 7 or 8.
 abbrev pub is_valid_reject : Option Seq → Link → Bool
@@ -55,13 +43,7 @@ is_valid_reject (Some nr) l = is_multiple_frame l.state && is_some (named l.a l.
 
 abbrev pub rejects : Event → Link → Bool
 rejects (received (frame f)) l = is_valid_reject (reject_number f.control) l
-rejects (received undefined) l = false
-rejects (received wrong_size) l = false
-rejects (received overlong) l = false
-rejects (expired timer) l = false
-rejects (requested request pool_is_full) l = false
-rejects offer l = false
-rejects cleared l = false
+rejects other l = false
 
 -- The price of an event: by how much the frames sent and those that may be sent can rise.
 abbrev pub price : Terms → Event → Link → ℕ
@@ -77,15 +59,8 @@ RisesByEvent t e l = sent t e l + may_send t (after t e l) ≤ may_send t l + pr
 
 -- By how many slots of the shelf an event lets the link's contents grow: contents that are not refused take one.
 abbrev pub grows : Terms → Event → Link → ℕ
-grows t (received r) l = 0
-grows t (expired timer) l = 0
-grows t (requested Establish pool_is_full) l = 0
-grows t (requested Release pool_is_full) l = 0
 grows t (requested (Data octets) pool_is_full) l = if is_some (refusal t l pool_is_full (Data octets)) then 0 else 1
-grows t (requested SetBusy pool_is_full) l = 0
-grows t (requested ClearBusy pool_is_full) l = 0
-grows t offer l = 0
-grows t cleared l = 0
+grows t other l = 0
 
 -- The same of a list of events.
 unfoldable pub sent_in_all : Terms → List Event → Link → ℕ

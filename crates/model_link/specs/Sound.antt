@@ -2,7 +2,7 @@
 use Rattle.std.specs.Prelude.{◌≡◌, ℕ, ◌+◌, ◌≤◌, Bool, true, false, IsTrue, List, [], length, All, Option, IfSome, unwrap_or}
 use Rattle.lapd_frame.specs.declared.addresses.Side.TheVariants.{Network}
 use Rattle.lapd_frame.specs.declared.controls.Control.{Control}
-use Rattle.lapd_frame.specs.declared.controls.Control.TheVariants.{Information, ReceiveReady, ReceiveNotReady, Reject, Sabme, Disc, Ui, Ua, Dm, Frmr, Xid}
+use Rattle.lapd_frame.specs.declared.controls.Control.TheVariants.{Information}
 use Rattle.lapd_frame.specs.Grammar.{IsFrame, spelling}
 use Rattle.model_link.specs.declared.states.State.{State}
 use Rattle.model_link.specs.declared.states.State.TheVariants.{TeiAssigned, AwaitingEstablishment, AwaitingRelease, Established, TimerRecovery}
@@ -34,16 +34,7 @@ IsSettledIn TimerRecovery l = Unit {0}
 -- Whether a frame is an I-frame.
 abbrev pub is_information : Control → Bool
 is_information (Information ns nr p) = true
-is_information (ReceiveReady nr pf) = false
-is_information (ReceiveNotReady nr pf) = false
-is_information (Reject nr pf) = false
-is_information (Sabme p) = false
-is_information (Disc p) = false
-is_information (Ui p) = false
-is_information (Ua f) = false
-is_information (Dm f) = false
-is_information (Frmr f) = false
-is_information (Xid pf) = false
+is_information other = false
 
 -- A frame that waits is one of the exchange, has at most four octets, and is no I-frame.
 pub record IsWaitingFrame (t : Terms) (f : ControlFrame) : Type 0 where

@@ -3,7 +3,7 @@ use Rattle.std.specs.Prelude.{ℕ, ◌+◌, Bool, true, false, not, ◌&&◌, na
 use Rattle.lapd_seq.specs.Numbers.{seq}
 use Rattle.lapd_frame.specs.declared.controls.Control.TheVariants.{Information, ReceiveReady}
 use Rattle.model_link.specs.declared.states.State.{State}
-use Rattle.model_link.specs.declared.states.State.TheVariants.{Established}
+use Rattle.model_link.specs.declared.states.State.TheVariants.{TeiAssigned, AwaitingEstablishment, AwaitingRelease, Established, TimerRecovery}
 use Rattle.model_link.specs.declared.timers.LinkTimer.TheVariants.{T200}
 use Rattle.model_link.specs.declared.frames.ControlFrame.{ControlFrame}
 use Rattle.model_link.specs.declared.terms.Terms.{Terms}
@@ -26,8 +26,11 @@ give_waiting f fs = give f None then changed (with_waiting_rest fs)
 -- An I-frame may be sent in state 7 while the terminal is not busy, fewer than k are outstanding, and contents are
 -- unsent (clauses 5.6.1 and 5.6.5).
 abbrev pub is_established : State → Bool
+is_established TeiAssigned = false
+is_established AwaitingEstablishment = false
+is_established AwaitingRelease = false
 is_established Established = true
-is_established other = false
+is_established TimerRecovery = false
 
 abbrev pub may_send_information : Terms → Link → Bool
 may_send_information t l =

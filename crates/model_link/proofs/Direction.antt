@@ -116,19 +116,7 @@ lost-rising a r [] rest h = h
 lost-rising a r (f ∷ fs) rest (m, up, means, h) = rising-lower m a r (fs ++ rest) up h
 
 pub sender-loses : (n m : End) → Direction n m → Direction (record n { way = drop 1 n.way }) m
-sender-loses n m h =
-    record {
-      carried = lost-carried n.link.contents (n.link.a + n.terms.k) m.link.r n.way (frames_of n.terms n.link.waiting) h.carried;
-      rising = h.rising;
-      delivered = h.delivered;
-      accepted = h.accepted;
-    }
+sender-loses n m h = search (lost-carried)
 
 pub receiver-loses : (n m : End) → Direction n m → Direction n (record m { way = drop 1 m.way })
-receiver-loses n m h =
-    record {
-      carried = h.carried;
-      rising = lost-rising n.link.a m.link.r m.way (frames_of m.terms m.link.waiting) h.rising;
-      delivered = h.delivered;
-      accepted = h.accepted;
-    }
+receiver-loses n m h = search (lost-rising)

@@ -82,17 +82,7 @@ pub record Joined (n m : End) : Type 0 where
   pub back : Direction m n
 
 pub joined-turned : (n m : End) → Joined n m → Joined m n
-joined-turned n m h =
-    record {
-      near_ranges = h.far_ranges;
-      far_ranges = h.near_ranges;
-      near_sound = h.far_sound;
-      far_sound = h.near_sound;
-      near_up = h.far_up;
-      far_up = h.near_up;
-      there = h.back;
-      back = h.there;
-    }
+joined-turned n m h = search
 
 -- what a sender has delivered doesn't matter, and what a receiver has is the same
 sender-told : (n m : End) (ds : List (List ℕ)) → Direction n m → Direction (record n { delivered = ds }) m
@@ -105,17 +95,7 @@ module _ (n m : End) (h : Joined n m) where
   -- the near end goes on, and perhaps takes a frame of the other's way
   moved : (n' : End) (way : List Parts) → IsInRange n'.terms → IsSound n'.terms n'.link → IsTrue (is_multiple_frame n'.link.state)
       → Direction n' (record m { way = way }) → Direction (record m { way = way }) n' → Joined n' (record m { way = way })
-  moved n' way ranges sound up there back =
-      record {
-        near_ranges = ranges;
-        far_ranges = h.far_ranges;
-        near_sound = sound;
-        far_sound = h.far_sound;
-        near_up = up;
-        far_up = h.far_up;
-        there = there;
-        back = back;
-      }
+  moved n' way ranges sound up there back = search
 
   -- an event of the link alone, which delivers nothing
   goes : (e : Event) → (Machine.course n.terms e n.link).delivered ≡ None → Goes n.link (Machine.after n.terms e n.link)

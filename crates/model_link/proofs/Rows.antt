@@ -12,7 +12,6 @@ use Rattle.model_link.proofs.Leads.{Leads, depending_leads, tested_leads, Passed
 use Rattle.model_link.proofs.Waits.{sabme_waits, disc_waits}
 use Rattle.model_link.proofs.Kept.{Purse, no_more, two, Fits, FitsEvent, Kept, any_event}
 use Rattle.model_link.proofs.Careful.{Claim, At, anything, is_at_rest, idle, paid, QueuesFor, Queues, any_request, Careful, plainly}
-
 use Rattle.model_link.proofs.FrameRows.{one, ◌▹◌, error, release_indication, release_confirm, send, settled, flags, repeats, repeated, start, no_timer, discard, ready, untold, ends, stays, enter_4, enter_5, enter_6, enter_8, knowing, begun_by, unserved, failed, frame_by}
 
 -- what is not refused is served

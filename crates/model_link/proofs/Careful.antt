@@ -24,10 +24,8 @@ anything a s n state = Unit {0}
 -- Nothing is queued: it is known, or the state is one in which nothing is. A claim says what it is to be in a state.
 abbrev pub is_at_rest : State → Bool
 is_at_rest TeiAssigned = true
-is_at_rest AwaitingEstablishment = false
 is_at_rest AwaitingRelease = true
-is_at_rest Established = false
-is_at_rest TimerRecovery = false
+is_at_rest other = false
 
 abbrev pub idle : (State → State → Type 0) → Claim
 idle In a s n state = (n ≤ a) ⊎ ((here : State) × In state here × (is_at_rest here ≡ true))

@@ -1,13 +1,14 @@
 -- Every event delivers the contents of the next eligible I-frame, if it brings it, and counts them; or the numbers
 -- begin anew.
-use Rattle.model_link.proofs.Vocabulary.{◌≡◌, ℕ, ◌+◌, ◌%◌, ◌<◌, ◌≤◌, Bool, true, false, cond, not, ◌&&◌, ◌==◌, List, length, Option, Some, None, is_some, refl, sym, ap, subst, inl, arith, nat_lt, nat_le, ltb-true, ltb-false, leb-true, leb-false, false_from_ne_true, true_from_ne_false, Seq, seq, Control, Information, Ua, State, TeiAssigned, AwaitingEstablishment, AwaitingRelease, Established, TimerRecovery, Terms, Link, is_multiple_frame, Arrived, information_of, eligible_of, eligible, Course, begun, Step, ◌then◌, by_bit}
+use Rattle.model_link.proofs.Vocabulary.{◌≡◌, ℕ, ◌+◌, ◌%◌, ◌<◌, ◌≤◌, Bool, true, false, cond, not, ◌&&◌, ◌==◌, List, length, Option, Some, None, is_some, refl, sym, ap, subst, inl, arith, nat_lt, nat_le, ltb-true, ltb-false, leb-true, leb-false, false_from_ne_true, true_from_ne_false, Seq, seq, Control, Information, Ua, State, TeiAssigned, AwaitingEstablishment, AwaitingRelease, Established, TimerRecovery, Terms, Link, is_multiple_frame, Arrived, information_of, eligible_of, eligible, Course, begun, Step}
 use Rattle.model_link.specs.Events
 use Rattle.model_link.specs.Words
 use Rattle.model_link.specs.MultipleFrame
 use Rattle.model_link.specs.Established
 use Rattle.model_link.specs.Machine
-use Rattle.model_link.proofs.Leads.{Leads, depending_leads, bit_leads}
+use Rattle.model_link.proofs.Leads.{Leads, depending_leads}
 use Rattle.model_link.proofs.Kept.{FitsEvent}
+use Rattle.model_link.proofs.Contents.{contents}
 use Rattle.model_link.proofs.Counting.{Count, On, counted, done, words, number_counts}
 use Rattle.model_link.proofs.Rows.{frame_row, event_row}
 
@@ -20,37 +21,8 @@ abbrev pub counted_on : ℕ → Option (List ℕ) → ℕ
 counted_on r contents = cond (is_some contents) (r + 1) r
 
 module _ (t : Terms) (l : Link) where
-  -- An I-frame in state 7 or 8: what happens to its contents.
-  in-sequence : (p : Bool) (octets : List ℕ) → On (counted (l.r + 1) (Some octets)) (MultipleFrame.in_sequence t p octets (begun l))
-  in-sequence p octets =
-      let start : On (counted (l.r + 1) (Some octets)) ((Words.count_received then Words.rejecting_is false then Words.deliver t octets) (begun l)) = record { number = refl; delivered = refl; goes_on = refl } in
-      let rest : Leads (On (counted (l.r + 1) (Some octets))) (by_bit p (Words.answer t) (Words.pending_is true)) (On (counted (l.r + 1) (Some octets))) = search (bit_leads) in
-      rest.leads ((Words.count_received then Words.rejecting_is false then Words.deliver t octets) (begun l)) start
-
   pub begins : On (counted l.r None) (begun l)
   begins = record { number = refl; delivered = refl; goes_on = refl }
-
-  dropped : (p : Bool) → On (counted l.r None) (MultipleFrame.dropped t p (begun l))
-  dropped p =
-      let rest : Leads (On (counted l.r None)) (MultipleFrame.dropped t p) (On (counted l.r None)) = search (bit_leads) in
-      rest.leads (begun l) begins
-
-  out-of-sequence : (p : Bool) → On (counted l.r None) (MultipleFrame.out_of_sequence t p (begun l))
-  out-of-sequence p =
-      let rest : Leads (On (counted l.r None)) (MultipleFrame.out_of_sequence t p) (On (counted l.r None)) = search (depending_leads, bit_leads) in
-      rest.leads (begun l) begins
-
-  branch : (b : Bool) (r r' : ℕ) (x x' : Option (List ℕ)) (u v : Course) → On (counted r x) u → On (counted r' x') v
-      → On (counted (cond b r r') (cond b x x')) (cond b u v)
-  branch true r r' x x' u v h h' = h
-  branch false r r' x x' u v h h' = h'
-
-  contents : (ns : Seq) (p : Bool) (octets : List ℕ)
-      → On (counted (cond l.own_busy l.r (cond (MultipleFrame.is_next ns l) (l.r + 1) l.r)) (cond l.own_busy None (cond (MultipleFrame.is_next ns l) (Some octets) None)))
-      (MultipleFrame.contents_in_7_8 t ns p octets (begun l))
-  contents ns p octets =
-      branch l.own_busy _ _ _ _ _ _ (dropped p)
-      (branch (MultipleFrame.is_next ns l) _ _ _ _ _ _ (in-sequence p octets) (out-of-sequence p))
 
   branch-done : (b : Bool) (r r' : ℕ) (x x' : Option (List ℕ)) (u v : Course) → On (done r x) u → On (done r' x') v
       → On (done (cond b r r') (cond b x x')) (cond b u v)
@@ -63,7 +35,9 @@ module _ (t : Terms) (l : Link) where
       (MultipleFrame.information_in_7_8 t ns nr p octets f (begun l))
   information ns nr p octets f x =
       branch-done (nat_lt t.n201 (length octets)) _ _ _ _ _ _ (inl begins)
-      (inl ((number_counts (counted _ _) t nr (x (counted _ _))).leads (MultipleFrame.contents_in_7_8 t ns p octets (begun l)) (contents ns p octets)))
+      (inl ((number_counts (counted _ _) t nr (x (counted _ _))).leads (MultipleFrame.contents_in_7_8 t ns p octets (begun l))
+      (contents t l (λ r' d. On (counted r' d)) (λ r' d. record { leads = λ c h. h }) (λ r' d. record { leads = λ c h. h }) (λ r' d b. record { leads = λ c h. h }) begins ns p octets
+      (record { number = refl; delivered = refl; goes_on = refl }))))
 
 -- The same in the words of eligibility.
 eligible-is : (small le multiple own : Bool) (i : Arrived) (r : ℕ) → le ≡ not small → multiple ≡ true

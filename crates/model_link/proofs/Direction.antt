@@ -1,5 +1,5 @@
 -- One direction between two ends: what the sender's contents become on the line and at the receiver.
-use Rattle.model_link.proofs.Vocabulary.{length-append, ◌≡◌, ℕ, ◌+◌, ◌%◌, ◌<◌, ◌≤◌, List, [], ◌∷◌, ◌++◌, length, take, Some, refl, sym, drop, ap, subst, ◌∙◌, append_assoc, append-nil, arith, slice_get, take-append-le, Seq, seq, seq-value, Control, Information, ReceiveReady, ReceiveNotReady, Reject, Sabme, Disc, Ui, Ua, Dm, Frmr, Xid, Parts, ControlFrame, Terms, Link, frame_of, End}
+use Rattle.model_link.proofs.Vocabulary.{length-append, ◌≡◌, ℕ, ◌+◌, ◌%◌, ◌<◌, ◌≤◌, List, [], ◌∷◌, ◌++◌, length, take, Some, refl, sym, drop, ap, subst, ◌∙◌, append_assoc, append-nil, arith, slice_get, take-append-le, Seq, seq, seq-value, Control, Information, ReceiveReady, ReceiveNotReady, Reject, Parts, ControlFrame, Terms, Link, frame_of, End}
 use Rattle.model_link.proofs.Lines.{Carries, Piece, Carried, Means, Rising, carried-more, carried-lower, carried-push, rising-lower, rising-push}
 use Rattle.model_link.proofs.Facing.{IsReport, AreReports, Reports}
 
@@ -29,26 +29,11 @@ report-piece contents high r top n octets (Information ns nr p) h = absurd h
 report-piece contents high r top n octets (ReceiveReady nr pf) h = tt
 report-piece contents high r top n octets (ReceiveNotReady nr pf) h = tt
 report-piece contents high r top n octets (Reject nr pf) h = tt
-report-piece contents high r top n octets (Sabme p) h = h
-report-piece contents high r top n octets (Disc p) h = h
-report-piece contents high r top n octets (Ui p) h = h
-report-piece contents high r top n octets (Ua f) h = h
-report-piece contents high r top n octets (Dm f) h = h
-report-piece contents high r top n octets (Frmr f) h = h
-report-piece contents high r top n octets (Xid pf) h = h
+report-piece contents high r top n octets other h = h
 
 report-means : (n : ℕ) (control : Control) → IsReport n control → Means n control
 report-means n (Information ns nr p) h = absurd h
-report-means n (ReceiveReady nr pf) h = h
-report-means n (ReceiveNotReady nr pf) h = h
-report-means n (Reject nr pf) h = h
-report-means n (Sabme p) h = h
-report-means n (Disc p) h = h
-report-means n (Ui p) h = h
-report-means n (Ua f) h = h
-report-means n (Dm f) h = h
-report-means n (Frmr f) h = h
-report-means n (Xid pf) h = h
+report-means n other h = h
 
 -- reports go to the end of a line
 pub carried-reports : (t : Terms) (contents : List (List ℕ)) (high r n : ℕ) (fs : List Parts) (news : List ControlFrame) → AreReports n news
@@ -131,19 +116,7 @@ lost-rising a r [] rest h = h
 lost-rising a r (f ∷ fs) rest (m, up, means, h) = rising-lower m a r (fs ++ rest) up h
 
 pub sender-loses : (n m : End) → Direction n m → Direction (record n { way = drop 1 n.way }) m
-sender-loses n m h =
-    record {
-      carried = lost-carried n.link.contents (n.link.a + n.terms.k) m.link.r n.way (frames_of n.terms n.link.waiting) h.carried;
-      rising = h.rising;
-      delivered = h.delivered;
-      accepted = h.accepted;
-    }
+sender-loses n m h = search (lost-carried)
 
 pub receiver-loses : (n m : End) → Direction n m → Direction n (record m { way = drop 1 m.way })
-receiver-loses n m h =
-    record {
-      carried = h.carried;
-      rising = lost-rising n.link.a m.link.r m.way (frames_of m.terms m.link.waiting) h.rising;
-      delivered = h.delivered;
-      accepted = h.accepted;
-    }
+receiver-loses n m h = search (lost-rising)

@@ -1,26 +1,20 @@
 -- What an event does to a link that stays in states 7 and 8, for the end that it faces.
-use Rattle.model_link.proofs.Vocabulary.{◌≡◌, ℕ, ◌≤◌, Bool, true, false, cond, IsTrue, List, [], ◌∷◌, ◌++◌, Option, None, Some, refl, sym, ap, subst, ◌∙◌, append_assoc, append-nil, true≢false, arith, ltb-false, Seq, seq, named, Control, Information, ReceiveReady, ReceiveNotReady, Reject, Sabme, Disc, Ui, Ua, Dm, Frmr, Xid, Note, ErrorCode, State, Established, LinkTimer, T200, T203, ControlFrame, Terms, Link, is_multiple_frame, Course, Step, ◌then◌, nothing}
+use Rattle.model_link.proofs.Vocabulary.{◌≡◌, ℕ, ◌≤◌, Bool, true, false, cond, IsTrue, List, [], ◌∷◌, ◌++◌, Option, None, Some, refl, sym, ap, subst, ◌∙◌, append_assoc, append-nil, true≢false, arith, ltb-false, Seq, seq, named, Control, ReceiveReady, ReceiveNotReady, Reject, ErrorCode, State, Established, LinkTimer, ControlFrame, Terms, Link, is_multiple_frame, Course, Step, ◌then◌, nothing, TimerRecovery}
 use Rattle.lapd_frame.specs.declared.notes.ErrorCode.TheVariants as code
 use Rattle.model_link.specs.Words
 use Rattle.model_link.specs.MultipleFrame
 use Rattle.model_link.specs.Established
 use Rattle.model_link.specs.TimerRecovery
+use Rattle.model_link.specs.Machine
 use Rattle.model_link.proofs.Leads.{Leads, then_leads, keeping_then, nothing_leads, depending_leads, bit_leads, tested_leads, Passed, from_more, to_less}
 use Rattle.model_link.proofs.SoundRows.{named-within}
 
 -- A supervisory frame that says that V(R) is r.
 abbrev pub IsReport : ℕ → Control → Type 0
-IsReport r (Information ns nr p) = ⊥
 IsReport r (ReceiveReady nr pf) = nr ≡ seq r
 IsReport r (ReceiveNotReady nr pf) = nr ≡ seq r
 IsReport r (Reject nr pf) = nr ≡ seq r
-IsReport r (Sabme p) = ⊥
-IsReport r (Disc p) = ⊥
-IsReport r (Ui p) = ⊥
-IsReport r (Ua f) = ⊥
-IsReport r (Dm f) = ⊥
-IsReport r (Frmr f) = ⊥
-IsReport r (Xid pf) = ⊥
+IsReport r other = ⊥
 
 abbrev pub AreReports : ℕ → List ControlFrame → Type 0
 AreReports r [] = Unit {0}
@@ -56,74 +50,39 @@ pub record Stay (l : Link) (S : Number) (a r : ℕ) (contents : List (List ℕ))
   pub received : r' ≡ r
   pub reports : Reports r l.waiting ws
 
-pub record Stays (l : Link) (S : Number) (a r : ℕ) (c : Course) : Type 0 where
-  pub stay : Stay l S a r c.link.contents c.link.a c.link.s c.link.r c.link.waiting
+abbrev pub Stays : Link → Number → ℕ → ℕ → Course → Type 0
+Stays l S a r c = Stay l S a r c.link.contents c.link.a c.link.s c.link.r c.link.waiting
 
-module _ (l : Link) (S : Number) (a r : ℕ) where
-  pub note_stays : (n : Note) → Leads (Stays l S a r) (Words.note n) (Stays l S a r)
-  note_stays n = record { leads = λ c h. record { stay = h.stay } }
+-- reports are sent
+ready-is : (b : Bool) (n : ℕ) (pf : Bool) → IsReport n (cond b (ReceiveNotReady (seq n) pf) (ReceiveReady (seq n) pf))
+ready-is true n pf = refl
+ready-is false n pf = refl
 
-  pub deliver_stays : (t : Terms) (octets : List ℕ) → Leads (Stays l S a r) (Words.deliver t octets) (Stays l S a r)
-  deliver_stays t octets = record { leads = λ c h. record { stay = h.stay } }
-
-  pub refuse_stays : Leads (Stays l S a r) (Words.leave_unserved) (Stays l S a r)
-  refuse_stays = record { leads = λ c h. record { stay = h.stay } }
-
-  pub peer_busy_stays : (b : Bool) → Leads (Stays l S a r) (Words.peer_busy_is b) (Stays l S a r)
-  peer_busy_stays b = record { leads = λ c h. record { stay = h.stay } }
-
-  pub own_busy_stays : (b : Bool) → Leads (Stays l S a r) (Words.own_busy_is b) (Stays l S a r)
-  own_busy_stays b = record { leads = λ c h. record { stay = h.stay } }
-
-  pub rejecting_stays : (b : Bool) → Leads (Stays l S a r) (Words.rejecting_is b) (Stays l S a r)
-  rejecting_stays b = record { leads = λ c h. record { stay = h.stay } }
-
-  pub pending_stays : (b : Bool) → Leads (Stays l S a r) (Words.pending_is b) (Stays l S a r)
-  pending_stays b = record { leads = λ c h. record { stay = h.stay } }
-
-  pub repeats_stays : (n : ℕ) → Leads (Stays l S a r) (Words.repeats_are n) (Stays l S a r)
-  repeats_stays n = record { leads = λ c h. record { stay = h.stay } }
-
-  pub repeated_stays : Leads (Stays l S a r) (Words.repeated) (Stays l S a r)
-  repeated_stays = record { leads = λ c h. record { stay = h.stay } }
-
-  pub enter_stays : (state : State) → Leads (Stays l S a r) (Words.enter state) (Stays l S a r)
-  enter_stays state = record { leads = λ c h. record { stay = h.stay } }
-
-  pub start_stays : (timer : LinkTimer) → Leads (Stays l S a r) (Words.start timer) (Stays l S a r)
-  start_stays timer = record { leads = λ c h. record { stay = h.stay } }
-
-  -- reports are sent
-  sends : (t : Terms) (f : Link → ControlFrame) → ((l' : Link) → IsReport l'.r (f l').control)
+module _ {l : Link} {S : Number} {a r : ℕ} (t : Terms) where
+  sends : (f : Link → ControlFrame) → ((l' : Link) → IsReport l'.r (f l').control)
       → Leads (Stays l S a r) (λ c. (Words.send t (f c.link) then Words.pending_is false) c) (Stays l S a r)
-  sends t f x =
+  sends f x =
       record {
         leads = λ c h. record {
-          stay = record {
-            same = h.stay.same;
-            acknowledged = h.stay.acknowledged;
-            sent = h.stay.sent;
-            received = h.stay.received;
-            reports = reported r l.waiting c.link.waiting (f c.link) (Words.has_room t c.link) (subst (λ n. IsReport n (f c.link).control) h.stay.received (x c.link)) h.stay.reports;
-          };
+          same = h.same;
+          acknowledged = h.acknowledged;
+          sent = h.sent;
+          received = h.received;
+          reports = reported r l.waiting c.link.waiting (f c.link) (Words.has_room t c.link) (subst (λ n. IsReport n (f c.link).control) h.received (x c.link)) h.reports;
         };
       }
 
-  ready-is : (b : Bool) (n : ℕ) (pf : Bool) → IsReport n (cond b (ReceiveNotReady (seq n) pf) (ReceiveReady (seq n) pf))
-  ready-is true n pf = refl
-  ready-is false n pf = refl
+  pub enquire_stays : Leads (Stays l S a r) (Words.enquire t) (Stays l S a r)
+  enquire_stays = sends (λ l'. Words.command (Words.ready_to_receive true l')) (λ l'. ready-is l'.own_busy l'.r true)
 
-  pub enquire_stays : (t : Terms) → Leads (Stays l S a r) (Words.enquire t) (Stays l S a r)
-  enquire_stays t = sends t (λ l'. Words.command (Words.ready_to_receive true l')) (λ l'. ready-is l'.own_busy l'.r true)
+  pub answer_stays : Leads (Stays l S a r) (Words.answer t) (Stays l S a r)
+  answer_stays = sends (λ l'. Words.response (Words.ready_to_receive true l')) (λ l'. ready-is l'.own_busy l'.r true)
 
-  pub answer_stays : (t : Terms) → Leads (Stays l S a r) (Words.answer t) (Stays l S a r)
-  answer_stays t = sends t (λ l'. Words.response (Words.ready_to_receive true l')) (λ l'. ready-is l'.own_busy l'.r true)
+  pub report_stays : Leads (Stays l S a r) (Words.report_ready t) (Stays l S a r)
+  report_stays = sends (λ l'. Words.response (Words.ready_to_receive false l')) (λ l'. ready-is l'.own_busy l'.r false)
 
-  pub report_stays : (t : Terms) → Leads (Stays l S a r) (Words.report_ready t) (Stays l S a r)
-  report_stays t = sends t (λ l'. Words.response (Words.ready_to_receive false l')) (λ l'. ready-is l'.own_busy l'.r false)
-
-  pub reject_stays : (t : Terms) (f : Bool) → Leads (Stays l S a r) (Words.reject t f) (Stays l S a r)
-  reject_stays t f = sends t (λ l'. Words.response (Reject (seq l'.r) f)) (λ l'. refl)
+  pub reject_stays : (f : Bool) → Leads (Stays l S a r) (Words.reject t f) (Stays l S a r)
+  reject_stays f = sends (λ l'. Words.response (Reject (seq l'.r) f)) (λ l'. refl)
 
 -- What is wanted in the end, if the link is still in state 7 or 8.
 pub record Up (l : Link) (a r : ℕ) (c : Course) : Type 0 where
@@ -134,7 +93,7 @@ module _ (l : Link) (a r : ℕ) where
   stays_up {f = f} x =
       record {
         leads = λ c h. record {
-          stay = λ up. let y = (x.leads c h).stay in record { same = y.same; acknowledged = y.acknowledged; sent = tt; received = y.received; reports = y.reports };
+          stay = λ up. let y = x.leads c h in record { same = y.same; acknowledged = y.acknowledged; sent = tt; received = y.received; reports = y.reports };
         };
       }
 
@@ -142,7 +101,7 @@ module _ (l : Link) (a r : ℕ) where
   pub failed_up : {P : Course → Type 0} (t : Terms) (e : ErrorCode) → Leads P (MultipleFrame.failed t e) (Up l a r)
   failed_up t e = record { leads = λ c h. record { stay = λ up. absurd (true≢false (sym up)) } }
 
-pub ruleset words = (keeping_then, nothing_leads, depending_leads, bit_leads, enquire_stays, answer_stays, report_stays, reject_stays, note_stays, deliver_stays, refuse_stays, peer_busy_stays, own_busy_stays, rejecting_stays, pending_stays, repeats_stays, repeated_stays, enter_stays, start_stays)
+pub ruleset words = (keeping_then, depending_leads, bit_leads, enquire_stays, answer_stays, report_stays, reject_stays)
 
 pub ruleset rows = (words, stays_up, failed_up)
 
@@ -165,67 +124,43 @@ any_number s = Unit {0}
 abbrev pub still : ℕ → Number
 still s s' = s' ≡ s
 
--- What an N(R) does.
-module _ (l : Link) (r : ℕ) where
-  pub acknowledge_then : {S : Number} {a : ℕ} {R : Course → Type 0} {g : Step} (n : ℕ) → Leads (Stays l any_number n r) g R
-      → Leads (Stays l S a r) (Words.acknowledge n then g) R
-  acknowledge_then n x =
-      record {
-        leads = λ c h. x.leads (Words.acknowledge n c) (record {
-          stay = record { same = h.stay.same; acknowledged = refl; sent = tt; received = h.stay.received; reports = h.stay.reports };
-        });
-      }
+-- What an N(R) does: it is acknowledged, whatever is to be sent again.
+acknowledged : {l : Link} {S : Number} {a r : ℕ} {contents : List (List ℕ)} {a' s' r' : ℕ} {ws : List ControlFrame} (n s : ℕ)
+    → Stay l S a r contents a' s' r' ws → Stay l any_number n r contents n s r' ws
+acknowledged n s h = record { same = h.same; acknowledged = refl; sent = tt; received = h.received; reports = h.reports }
 
-  pub acknowledge_up : {S : Number} {a : ℕ} (n : ℕ) → Leads (Stays l S a r) (Words.acknowledge n) (Up l n r)
-  acknowledge_up n =
-      record {
-        leads = λ c h. record {
-          stay = λ up. record { same = h.stay.same; acknowledged = refl; sent = tt; received = h.stay.received; reports = h.stay.reports };
-        };
-      }
-
-  pub again_then : {S : Number} {a : ℕ} {R : Course → Type 0} {g : Step} (n : ℕ) → Leads (Stays l any_number a r) g R
-      → Leads (Stays l S a r) (Words.send_again_from n then g) R
-  again_then n x =
-      record {
-        leads = λ c h. x.leads (Words.send_again_from n c) (record {
-          stay = record { same = h.stay.same; acknowledged = h.stay.acknowledged; sent = tt; received = h.stay.received; reports = h.stay.reports };
-        });
-      }
-
+module _ (l : Link) (r : ℕ) {S : Number} (a n : ℕ) where
   -- in state 7 nothing happens only where n is V(A)
-  nothing_up : (a n : ℕ) → a ≤ n → Leads (Passed (Stays l any_number a r) (Established.is_beyond_acknowledged n) false) nothing (Up l n r)
-  nothing_up a n low =
+  nothing_up : a ≤ n → Leads (Passed (Stays l S a r) (Established.is_beyond_acknowledged n) false) nothing (Up l n r)
+  nothing_up low =
       record {
         leads = λ c h. record {
           stay = λ up.
               let not-beyond : n ≤ c.link.a = ltb-false c.link.a n h.told in
-              let at : c.link.a ≡ a = h.holds.stay.acknowledged in
-              record { same = h.holds.stay.same; acknowledged = omega arith; sent = tt; received = h.holds.stay.received; reports = h.holds.stay.reports };
+              let at : c.link.a ≡ a = h.holds.acknowledged in
+              record { same = h.holds.same; acknowledged = omega arith; sent = tt; received = h.holds.received; reports = h.holds.reports };
         };
       }
 
-  weaken : (S : Number) (a : ℕ) (c : Course) → Stays l S a r c → Stays l any_number a r c
-  weaken S a c h = record { stay = record { same = h.stay.same; acknowledged = h.stay.acknowledged; sent = tt; received = h.stay.received; reports = h.stay.reports } }
+  pub acknowledge_up : Leads (Stays l S a r) (Words.acknowledge n) (Up l n r)
+  acknowledge_up = search (acknowledged)
 
-  pub in_7_up : {S : Number} (a n : ℕ) → a ≤ n → Leads (Stays l S a r) (Established.acknowledged_in_7 n) (Up l n r)
-  in_7_up {S} a n low =
-      from_more (weaken S a) (depending_leads (Established.is_all_sent n) (acknowledge_then n (stays_up l n r (start_stays l any_number n r T203)))
-      (tested_leads (Established.is_beyond_acknowledged n) (from_more (λ c h. h.holds) (acknowledge_then n (stays_up l n r (start_stays l any_number n r T200)))) (nothing_up a n low)))
+  pub in_7_up : a ≤ n → Leads (Stays l S a r) (Established.acknowledged_in_7 n) (Up l n r)
+  in_7_up low =
+      depending_leads (Established.is_all_sent n) (search (acknowledged))
+      (tested_leads (Established.is_beyond_acknowledged n) (from_more (λ c h. h.holds) (search (acknowledged))) (nothing_up low))
 
-  pub information_7_up : {S : Number} (a n : ℕ) → a ≤ n → Leads (Stays l S a r) (Established.acknowledged_by_information_in_7 n) (Up l n r)
-  information_7_up a n low = depending_leads _ (acknowledge_up n) (in_7_up a n low)
+  pub information_7_up : a ≤ n → Leads (Stays l S a r) (Established.acknowledged_by_information_in_7 n) (Up l n r)
+  information_7_up low = depending_leads _ acknowledge_up (in_7_up low)
 
-  pub rnr_7_up : {S : Number} (a n : ℕ) → a ≤ n → Leads (Stays l S a r) (Established.acknowledged_by_rnr_in_7 n) (Up l n r)
-  rnr_7_up a n low = acknowledge_then n (stays_up l n r (start_stays l any_number n r T200))
+  pub rnr_7_up : a ≤ n → Leads (Stays l S a r) (Established.acknowledged_by_rnr_in_7 n) (Up l n r)
+  rnr_7_up low = search (acknowledged)
 
-  pub rej_7_up : {S : Number} (a n : ℕ) → a ≤ n → Leads (Stays l S a r) (Established.acknowledged_by_rej_in_7 n) (Up l n r)
-  rej_7_up a n low = acknowledge_then n (again_then n (stays_up l n r (start_stays l any_number n r T203)))
+  pub rej_7_up : a ≤ n → Leads (Stays l S a r) (Established.acknowledged_by_rej_in_7 n) (Up l n r)
+  rej_7_up low = search (acknowledged)
 
-  pub in_8_up : {S : Number} (final : Bool) (timer : LinkTimer) (a n : ℕ) → a ≤ n → Leads (Stays l S a r) (TimerRecovery.acknowledged_in_8 timer final n) (Up l n r)
-  in_8_up final timer a n low =
-      bit_leads final (acknowledge_then n (again_then n (keeping_then (start_stays l any_number n r timer) (stays_up l n r (enter_stays l any_number n r Established)))))
-      (acknowledge_up n)
+  pub in_8_up : (final : Bool) (timer : LinkTimer) → a ≤ n → Leads (Stays l S a r) (TimerRecovery.acknowledged_in_8 timer final n) (Up l n r)
+  in_8_up final timer low = search (bit_leads, acknowledged)
 
 -- What a received frame does: the N(R) names n, which is acknowledged.
 pub record UpBy (l : Link) (nr : Seq) (r : ℕ) (c : Course) : Type 0 where
@@ -245,32 +180,28 @@ module _ (t : Terms) (l : Link) (r : ℕ) where
   number_up nr f x =
       record {
         leads = λ c h.
-            let e : named c.link.a c.link.s nr ≡ named l.a l.s nr = ap (λ a. named a c.link.s nr) h.stay.acknowledged ∙ ap (λ s. named l.a s nr) h.stay.sent in
+            let e : named c.link.a c.link.s nr ≡ named l.a l.s nr = ap (λ a. named a c.link.s nr) h.acknowledged ∙ ap (λ s. named l.a s nr) h.sent in
             subst (λ o. UpBy l nr r (elim o [ None ↦ (Words.error t code.J then Words.re_establish t) c | Some n ↦ f n c ])) (sym e)
             (by-number nr f x c h (named l.a l.s nr) refl);
       }
 
   -- supervisory frames
-  pub rr_7 : (b : Bool) (octets : List ℕ) (nr : Seq) (pf : Bool)
-      → Leads (Stays l (still l.s) l.a r) (Established.frame_in_7 t b octets (ReceiveReady nr pf)) (UpBy l nr r)
-  rr_7 b octets nr pf = search (words, number_up, in_7_up) depth 12 fits 4000
+  reports_7 : (b : Bool) (octets : List ℕ) (m : ℕ) (control : Control) → IsReport m control
+      → Leads (Stays l (still l.s) l.a r) (Established.frame_in_7 t b octets control) (UpBy l (seq m) r)
+  reports_7 b octets m (ReceiveReady nr pf) e = subst (λ n. Leads (Stays l (still l.s) l.a r) (Established.frame_in_7 t b octets (ReceiveReady nr pf)) (UpBy l n r)) e (search (words, number_up, in_7_up) depth 12 fits 4000)
+  reports_7 b octets m (ReceiveNotReady nr pf) e = subst (λ n. Leads (Stays l (still l.s) l.a r) (Established.frame_in_7 t b octets (ReceiveNotReady nr pf)) (UpBy l n r)) e (search (words, number_up, rnr_7_up) depth 12 fits 4000)
+  reports_7 b octets m (Reject nr pf) e = subst (λ n. Leads (Stays l (still l.s) l.a r) (Established.frame_in_7 t b octets (Reject nr pf)) (UpBy l n r)) e (search (words, number_up, rej_7_up) depth 12 fits 4000)
+  reports_7 b octets m other e = absurd e
 
-  pub rnr_7 : (b : Bool) (octets : List ℕ) (nr : Seq) (pf : Bool)
-      → Leads (Stays l (still l.s) l.a r) (Established.frame_in_7 t b octets (ReceiveNotReady nr pf)) (UpBy l nr r)
-  rnr_7 b octets nr pf = search (words, number_up, rnr_7_up) depth 12 fits 4000
+  reports_8 : (b : Bool) (octets : List ℕ) (m : ℕ) (control : Control) → IsReport m control
+      → Leads (Stays l (still l.s) l.a r) (TimerRecovery.frame_in_8 t b octets control) (UpBy l (seq m) r)
+  reports_8 b octets m (ReceiveReady nr pf) e = subst (λ n. Leads (Stays l (still l.s) l.a r) (TimerRecovery.frame_in_8 t b octets (ReceiveReady nr pf)) (UpBy l n r)) e (search (words, number_up, in_8_up) depth 12 fits 4000)
+  reports_8 b octets m (ReceiveNotReady nr pf) e = subst (λ n. Leads (Stays l (still l.s) l.a r) (TimerRecovery.frame_in_8 t b octets (ReceiveNotReady nr pf)) (UpBy l n r)) e (search (words, number_up, in_8_up) depth 12 fits 4000)
+  reports_8 b octets m (Reject nr pf) e = subst (λ n. Leads (Stays l (still l.s) l.a r) (TimerRecovery.frame_in_8 t b octets (Reject nr pf)) (UpBy l n r)) e (search (words, number_up, in_8_up) depth 12 fits 4000)
+  reports_8 b octets m other e = absurd e
 
-  pub rej_7 : (b : Bool) (octets : List ℕ) (nr : Seq) (pf : Bool)
-      → Leads (Stays l (still l.s) l.a r) (Established.frame_in_7 t b octets (Reject nr pf)) (UpBy l nr r)
-  rej_7 b octets nr pf = search (words, number_up, rej_7_up) depth 12 fits 4000
-
-  pub rr_8 : (b : Bool) (octets : List ℕ) (nr : Seq) (pf : Bool)
-      → Leads (Stays l (still l.s) l.a r) (TimerRecovery.frame_in_8 t b octets (ReceiveReady nr pf)) (UpBy l nr r)
-  rr_8 b octets nr pf = search (words, number_up, in_8_up) depth 12 fits 4000
-
-  pub rnr_8 : (b : Bool) (octets : List ℕ) (nr : Seq) (pf : Bool)
-      → Leads (Stays l (still l.s) l.a r) (TimerRecovery.frame_in_8 t b octets (ReceiveNotReady nr pf)) (UpBy l nr r)
-  rnr_8 b octets nr pf = search (words, number_up, in_8_up) depth 12 fits 4000
-
-  pub rej_8 : (b : Bool) (octets : List ℕ) (nr : Seq) (pf : Bool)
-      → Leads (Stays l (still l.s) l.a r) (TimerRecovery.frame_in_8 t b octets (Reject nr pf)) (UpBy l nr r)
-  rej_8 b octets nr pf = search (words, number_up, in_8_up) depth 12 fits 4000
+  pub reports_up : (here : State) → IsTrue (is_multiple_frame here) → (b : Bool) (octets : List ℕ) (m : ℕ) (control : Control) → IsReport m control
+      → Leads (Stays l (still l.s) l.a r) (Machine.frame_in here t b octets control) (UpBy l (seq m) r)
+  reports_up Established up b octets m control e = reports_7 b octets m control e
+  reports_up TimerRecovery up b octets m control e = reports_8 b octets m control e
+  reports_up other up b octets m control e = absurd (true≢false (sym up))

@@ -1,11 +1,12 @@
 -- What a received I-frame does to a link that stays in states 7 and 8, for the end that it faces.
-use Rattle.model_link.proofs.Vocabulary.{◌≡◌, ℕ, ◌+◌, ◌≤◌, Bool, true, false, cond, IsTrue, List, length, Option, None, Some, refl, sym, ◌∙◌, true≢false, nat_lt, Seq, Terms, Link, is_multiple_frame, Course, begun, Step, ◌then◌, nothing, by_bit}
+use Rattle.model_link.proofs.Vocabulary.{◌≡◌, ℕ, ◌+◌, ◌≤◌, Bool, true, false, cond, IsTrue, List, length, Option, None, Some, refl, sym, ◌∙◌, true≢false, nat_lt, Seq, Terms, Link, is_multiple_frame, Course, begun, Step}
 use Rattle.lapd_frame.specs.declared.notes.ErrorCode.TheVariants as code
 use Rattle.model_link.specs.Words
 use Rattle.model_link.specs.MultipleFrame
 use Rattle.model_link.proofs.Leads.{Leads}
+use Rattle.model_link.proofs.Contents.{contents}
 use Rattle.model_link.proofs.Counting.{Count, On, number_counts}
-use Rattle.model_link.proofs.Facing.{Stays, Up, UpBy, still, no-reports, number_up, words}
+use Rattle.model_link.proofs.Facing.{Stays, Up, UpBy, still, no-reports, answer_stays, reject_stays, number_up}
 
 -- what is delivered
 abbrev brought : Option (List ℕ) → Count
@@ -23,51 +24,16 @@ pub record Took (l : Link) (nr : Seq) (r : ℕ) (d : Option (List ℕ)) (c : Cou
 
 module _ (t : Terms) (l : Link) where
   pub at-first : Stays l (still l.s) l.a l.r (begun l)
-  at-first = record { stay = record { same = refl; acknowledged = refl; sent = refl; received = refl; reports = no-reports l.r l.waiting } }
+  at-first = record { same = refl; acknowledged = refl; sent = refl; received = refl; reports = no-reports l.r l.waiting }
 
-  after-one : (octets : List ℕ) → Stays l (still l.s) l.a (l.r + 1) ((Words.count_received then Words.rejecting_is false then Words.deliver t octets) (begun l))
-  after-one octets = record { stay = record { same = refl; acknowledged = refl; sent = refl; received = refl; reports = no-reports (l.r + 1) l.waiting } }
-
-  dropped : (p : Bool) → Halfway l l.r None (MultipleFrame.dropped t p (begun l))
-  dropped p =
-      let x : Leads (Stays l (still l.s) l.a l.r) (MultipleFrame.dropped t p) (Stays l (still l.s) l.a l.r) = search words in
-      record { stays = x.leads (begun l) at-first; delivered = none p }
-    where
-      none : (p : Bool) → (MultipleFrame.dropped t p (begun l)).delivered ≡ None
-      none true = refl
-      none false = refl
-
-  in-sequence : (p : Bool) (octets : List ℕ) → Halfway l (l.r + 1) (Some octets) (MultipleFrame.in_sequence t p octets (begun l))
-  in-sequence p octets =
-      let x : Leads (Stays l (still l.s) l.a (l.r + 1)) (by_bit p (Words.answer t) (Words.pending_is true)) (Stays l (still l.s) l.a (l.r + 1)) = search words in
-      record {
-        stays = x.leads ((Words.count_received then Words.rejecting_is false then Words.deliver t octets) (begun l)) (after-one octets);
-        delivered = one p;
-      }
-    where
-      one : (p : Bool) → (MultipleFrame.in_sequence t p octets (begun l)).delivered ≡ Some octets
-      one true = refl
-      one false = refl
-
-  out-of-sequence : (p : Bool) → Halfway l l.r None (MultipleFrame.out_of_sequence t p (begun l))
-  out-of-sequence p =
-      let x : Leads (Stays l (still l.s) l.a l.r) (MultipleFrame.out_of_sequence t p) (Stays l (still l.s) l.a l.r) = search words in
-      record { stays = x.leads (begun l) at-first; delivered = none l.rejecting p }
-    where
-      none : (b p : Bool) → (cond b (by_bit p (Words.answer t) nothing (begun l)) ((Words.rejecting_is true then Words.reject t p) (begun l))).delivered ≡ None
-      none true true = refl
-      none true false = refl
-      none false p = refl
-
-  branch : (b : Bool) (r r' : ℕ) (d d' : Option (List ℕ)) (u v : Course) → Halfway l r d u → Halfway l r' d' v → Halfway l (cond b r r') (cond b d d') (cond b u v)
-  branch true r r' d d' u v x y = x
-  branch false r r' d d' u v x y = y
-
-  contents : (ns : Seq) (p : Bool) (octets : List ℕ)
+  after-contents : (ns : Seq) (p : Bool) (octets : List ℕ)
       → Halfway l (cond l.own_busy l.r (cond (MultipleFrame.is_next ns l) (l.r + 1) l.r)) (cond l.own_busy None (cond (MultipleFrame.is_next ns l) (Some octets) None))
       (MultipleFrame.contents_in_7_8 t ns p octets (begun l))
-  contents ns p octets =
-      branch l.own_busy _ _ _ _ _ _ (dropped p) (branch (MultipleFrame.is_next ns l) _ _ _ _ _ _ (in-sequence p octets) (out-of-sequence p))
+  after-contents ns p octets =
+      contents t l (Halfway l) (λ r d. record { leads = λ c h. record { stays = (answer_stays t).leads c h.stays; delivered = h.delivered } }) (λ r d. record { leads = λ c h. record { stays = h.stays; delivered = h.delivered } })
+      (λ r d f. record { leads = λ c h. record { stays = (reject_stays t f).leads (Words.rejecting_is true c) h.stays; delivered = h.delivered } }) (record { stays = at-first; delivered = refl })
+      ns p octets
+      (record { stays = record { same = refl; acknowledged = refl; sent = refl; received = refl; reports = no-reports (l.r + 1) l.waiting }; delivered = refl })
 
   -- the N(R) has its effect
   numbered : (nr : Seq) (r : ℕ) (d : Option (List ℕ)) (f : ℕ → Step) → ((Q : Count) (m : ℕ) → Leads (On Q) (f m) (On Q))
@@ -89,4 +55,4 @@ module _ (t : Terms) (l : Link) where
       → Took l nr (cond l.own_busy l.r (cond (MultipleFrame.is_next ns l) (l.r + 1) l.r)) (cond l.own_busy None (cond (MultipleFrame.is_next ns l) (Some octets) None))
       (MultipleFrame.information_in_7_8 t ns nr p octets f (begun l))
   information_took ns nr p octets f x y =
-      or-failed (nat_lt t.n201 (length octets)) nr _ _ (MultipleFrame.failed t code.O (begun l)) _ refl (numbered nr _ _ f x (y _) (MultipleFrame.contents_in_7_8 t ns p octets (begun l)) (contents ns p octets))
+      or-failed (nat_lt t.n201 (length octets)) nr _ _ (MultipleFrame.failed t code.O (begun l)) _ refl (numbered nr _ _ f x (y _) (MultipleFrame.contents_in_7_8 t ns p octets (begun l)) (after-contents ns p octets))

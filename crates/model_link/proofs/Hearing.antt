@@ -1,5 +1,5 @@
 -- One direction between two ends, where an end receives the first frame of the other's way.
-use Rattle.model_link.proofs.Vocabulary.{◌≡◌, ℕ, zero, suc, ◌+◌, ◌<◌, ◌≤◌, List, [], ◌∷◌, ◌++◌, length, take, Option, Some, refl, sym, ap, subst, ◌∙◌, inl, inr, append-nil, arith, slice_get, option_to_list, slice_get_within, seq, named, Control, Information, ReceiveReady, ReceiveNotReady, Reject, Sabme, Disc, Ui, Ua, Dm, Frmr, Xid, Parts, Link, IsInRange, IsSound, End}
+use Rattle.model_link.proofs.Vocabulary.{◌≡◌, ℕ, zero, suc, ◌+◌, ◌<◌, ◌≤◌, List, [], ◌∷◌, ◌++◌, length, take, Option, Some, refl, sym, ap, subst, ◌∙◌, inl, inr, append-nil, arith, slice_get, option_to_list, slice_get_within, seq, named, Control, Information, Parts, Link, IsInRange, IsSound, End}
 use Rattle.model_link.proofs.SoundRows.{named-within}
 use Rattle.model_link.proofs.Lines.{Piece, Carried, Means, Rising, carried-higher, carried-lower, carried-high, rising-higher, rising-low}
 use Rattle.model_link.proofs.Facing.{Number, Stay, Reports}
@@ -51,16 +51,7 @@ take-next (y ∷ xs) (suc i) x e = ap (λ ys. y ∷ ys) (take-next xs i x e)
 piece-next : (contents : List (List ℕ)) (high r top a k : ℕ) (octets : List ℕ) (control : Control) → high ≡ a + k → k ≤ 127 → a ≤ r
     → Piece contents high r top octets control → HasNumber r control → (slice_get contents r ≡ Some octets) × (r + 1 ≤ top)
 piece-next contents high r top a k octets (Information ns nr p) e small low h next = carries-next contents high r top a k ns octets e small low h next
-piece-next contents high r top a k octets (ReceiveReady nr pf) e small low h next = absurd next
-piece-next contents high r top a k octets (ReceiveNotReady nr pf) e small low h next = absurd next
-piece-next contents high r top a k octets (Reject nr pf) e small low h next = absurd next
-piece-next contents high r top a k octets (Sabme p) e small low h next = absurd next
-piece-next contents high r top a k octets (Disc p) e small low h next = absurd next
-piece-next contents high r top a k octets (Ui p) e small low h next = absurd next
-piece-next contents high r top a k octets (Ua f) e small low h next = absurd next
-piece-next contents high r top a k octets (Dm f) e small low h next = absurd next
-piece-next contents high r top a k octets (Frmr f) e small low h next = absurd next
-piece-next contents high r top a k octets (Xid pf) e small low h next = absurd next
+piece-next contents high r top a k octets other e small low h next = absurd next
 
 -- what a frame brings
 record Brings (contents : List (List ℕ)) (top r r' : ℕ) (d : Option (List ℕ)) : Type 0 where

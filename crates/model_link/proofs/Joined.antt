@@ -41,11 +41,9 @@ module _ (t : Terms) (l : Link) where
 
   -- requests
   release-leads_out : (here : State) → IsTrue (is_multiple_frame here) → IsUpIn (Requests.release_in here t (begun l)) → ⊥
-  release-leads_out TeiAssigned before up = true≢false (sym before)
-  release-leads_out AwaitingEstablishment before up = true≢false (sym before)
-  release-leads_out AwaitingRelease before up = true≢false (sym before)
   release-leads_out Established before up = true≢false (sym up)
   release-leads_out TimerRecovery before up = true≢false (sym up)
+  release-leads_out other before up = true≢false (sym before)
 
   granted-goes : IsTrue (is_multiple_frame l.state) → (request : Request) → IsUpIn (Requests.granted t request (begun l))
       → Goes l (Requests.granted t request (begun l)).link
@@ -64,12 +62,10 @@ module _ (t : Terms) (l : Link) where
   -- timers
   expired-goes : (here : State) → IsTrue (is_multiple_frame here) → (timer : LinkTimer) → IsUpIn (Machine.expired_in here timer t (begun l))
       → Goes l (Machine.expired_in here timer t (begun l)).link
-  expired-goes TeiAssigned before timer up = absurd (true≢false (sym before))
-  expired-goes AwaitingEstablishment before timer up = absurd (true≢false (sym before))
-  expired-goes AwaitingRelease before timer up = absurd (true≢false (sym before))
   expired-goes Established before timer up = by-up _ ((timer_7_up t l {S = still l.s}).leads (begun l) (at-first t l)) up
   expired-goes TimerRecovery before T200 up = by-up _ ((t200_8_up t l {S = still l.s}).leads (begun l) (at-first t l)) up
   expired-goes TimerRecovery before T203 up = stays
+  expired-goes other before timer up = absurd (true≢false (sym before))
 
   timer-goes : IsTrue (is_multiple_frame l.state) → (timer : LinkTimer) → IsUpIn (Machine.course t (expired timer) l) → Goes l (Machine.after t (expired timer) l)
   timer-goes before timer up = either (Machine.is_running timer l) _ _ (λ u. expired-goes l.state before timer u) (λ u. stays) up
@@ -86,17 +82,7 @@ pub record Joined (n m : End) : Type 0 where
   pub back : Direction m n
 
 pub joined-turned : (n m : End) → Joined n m → Joined m n
-joined-turned n m h =
-    record {
-      near_ranges = h.far_ranges;
-      far_ranges = h.near_ranges;
-      near_sound = h.far_sound;
-      far_sound = h.near_sound;
-      near_up = h.far_up;
-      far_up = h.near_up;
-      there = h.back;
-      back = h.there;
-    }
+joined-turned n m h = search
 
 -- what a sender has delivered doesn't matter, and what a receiver has is the same
 sender-told : (n m : End) (ds : List (List ℕ)) → Direction n m → Direction (record n { delivered = ds }) m
@@ -106,38 +92,27 @@ receiver-told : (n m : End) (ds : List (List ℕ)) → ds ≡ m.delivered → Di
 receiver-told n m ds e h = record { carried = h.carried; rising = h.rising; delivered = e ∙ h.delivered; accepted = h.accepted }
 
 module _ (n m : End) (h : Joined n m) where
+  -- the near end goes on, and perhaps takes a frame of the other's way
+  moved : (n' : End) (way : List Parts) → IsInRange n'.terms → IsSound n'.terms n'.link → IsTrue (is_multiple_frame n'.link.state)
+      → Direction n' (record m { way = way }) → Direction (record m { way = way }) n' → Joined n' (record m { way = way })
+  moved n' way ranges sound up there back = search
+
   -- an event of the link alone, which delivers nothing
   goes : (e : Event) → (Machine.course n.terms e n.link).delivered ≡ None → Goes n.link (Machine.after n.terms e n.link)
       → IsTrue (is_multiple_frame (with_link e n).link.state) → Joined (with_link e n) m
   goes e none g up =
       let l = Machine.after n.terms e n.link in
       let ds = n.delivered ++ option_to_list (Machine.told n.terms e n.link).delivered in
-      record {
-        near_ranges = h.near_ranges;
-        far_ranges = h.far_ranges;
-        near_sound = sound-after n.terms h.near_ranges e n.link h.near_sound;
-        far_sound = h.far_sound;
-        near_up = up;
-        far_up = h.far_up;
-        there = sender-told (record n { link = l }) m ds (sender-goes n m l g.more n.link.r g.same g.still g.reports h.there);
-        back =
-            receiver-told m (record n { link = l }) ds (ap (λ o. n.delivered ++ option_to_list o) none ∙ append-nil n.delivered)
-            (receiver-goes m n l g.received g.reports h.back);
-      }
+      moved (with_link e n) m.way h.near_ranges (sound-after n.terms h.near_ranges e n.link h.near_sound) up
+      (sender-told (record n { link = l }) m ds (sender-goes n m l g.more n.link.r g.same g.still g.reports h.there))
+      (receiver-told m (record n { link = l }) ds (ap (λ o. n.delivered ++ option_to_list o) none ∙ append-nil n.delivered)
+      (receiver-goes m n l g.received g.reports h.back))
 
   gives : IsTrue (is_multiple_frame (with_sent n).link.state) → Joined (with_sent n) m
   gives up =
       let gave = offer-gave n.terms h.near_ranges n.link h.near_sound n.link.waiting refl in
-      record {
-        near_ranges = h.near_ranges;
-        far_ranges = h.far_ranges;
-        near_sound = sound-after n.terms h.near_ranges offer n.link h.near_sound;
-        far_sound = h.far_sound;
-        near_up = up;
-        far_up = h.far_up;
-        there = sender-gives n m (Machine.course n.terms offer n.link) gave h.there;
-        back = receiver-gives n m (Machine.course n.terms offer n.link) gave h.back;
-      }
+      moved (with_sent n) m.way h.near_ranges (sound-after n.terms h.near_ranges offer n.link h.near_sound) up
+      (sender-gives n m (Machine.course n.terms offer n.link) gave h.there) (receiver-gives n m (Machine.course n.terms offer n.link) gave h.back)
 
   hears : (f : Parts) (fs : List Parts) → m.way ≡ f ∷ fs → IsTrue (is_multiple_frame (with_link (received (frame f)) n).link.state)
       → Joined (with_link (received (frame f)) n) (record m { way = fs })
@@ -147,41 +122,22 @@ module _ (n m : End) (h : Joined n m) where
       let rising : Rising n.link.a m.link.r (f ∷ fs ++ frames_of m.terms m.link.waiting) = subst (λ way. Rising n.link.a m.link.r (way ++ frames_of m.terms m.link.waiting)) first h.there.rising in
       let this = frame-taken n.terms n.link h.near_up f.address.command f.info rising.0 f.control rising.2 in
       let stay = (this.took.by.stay up).2 in
-      record {
-        near_ranges = h.near_ranges;
-        far_ranges = h.far_ranges;
-        near_sound = sound-after n.terms h.near_ranges (received (frame f)) n.link h.near_sound;
-        far_sound = h.far_sound;
-        near_up = up;
-        far_up = h.far_up;
-        there =
-            sender-hears n m f fs c.link ds any_number h.near_ranges h.near_sound first
-            (λ p means.
-            let other = frame-taken n.terms n.link h.near_up f.address.command f.info p f.control means in
-            let by = other.took.by.stay up in
-            (other.r, by.0, by.1, by.2))
-            h.there;
-        back =
-            receiver-hears n m f fs c.link ds this.r this.delivered h.far_ranges first this.advance stay.received stay.reports
-            (ap (λ o. n.delivered ++ option_to_list o) (this.took.delivered up)) h.back;
-      }
+      moved (with_link (received (frame f)) n) fs h.near_ranges (sound-after n.terms h.near_ranges (received (frame f)) n.link h.near_sound) up
+      (sender-hears n m f fs c.link ds any_number h.near_ranges h.near_sound first
+      (λ p means.
+      let other = frame-taken n.terms n.link h.near_up f.address.command f.info p f.control means in
+      let by = other.took.by.stay up in
+      (other.r, by.0, by.1, by.2))
+      h.there)
+      (receiver-hears n m f fs c.link ds this.r this.delivered h.far_ranges first this.advance stay.received stay.reports
+      (ap (λ o. n.delivered ++ option_to_list o) (this.took.delivered up)) h.back)
 
   first-of : (way : List Parts) → m.way ≡ way → IsTrue (is_multiple_frame (with_first_of way n).link.state) → Joined (with_first_of way n) (record m { way = drop 1 way })
   first-of [] e up = subst (λ way. Joined n (record m { way = way })) e h
   first-of (f ∷ fs) e up = hears f fs e up
 
   loses-first : Joined (with_first_lost n) m
-  loses-first =
-      record {
-        near_ranges = h.near_ranges;
-        far_ranges = h.far_ranges;
-        near_sound = h.near_sound;
-        far_sound = h.far_sound;
-        near_up = h.near_up;
-        far_up = h.far_up;
-        there = sender-loses n m h.there;
-        back = receiver-loses m n h.back;
-      }
+  loses-first = moved (with_first_lost n) m.way h.near_ranges h.near_sound h.near_up (sender-loses n m h.there) (receiver-loses m n h.back)
 
   acted : (act : Act) → IsUp (acting act (record { near = n; far = m })) → Joined (acting act (record { near = n; far = m })).near (acting act (record { near = n; far = m })).far
   acted (asks request full) up =

@@ -11,6 +11,7 @@ pub mod SoundRows
 pub mod SoundEvents
 pub mod Owes
 pub mod RiseEvents
+pub mod Contents
 pub mod Counting
 pub mod Delivering
 pub mod Numbering

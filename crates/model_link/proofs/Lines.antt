@@ -1,5 +1,5 @@
 -- The frames between two ends, oldest first: those on the way, and then those that wait.
-use Rattle.model_link.proofs.Vocabulary.{◌≡◌, ℕ, zero, suc, ◌+◌, ◌<◌, ◌≤◌, List, [], ◌∷◌, ◌++◌, Some, arith, slice_get, Seq, seq, Control, Information, ReceiveReady, ReceiveNotReady, Reject, Sabme, Disc, Ui, Ua, Dm, Frmr, Xid, Parts}
+use Rattle.model_link.proofs.Vocabulary.{◌≡◌, ℕ, zero, suc, ◌+◌, ◌<◌, ◌≤◌, List, [], ◌∷◌, ◌++◌, Some, arith, slice_get, Seq, seq, Control, Information, ReceiveReady, ReceiveNotReady, Reject, Parts}
 
 -- An I-frame carries contents number i of the sender, which its N(S) means for a receiver whose V(R) is at most
 -- i + 127.
@@ -17,13 +17,7 @@ Piece contents high r top octets (Information ns nr p) = Carries contents high r
 Piece contents high r top octets (ReceiveReady nr pf) = Unit {0}
 Piece contents high r top octets (ReceiveNotReady nr pf) = Unit {0}
 Piece contents high r top octets (Reject nr pf) = Unit {0}
-Piece contents high r top octets (Sabme p) = ⊥
-Piece contents high r top octets (Disc p) = ⊥
-Piece contents high r top octets (Ui p) = ⊥
-Piece contents high r top octets (Ua f) = ⊥
-Piece contents high r top octets (Dm f) = ⊥
-Piece contents high r top octets (Frmr f) = ⊥
-Piece contents high r top octets (Xid pf) = ⊥
+Piece contents high r top octets other = ⊥
 
 -- The receiver's V(R) is r, and rises along the line to at most high.
 abbrev pub Carried : List (List ℕ) → ℕ → ℕ → List Parts → Type 0
@@ -36,13 +30,7 @@ Means m (Information ns nr p) = nr ≡ seq m
 Means m (ReceiveReady nr pf) = nr ≡ seq m
 Means m (ReceiveNotReady nr pf) = nr ≡ seq m
 Means m (Reject nr pf) = nr ≡ seq m
-Means m (Sabme p) = ⊥
-Means m (Disc p) = ⊥
-Means m (Ui p) = ⊥
-Means m (Ua f) = ⊥
-Means m (Dm f) = ⊥
-Means m (Frmr f) = ⊥
-Means m (Xid pf) = ⊥
+Means m other = ⊥
 
 -- The N(R) along a line rise from a to the V(R) of its sender.
 abbrev pub Rising : ℕ → ℕ → List Parts → Type 0
@@ -54,16 +42,7 @@ piece-higher : (contents : List (List ℕ)) (high high' r top : ℕ) (octets : L
     → Piece contents high r top octets control → Piece contents high' r top octets control
 piece-higher contents high high' r top octets (Information ns nr p) le h =
     record { number = h.number; is_seq = h.is_seq; near = h.near; below = omega (arith, h.below); same = h.same; next = h.next }
-piece-higher contents high high' r top octets (ReceiveReady nr pf) le h = tt
-piece-higher contents high high' r top octets (ReceiveNotReady nr pf) le h = tt
-piece-higher contents high high' r top octets (Reject nr pf) le h = tt
-piece-higher contents high high' r top octets (Sabme p) le h = h
-piece-higher contents high high' r top octets (Disc p) le h = h
-piece-higher contents high high' r top octets (Ui p) le h = h
-piece-higher contents high high' r top octets (Ua f) le h = h
-piece-higher contents high high' r top octets (Dm f) le h = h
-piece-higher contents high high' r top octets (Frmr f) le h = h
-piece-higher contents high high' r top octets (Xid pf) le h = h
+piece-higher contents high high' r top octets other le h = h
 
 pub carried-higher : (contents : List (List ℕ)) (high high' r : ℕ) (fs : List Parts) → high ≤ high' → Carried contents high r fs → Carried contents high' r fs
 carried-higher contents high high' r [] le h = omega arith
@@ -79,16 +58,7 @@ piece-more : (contents more : List (List ℕ)) (high r top : ℕ) (octets : List
     → Piece contents high r top octets control → Piece (contents ++ more) high r top octets control
 piece-more contents more high r top octets (Information ns nr p) h =
     record { number = h.number; is_seq = h.is_seq; near = h.near; below = h.below; same = slice_get-append contents more h.number octets h.same; next = h.next }
-piece-more contents more high r top octets (ReceiveReady nr pf) h = tt
-piece-more contents more high r top octets (ReceiveNotReady nr pf) h = tt
-piece-more contents more high r top octets (Reject nr pf) h = tt
-piece-more contents more high r top octets (Sabme p) h = h
-piece-more contents more high r top octets (Disc p) h = h
-piece-more contents more high r top octets (Ui p) h = h
-piece-more contents more high r top octets (Ua f) h = h
-piece-more contents more high r top octets (Dm f) h = h
-piece-more contents more high r top octets (Frmr f) h = h
-piece-more contents more high r top octets (Xid pf) h = h
+piece-more contents more high r top octets other h = h
 
 pub carried-more : (contents more : List (List ℕ)) (high r : ℕ) (fs : List Parts) → Carried contents high r fs → Carried (contents ++ more) high r fs
 carried-more contents more high r [] h = h
@@ -99,16 +69,7 @@ piece-lower : (contents : List (List ℕ)) (high r r' top : ℕ) (octets : List 
     → Piece contents high r top octets control → Piece contents high r' top octets control
 piece-lower contents high r r' top octets (Information ns nr p) le h =
     record { number = h.number; is_seq = h.is_seq; near = omega (arith, h.near); below = h.below; same = h.same; next = h.next }
-piece-lower contents high r r' top octets (ReceiveReady nr pf) le h = tt
-piece-lower contents high r r' top octets (ReceiveNotReady nr pf) le h = tt
-piece-lower contents high r r' top octets (Reject nr pf) le h = tt
-piece-lower contents high r r' top octets (Sabme p) le h = h
-piece-lower contents high r r' top octets (Disc p) le h = h
-piece-lower contents high r r' top octets (Ui p) le h = h
-piece-lower contents high r r' top octets (Ua f) le h = h
-piece-lower contents high r r' top octets (Dm f) le h = h
-piece-lower contents high r r' top octets (Frmr f) le h = h
-piece-lower contents high r r' top octets (Xid pf) le h = h
+piece-lower contents high r r' top octets other le h = h
 
 pub carried-lower : (contents : List (List ℕ)) (high r r' : ℕ) (fs : List Parts) → r' ≤ r → Carried contents high r fs → Carried contents high r' fs
 carried-lower contents high r r' [] le h = omega arith

@@ -1,21 +1,17 @@
 -- What a row does, said once: a claim that every word of the tables leads on is led on by every event.
-use Rattle.model_link.proofs.Vocabulary.{◌≡◌, ℕ, ◌+◌, ◌≤◌, Bool, true, false, cond, IsTrue, List, [], ◌∷◌, Option, Some, None, inl, inr, refl, sym, true≢false, length-take, arith, Seq, seq, named, distance_of, nat_le, leb-true, Control, Information, ReceiveReady, ReceiveNotReady, Reject, Sabme, Disc, Ui, Ua, Dm, Frmr, Xid, ErrorCode, Refusal, WrongState, State, TeiAssigned, AwaitingEstablishment, AwaitingRelease, Established, TimerRecovery, LinkTimer, T200, T203, ControlFrame, Terms, has_outstanding, is_asked, is_peer_busy, is_own_busy, is_multiple_frame, Course, Step, ◌then◌, nothing, depending_on, frame_in_4, frame_in_5, frame_in_6}
-use Rattle.std.specs.Prelude.{◌&&◌}
+use Rattle.model_link.proofs.Vocabulary.{◌≡◌, ℕ, Bool, true, false, cond, List, [], ◌∷◌, Option, Some, None, inr, refl, Control, ErrorCode, Refusal, WrongState, State, TeiAssigned, AwaitingEstablishment, AwaitingRelease, Established, TimerRecovery, LinkTimer, T200, T203, ControlFrame, Terms, is_own_busy, Course, ◌then◌, nothing}
 use Rattle.lapd_frame.specs.declared.notes.ErrorCode.TheVariants as code
 use Rattle.model_link.specs.Events
 use Rattle.model_link.specs.Link.{may_repeat}
 use Rattle.model_link.specs.Words
 use Rattle.model_link.specs.MultipleFrame
-use Rattle.model_link.specs.Established
-use Rattle.model_link.specs.TimerRecovery
 use Rattle.model_link.specs.Requests
 use Rattle.model_link.specs.Offers
 use Rattle.model_link.specs.Machine
-use Rattle.model_link.proofs.Leads.{Leads, then_leads, depending_leads, bit_leads, tested_leads, Passed, from_more, to_less}
-use Rattle.model_link.proofs.Waits.{Waits, ua_waits, dm_waits, sabme_waits, disc_waits, rej_waits, ready_waits}
-use Rattle.model_link.proofs.Kept.{Purse, no_more, another, two, Fits, FitsEvent, Kept, any_event}
-use Rattle.model_link.proofs.Careful.{Claim, At, anything, is_at_rest, idle, Names, names, paid, starts, QueuesFor, Queues, any_request, Careful, plainly}
-
+use Rattle.model_link.proofs.Leads.{Leads, depending_leads, tested_leads, Passed, from_more}
+use Rattle.model_link.proofs.Waits.{sabme_waits, disc_waits}
+use Rattle.model_link.proofs.Kept.{Purse, no_more, two, Fits, FitsEvent, Kept, any_event}
+use Rattle.model_link.proofs.Careful.{Claim, At, anything, is_at_rest, idle, paid, QueuesFor, Queues, any_request, Careful, plainly}
 use Rattle.model_link.proofs.FrameRows.{one, ◌▹◌, error, release_indication, release_confirm, send, settled, flags, repeats, repeated, start, no_timer, discard, ready, untold, ends, stays, enter_4, enter_5, enter_6, enter_8, knowing, begun_by, unserved, failed, frame_by}
 
 -- what is not refused is served

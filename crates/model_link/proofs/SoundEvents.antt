@@ -25,33 +25,15 @@ in-settled TimerRecovery l h = tt
 pub sound-stands : (t : Terms) (q : ℕ) (l : Link) → length (queue_of l) ≤ q → IsSound t l → Stands t q (begun l)
 sound-stands t q l few h =
     let e : length (drop l.a l.contents) ≡ length l.contents - l.a = length-drop l.a l.contents in
-    record {
-      ordered = h.ordered;
-      accepted = h.accepted;
-      within = h.within;
-      settles = settled-in l.state l h.settled;
-      queue = omega (arith, few);
-      ring = h.ring;
-      quiet = h.owes_nothing;
-      sizes = h.sizes;
-      frames = h.frames;
-    }
+    let room : length l.contents ≤ l.a + q = omega (arith, few) in
+    search (settled-in)
 
 stands-sound : (t : Terms) (c : Course) → Stands t t.queue c → IsSound t c.link
 stands-sound t c h =
     let room : length c.link.contents ≤ c.link.a + t.queue = h.queue in
     let e : length (drop c.link.a c.link.contents) ≡ length c.link.contents - c.link.a = length-drop c.link.a c.link.contents in
-    record {
-      ordered = h.ordered;
-      accepted = h.accepted;
-      within = h.within;
-      settled = in-settled c.link.state c.link h.settles;
-      queue = omega arith;
-      ring = h.ring;
-      owes_nothing = h.quiet;
-      sizes = h.sizes;
-      frames = h.frames;
-    }
+    let few : length (drop c.link.a c.link.contents) ≤ t.queue = omega arith in
+    search (in-settled)
 
 -- A sound link stays sound.
 pub sound-after : (t : Terms) → IsInRange t → (e : Events.Event) (l : Link) → IsSound t l → IsSound t (Machine.after t e l)

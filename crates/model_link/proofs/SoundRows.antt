@@ -60,7 +60,7 @@ is_in state here = state ≡ here
 module _ {t : Terms} {q : ℕ} {contents : List (List ℕ)} {a s : ℕ} {state : State} {asked : Bool} {ws : List ControlFrame} {own pending : Bool} (h : Standing t q contents a s state asked ws own pending) where
   -- flags
   flagged : (own' pending' : Bool) → (IsTrue own' → pending' ≡ false) → Standing t q contents a s state asked ws own' pending'
-  flagged own' pending' x = record { ordered = h.ordered; accepted = h.accepted; within = h.within; settles = h.settles; queue = h.queue; ring = h.ring; quiet = x; sizes = h.sizes; frames = h.frames }
+  flagged own' pending' x = search
 
   silent : (own' : Bool) → Standing t q contents a s state asked ws own' false
   silent own' = flagged own' false (λ on. refl)
@@ -70,7 +70,7 @@ module _ {t : Terms} {q : ℕ} {contents : List (List ℕ)} {a s : ℕ} {state :
 
   -- a state is entered: the link is in one in which nothing is queued, or nothing is now
   entering : (state' : State) (asked' : Bool) → settled a (length contents) state' asked' → Standing t q contents a s state' asked' ws own pending
-  entering state' asked' x = record { ordered = h.ordered; accepted = h.accepted; within = h.within; settles = x; queue = h.queue; ring = h.ring; quiet = h.quiet; sizes = h.sizes; frames = h.frames }
+  entering state' asked' x = search
 
   none-queued : idle is_in a s (length contents) state → length contents ≡ a
   none-queued (inl few) = let low : a ≤ s = h.ordered in let all : s ≤ length contents = h.accepted in omega arith
@@ -87,7 +87,7 @@ module _ {t : Terms} {q : ℕ} {contents : List (List ℕ)} {a s : ℕ} {state :
 
   -- other control frames wait
   waiting : (ws' : List ControlFrame) → length ws' ≤ t.control → All (IsWaitingFrame t) ws' → Standing t q contents a s state asked ws' own pending
-  waiting ws' x y = record { ordered = h.ordered; accepted = h.accepted; within = h.within; settles = h.settles; queue = h.queue; ring = x; quiet = h.quiet; sizes = h.sizes; frames = y }
+  waiting ws' x y = search
 
   one-more : (b : Bool) (f : ControlFrame) → nat_lt (length ws) t.control ≡ b → IsWaitingFrame t f
       → Standing t q contents a s state asked (cond b (ws ++ f ∷ []) ws) own pending
@@ -109,8 +109,7 @@ module _ {t : Terms} {q : ℕ} {contents : List (List ℕ)} {a s : ℕ} {state :
   -- other numbers and other contents
   numbered : (contents' : List (List ℕ)) (a' s' : ℕ) → a' ≤ s' → s' ≤ length contents' → s' ≤ a' + t.k → length contents' ≤ a' + q
       → settled a' (length contents') state asked → All (λ octets. length octets ≤ t.n201) contents' → Standing t q contents' a' s' state asked ws own pending
-  numbered contents' a' s' ordered accepted within queue settles sizes =
-      record { ordered = ordered; accepted = accepted; within = within; settles = settles; queue = queue; ring = h.ring; quiet = h.quiet; sizes = sizes; frames = h.frames }
+  numbered contents' a' s' ordered accepted within queue settles sizes = search
 
   acknowledging : (i : ℕ) (here : State) → a ≤ i → i ≤ s → state ≡ here → IsTrue (is_multiple_frame here) → Standing t q contents i s state asked ws own pending
   acknowledging i here from to e m =

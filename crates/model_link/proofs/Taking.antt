@@ -1,16 +1,16 @@
 -- What a frame of the other end does to a link that stays in states 7 and 8.
-use Rattle.model_link.proofs.Vocabulary.{◌≡◌, ℕ, ◌+◌, Bool, true, false, cond, IsTrue, List, Option, None, Some, refl, sym, ap, subst, ◌∙◌, ◌⊎◌, inl, inr, eqb-true, true≢false, nat_le, Seq, seq, distance_of, named, seq-value, is_seq, seq-distance, Control, Information, ReceiveReady, ReceiveNotReady, Reject, Sabme, Disc, Ui, Ua, Dm, Frmr, Xid, State, TeiAssigned, AwaitingEstablishment, AwaitingRelease, Established, TimerRecovery, Terms, Link, is_multiple_frame, Course, begun}
+use Rattle.model_link.proofs.Vocabulary.{◌≡◌, ℕ, ◌+◌, Bool, true, false, cond, IsTrue, List, Option, None, Some, refl, sym, ap, subst, ◌∙◌, ◌⊎◌, inl, inr, eqb-true, true≢false, nat_le, Seq, seq, distance_of, named, seq-value, is_seq, seq-distance, Control, Information, ReceiveReady, ReceiveNotReady, Reject, State, Established, TimerRecovery, Terms, Link, is_multiple_frame, Course, begun}
 use Rattle.model_link.specs.Words
 use Rattle.model_link.specs.MultipleFrame
 use Rattle.model_link.specs.Established
-use Rattle.model_link.specs.TimerRecovery
 use Rattle.model_link.specs.Machine
 use Rattle.model_link.proofs.Counting.{On, done, undelivered, words}
 use Rattle.model_link.proofs.Leads.{depending_leads}
 use Rattle.model_link.proofs.Rows.{frame_row}
 use Rattle.model_link.proofs.Delivering.{begins}
 use Rattle.model_link.proofs.Lines.{Means}
-use Rattle.model_link.proofs.Facing.{UpBy, information_7_up, acknowledge_up, rr_7, rnr_7, rej_7, rr_8, rnr_8, rej_8}
+use Rattle.model_link.proofs.Kept.{Fits}
+use Rattle.model_link.proofs.Facing.{IsReport, information_7_up, acknowledge_up, reports_up}
 use Rattle.model_link.proofs.FacingInformation.{Took, at-first, information_took}
 
 -- what `named` finds has the remainder that names it
@@ -26,16 +26,7 @@ named-is_seq a s n nr e =
 -- An I-frame whose N(S) is r.
 abbrev pub HasNumber : ℕ → Control → Type 0
 HasNumber r (Information ns nr p) = ns ≡ seq r
-HasNumber r (ReceiveReady nr pf) = ⊥
-HasNumber r (ReceiveNotReady nr pf) = ⊥
-HasNumber r (Reject nr pf) = ⊥
-HasNumber r (Sabme p) = ⊥
-HasNumber r (Disc p) = ⊥
-HasNumber r (Ui p) = ⊥
-HasNumber r (Ua f) = ⊥
-HasNumber r (Dm f) = ⊥
-HasNumber r (Frmr f) = ⊥
-HasNumber r (Xid pf) = ⊥
+HasNumber r other = ⊥
 
 -- V(R) stays and nothing is delivered, or it counts the frame's contents, which are delivered.
 abbrev pub Advance : Control → List ℕ → ℕ → ℕ → Option (List ℕ) → Type 0
@@ -74,67 +65,35 @@ module _ (t : Terms) (l : Link) where
   pub none-delivered : (c : Course) → On (done l.r None) c → c.delivered ≡ None
   none-delivered c h = undelivered h
 
-  supervisory : (control : Control) (octets : List ℕ) (nr : Seq) (m : ℕ) (c : Course) → nr ≡ seq m → UpBy l nr l.r c → On (done l.r None) c → Taken l m control octets c
-  supervisory control octets nr m c e h d =
+  supervisory : (here : State) → IsTrue (is_multiple_frame here) → (b : Bool) (octets : List ℕ) (m : ℕ) (control : Control) → IsReport m control
+      → Fits (Unit {0}) (Unit {0}) ⊥ control → Taken l m control octets (Machine.frame_in here t b octets control (begun l))
+  supervisory here up b octets m control e may =
       record {
         r = l.r;
         delivered = None;
         advance = inl (refl, refl);
-        took = subst (λ n. Took l n l.r None c) e (record { by = h; delivered = λ up. none-delivered c d });
+        took = record {
+          by = (reports_up t l l.r here up b octets m control e).leads (begun l) (at-first t l);
+          delivered = λ still. undelivered ((frame_row (words t l.r) here b octets control may).leads (begun l) (begins t l));
+        };
       }
 
-  frames-7 : (b : Bool) (octets : List ℕ) (m : ℕ) (control : Control) → Means m control → Taken l m control octets (Established.frame_in_7 t b octets control (begun l))
-  frames-7 b octets m (Information ns nr p) e =
+  information-in : (here : State) → IsTrue (is_multiple_frame here) → (b : Bool) (octets : List ℕ) (m : ℕ) (ns nr : Seq) (p : Bool) → nr ≡ seq m
+      → Taken l m (Information ns nr p) octets (Machine.frame_in here t b octets (Information ns nr p) (begun l))
+  information-in Established up b octets m ns nr p e =
       information ns nr p octets m _ e (information_took t l ns nr p octets Established.acknowledged_by_information_in_7 (λ Q n. search (depending_leads)) (λ r n low. information_7_up l r l.a n low))
-  frames-7 b octets m (ReceiveReady nr pf) e =
-      supervisory (ReceiveReady nr pf) octets nr m _ e ((rr_7 t l l.r b octets nr pf).leads (begun l) (at-first t l)) ((frame_row (words t l.r) Established b octets (ReceiveReady nr pf) tt).leads (begun l) (begins t l))
-  frames-7 b octets m (ReceiveNotReady nr pf) e =
-      supervisory (ReceiveNotReady nr pf) octets nr m _ e ((rnr_7 t l l.r b octets nr pf).leads (begun l) (at-first t l)) ((frame_row (words t l.r) Established b octets (ReceiveNotReady nr pf) tt).leads (begun l) (begins t l))
-  frames-7 b octets m (Reject nr pf) e =
-      supervisory (Reject nr pf) octets nr m _ e ((rej_7 t l l.r b octets nr pf).leads (begun l) (at-first t l)) ((frame_row (words t l.r) Established b octets (Reject nr pf) tt).leads (begun l) (begins t l))
-  frames-7 b octets m (Sabme p) e = absurd e
-  frames-7 b octets m (Disc p) e = absurd e
-  frames-7 b octets m (Ui p) e = absurd e
-  frames-7 b octets m (Ua f) e = absurd e
-  frames-7 b octets m (Dm f) e = absurd e
-  frames-7 b octets m (Frmr f) e = absurd e
-  frames-7 b octets m (Xid pf) e = absurd e
-
-  frames-8 : (b : Bool) (octets : List ℕ) (m : ℕ) (control : Control) → Means m control → Taken l m control octets (TimerRecovery.frame_in_8 t b octets control (begun l))
-  frames-8 b octets m (Information ns nr p) e =
-      information ns nr p octets m _ e (information_took t l ns nr p octets Words.acknowledge (λ Q n. record { leads = λ c h. h }) (λ r n low. acknowledge_up l r n))
-  frames-8 b octets m (ReceiveReady nr pf) e =
-      supervisory (ReceiveReady nr pf) octets nr m _ e ((rr_8 t l l.r b octets nr pf).leads (begun l) (at-first t l)) ((frame_row (words t l.r) TimerRecovery b octets (ReceiveReady nr pf) tt).leads (begun l) (begins t l))
-  frames-8 b octets m (ReceiveNotReady nr pf) e =
-      supervisory (ReceiveNotReady nr pf) octets nr m _ e ((rnr_8 t l l.r b octets nr pf).leads (begun l) (at-first t l)) ((frame_row (words t l.r) TimerRecovery b octets (ReceiveNotReady nr pf) tt).leads (begun l) (begins t l))
-  frames-8 b octets m (Reject nr pf) e =
-      supervisory (Reject nr pf) octets nr m _ e ((rej_8 t l l.r b octets nr pf).leads (begun l) (at-first t l)) ((frame_row (words t l.r) TimerRecovery b octets (Reject nr pf) tt).leads (begun l) (begins t l))
-  frames-8 b octets m (Sabme p) e = absurd e
-  frames-8 b octets m (Disc p) e = absurd e
-  frames-8 b octets m (Ui p) e = absurd e
-  frames-8 b octets m (Ua f) e = absurd e
-  frames-8 b octets m (Dm f) e = absurd e
-  frames-8 b octets m (Frmr f) e = absurd e
-  frames-8 b octets m (Xid pf) e = absurd e
+  information-in TimerRecovery up b octets m ns nr p e =
+      information ns nr p octets m _ e (information_took t l ns nr p octets Words.acknowledge (λ Q n. record { leads = λ c h. h }) (λ r n low. acknowledge_up l r l.a n))
+  information-in other up b octets m ns nr p e = absurd (true≢false (sym up))
 
   frames-in : (here : State) → IsTrue (is_multiple_frame here) → (b : Bool) (octets : List ℕ) (m : ℕ) (control : Control) → Means m control
       → Taken l m control octets (Machine.frame_in here t b octets control (begun l))
-  frames-in TeiAssigned up b octets m control e = absurd (true≢false (sym up))
-  frames-in AwaitingEstablishment up b octets m control e = absurd (true≢false (sym up))
-  frames-in AwaitingRelease up b octets m control e = absurd (true≢false (sym up))
-  frames-in Established up b octets m control e = frames-7 b octets m control e
-  frames-in TimerRecovery up b octets m control e = frames-8 b octets m control e
+  frames-in here up b octets m (Information ns nr p) e = information-in here up b octets m ns nr p e
+  frames-in here up b octets m (ReceiveReady nr pf) e = supervisory here up b octets m (ReceiveReady nr pf) e tt
+  frames-in here up b octets m (ReceiveNotReady nr pf) e = supervisory here up b octets m (ReceiveNotReady nr pf) e tt
+  frames-in here up b octets m (Reject nr pf) e = supervisory here up b octets m (Reject nr pf) e tt
+  frames-in here up b octets m other e = absurd e
 
   pub frame-taken : IsTrue (is_multiple_frame l.state) → (b : Bool) (octets : List ℕ) (m : ℕ) (control : Control) → Means m control
       → Taken l m control octets (Machine.frame_step t b octets control (begun l))
-  frame-taken up b octets m (Information ns nr p) e = frames-in l.state up b octets m (Information ns nr p) e
-  frame-taken up b octets m (ReceiveReady nr pf) e = frames-in l.state up b octets m (ReceiveReady nr pf) e
-  frame-taken up b octets m (ReceiveNotReady nr pf) e = frames-in l.state up b octets m (ReceiveNotReady nr pf) e
-  frame-taken up b octets m (Reject nr pf) e = frames-in l.state up b octets m (Reject nr pf) e
-  frame-taken up b octets m (Sabme p) e = absurd e
-  frame-taken up b octets m (Disc p) e = absurd e
-  frame-taken up b octets m (Ui p) e = absurd e
-  frame-taken up b octets m (Ua f) e = absurd e
-  frame-taken up b octets m (Dm f) e = absurd e
-  frame-taken up b octets m (Frmr f) e = absurd e
-  frame-taken up b octets m (Xid pf) e = absurd e
+  frame-taken up b octets m control e = frames-in l.state up b octets m control e

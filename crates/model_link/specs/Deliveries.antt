@@ -1,12 +1,12 @@
 -- The I-frames that may be delivered, and what is delivered, since the numbers of an establishment began.
-use Rattle.std.specs.Prelude.{◌≡◌, ℕ, ◌&&◌, not, nat_le, Bool, true, false, List, length, Option, None, Some, if◌then◌else◌}
+use Rattle.std.specs.Prelude.{◌≡◌, ℕ, ◌&&◌, not, nat_le, Bool, true, List, length, Option, None, Some, if◌then◌else◌}
 use Rattle.lapd_seq.specs.declared.numbers.Seq.{Seq}
 use Rattle.lapd_frame.specs.declared.controls.Control.{Control}
-use Rattle.lapd_frame.specs.declared.controls.Control.TheVariants.{Information, ReceiveReady, ReceiveNotReady, Reject, Sabme, Disc, Ui, Ua, Dm, Frmr, Xid}
+use Rattle.lapd_frame.specs.declared.controls.Control.TheVariants.{Information, Sabme, Ua}
 use Rattle.model_link.specs.declared.states.State.TheVariants.{Established}
 use Rattle.model_link.specs.declared.terms.Terms.{Terms}
 use Rattle.model_link.specs.Link.{Link, fresh, is_multiple_frame}
-use Rattle.model_link.specs.Events.{frame, undefined, wrong_size, overlong, Event, received, expired, requested, offer, cleared}
+use Rattle.model_link.specs.Events.{frame, Event, received, cleared}
 use Rattle.model_link.specs.Machine.{course}
 
 -- An I-frame that came: its N(S) and its contents.
@@ -41,16 +41,7 @@ restarts t e l = (course t e l).zeroed
 abbrev pub MayEstablish : Control → Type 0
 MayEstablish (Sabme p) = Unit {0}
 MayEstablish (Ua true) = Unit {0}
-MayEstablish (Ua false) = ⊥
-MayEstablish (Information ns nr p) = ⊥
-MayEstablish (ReceiveReady nr pf) = ⊥
-MayEstablish (ReceiveNotReady nr pf) = ⊥
-MayEstablish (Reject nr pf) = ⊥
-MayEstablish (Disc p) = ⊥
-MayEstablish (Ui p) = ⊥
-MayEstablish (Dm f) = ⊥
-MayEstablish (Frmr f) = ⊥
-MayEstablish (Xid pf) = ⊥
+MayEstablish other = ⊥
 
 -- After an establishment the link is in state 7 with its numbers zero; after the end of its TEI it is as one that begins.
 pub record IsEstablished (control : Control) (l : Link) : Type 0 where
@@ -62,10 +53,5 @@ pub record IsEstablished (control : Control) (l : Link) : Type 0 where
 
 abbrev pub Establishes : Event → Link → Type 0
 Establishes (received (frame f)) l = IsEstablished f.control l
-Establishes (received undefined) l = ⊥
-Establishes (received wrong_size) l = ⊥
-Establishes (received overlong) l = ⊥
-Establishes (expired timer) l = ⊥
-Establishes (requested request pool_is_full) l = ⊥
-Establishes offer l = ⊥
 Establishes cleared l = l ≡ fresh
+Establishes other l = ⊥

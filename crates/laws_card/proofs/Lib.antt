@@ -1,5 +1,5 @@
 -- Lemmas.
-pub mod Machine
+pub mod MachineLaws
 pub mod Spelling
 pub mod Keeping
 pub mod Serving

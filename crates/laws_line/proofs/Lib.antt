@@ -1,5 +1,5 @@
 -- Lemmas.
-pub mod Machine
+pub mod MachineLaws
 pub mod Kept
 pub mod Asked
 pub mod Told

@@ -21,29 +21,27 @@ passed i f frames (contents ∷ more) other (front, next, back, is_next, same, r
 abbrev pub one_if : Option (List ℕ) → ℕ
 one_if o = cond {A = ℕ} (is_some o) 1 0
 
-counts_on : (P : ℕ → Type 0) (i : ℕ) (o : Option (List ℕ)) → o ≡ None → P i → P (i + one_if o)
-counts_on P i o none h = subst (λ (x : Option (List ℕ)). P (i + one_if x)) (sym none) (subst P (omega arith) h)
-
-counts_one : (P : ℕ → Type 0) (i : ℕ) (o : Option (List ℕ)) (contents : List ℕ) → o ≡ Some contents → P (i + 1) → P (i + one_if o)
-counts_one P i o contents some h = subst (λ (x : Option (List ℕ)). P (i + one_if x)) (sym some) h
+abbrev NumberedBy : ℕ → List Share → Option (List ℕ) → Option (List ℕ) → Type 0
+NumberedBy i xs d o = elim o as (λ o. Type 0) [ None ↦ (d ≡ None) × AreNumbered i xs | Some contents ↦ (d ≡ Some contents) × AreNumbered (i + 1) xs ]
 
 -- a share in front delivers what it may, and those behind are numbered from there on
 pub opened : (i : ℕ) (x : Share) (xs : List Share) → AreNumbered i (x ∷ xs) → (x.delivered ≡ contents_of i x.arrived) × AreNumbered (i + one_if x.delivered) xs
-opened i x xs h = go (contents_of i x.arrived) h
+opened i x xs h = go x.delivered (contents_of i x.arrived) h
   where
-    go : (o : Option (List ℕ))
-        → elim o as (λ o. Type 0) [ None ↦ (x.delivered ≡ None) × AreNumbered i xs | Some contents ↦ (x.delivered ≡ Some contents) × AreNumbered (i + 1) xs ]
-        → (x.delivered ≡ o) × AreNumbered (i + one_if x.delivered) xs
-    go None (none, rest) = (none, counts_on (λ n. AreNumbered n xs) i x.delivered none rest)
-    go (Some contents) (some, rest) = (some, counts_one (λ n. AreNumbered n xs) i x.delivered contents some rest)
+    go : (d o : Option (List ℕ)) → NumberedBy i xs d o → (d ≡ o) × AreNumbered (i + one_if d) xs
+    go None None (is, rest) = (is, subst (λ n. AreNumbered n xs) (omega arith) rest)
+    go None (Some contents) (is, rest) = cc
+    go (Some contents) None (is, rest) = cc
+    go (Some x) (Some contents) (is, rest) = (is, rest)
 
 pub closed : (i : ℕ) (x : Share) (xs : List Share) → x.delivered ≡ contents_of i x.arrived → AreNumbered (i + one_if x.delivered) xs → AreNumbered i (x ∷ xs)
-closed i x xs is rest = go (contents_of i x.arrived) is
+closed i x xs is rest = go x.delivered (contents_of i x.arrived) is rest
   where
-    go : (o : Option (List ℕ)) → x.delivered ≡ o
-        → elim o as (λ o. Type 0) [ None ↦ (x.delivered ≡ None) × AreNumbered i xs | Some contents ↦ (x.delivered ≡ Some contents) × AreNumbered (i + 1) xs ]
-    go None none = (none, subst (λ n. AreNumbered n xs) (omega arith) (subst (λ (o : Option (List ℕ)). AreNumbered (i + one_if o) xs) none rest))
-    go (Some contents) some = (some, subst (λ (o : Option (List ℕ)). AreNumbered (i + one_if o) xs) some rest)
+    go : (d o : Option (List ℕ)) → d ≡ o → AreNumbered (i + one_if d) xs → NumberedBy i xs d o
+    go None None is rest = (is, subst (λ n. AreNumbered n xs) (omega arith) rest)
+    go None (Some contents) is rest = cc
+    go (Some contents) None is rest = cc
+    go (Some x) (Some contents) is rest = (is, rest)
 
 one_front : (i : ℕ) (o : Option Arrived) (d : Option (List ℕ)) (frames : List Arrived) (ds : List (List ℕ)) → d ≡ contents_of i o
     → Numbered (i + one_if d) frames ds → Numbered i (option_to_list o ++ frames) (option_to_list d ++ ds)

@@ -1,5 +1,5 @@
 -- Numbered deliveries, over whole runs.
-use Rattle.model_card.proofs.Vocabulary.{◌≡◌, ℕ, ◌+◌, ◌<◌, ◌&&◌, Bool, true, false, List, [], ◌∷◌, ◌++◌, length, Option, Some, None, is_some, refl, ap, sym, ◌∙◌, subst, cond, arith, true≢false, inl, inr, fold, option_to_list, get_or-replicate, All-head, All-tail, PoolFull, Arrived, Link, delivery, counted_on, Config, refused, Line, fresh_line, link_at, link_count, Part, brings_none, none_at, event_parts, slot_brings_nothing, Event, Card, fresh, line_at, DeliveriesNumbered, after, answer, LinkName, Share, no_share, share_of, restarts, History, received_by, history, contents_of, AreNumbered, deliveries_of, one_more, HasLink, Moment, moments, after_all, IsAtLine, AreAtLines}
+use Rattle.model_card.proofs.Vocabulary.{◌≡◌, ℕ, ◌+◌, ◌<◌, ◌&&◌, Bool, true, false, List, [], ◌∷◌, ◌++◌, length, Option, Some, None, refl, ap, sym, ◌∙◌, subst, cond, arith, true≢false, inl, inr, fold, option_to_list, get_or-replicate, All-head, All-tail, PoolFull, Arrived, Link, delivery, counted_on, Config, refused, Line, fresh_line, link_at, link_count, Part, brings_none, none_at, event_parts, slot_brings_nothing, Event, Card, fresh, line_at, DeliveriesNumbered, after, answer, LinkName, Share, no_share, share_of, restarts, History, received_by, history, contents_of, AreNumbered, deliveries_of, one_more, HasLink, Moment, moments, after_all, IsAtLine, AreAtLines}
 use Rattle.model_link.specs.Link.{fresh as fresh_link}
 use Rattle.model_line.specs.Deliveries as line
 use Rattle.model_card.proofs.NumberedForms.{one_if, opened, closed, numbered-whole}

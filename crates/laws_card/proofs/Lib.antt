@@ -1,4 +1,5 @@
 -- Lemmas.
+pub mod MachineLaws
 pub mod Spelling
 pub mod Keeping
 pub mod Serving

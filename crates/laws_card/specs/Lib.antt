@@ -7,6 +7,7 @@ pub mod Begun
 pub mod Received
 pub mod Promises
 pub mod Timers
+pub mod Machine
 pub mod Laws
 pub mod WorkedCard
 pub mod WorkedHappenings

@@ -12,17 +12,19 @@
 //! `laws_promises` has all promises of a list of events in one record, `Promises`: a law here names the fields that it
 //! proves, and their comments say it in words.
 //!
-//! - `laws`, `timers`, `notes`, `progress`, `frames`: the laws.
+//! - `machine`, `laws`, `timers`, `notes`, `progress`, `frames`: the laws.
 #![tactic(auto)]
 
 mod frames;
 mod laws;
+mod machine;
 mod notes;
 mod progress;
 mod timers;
 
 pub use frames::{calls_serve, frames_are_counted};
 pub use laws::{heard_is_delivered, nothing_is_lost, one_event, pulls_serve};
+pub use machine::{cards_are_reached, frames_counted, happenings_are_spelled};
 pub use notes::{begun_is_true, notes_tell};
 pub use progress::{pulls_serve_a_line, pulls_serve_wherever};
 pub use timers::timers_follow;

@@ -13,7 +13,7 @@ use Rattle.lapd_frame.specs.Grammar.{AreOctets}
 use Rattle.model_line.specs.declared.config.Config.{Config}
 use Rattle.model_line.specs.Line.{Line}
 use Rattle.model_line.specs.Octet.{gained}
-use Rattle.model_line.proofs.LineRises.{brings}
+use Rattle.model_line.proofs.LineRises.{next_of, heard_with}
 use Rattle.laws_line.specs.Heard.{Adds}
 
 -- What is heard are octets.
@@ -66,19 +66,13 @@ ended-octets c l value e ends =
     (subst (All HasOctets) ends (until-octets (room_for c.n201) (reverse (bits (l.received ++ value ∷ [])))))
 
 -- What is added is gained.
-next : {X : Type 0} (xs : List X) (o : Option X) → slice_get (xs ++ option_to_list o) (length xs) ≡ o
-next [] None = refl
-next [] (Some x) = refl
-next (y ∷ xs) o = next xs o
-
 pub gained-is : (c : Config) (l : Line) (value : ℕ) (o : Option stream.Event) → Adds c l value (option_to_list o) → gained c.n201 l.received value ≡ o
 gained-is c l value o adds =
-    ap (λ xs. slice_get xs (length (heard_in c.n201 l.received))) adds ∙ next (heard_in c.n201 l.received) o
+    ap (λ xs. slice_get xs (length (heard_in c.n201 l.received))) adds ∙ next_of (heard_in c.n201 l.received) o
 
 pub gained-adds : (c : Config) (l : Line) (value : ℕ) (o : Option stream.Event) → gained c.n201 l.received value ≡ o → Adds c l value (option_to_list o)
 gained-adds c l value o is =
-    let b = brings c l value in
-    b.heard ∙ ap (λ x. heard_in c.n201 l.received ++ option_to_list x) (sym b.gains ∙ is)
+    heard_with c.n201 l.received value ∙ ap (λ x. heard_in c.n201 l.received ++ option_to_list x) is
 
 pub gained-octets : (c : Config) (l : Line) (value : ℕ) → IfSome (gained c.n201 l.received value) HasOctets
 gained-octets c l value = go (gained c.n201 l.received value) refl

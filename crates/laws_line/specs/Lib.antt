@@ -15,6 +15,7 @@ pub mod Causes
 pub mod Unmanaged
 pub mod Reasons
 pub mod Noted
+pub mod Machine
 pub mod Laws
 pub mod WorkedLine
 pub mod WorkedSides

@@ -1,5 +1,5 @@
 -- By how much each event raises what may be sent.
-use Rattle.model_card.proofs.Vocabulary.{◌≡◌, ℕ, ◌+◌, ◌*◌, ◌≤◌, ◌<◌, Bool, true, false, length, nat_le, Option, Some, None, ap, sym, ◌∙◌, cond, arith, sum_by, count_by, option_map_or, false≢true, Timer, octet, expiry, request, pull, Config, Line, refusal, Request, counted_one, falls_by_pull, expiry_none, request_none, brings, octet_rejects, RisesByOctet, RisesByExpiry, RisesByRequest, FallsByPull, RisesBy, IsPriced, Card, line_at, window, at, FramesByEvent, IsSound}
+use Rattle.model_card.proofs.Vocabulary.{◌≡◌, ℕ, ◌+◌, ◌*◌, ◌≤◌, ◌<◌, Bool, true, false, length, nat_le, Option, Some, None, sym, cond, arith, sum_by, count_by, false≢true, octet, expiry, request, pull, Config, Line, counted_one, falls_by_pull, expiry_none, request_none, counted_with, gained, octet_rejects, RisesBy, IsPriced, Card, line_at, window, at, FramesByEvent, IsSound}
 use Rattle.std.proofs.Common.{option_to_list}
 use Rattle.model_bits.specs.Stream as stream
 use Rattle.model_line.specs.Event as line_event
@@ -28,9 +28,9 @@ long_is_frame (Some (stream.dropped cause)) = omega arith
 
 line_rejects : (c : Config) (value : ℕ) (l : Line) → line.one (line.rejects c (octet value) l) ≤ line.one (line.hears c (octet value) l)
 line_rejects c value l =
-    let b = brings c l value in
-    let heard = counted_one line.is_frame b.event ∙ ap (λ o. line.one (option_map_or line.is_frame o false)) (sym b.gains) in
-    omega (arith, octet_rejects c value l, b.long_frames, long_is_frame b.event, heard)
+    let o = gained c.n201 l.received value in
+    let long = counted_with line.is_long_frame c.n201 l.received value in
+    omega (arith, octet_rejects c value l, long, long_is_frame o, counted_one line.is_frame o)
 
 -- any event; a pull finds room, and is one of its line
 any_event : (card : Card) (number : ℕ) (what : line_event.Event) → IsSound card → number < card.config.lines → RisesBy number what card

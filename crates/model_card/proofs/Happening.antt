@@ -1,5 +1,5 @@
 -- Happenings at a card as its events.
-use Rattle.model_card.proofs.Vocabulary.{get_or-replicate, ◌≡◌, ◌≢◌, ℕ, zero, suc, ◌+◌, ◌<◌, Bool, true, false, ◌&&◌, List, [], ◌∷◌, ◌++◌, length, replicate, get_or, set, is_some, if◌then◌else◌, refl, ap, sym, subst, ◌∙◌, arith, ⊎_elim, All, map, cases_eq, set-get_or, set-set, get_or-set_same, get_or-set_other, length-replicate, All-nil, All-cons, All-head, All-tail, All-append, AreOctets, Config, Line, fresh_line, taken, Card, fresh, line_at, is_full, Event, at, after, answer, wants_room, lines_after, Moment, moments, after_all, AreAtLines, IsAtLine, Fault, IsIdle, line_octets, came, fault_octets, cause_of, after_events, answers_to, pulls_to_begin, pulls_for, Happening, comes, failed, goes, expires, asks, line_of, events_at, events_of, spelled, IsWhole, HappensAt, HappenAt, AreIdle, answer_in, IsAtLineAlone, with_line, HappeningsAreEvents, LinesStayIdle, FramesAreOfLines, frames_are_heard, frames_come_whole, nothing_else_is_received}
+use Rattle.model_card.proofs.Vocabulary.{All-replicate, get_or-replicate, ◌≡◌, ℕ, zero, suc, ◌<◌, Bool, true, false, ◌&&◌, List, [], ◌∷◌, ◌++◌, length, replicate, get_or, set, is_some, if◌then◌else◌, refl, ap, sym, subst, ◌∙◌, ⊎_elim, All, map, cases_eq, set-get_or, set-set, get_or-set_same, get_or-set_other, length-replicate, All-nil, All-cons, All-head, All-tail, All-append, Config, Line, fresh_line, taken, Card, line_at, is_full, Event, at, after, answer, wants_room, moments, after_all, AreAtLines, IsAtLine, IsIdle, line_octets, came, fault_octets, cause_of, after_events, answers_to, pulls_to_begin, pulls_for, Happening, comes, failed, goes, expires, asks, line_of, events_at, events_of, spelled, IsWhole, HappensAt, HappenAt, AreIdle, answer_in, IsAtLineAlone, with_line, HappeningsAreEvents, LinesStayIdle, FramesAreOfLines, frames_are_heard, frames_come_whole, nothing_else_is_received}
 use Rattle.std.proofs.lemmas.List.{length-set}
 use Rattle.model_bits.specs.Stream as stream
 use Rattle.model_line.specs.Event as line_event
@@ -83,8 +83,7 @@ bare_octets [] = All-nil IsBare
 bare_octets (o ∷ octets) = All-cons IsBare (line_event.octet o) (map line_event.octet octets) tt (bare_octets octets)
 
 bare_pulls : (n : ℕ) → All IsBare (replicate n line_event.pull)
-bare_pulls zero = All-nil IsBare
-bare_pulls (suc n) = All-cons IsBare line_event.pull (replicate n line_event.pull) tt (bare_pulls n)
+bare_pulls n = All-replicate IsBare n line_event.pull tt
 
 bare_calls : (m : Card) (number : ℕ) → All IsBare (pulls_for m.config (line_at number m))
 bare_calls m number = go (is_some (taken m.config (line_at number m)))

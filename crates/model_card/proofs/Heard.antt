@@ -1,8 +1,8 @@
 -- The frames heard in the moments of a run are those by which the frames heard in all octets received grow.
-use Rattle.model_card.proofs.Vocabulary.{◌≡◌, ◌+◌, ◌*◌, ◌≤◌, List, [], ◌∷◌, ap, arith, sum_by, and_parts, All-head, All-tail, heard_counted, takes_no_frame, Event, Card, line_at, is_full, may_send, frames_heard, window, sent, heard, is_heard, accepted, expired, rejected, FramesCounted, after, answer, IsAmortised, Moment, moments, after_all, IsAtLine, AreAtLines}
+use Rattle.model_card.proofs.Vocabulary.{◌≡◌, ◌+◌, List, [], ◌∷◌, ap, arith, sum_by, and_parts, All-head, All-tail, heard_counted, takes_no_frame, Event, Card, line_at, is_full, frames_heard, heard, is_heard, after, answer, Moment, moments, after_all, IsAtLine, AreAtLines}
 use Rattle.model_line.specs.Machine as lines
 use Rattle.model_line.specs.Counts as line
-use Rattle.model_card.proofs.Steps.{HasLines, has_lines, by_room, line_sound, after_lines, one_line, count_cons}
+use Rattle.model_card.proofs.Steps.{HasLines, by_room, line_sound, after_lines, one_line, count_cons}
 
 -- one event
 pub event_heard : (card : Card) (e : Event) → HasLines card → IsAtLine card e
@@ -31,15 +31,3 @@ run_heard card (e ∷ events) h within =
     let first = event_heard card e h here in
     let rest = run_heard (after e card) events (after_lines e card h here) (All-tail (IsAtLine card) e events within) in
     omega (arith, first, rest, count_cons is_heard m (moments (after e card) events))
-
-pub frames_counted : FramesCounted
-frames_counted card events s within = run_heard card events (has_lines card s) within
-
--- so the amortised bound may be said by all frames heard before the run and after it, too
-pub amortised_by_totals : (card : Card) (events : List Event) → HasLines card → AreAtLines card events → IsAmortised card events
-    → let ms = moments card events in
-    let end = after_all card events in
-    let k = window card.config in
-    sent ms + may_send end + 2 * frames_heard card
-    ≤ may_send card + 2 * frames_heard end + accepted ms + (k + 1) * expired ms + k * rejected ms
-amortised_by_totals card events h within bound = omega (arith, bound, run_heard card events h within)

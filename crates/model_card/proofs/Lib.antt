@@ -21,4 +21,3 @@ pub mod NeverFull
 pub mod Rooms
 pub mod Happening
 pub mod Saying
-pub mod Spelling

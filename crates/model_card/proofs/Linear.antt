@@ -1,5 +1,5 @@
 -- The frames sent are linear in the octets received.
-use Rattle.model_card.proofs.Vocabulary.{◌≡◌, ℕ, ◌+◌, ◌*◌, ◌≤◌, List, [], ◌∷◌, ap, sym, ◌∙◌, subst, arith, sum_by, and_parts, All-head, All-tail, sum_by-replicate, sum_by-cons, mul-le-mul_left, Config, Line, fresh_line, IsInRange, event_rejects, takes_no_reject, fresh_may_send, frames_within, long_frames_within, Event, Card, fresh, line_at, is_full, octets_of_line, octets_received, may_send, frames_heard, long_frames_heard, window, sent, heard, accepted, expired, rejected, is_reject, FramesLinear, after, answer, IsAmortisedFromZero, HasSixOctetsAFrame, HasSevenOctetsAReject, IsLinear, Moment, moments, after_all, IsAtLine, AreAtLines}
+use Rattle.model_card.proofs.Vocabulary.{◌≡◌, ℕ, ◌+◌, ◌*◌, ◌≤◌, List, [], ◌∷◌, ap, ◌∙◌, arith, sum_by, and_parts, All-head, All-tail, sum_by-replicate, sum_by-cons, mul-le-mul_left, Config, Line, fresh_line, IsInRange, event_rejects, takes_no_reject, fresh_may_send, frames_within, long_frames_within, Event, Card, fresh, line_at, is_full, octets_of_line, octets_received, may_send, frames_heard, long_frames_heard, window, sent, heard, accepted, expired, rejected, is_reject, FramesLinear, after, answer, IsAmortisedFromZero, HasSixOctetsAFrame, HasSevenOctetsAReject, IsLinear, Moment, moments, after_all, IsAtLine, AreAtLines}
 use Rattle.model_line.specs.Machine as lines
 use Rattle.model_line.specs.Counts as line
 use Rattle.model_card.proofs.Amortised.{amortised}

@@ -1,15 +1,11 @@
 -- Numbered deliveries, over whole runs.
-use Rattle.model_card.proofs.Vocabulary.{◌≡◌, ◌≢◌, ℕ, ◌+◌, ◌<◌, ◌==◌, ◌&&◌, Bool, true, false, List, [], ◌∷◌, ◌++◌, length, get_or, set, Option, Some, None, is_some, refl, ap, sym, ◌∙◌, subst, cond, arith, eqb-true, eq-eqb, true≢false, inl, inr, fold, option_to_list, get_or-set_same, get_or-set_other, get_or-replicate, All-head, All-tail, PoolFull, Arrived, Link, delivery, counted_on, Config, Answer, refused, Line, fresh_line, link_at, link_count, Part, brings_none, none_at, event_parts, slot_brings_nothing, Event, Card, fresh, line_at, DeliveriesNumbered, wants_room, after, answer, LinkName, Share, no_share, share_of, restarts, History, received_by, history, contents_of, AreNumbered, deliveries_of, one_more, HasLink, Moment, moments, after_all, IsAtLine, AreAtLines}
+use Rattle.model_card.proofs.Vocabulary.{◌≡◌, ℕ, ◌+◌, ◌<◌, ◌&&◌, Bool, true, false, List, [], ◌∷◌, ◌++◌, length, Option, Some, None, refl, ap, sym, ◌∙◌, subst, cond, arith, true≢false, inl, inr, fold, option_to_list, get_or-replicate, All-head, All-tail, PoolFull, Arrived, Link, delivery, counted_on, Config, refused, Line, fresh_line, link_at, link_count, Part, brings_none, none_at, event_parts, slot_brings_nothing, Event, Card, fresh, line_at, DeliveriesNumbered, after, answer, LinkName, Share, no_share, share_of, restarts, History, received_by, history, contents_of, AreNumbered, deliveries_of, one_more, HasLink, Moment, moments, after_all, IsAtLine, AreAtLines}
 use Rattle.model_link.specs.Link.{fresh as fresh_link}
 use Rattle.model_line.specs.Deliveries as line
-use Rattle.model_line.specs.Machine as lines
-use Rattle.model_card.proofs.NumberedForms.{numbered-whole}
+use Rattle.model_card.proofs.NumberedForms.{one_if, opened, closed, numbered-whole}
 use Rattle.model_card.proofs.Steps.{HasLines, has_lines, by_line, line_sound, after_lines}
 
 -- How many of the shares deliver.
-abbrev one_if : Option (List ℕ) → ℕ
-one_if o = cond {A = ℕ} (is_some o) 1 0
-
 abbrev delivered_by : List Share → ℕ
 delivered_by [] = 0
 delivered_by (share ∷ shares) = one_if share.delivered + delivered_by shares
@@ -17,31 +13,11 @@ delivered_by (share ∷ shares) = one_if share.delivered + delivered_by shares
 -- one share more
 push_share : (i : ℕ) (shares : List Share) (share : Share) → share.delivered ≡ contents_of (i + delivered_by shares) share.arrived
     → AreNumbered i shares → AreNumbered i (shares ++ share ∷ [])
-push_share i [] share next h = go (contents_of i share.arrived) refl
-  where
-    at : share.delivered ≡ contents_of i share.arrived
-    at = subst (λ n. share.delivered ≡ contents_of n share.arrived) (omega arith) next
-
-    go : (o : Option (List ℕ)) → contents_of i share.arrived ≡ o
-        → elim o as (λ o. Type 0) [ None ↦ (share.delivered ≡ None) × Unit {0} | Some contents ↦ (share.delivered ≡ Some contents) × Unit {0} ]
-    go None e = (at ∙ e, tt)
-    go (Some contents) e = (at ∙ e, tt)
+push_share i [] share next h = closed i share [] (subst (λ n. share.delivered ≡ contents_of n share.arrived) (omega arith) next) tt
 push_share i (x ∷ xs) share next h =
-    go (contents_of i x.arrived) h (λ at. push_share i xs share at) (λ at. push_share (i + 1) xs share at)
-  where
-    go : (o : Option (List ℕ))
-        → elim o as (λ o. Type 0) [ None ↦ (x.delivered ≡ None) × AreNumbered i xs | Some contents ↦ (x.delivered ≡ Some contents) × AreNumbered (i + 1) xs ]
-        → (share.delivered ≡ contents_of (i + delivered_by xs) share.arrived → AreNumbered i xs → AreNumbered i (xs ++ share ∷ []))
-        → (share.delivered ≡ contents_of ((i + 1) + delivered_by xs) share.arrived → AreNumbered (i + 1) xs → AreNumbered (i + 1) (xs ++ share ∷ []))
-        → elim o as (λ o. Type 0) [ None ↦ (x.delivered ≡ None) × AreNumbered i (xs ++ share ∷ []) | Some contents ↦ (x.delivered ≡ Some contents) × AreNumbered (i + 1) (xs ++ share ∷ []) ]
-    go None (none, rest) passed taken =
-        let same : i + (one_if x.delivered + delivered_by xs) ≡ i + delivered_by xs =
-        ap (λ (o : Option (List ℕ)). i + (one_if o + delivered_by xs)) none ∙ omega arith in
-        (none, passed (subst (λ n. share.delivered ≡ contents_of n share.arrived) same next) rest)
-    go (Some contents) (some, rest) passed taken =
-        let same : i + (one_if x.delivered + delivered_by xs) ≡ (i + 1) + delivered_by xs =
-        ap (λ (o : Option (List ℕ)). i + (one_if o + delivered_by xs)) some ∙ omega arith in
-        (some, taken (subst (λ n. share.delivered ≡ contents_of n share.arrived) same next) rest)
+    let o = opened i x xs h in
+    closed i x (xs ++ share ∷ []) o.0
+    (push_share (i + one_if x.delivered) xs share (subst (λ n. share.delivered ≡ contents_of n share.arrived) (omega arith) next) o.1)
 
 delivered-push : (shares : List Share) (share : Share) → delivered_by (shares ++ share ∷ []) ≡ delivered_by shares + one_if share.delivered
 delivered-push [] share = omega arith

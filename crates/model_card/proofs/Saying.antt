@@ -1,6 +1,5 @@
 -- What happenings are answered with, in the answers to their events.
-use Rattle.model_card.proofs.Vocabulary.{◌≡◌, ℕ, [], ◌∷◌, ◌++◌, replicate, Option, Some, None, option_map, is_some, if◌then◌else◌, refl, ap, subst, ◌∙◌, Taken, taken, Card, line_at, moments, answers_to, pulls_to_begin, Happening, comes, failed, goes, expires, asks, events_of, HappensAt, AreIdle, answer_in, AnswersSayIt, said, gives, next_of, Means, calls_for, frames_go_whole, frames_come_whole, map}
-use Rattle.model_line.specs.Event as line_event
+use Rattle.model_card.proofs.Vocabulary.{◌≡◌, Option, Some, None, option_map, refl, ap, ◌∙◌, Taken, taken, line_at, moments, answers_to, comes, failed, goes, expires, asks, events_of, answer_in, AnswersSayIt, gives, next_of, Means, calls_for, frames_go_whole, frames_come_whole, map}
 use Rattle.model_card.proofs.Happening.{frames_are_of_lines}
 
 pub answers_say_it : AnswersSayIt

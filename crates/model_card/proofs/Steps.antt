@@ -34,7 +34,7 @@ pub by_line : (card : Card) (e : Event) (number : ℕ) → HasLines card → e.l
     → ((a : Answer) → P false (line_at number card) a)
     → (lines.takes_slot card.config e.what (line_at number card) ≡ true → P true (line_at number card) (refused PoolFull))
     → (e.line ≡ number → wants_room e card ≡ false
-        → P true (lines.after card.config e.what (line_at number card)) (lines.answer card.config e.what (line_at number card)))
+    → P true (lines.after card.config e.what (line_at number card)) (lines.answer card.config e.what (line_at number card)))
     → P (e.line == number) (line_at number (after e card)) (answer e card)
 by_line card e number h here P elsewhere full served =
     by_room (λ ls a. P (e.line == number) (get_or ls number (fresh_line card.config)) a) e card (unserved (e.line == number) refl) (met (e.line == number) refl)

@@ -1,6 +1,5 @@
 -- Pulls of a line go on with its text, and no other event puts anything on the line.
-use Rattle.model_card.proofs.Vocabulary.{aim_rests, ◌≡◌, ◌≢◌, ℕ, ◌<◌, ◌==◌, ◌&&◌, Bool, true, false, List, [], ◌∷◌, ◌++◌, get_or, set, Option, Some, None, option_map, IfSome, refl, ap, sym, ◌∙◌, subst, cond, arith, append_assoc, append-nil, eqb-true, eq-eqb, true≢false, option_to_list, get_or-set_same, get_or-set_other, All-head, All-tail, Item, idle, frame, Refusal, Change, Gained, Left, Config, LineTold, octet, expiry, request, pull, Line, fresh_line, unless_refused, unless_refused_told, aim_of_octet, with_received, aim_of_expiry, Aim, at_none, at_link, at_management, at_units, Effect, of_aim, of_change, told_of_management, Taken, taken, is_due, with_item, next_octet, refusal, aim_of_request, TakesSoundly, taken_sound, Event, Card, line_at, TextGoesOn, wants_room, after, answer, octet_in, frame_taken, frame_in, octets_pulled, frames_begun, frames_among, moments, after_all, IsAtLine, AreAtLines}
-use Rattle.lapd_tei.specs.Events as teis
+use Rattle.model_card.proofs.Vocabulary.{aim_rests, ◌≡◌, ℕ, ◌<◌, ◌==◌, Bool, true, false, List, [], ◌∷◌, ◌++◌, Option, Some, None, option_map, IfSome, refl, ap, sym, ◌∙◌, subst, cond, append_assoc, append-nil, true≢false, option_to_list, All-head, All-tail, Item, idle, frame, Refusal, Config, octet, expiry, request, pull, Line, unless_refused, unless_refused_told, aim_of_octet, with_received, aim_of_expiry, Aim, Effect, of_aim, Taken, taken, is_due, with_item, next_octet, refusal, aim_of_request, TakesSoundly, taken_sound, Event, Card, line_at, TextGoesOn, after, answer, octet_in, frame_taken, frame_in, octets_pulled, frames_begun, frames_among, moments, after_all, IsAtLine, AreAtLines}
 use Rattle.model_line.specs.Event.{Event as LineEvent}
 use Rattle.model_line.specs.Machine as lines
 use Rattle.model_line.specs.Sound as line

@@ -25,9 +25,9 @@ pub use Rattle.model_card.specs.Counts.{accepted, expired, frames_heard, heard, 
 pub use Rattle.model_card.specs.Drops.{IsDropWithoutCost, IsDropWithoutEffect, with_octet}
 pub use Rattle.model_card.specs.Event.{Event, at}
 pub use Rattle.model_card.specs.Happening.{AreIdle, HappenAt, Happening, HappensAt, IsAtLineAlone, IsWhole, answer_in, asks, comes, events_at, events_of, expires, failed, goes, line_of, spelled, with_line}
-pub use Rattle.model_card.specs.HappeningLaws.{AnswersSayIt, FramesAreOfLines, HappeningsAreEvents, HappeningsAreSpelled, LinesStayIdle}
+pub use Rattle.model_card.specs.HappeningLaws.{AnswersSayIt, FramesAreOfLines, HappeningsAreEvents, LinesStayIdle}
 pub use Rattle.model_card.specs.Isolation.{answers_at, event_in, is_served_at}
-pub use Rattle.model_card.specs.Laws.{CardsAreReached, CardsStaySound, DeliveriesNumbered, DropsChangeNothing, DropsCostNothing, FramesAmortised, FramesByEvent, FramesCounted, FramesLinear, LinesIsolated, PoolNeverFull, RefusedByTheTable, RunIsMoments, StoredWithinLimit, TextGoesOn, reply_of}
+pub use Rattle.model_card.specs.Laws.{CardsStaySound, DeliveriesNumbered, DropsChangeNothing, DropsCostNothing, FramesAmortised, FramesByEvent, FramesLinear, LinesIsolated, PoolNeverFull, RefusedByTheTable, RunIsMoments, StoredWithinLimit, TextGoesOn, reply_of}
 pub use Rattle.model_card.specs.Machine.{after, answer, lines_after, wants_room}
 pub use Rattle.model_card.specs.Numbered.{AreNumbered, History, LinkName, Share, contents_of, deliveries_of, frames_of, history, no_share, one_more, received_by, restarts, share_of}
 pub use Rattle.model_card.specs.Promises.{HasLink, HasSevenOctetsAReject, HasSixOctetsAFrame, IsAmortised, IsAmortisedFromZero, IsLinear, IsNotRefusedForPool}
@@ -48,7 +48,7 @@ pub use Rattle.model_line.proofs.FramesCome.{frames_come_whole}
 pub use Rattle.model_line.proofs.FramesGo.{calls_for, frames_go_whole}
 pub use Rattle.model_line.proofs.FramesHeard.{frames_are_heard}
 pub use Rattle.model_line.proofs.FramesReceived.{aim_rests, nothing_else_is_received}
-pub use Rattle.model_line.proofs.LineRises.{brings}
+pub use Rattle.model_line.proofs.LineRises.{counted_with}
 pub use Rattle.model_line.proofs.LineSound.{after_sound, fresh_sound}
 pub use Rattle.model_line.proofs.NotPool.{line_not_pool}
 pub use Rattle.model_line.proofs.Numbered.{Part, brings_none, none_at}
@@ -65,7 +65,7 @@ pub use Rattle.model_line.specs.Expiry.{aim_of_expiry}
 pub use Rattle.model_line.specs.Laws.{cause_in, orders_in}
 pub use Rattle.model_line.specs.Line.{Line, fresh_line, has_tei, link_at, link_count, link_of, terms}
 pub use Rattle.model_line.specs.Machine.{unless_refused, unless_refused_told}
-pub use Rattle.model_line.specs.Octet.{aim_of_octet, with_received}
+pub use Rattle.model_line.specs.Octet.{aim_of_octet, gained, with_received}
 pub use Rattle.model_line.specs.Pull.{Taken, is_due, next_octet, taken, with_item}
 pub use Rattle.model_line.specs.Refusal.{Row, bad_tei, bad_tei_or_group, first_that_holds, no_link, no_link_nor_group, pool_full, queue_full, refusal, too_long, unit_queue_full, wrong_state}
 pub use Rattle.model_line.specs.Request.{Assign, Check, ClearBusy, Data, Establish, Release, Remove, Request, SetBusy, Unit}

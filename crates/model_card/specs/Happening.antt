@@ -8,7 +8,6 @@ use Rattle.model_line.specs.Line.{Line}
 use Rattle.model_line.specs.Request.{Request}
 use Rattle.model_card.specs.Card.{Card, line_at}
 use Rattle.model_card.specs.Event.{Event, at}
-use Rattle.model_card.specs.Machine.{answer}
 use Rattle.model_card.specs.Run.{Moment, moments, after_all}
 use Rattle.model_line.specs.declared.faults.Fault.{Fault}
 use Rattle.model_line.specs.Whole.{IsIdle, line_octets, fault_octets}

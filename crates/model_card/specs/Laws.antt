@@ -1,5 +1,5 @@
 -- Laws of whole runs. Each holds for every list of events, and so for every front of a list.
-use Rattle.std.specs.Prelude.{◌≡◌, ◌↔◌, ℕ, ◌+◌, ◌≤◌, ◌<◌, Some, IsSome, List, map}
+use Rattle.std.specs.Prelude.{◌≡◌, ◌↔◌, ℕ, ◌≤◌, ◌<◌, Some, IsSome, List, map}
 use Rattle.lapd_frame.specs.declared.refusals.Refusal.{Refusal}
 use Rattle.lapd_frame.specs.declared.timers.Timer.{Timer}
 use Rattle.model_line.specs.declared.config.Config.{Config}
@@ -9,11 +9,9 @@ use Rattle.model_line.specs.Refusal.{refusal}
 use Rattle.model_line.specs.Sound.{IsInRange}
 use Rattle.model_card.specs.Event.{Event, at}
 use Rattle.model_card.specs.Card.{Card, fresh, line_at, is_full}
-use Rattle.model_card.specs.Counts.{frames_heard, heard}
 use Rattle.model_card.specs.Machine.{after, answer}
-use Rattle.model_card.specs.Run.{Moment, run, moments, after_all, IsAtLine, AreAtLines}
+use Rattle.model_card.specs.Run.{Moment, run, moments, after_all, AreAtLines}
 use Rattle.model_card.specs.Sound.{IsSound}
-use Rattle.model_card.specs.Reached.{IsReached}
 use Rattle.model_card.specs.Stored.{stored, limit}
 use Rattle.model_card.specs.ByEvent.{RisesByOctet, RisesByExpiry, RisesByRequest, FallsByPull, ArePriced}
 use Rattle.model_card.specs.Drops.{AreDropsWithoutCost, AreDropsWithoutEffect}
@@ -32,12 +30,6 @@ pub record CardsStaySound : Type 0 where
   pub begins : (c : Config) → IsInRange c → IsSound (fresh c)
   pub stays : (card : Card) (e : Event) → IsSound card → e.line < card.config.lines → IsSound (after e card)
   pub always : (card : Card) (events : List Event) → IsSound card → AreAtLines card events → IsSound (after_all card events)
-
--- A card is reached as it begins, and after each event at one of its lines; and each card that is reached is sound.
-pub record CardsAreReached : Type 0 where
-  pub begins : (c : Config) → IsInRange c → IsReached (fresh c)
-  pub goes_on : (card : Card) (e : Event) → IsReached card → IsAtLine card e → IsReached (after e card)
-  pub sound : (card : Card) → IsReached card → IsSound card
 
 -- It never stores more octets than its limit.
 pub record StoredWithinLimit : Type 0 where
@@ -75,12 +67,6 @@ DropsCostNothing = (card : Card) (events : List Event) → IsSound card → AreA
 -- And nothing else is told of it, and it changes nothing but the octets received, from any card on.
 abbrev pub DropsChangeNothing : Type 0
 DropsChangeNothing = (card : Card) (events : List Event) → AreDropsWithoutEffect card events
-
--- The frames heard in the moments of a run are those by which the frames heard in all octets received grow.
-abbrev pub FramesCounted : Type 0
-FramesCounted =
-    (card : Card) (events : List Event) → IsSound card → AreAtLines card events →
-    frames_heard (after_all card events) ≡ frames_heard card + heard (moments card events)
 
 -- From a fresh card on, where nothing may be sent before, they are within the same bound; and as a frame has six octets
 -- of its own at least, with its check and a flag, and an REJ seven, they are linear in the octets received, the accepted

@@ -8,10 +8,10 @@ use Rattle.model_line.specs.Pull.{Taken, taken}
 use Rattle.model_card.specs.Card.{Card, line_at}
 use Rattle.model_card.specs.Event.{at}
 use Rattle.model_card.specs.Machine.{answer}
-use Rattle.model_card.specs.Run.{moments, after_all}
+use Rattle.model_card.specs.Run.{after_all}
 use Rattle.model_line.specs.Whole.{came, cause_of}
 use Rattle.model_line.specs.WholeAtLine.{of_heard, octet_alone}
-use Rattle.model_card.specs.Happening.{Happening, comes, failed, goes, expires, asks, line_of, events_of, answer_in}
+use Rattle.model_card.specs.Happening.{Happening, comes, failed, goes, expires, asks, line_of, events_of}
 
 -- The next frame: its octets from its address to its information, and what is to be done with timers of its link.
 pub record Next : Type 0 where

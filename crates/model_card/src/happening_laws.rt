@@ -1,14 +1,6 @@
 //! What happens at a card for whole frames, as events of the card. Each law is the contract of a call that does nothing.
 
-ghost use Rattle.model_card.specs.HappeningLaws.{AnswersSayIt, FramesAreOfLines, HappeningsAreEvents, HappeningsAreSpelled, LinesStayIdle};
-
-/// What happens is spelled in events: a frame and a fault as the octets that they mean, a call for the next frame as the pulls
-/// for it, an expiry and a request as themselves; and a list as the events of each, in order, each at the card where those
-/// before it lead.
-#[tactic(auto, using(crate::proofs::Spelling::happenings_are_spelled))]
-pub fn happenings_are_spelled()
-    ensures { HappeningsAreSpelled }
-{}
+ghost use Rattle.model_card.specs.HappeningLaws.{AnswersSayIt, FramesAreOfLines, HappeningsAreEvents, LinesStayIdle};
 
 /// A list of happenings at lines of a card is a list of events at lines of the card, so what is promised of every such list
 /// holds of it.

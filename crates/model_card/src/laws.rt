@@ -1,7 +1,7 @@
 //! What holds of whole runs of the machine. Each law is the contract of a call that does nothing; it holds for every
 //! list of events, and so for every front of a list.
 
-ghost use Rattle.model_card.specs.Laws.{CardsAreReached, CardsStaySound, DeliveriesNumbered, DropsChangeNothing, DropsCostNothing, FramesAmortised, FramesByEvent, FramesCounted, FramesLinear, LinesIsolated, PoolNeverFull, RefusedByTheTable, RunIsMoments, StoredWithinLimit, TextGoesOn};
+ghost use Rattle.model_card.specs.Laws.{CardsStaySound, DeliveriesNumbered, DropsChangeNothing, DropsCostNothing, FramesAmortised, FramesByEvent, FramesLinear, LinesIsolated, PoolNeverFull, RefusedByTheTable, RunIsMoments, StoredWithinLimit, TextGoesOn};
 
 /// A run as one fold is its moments, one after the other.
 #[tactic(auto, using(crate::proofs::Fold::run_is_moments))]
@@ -13,13 +13,6 @@ pub fn run_is_moments()
 #[tactic(auto, using(crate::proofs::CardSound::cards_stay_sound))]
 pub fn cards_stay_sound()
     ensures { CardsStaySound }
-{}
-
-/// A card that begins is reached, and each event at a line of a card that is reached leads to another; and each card that
-/// is reached is sound.
-#[tactic(auto, using(crate::proofs::Reaching::cards_are_reached))]
-pub fn cards_are_reached()
-    ensures { CardsAreReached }
 {}
 
 /// A sound card never stores more octets than its limit, which its configuration alone tells.
@@ -35,13 +28,6 @@ pub fn stored_within_limit()
 #[tactic(auto, using(crate::proofs::Amortised::frames_amortised))]
 pub fn frames_amortised()
     ensures { FramesAmortised }
-{}
-
-/// The frames heard in the moments of a run, as [`frames_amortised`] counts them, are those by which the frames heard in
-/// all octets received grow.
-#[tactic(auto, using(crate::proofs::Heard::frames_counted))]
-pub fn frames_counted()
-    ensures { FramesCounted }
 {}
 
 /// The same bound for single events, and so in every moment of a run. What may be sent rises by at most two for an octet that

@@ -20,12 +20,10 @@ mod laws;
 
 pub use events::Event;
 pub use happening_laws::{
-    answers_say_it, frames_are_of_lines, happenings_are_events, happenings_are_spelled,
-    lines_stay_idle,
+    answers_say_it, frames_are_of_lines, happenings_are_events, lines_stay_idle,
 };
 pub use laws::{
-    cards_are_reached, cards_stay_sound, deliveries_numbered, drops_change_nothing,
-    drops_cost_nothing, frames_amortised, frames_by_event, frames_counted, frames_linear,
-    lines_isolated, pool_never_full, refused_by_the_table, run_is_moments, stored_within_limit,
-    text_goes_on,
+    cards_stay_sound, deliveries_numbered, drops_change_nothing, drops_cost_nothing,
+    frames_amortised, frames_by_event, frames_linear, lines_isolated, pool_never_full,
+    refused_by_the_table, run_is_moments, stored_within_limit, text_goes_on,
 };

@@ -1,7 +1,7 @@
 -- What single events bring: frames by octets alone, and a pull.
-use Rattle.model_line.proofs.Vocabulary.{gained, ◌≡◌, ℕ, ◌+◌, ◌≤◌, Bool, true, false, Option, Some, None, option_to_list, refl, ap, sym, ◌∙◌, cond, arith, option_map_or, false≢true, count_by, Config, Event, octet, expiry, request, pull, one, is_frame, frames_heard, IsHeardCounted, HearsOne, FallsByPull, Line, after, answer, takes_slot, IsInRange, IsSound}
+use Rattle.model_line.proofs.Vocabulary.{gained, ◌≡◌, ℕ, ◌+◌, Bool, true, false, Option, Some, None, option_to_list, refl, ap, ◌∙◌, cond, arith, option_map_or, false≢true, count_by, Config, Event, octet, expiry, request, pull, one, is_frame, frames_heard, IsHeardCounted, FallsByPull, Line, after, answer, takes_slot, IsInRange, IsSound}
 use Rattle.model_bits.specs.Stream as stream
-use Rattle.model_line.specs.Counts.{hears, is_octet}
+use Rattle.model_line.specs.Counts.{hears}
 use Rattle.model_line.proofs.EventWalk.{meeting}
 use Rattle.model_line.proofs.FramesReceived.{after_received}
 use Rattle.model_line.proofs.LineRises.{counted_with}
@@ -25,20 +25,6 @@ met_counted c pull l = omega arith
 
 pub heard_counted : (c : Config) (e : Event) (l : Line) → IsInRange c → IsSound c l → IsHeardCounted c e l
 heard_counted c e l ranged s = ap (λ octets. count_by is_frame (stream.heard_in c.n201 octets)) (after_received c e l) ∙ met_counted c e l
-
--- which is one at most
-one_at_most : (c : Config) (e : Event) (l : Line) → one (hears c e l) ≤ one (is_octet e)
-one_at_most c (octet value) l = go (hears c (octet value) l)
-  where
-    go : (b : Bool) → one b ≤ 1
-    go true = omega arith
-    go false = omega arith
-one_at_most c (expiry timer) l = omega arith
-one_at_most c (request r) l = omega arith
-one_at_most c pull l = omega arith
-
-pub hears_one : (c : Config) (e : Event) (l : Line) → IsInRange c → IsSound c l → HearsOne c e l
-hears_one c e l ranged s = omega (arith, heard_counted c e l ranged s, one_at_most c e l)
 
 -- a request that takes a slot is no frame
 pub takes_no_frame : (c : Config) (e : Event) (l : Line) → takes_slot c e l ≡ true → hears c e l ≡ false

@@ -1,5 +1,5 @@
 -- What an octet brings that is dropped changes nothing, and costs nothing.
-use Rattle.model_line.proofs.Vocabulary.{◌≡◌, ℕ, Bool, true, false, [], Option, Some, None, IsSome, refl, ap, sym, ◌∙◌, option_map_or, unwrap_or, false≢true, set-get_or, none-some, Cause, Unserved, Service, Terms, LinkTimer, fresh, orders_for, Change, Gained, Left, Config, LineTold, octet, told, nothing, may_send, cause_in, DropsChangeNothing, Line, link_number, link_in, with_link, terms, gained, aim_of_heard, with_received, Effect, at_none, unserved_cause, told_of_link, told_of_management, of_link, of_change, of_management, of_aim, unserved_leaves}
+use Rattle.model_line.proofs.Vocabulary.{◌≡◌, ℕ, Bool, true, false, [], Option, Some, None, IsSome, refl, ap, sym, ◌∙◌, option_map_or, unwrap_or, false≢true, set-get_or, none-some, Cause, Unserved, Service, Terms, LinkTimer, fresh, orders_for, Change, Gained, Left, Config, LineTold, octet, told, nothing, may_send, cause_in, Line, link_number, link_in, with_link, terms, gained, aim_of_heard, with_received, Effect, at_none, unserved_cause, told_of_link, told_of_management, of_link, of_change, of_management, of_aim, unserved_leaves}
 use Rattle.model_bits.specs.Stream as stream
 use Rattle.model_link.specs.declared.timers.LinkTimer.TheVariants.{T200, T203}
 use Rattle.model_link.specs.Events as link
@@ -81,10 +81,3 @@ pub drop_costs_nothing : (c : Config) (value : ℕ) (l : Line) → IsSome (cause
 drop_costs_nothing c value l h =
     let some = named_cause (cause_in (lines.answer c (octet value) l)) h in
     ap (may_send c) (octet_leaves c value l some.0 some.1).1
-
-pub drops_change_nothing : DropsChangeNothing
-drops_change_nothing = record {
-  answers = λ c value l cause h. (octet_leaves c value l cause h).0;
-  leaves = λ c value l cause h. (octet_leaves c value l cause h).1;
-  costs = drop_costs_nothing;
-}

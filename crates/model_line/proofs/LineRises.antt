@@ -1,5 +1,5 @@
 -- What an octet brings, and what it costs.
-use Rattle.model_line.proofs.Vocabulary.{◌≡◌, ℕ, ◌+◌, ◌*◌, ◌≤◌, Bool, true, false, List, [], ◌∷◌, ◌++◌, length, slice_get, max, Option, Some, None, option_to_list, refl, ap, sym, ◌∙◌, cond, arith, count_by, option_map_or, sum_by-append, one_event_an_octet, Service, Call, Packet, Config, octet, one, is_frame, frames_heard, is_long_frame, long_frames_heard, rejects, rejects_aimed, Line, window, link_in, gained, aim_of_heard, aim_of_octet, with_received, Aim, at_none, at_link, of_aim, nothing, IsInRange}
+use Rattle.model_line.proofs.Vocabulary.{◌≡◌, ℕ, ◌+◌, ◌*◌, ◌≤◌, Bool, true, false, List, [], ◌∷◌, ◌++◌, length, slice_get, max, Option, Some, None, option_to_list, refl, ap, sym, ◌∙◌, cond, arith, count_by, option_map_or, sum_by-append, one_event_an_octet, Service, Call, Packet, Config, octet, one, is_frame, rejects, rejects_aimed, Line, window, link_in, gained, aim_of_heard, aim_of_octet, Aim, at_none, at_link, of_aim, nothing, IsInRange}
 use Rattle.model_line.specs.Counts.{hears}
 use Rattle.model_bits.specs.Stream as stream
 use Rattle.model_link.specs.Events as link
@@ -11,7 +11,7 @@ use Rattle.model_line.proofs.Sums.{price_at}
 
 -- ---- what an octet brings
 
-next_of : {X : Type 0} (xs : List X) (o : Option X) → slice_get (xs ++ option_to_list o) (length xs) ≡ o
+pub next_of : {X : Type 0} (xs : List X) (o : Option X) → slice_get (xs ++ option_to_list o) (length xs) ≡ o
 next_of [] None = refl
 next_of [] (Some x) = refl
 next_of (y ∷ xs) o = next_of xs o
@@ -28,22 +28,6 @@ pub counted_with : (p : stream.Event → Bool) (n201 : ℕ) (received : List ℕ
     → count_by p (stream.heard_in n201 (received ++ value ∷ [])) ≡ count_by p (stream.heard_in n201 received) + count_by p (option_to_list (gained n201 received value))
 counted_with p n201 received value =
     ap (count_by p) (heard_with n201 received value) ∙ sum_by-append (λ x. cond (p x) 1 0) (stream.heard_in n201 received) (option_to_list (gained n201 received value))
-
-pub record Brings (c : Config) (l : Line) (value : ℕ) : Type 0 where
-  pub event : Option stream.Event
-  pub heard : stream.heard_in c.n201 (l.received ++ value ∷ []) ≡ stream.heard_in c.n201 l.received ++ option_to_list event
-  pub gains : gained c.n201 l.received value ≡ event
-  pub frames : frames_heard c (with_received value l) ≡ frames_heard c l + count_by is_frame (option_to_list event)
-  pub long_frames : long_frames_heard c (with_received value l) ≡ long_frames_heard c l + count_by is_long_frame (option_to_list event)
-
-pub brings : (c : Config) (l : Line) (value : ℕ) → Brings c l value
-brings c l value = record {
-  event = gained c.n201 l.received value;
-  heard = heard_with c.n201 l.received value;
-  gains = refl;
-  frames = counted_with is_frame c.n201 l.received value;
-  long_frames = counted_with is_long_frame c.n201 l.received value;
-}
 
 -- ---- the price of what is heard
 

@@ -1,5 +1,5 @@
 -- Each REJ with a valid N(R) is a frame of four octets that is heard; and frames take their octets of the stream.
-use Rattle.model_line.proofs.Vocabulary.{gained, ◌≡◌, ℕ, ◌+◌, ◌*◌, ◌-◌, ◌≤◌, Bool, true, false, List, [], ◌∷◌, ◌++◌, length, take, nat_le, Option, Some, None, option_to_list, Result, Ok, Err, IfSome, refl, ap, sym, ◌∙◌, subst, cond, arith, count_by, sum_by, All, option_map_or, le-leb, leb-true, length-take-le, sum_by-cons, All-head, All-tail, overlong, dropped, room_for, IsWhole, heard_within_stream, IsWeight, weight_of_heard, judged_as, ReadFault, Parts, reading, Link, Config, nothing, one, is_frame, frames_heard, is_long_frame, long_frames_heard, rejects_aimed, Line, aim_of_reading, heard_side, aim_of_heard, aim_of_octet, with_received, at_none}
+use Rattle.model_line.proofs.Vocabulary.{gained, ◌≡◌, ℕ, ◌+◌, ◌*◌, ◌-◌, ◌≤◌, Bool, true, false, List, [], ◌∷◌, ◌++◌, length, take, nat_le, Option, Some, None, option_to_list, Result, Ok, Err, IfSome, refl, ap, subst, cond, arith, count_by, sum_by, All, option_map_or, le-leb, leb-true, length-take-le, sum_by-cons, All-head, All-tail, overlong, dropped, room_for, IsWhole, heard_within_stream, IsWeight, weight_of_heard, judged_as, ReadFault, Parts, reading, Link, Config, nothing, one, is_frame, frames_heard, is_long_frame, long_frames_heard, rejects_aimed, Line, aim_of_reading, heard_side, aim_of_heard, aim_of_octet, with_received, at_none}
 use Rattle.model_bits.specs.Stream as stream
 use Rattle.model_bits.specs.Stream.{Event, frame}
 use Rattle.model_link.specs.Events as link

@@ -76,7 +76,7 @@ pub use Rattle.model_line.specs.Deliveries.{arrived, arrived_aimed, delivered, d
 pub use Rattle.model_line.specs.Effect.{Aim, Effect, at_link, at_management, at_none, at_units, of_aim, of_change, of_link, of_management, told_of_link, told_of_management, unserved_cause}
 pub use Rattle.model_line.specs.Event.{Answer, Event, LineTold, expiry, nothing, octet, pull, pulled, refused, request, told}
 pub use Rattle.model_line.specs.Expiry.{aim_of_expiry, at_timer, runs_at}
-pub use Rattle.model_line.specs.Laws.{DropsChangeNothing, FallsByPull, HearsOne, IsHeardCounted, IsRejectHeard, Rises, cause_in, orders_in}
+pub use Rattle.model_line.specs.Laws.{FallsByPull, IsHeardCounted, IsRejectHeard, Rises, cause_in, orders_in}
 pub use Rattle.model_line.specs.Line.{Line, UnitData, fresh_line, link_at, link_count, link_in, link_number, place_at, place_in, service_at, tei_at, terms, terms_at, window, with_link}
 pub use Rattle.model_line.specs.Machine.{of_request, unless_refused, unless_refused_told}
 unfoldable pub use Rattle.model_line.specs.Machine.{after, answer, takes_slot}

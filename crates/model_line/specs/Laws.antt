@@ -1,20 +1,13 @@
 -- Laws of a line.
-use Rattle.std.specs.Prelude.{◌≡◌, ℕ, ◌+◌, ◌*◌, ◌≤◌, max, List, [], Option, Some, None, IsSome}
+use Rattle.std.specs.Prelude.{◌≡◌, ◌+◌, ◌*◌, ◌≤◌, max, List, [], Option, None}
 use Rattle.lapd_frame.specs.declared.notes.Note.{Note}
 use Rattle.model_bits.specs.declared.heard.Cause.{Cause}
 use Rattle.lapd_frame.specs.declared.timers.Order.{Order}
 use Rattle.model_line.specs.declared.config.Config.{Config}
-use Rattle.model_line.specs.Event.{Event, octet, pull, Answer, told, refused, pulled, dropped}
-use Rattle.model_line.specs.Line.{Line, fresh_line}
-use Rattle.model_line.specs.Counts.{one, may_send, frames_heard, hears, long_frames_heard, is_octet, is_begun, is_accepted, is_running_expiry, rejects}
+use Rattle.model_line.specs.Event.{Event, pull, Answer, told, refused, pulled}
+use Rattle.model_line.specs.Line.{Line}
+use Rattle.model_line.specs.Counts.{one, may_send, frames_heard, hears, long_frames_heard, is_begun, is_accepted, is_running_expiry, rejects}
 use Rattle.model_line.specs.Machine.{after, answer}
-use Rattle.model_line.specs.Octet.{with_received}
-use Rattle.model_line.specs.Sound.{IsInRange, IsSound}
-
--- A line is sound as it begins, and each event keeps it so.
-pub record LinesStaySound : Type 0 where
-  pub begins : (c : Config) → IsInRange c → IsSound c (fresh_line c)
-  pub each : (c : Config) (e : Event) (l : Line) → IsInRange c → IsSound c l → IsSound c (after c e l)
 
 -- What a line has sent, and may still send without anything else happening, rises by no more than two for each frame
 -- that is heard, one for an accepted request, k + 1 for the expiry of a running timer, and k for an REJ with a
@@ -34,23 +27,12 @@ IsRejectHeard c e l = one (rejects c e l) + long_frames_heard c l ≤ long_frame
 abbrev pub IsHeardCounted : Config → Event → Line → Type 0
 IsHeardCounted c e l = frames_heard c (after c e l) ≡ frames_heard c l + one (hears c e l)
 
--- Only an octet ends a frame, and one at most.
-abbrev pub HearsOne : Config → Event → Line → Type 0
-HearsOne c e l = frames_heard c (after c e l) ≤ frames_heard c l + one (is_octet e)
-
 -- A pull that begins a frame lowers what may be sent by one, or by two where the frame makes an acknowledgement
 -- needless. Any other pull leaves it as it is.
 abbrev pub FallsByPull : Config → Line → Type 0
 FallsByPull c l =
     let begun = one (is_begun (answer c pull l)) in
     (begun + may_send c (after c pull l) ≤ may_send c l) × (may_send c l ≤ may_send c (after c pull l) + 2 * begun)
-
-pub record LinesRise : Type 0 where
-  pub rises : (c : Config) (e : Event) (l : Line) → IsInRange c → IsSound c l → Rises c e l
-  pub rejects : (c : Config) (e : Event) (l : Line) → IsInRange c → IsSound c l → IsRejectHeard c e l
-  pub counts : (c : Config) (e : Event) (l : Line) → IsInRange c → IsSound c l → IsHeardCounted c e l
-  pub hears : (c : Config) (e : Event) (l : Line) → IsInRange c → IsSound c l → HearsOne c e l
-  pub pulls : (c : Config) (l : Line) → IsInRange c → IsSound c l → FallsByPull c l
 
 -- An answer has at most four notes and at most four orders, and that to a pull at most two orders. The answer to an
 -- expiry starts one timer at most.
@@ -69,13 +51,3 @@ abbrev pub cause_in : Answer → Option Cause
 cause_in (told t) = t.cause
 cause_in (refused why) = None
 cause_in (pulled value begun orders) = None
-
--- Where the answer to an octet names a cause, whichever, the cause is all that is told, the line is as it was except for
--- the octet received, and what may be sent stays as it is.
-pub record DropsChangeNothing : Type 0 where
-  pub answers : (c : Config) (value : ℕ) (l : Line) (cause : Cause) → cause_in (answer c (octet value) l) ≡ Some cause →
-      answer c (octet value) l ≡ told (dropped cause)
-  pub leaves : (c : Config) (value : ℕ) (l : Line) (cause : Cause) → cause_in (answer c (octet value) l) ≡ Some cause →
-      after c (octet value) l ≡ with_received value l
-  pub costs : (c : Config) (value : ℕ) (l : Line) → IsSome (cause_in (answer c (octet value) l)) →
-      may_send c (after c (octet value) l) ≡ may_send c l

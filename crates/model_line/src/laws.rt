@@ -1,29 +1,6 @@
-//! What holds of the machine of a line itself. Each law is the contract of a call that does nothing.
+//! What holds of the machine of a line itself. The law is the contract of a call that does nothing.
 
 ghost use Rattle.model_line.specs.Begun.{LatestIsBegun};
-ghost use Rattle.model_line.specs.Laws.{DropsChangeNothing, LinesRise, LinesStaySound};
-
-/// A line is sound as it begins, and each event keeps it so: TEI management and the links are, the links of free
-/// places are as they begin, no queue holds more than it may, and the octets given are a beginning of the text of the
-/// items, of which none is longer than the longest frame.
-pub fn lines_stay_sound()
-    ensures { LinesStaySound }
-{}
-
-/// What a line has sent, and may still send without anything else happening, rises by no more than an event's price:
-/// two for a frame that an octet ends, and it ends one at most; one for an accepted request; k + 1 for the expiry of a
-/// running timer; k more for an REJ with a valid N(R), which is a frame of four octets; else 0. A pull that begins a
-/// frame lowers what may be sent by one or two, and any other leaves it as it is.
-pub fn lines_rise()
-    ensures { LinesRise }
-{}
-
-/// Where the answer to an octet names a cause, whichever, the cause is all that it says, the line is afterwards what it
-/// was except for the octet received, and so what may be sent stays as it is.
-#[tactic(auto, using(crate::proofs::Drops::drops_change_nothing))]
-pub fn drops_change_nothing()
-    ensures { DropsChangeNothing }
-{}
 
 /// The latest frame that was put on a line is the one that a pull began last: each pull that begins a frame makes it that
 /// frame, and nothing else changes it.

@@ -12,7 +12,7 @@
 //! - `config`: `Config`, the sizes and limits of a card.
 //! - `requests`: `Request`, what layer 3 and management ask of a line.
 //! - `faults`: `Fault`, what a controller tells in place of a frame.
-//! - `laws`: what holds of the machine itself, as calls without effect.
+//! - `laws`: what holds of the machine itself, as a call without effect. More stands in `laws_line`.
 //! - `frame_laws`: what is heard in the octets that whole frames mean, and what these are at a line.
 //!
 //! Where a controller keeps the flags, stuffed 0s and checks of a line (clause 2), a frame that comes means the octets that
@@ -36,5 +36,5 @@ pub use faults::Fault;
 pub use frame_laws::{
     frames_are_heard, frames_come_whole, frames_go_whole, nothing_else_is_received,
 };
-pub use laws::{drops_change_nothing, latest_is_begun, lines_rise, lines_stay_sound};
+pub use laws::latest_is_begun;
 pub use requests::Request;

@@ -1,6 +1,19 @@
--- What happenings are, and lists of them.
-use Rattle.model_card.proofs.Vocabulary.{◌≡◌, List, [], ◌∷◌, ◌++◌, refl, ap, sym, ◌∙◌, append_assoc, append-nil, Card, Event, after, after_all, Happening, comes, failed, goes, expires, asks, events_of, spelled, HappeningsAreSpelled}
+-- Which cards are reached, what is heard in the moments of a run, and what happenings are.
+use Rattle.std.proofs.Common.{◌≡◌, List, [], ◌∷◌, ◌++◌, refl, ap, sym, ◌∙◌, append_assoc, append-nil}
+use Rattle.model_card.specs.Card.{Card}
+use Rattle.model_card.specs.Happening.{Happening, comes, failed, goes, events_of, spelled}
+unfoldable use Rattle.model_card.specs.Run.{after_all}
 use Rattle.model_card.proofs.Happening.{after_all-append}
+use Rattle.model_card.proofs.Heard.{run_heard}
+use Rattle.model_card.proofs.Reaching.{reached-after, reached-fresh, reached-sound}
+use Rattle.model_card.proofs.Steps.{has_lines}
+use Rattle.laws_card.specs.Machine.{CardsAreReached, FramesCounted, HappeningsAreSpelled}
+
+pub cards_are_reached : CardsAreReached
+cards_are_reached = record { begins = reached-fresh; goes_on = reached-after; sound = reached-sound }
+
+pub frames_counted : FramesCounted
+frames_counted card events s within = run_heard card events (has_lines card s) within
 
 joined : (m : Card) (front behind : List Happening) → spelled m (front ++ behind) ≡ spelled m front ++ spelled (after_all m (spelled m front)) behind
 unfolding after_all

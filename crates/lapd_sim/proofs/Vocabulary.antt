@@ -67,7 +67,7 @@ pub use Rattle.model_card.specs.HappeningsCounted.{happening_counted}
 pub use Rattle.model_card.specs.Machine.{after, answer}
 unfoldable pub use Rattle.model_card.specs.Run.{after_all}
 pub use Rattle.model_line.proofs.Ranges.{ranges_of}
-pub use Rattle.model_line.specs.Event.{expiry, octet, pull, refused, request, told}
+pub use Rattle.model_line.specs.Event.{expiry, pull, refused, request, told}
 pub use Rattle.model_line.specs.Laws.{orders_in}
 pub use Rattle.model_line.specs.Pull.{taken}
 pub use Rattle.model_line.specs.Request.{Request, request_of}

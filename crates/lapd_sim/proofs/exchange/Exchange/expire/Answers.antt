@@ -1,5 +1,5 @@
 -- Hand-written answers for `Exchange::expire`.
-use Rattle.lapd_sim.proofs.Vocabulary.{◌∙◌, sym, subst, AreInRange, at}
+use Rattle.lapd_sim.proofs.Vocabulary.{at}
 use Rattle.model_line.specs.Event as line_event
 use Rattle.lapd_sim.proofs.Exchanges.{past_on}
 use Rattle.lapd_sim.proofs.exchange.Exchange.expire.Goals as goal

@@ -30,17 +30,13 @@ write_failures a b page h = (puts_unwritten a (output b page) h.0 h.1).failed
 pub cut_failures : (r : Result Unit PlayFault) (a b : Taken) (page : List ℕ) → is_cut r ≡ true → PutsSome r (output a []) (output b page) → b.failures ≡ writes_failed_by r a.failures
 cut_failures (Err Read) a b page cut h = read_failures a b page h
 cut_failures (Err Write) a b page cut h = write_failures a b page h
-cut_failures (Ok u) a b page cut h = absurd (true≢false (sym cut))
-cut_failures (Err (Script number kind)) a b page cut h = absurd (true≢false (sym cut))
-cut_failures (Err OutOfMemory) a b page cut h = absurd (true≢false (sym cut))
+cut_failures _ a b page cut h = absurd (true≢false (sym cut))
 
 pub cut_ends : (r : Result Unit PlayFault) (a b : Taken) (page text : List ℕ) (remaining : Option (List ℕ)) → is_cut r ≡ true → PutsSome r (output a []) (output b page)
     → PlaysOn r text remaining (output a []) (output b page) → Plays r text remaining a b
 cut_ends (Err Read) a b page text remaining cut h p = read_ends a b page text remaining h p
 cut_ends (Err Write) a b page text remaining cut h p = puts_unwritten a (output b page) (transcript text) p
-cut_ends (Ok u) a b page text remaining cut h p = absurd (true≢false (sym cut))
-cut_ends (Err (Script number kind)) a b page text remaining cut h p = absurd (true≢false (sym cut))
-cut_ends (Err OutOfMemory) a b page text remaining cut h p = absurd (true≢false (sym cut))
+cut_ends _ a b page text remaining cut h p = absurd (true≢false (sym cut))
 
 -- after any other end the page goes out,
 pub sent_failures : (r : Result Unit PlayFault) (a b c : Taken) (page : List ℕ) → is_cut r ≡ false → IsWritten b c page

@@ -32,13 +32,6 @@ closes_with o (p ∷ ps) e h = λ w x.
 closes_first : (o : ℕ) (ps : List (List ℕ)) → (o == 10) ≡ true → Closes ((o ∷ []) ∷ ps)
 closes_first o ps e = λ w x. ap (λ b. cond b ((o ∷ []) ∷ pieces_of x) (with_octet o (pieces_of x))) e
 
-pub closes : (t : List ℕ) → Closes (pieces_of t)
-closes [] = tt
-closes (o ∷ t) = go (o == 10) refl (closes t) where
-  go : (b : Bool) → (o == 10) ≡ b → Closes (pieces_of t) → Closes (cond b ((o ∷ []) ∷ pieces_of t) (with_octet o (pieces_of t)))
-  go true e h = closes_first o (pieces_of t) e
-  go false e h = closes_with o (pieces_of t) e h
-
 -- and where others follow, each of them has.
 abbrev Follows : List (List ℕ) → Type 0
 Follows [] = Unit {0}
@@ -54,12 +47,13 @@ follows_first : (o : ℕ) (ps : List (List ℕ)) → (o == 10) ≡ true → Foll
 follows_first o [] e h = tt
 follows_first o (p ∷ ps) e h = (ap (λ b. b || false) e, h)
 
-follows : (t : List ℕ) → Follows (pieces_of t)
-follows [] = tt
-follows (o ∷ t) = go (o == 10) refl (follows t) where
-  go : (b : Bool) → (o == 10) ≡ b → Follows (pieces_of t) → Follows (cond b ((o ∷ []) ∷ pieces_of t) (with_octet o (pieces_of t)))
-  go true e h = follows_first o (pieces_of t) e h
-  go false e h = follows_with o (pieces_of t) e h
+pieces_are : (t : List ℕ) → Closes (pieces_of t) × Follows (pieces_of t)
+pieces_are [] = (tt, tt)
+pieces_are (o ∷ t) = go (o == 10) refl (pieces_are t) where
+  go : (b : Bool) → (o == 10) ≡ b → Closes (pieces_of t) × Follows (pieces_of t)
+      → let ps = cond b ((o ∷ []) ∷ pieces_of t) (with_octet o (pieces_of t)) in Closes ps × Follows ps
+  go true e h = (closes_first o (pieces_of t) e, follows_first o (pieces_of t) e h.1)
+  go false e h = (closes_with o (pieces_of t) e h.0, follows_with o (pieces_of t) e h.1)
 
 -- All of them have their line feed:
 abbrev pub AreWhole : List (List ℕ) → Type 0
@@ -68,7 +62,7 @@ AreWhole (p ∷ ps) = (is_whole p ≡ true) × AreWhole ps
 
 -- those that another follows,
 pub whole_before : (t : List ℕ) (done : List (List ℕ)) (q : List ℕ) (qs : List (List ℕ)) → pieces_of t ≡ done ++ q ∷ qs → AreWhole done
-whole_before t done q qs is = go done (subst Follows is (follows t)) where
+whole_before t done q qs is = go done (subst Follows is (pieces_are t).1) where
   go : (ps : List (List ℕ)) → Follows (ps ++ q ∷ qs) → AreWhole ps
   go [] h = tt
   go (p ∷ []) h = (h.0, tt)
@@ -95,7 +89,7 @@ pub read_whole : (done : List (List ℕ)) (text left begun : List ℕ) → piece
     → whole_lines (join done ++ begun) ≡ done
 read_whole [] text left begun is w h = none_whole begun h
 read_whole (p ∷ done) text left begun is w h =
-    let closed : (x : List ℕ) → pieces_of (p ++ x) ≡ p ∷ pieces_of x = (subst Closes is (closes text)) w.0 in
+    let closed : (x : List ℕ) → pieces_of (p ++ x) ≡ p ∷ pieces_of x = (subst Closes is (pieces_are text).0) w.0 in
     let later = join (done ++ pieces_of left) in
     let rest : pieces_of later ≡ done ++ pieces_of left = ap (drop 1) (sym (closed later) ∙ ap pieces_of (sym (sym (joins text) ∙ ap join is)) ∙ is) in
     ap whole_lines (append_assoc p (join done) begun) ∙ ap (filter is_whole) (closed (join done ++ begun))

@@ -105,9 +105,8 @@ advances_found old mid new result source text end begins octets number after bef
 
 -- The same, where its line feed has come already.
 pub ready_of : (result : Result Bool PlayFault) (old new : ScriptLines) (source : Option (List ℕ)) (text : List ℕ) → Advances result old new source text → IsReady result old new source text
-ready_of (Ok true) old new source text h = h
 ready_of (Ok false) old new source text h = tt
-ready_of (Err fault) old new source text h = h
+ready_of _ old new source text h = h
 
 -- There is one then.
 pub ready_is : (mid new : ScriptLines) (result : Result Bool PlayFault) (end : ℕ) → mid.start ≤ end → Takes result mid new end (end + 1) → IfOk result (λ more. more ≡ false → ⊥)

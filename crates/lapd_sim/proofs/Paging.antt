@@ -21,8 +21,7 @@ stops_sending lines setup remaining text a b c p put stuck =
 pub put_before : (fault : PlayFault) (a b c : Output) (text : List ℕ) → IsPut a b text → PutsNone {A = Bool} (Err fault) b c → PutsSome {A = Unit} (Err fault) a c
 put_before Read a b c text put h = (h.0, (text, put_on a b c text put h.1))
 put_before Write a b c text put h = (text ++ [], puts_then (Err (record {})) a b c text [] put h)
-put_before (Script number kind) a b c text put h = (text, put_on a b c text put h)
-put_before OutOfMemory a b c text put h = (text, put_on a b c text put h)
+put_before _ a b c text put h = (text, put_on a b c text put h)
 
 pub stops_before : (fault : PlayFault) (lines new : ScriptLines) (setup : Option Setup) (remaining left : Option (List ℕ)) (text : List ℕ) (a b c : Output) (p : IsPlayed lines setup remaining text) → IsPut a b (played p.done).written
     → PutsNone {A = Bool} (Err fault) b c → Reaches (Err fault) lines new left p.left → PlaysOn (Err fault) text left a c

@@ -231,10 +231,9 @@ goes_on lines new setup later remaining left text a b c p n put s fine written h
 -- what a line put, where it stopped the script and where it did not; and that there is a setup after it
 pub does_fail : (fault : LineFault) (number : ℕ) (a b c : Output) (m : Option machine.Setup) (has : Option machine.Setup → Type 0) (x : Result Said FaultKind) (text : List ℕ) → IsPut a b text
     → Does (Err fault) b c m has x → PutsSome {A = Unit} (Err (fault_at fault number)) a c
-does_fail (Faulty kind) number a b c m has x text p h = (text, subst (λ d. IsPut a d text) (sym h.0) p)
 does_fail line.Write number a b c m has (Ok s) text p h = (text ++ s.text, puts_then (Err (record {})) a b c text s.text p h)
 does_fail line.Write number a b c m has (Err kind) text p h = absurd h
-does_fail line.OutOfMemory number a b c m has x text p h = (text, subst (λ d. IsPut a d text) (sym h.0) p)
+does_fail _ number a b c m has x text p h = (text, subst (λ d. IsPut a d text) (sym h.0) p)
 
 pub does_ok : (u : Unit {0}) (a b : Output) (m : Option machine.Setup) (has : Option machine.Setup → Type 0) (x : Result Said FaultKind) → Does (Ok u) a b m has x
     → (s : Said) × (x ≡ Ok s) × IsPut a b s.text × has s.setup
@@ -320,11 +319,9 @@ starts before setup a meaning line m e h is k =
 goes_as : (r : Result Unit LineFault) (setup : Setup) (a b : Output) (m : machine.Setup) (x : Result Scene FaultKind) → Obeys r a b (Stands setup) x
     → Does r a b (Some m) (Has (Some setup)) (said_with x)
 goes_as (Ok u) setup a b m (Ok s) h = h
-goes_as (Ok u) setup a b m (Err kind) h = absurd h
 goes_as (Err (Faulty kind)) setup a b m x h = (h.0, ap said_with h.1)
 goes_as (Err line.Write) setup a b m (Ok s) h = h
-goes_as (Err line.Write) setup a b m (Err kind) h = absurd h
-goes_as (Err line.OutOfMemory) setup a b m x h = absurd h
+goes_as _ setup a b m _ h = absurd h
 
 pub goes : (before : Option Setup) (old new : Setup) (r : Result Unit LineFault) (a b : Output) (meaning : Meaning) (line : List ℕ) (m : Option machine.Setup) → before ≡ Some old → Has before m → Ok meaning ≡ read line
     → ((n : machine.Setup) → Stands old n → Obeys r a b (Stands new) (with_card meaning (scene n))) → Does r a b m (Has (Some new)) (said line m)

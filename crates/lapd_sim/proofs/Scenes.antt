@@ -10,10 +10,8 @@ pub obeyed_by : (r : Result Unit LineFault) (before : Output) (P Q : Setup → T
     → Obeys r before before P (elim o as (λ o. Result Scene FaultKind) [ None ↦ Ok s | Some timer ↦ Err BadNumber ])
     → Obeys r before before Q (elim o as (λ o. Result Scene FaultKind) [ None ↦ Ok s | Some timer ↦ Err BadNumber ])
 obeyed_by (Ok u) before P Q None s f h = (h.0, f h.1)
-obeyed_by (Ok u) before P Q (Some timer) s f h = h
 obeyed_by (Err (Faulty kind)) before P Q o s f h = h
-obeyed_by (Err Write) before P Q o s f h = h
-obeyed_by (Err OutOfMemory) before P Q o s f h = h
+obeyed_by _ before P Q _ s f h = h
 
 -- events leave the terminals, what was taken, and the card's configuration
 abbrev pub Keeps : Setup → Setup → Type 0
@@ -39,11 +37,9 @@ expiries_keep (suc n) end s =
 pub obeyed_at : (r : Result Unit LineFault) (a b : Output) (P Q : Setup → Type 0) (test : Bool) (t : Scene) (kind : FaultKind) → (P t.setup → Q t.setup)
     → Obeys r a b P (cond test (Ok t) (Err kind)) → Obeys r a b Q (cond test (Ok t) (Err kind))
 obeyed_at (Ok u) a b P Q true t kind f h = (h.0, f h.1)
-obeyed_at (Ok u) a b P Q false t kind f h = absurd h
 obeyed_at (Err (Faulty k)) a b P Q test t kind f h = h
 obeyed_at (Err Write) a b P Q true t kind f h = h
-obeyed_at (Err Write) a b P Q false t kind f h = absurd h
-obeyed_at (Err OutOfMemory) a b P Q test t kind f h = absurd h
+obeyed_at _ a b P Q _ t kind f h = absurd h
 
 -- what is said at a line that is there, on a card of the right kind
 pub there : {at_it line : ℕ} → line ≡ at_it → (word : ℕ → Scene → Scene) (m : Setup) → line < m.card.config.lines

@@ -39,9 +39,8 @@ Follows (p ∷ []) = Unit {0}
 Follows (p ∷ q ∷ ps) = (is_whole p ≡ true) × Follows (q ∷ ps)
 
 follows_with : (o : ℕ) (ps : List (List ℕ)) → (o == 10) ≡ false → Follows ps → Follows (with_octet o ps)
-follows_with o [] e h = tt
-follows_with o (p ∷ []) e h = tt
 follows_with o (p ∷ q ∷ ps) e h = (ap (λ b. b || is_whole p) e ∙ h.0, h.1)
+follows_with o _ e h = tt
 
 follows_first : (o : ℕ) (ps : List (List ℕ)) → (o == 10) ≡ true → Follows ps → Follows ((o ∷ []) ∷ ps)
 follows_first o [] e h = tt

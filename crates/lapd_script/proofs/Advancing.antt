@@ -30,44 +30,25 @@ any_ended : (front : List ℕ) → list_any (λ octet. octet == 10) (front ++ 10
 any_ended [] = refl
 any_ended (octet ∷ front) = elim (eqb_tells octet 10) [ inl h ↦ rw h.0 refl | inr h ↦ rw h.0 (any_ended front) ]
 
--- A line that ends with a line feed.
-record IsFound (lines : ScriptLines) (source : Option (List ℕ)) (text : List ℕ) (end : ℕ) : Type 0 where
+-- A line up to `end` is the next one; the octets up to `next` are its piece.
+record IsPiece (lines : ScriptLines) (source : Option (List ℕ)) (text : List ℕ) (end next : ℕ) : Type 0 where
+  piece : List ℕ
   rest : List ℕ
   tells : source ≡ Some rest
   ended : lines.is_at_end ≡ true → rest ≡ []
-  pieces : pieces_of text ≡ (drop lines.start (take end lines.buffer.items) ++ 10 ∷ []) ∷ pieces_of (drop (end + 1) (take lines.filled lines.buffer.items) ++ rest)
-  whole : list_any (λ octet. octet == 10) (drop lines.start (take end lines.buffer.items) ++ 10 ∷ []) ≡ true
-  line : line_in (drop lines.start (take end lines.buffer.items) ++ 10 ∷ []) ≡ drop lines.start (take end lines.buffer.items)
-  size : length (drop lines.start (take end lines.buffer.items) ++ 10 ∷ []) ≡ end + 1 - lines.start
+  none : next ≡ lines.start → (text ≡ []) × (rest ≡ [])
+  pieces : lines.start < next → pieces_of text ≡ piece ∷ pieces_of (drop next (take lines.filled lines.buffer.items) ++ rest)
+  whole : lines.is_at_end ≡ false → list_any (λ octet. octet == 10) piece ≡ true
+  line : line_in piece ≡ drop lines.start (take end lines.buffer.items)
+  size : length piece ≡ next - lines.start
   short : length (drop lines.start (take end lines.buffer.items)) ≡ end - lines.start
 
-found : (lines : ScriptLines) (source : Option (List ℕ)) (text : List ℕ) (end : ℕ) → lines.next ≡ lines.start → lines.start ≤ end → end < lines.filled
-    → AllWithin (λ octet. octet ≢ 10) lines.buffer.items lines.start end → HoldsAt (λ octet. octet ≡ 10) lines.buffer.items end → AreLeft lines source text → IsFound lines source text end
-found lines source text end begins after before h here left =
-    let front : List ℕ = drop lines.start (take end lines.buffer.items) in
-    let open_is : IsOpen (drop lines.start (take end lines.buffer.items)) = open_part lines.buffer.items lines.start end (omega (arith, lines.buffer.ok.0)) h in
-    let short : length (drop lines.start (take end lines.buffer.items)) ≡ end - lines.start = length-between lines.buffer.items lines.start end (omega (arith, lines.buffer.ok.0)) in
-    let is : text ≡ drop lines.start (take end lines.buffer.items) ++ 10 ∷ (drop (end + 1) (take lines.filled lines.buffer.items) ++ left.rest) =
-    left.is
-    ∙ ap (λ (list : List ℕ). list ++ left.rest) (sought lines begins ∙ split_at lines.buffer.items lines.start end lines.filled after before (omega (arith, lines.buffer.ok.0)) here)
-    ∙ append_assoc (drop lines.start (take end lines.buffer.items)) (10 ∷ drop (end + 1) (take lines.filled lines.buffer.items)) left.rest in
-    record {
-      rest = left.rest;
-      tells = left.tells;
-      ended = left.ended;
-      pieces = ap pieces_of is ∙ piece_ended (drop lines.start (take end lines.buffer.items)) (drop (end + 1) (take lines.filled lines.buffer.items) ++ left.rest) open_is;
-      whole = any_ended (drop lines.start (take end lines.buffer.items));
-      line = line_ended (drop lines.start (take end lines.buffer.items)) [] open_is;
-      size = simp length-append (omega (arith, short));
-      short = short;
-    }
-
-take_found : (old mid new : ScriptLines) (result : Result Bool PlayFault) (source : Option (List ℕ)) (text : List ℕ) (end : ℕ) → mid.octets ≡ old.octets → mid.number ≡ old.number
-    → mid.start ≤ end → end ≤ mid.start + 4096 → IsFound mid source text end → Takes result mid new end (end + 1) → Advances result old new source text
-take_found old mid new (Ok true) source text end octets number after short is taken = record {
-  piece = drop mid.start (take end mid.buffer.items) ++ 10 ∷ [];
-  more = drop (end + 1) (take mid.filled mid.buffer.items) ++ is.rest;
-  pieces = is.pieces;
+take_piece : (old mid new : ScriptLines) (result : Result Bool PlayFault) (source : Option (List ℕ)) (text : List ℕ) (end next : ℕ) → mid.octets ≡ old.octets → mid.number ≡ old.number
+    → end ≤ mid.start + 4096 → IsPiece mid source text end next → Takes result mid new end next → Advances result old new source text
+take_piece old mid new (Ok true) source text end next octets number short is taken = record {
+  piece = is.piece;
+  more = drop next (take mid.filled mid.buffer.items) ++ is.rest;
+  pieces = is.pieces taken.some;
   left = record {
     rest = is.rest;
     tells = is.tells;
@@ -78,36 +59,54 @@ take_found old mid new (Ok true) source text end octets number after short is ta
   short = rw is.line (omega (arith, is.short));
   number = omega (arith, taken.number);
   octets = omega (arith, taken.octets, is.size);
-  whole = λ _. is.whole;
+  whole = λ goes_on. is.whole (sym taken.at_end ∙ goes_on);
 }
-take_found old mid new (Ok false) source text end octets number after short is taken = absurd (omega (arith, taken))
-take_found old mid new (Err fault) source text end octets number after short is taken =
+take_piece old mid new (Ok false) source text end next octets number short is taken = ((is.none taken).0, is.tells ∙ ap (λ (list : List ℕ). Some list) (is.none taken).1)
+take_piece old mid new (Err fault) source text end next octets number short is taken =
     subst (λ (told : PlayFault). Advances (Err told) old new source text) (sym taken.0) (
       refl,
       record {
-        piece = drop mid.start (take end mid.buffer.items) ++ 10 ∷ [];
-        more = drop (end + 1) (take mid.filled mid.buffer.items) ++ is.rest;
-        pieces = is.pieces;
+        piece = is.piece;
+        more = drop next (take mid.filled mid.buffer.items) ++ is.rest;
+        pieces = is.pieces (omega (arith, taken.1, mid.bounded));
         long = λ _. omega (arith, taken.1, is.size);
         number = omega arith;
       },
     )
 
+-- It ends with a line feed.
+found : (lines : ScriptLines) (source : Option (List ℕ)) (text : List ℕ) (end : ℕ) → lines.next ≡ lines.start → lines.start ≤ end → end < lines.filled
+    → AllWithin (λ octet. octet ≢ 10) lines.buffer.items lines.start end → HoldsAt (λ octet. octet ≡ 10) lines.buffer.items end → AreLeft lines source text → IsPiece lines source text end (end + 1)
+found lines source text end begins after before h here left =
+    let open_is : IsOpen (drop lines.start (take end lines.buffer.items)) = open_part lines.buffer.items lines.start end (omega (arith, lines.buffer.ok.0)) h in
+    let short : length (drop lines.start (take end lines.buffer.items)) ≡ end - lines.start = length-between lines.buffer.items lines.start end (omega (arith, lines.buffer.ok.0)) in
+    let is : text ≡ drop lines.start (take end lines.buffer.items) ++ 10 ∷ (drop (end + 1) (take lines.filled lines.buffer.items) ++ left.rest) =
+    left.is
+    ∙ ap (λ (list : List ℕ). list ++ left.rest) (sought lines begins ∙ split_at lines.buffer.items lines.start end lines.filled after before (omega (arith, lines.buffer.ok.0)) here)
+    ∙ append_assoc (drop lines.start (take end lines.buffer.items)) (10 ∷ drop (end + 1) (take lines.filled lines.buffer.items)) left.rest in
+    record {
+      piece = drop lines.start (take end lines.buffer.items) ++ 10 ∷ [];
+      rest = left.rest;
+      tells = left.tells;
+      ended = left.ended;
+      none = λ none. absurd (omega (arith, none, after));
+      pieces = λ _. ap pieces_of is ∙ piece_ended (drop lines.start (take end lines.buffer.items)) (drop (end + 1) (take lines.filled lines.buffer.items) ++ left.rest) open_is;
+      whole = λ _. any_ended (drop lines.start (take end lines.buffer.items));
+      line = line_ended (drop lines.start (take end lines.buffer.items)) [] open_is;
+      size = simp length-append (omega (arith, short));
+      short = short;
+    }
+
 pub advances_found : (old mid new : ScriptLines) (result : Result Bool PlayFault) (source : Option (List ℕ)) (text : List ℕ) (end : ℕ) → mid.next ≡ mid.start → mid.octets ≡ old.octets → mid.number ≡ old.number
     → mid.start ≤ end → end < mid.filled → end ≤ mid.start + 4096 → AllWithin (λ octet. octet ≢ 10) mid.buffer.items mid.start end → HoldsAt (λ octet. octet ≡ 10) mid.buffer.items end
     → AreLeft mid source text → Takes result mid new end (end + 1) → Advances result old new source text
 advances_found old mid new result source text end begins octets number after before short h here left taken =
-    take_found old mid new result source text end octets number after short (found mid source text end begins after before h here left) taken
+    take_piece old mid new result source text end (end + 1) octets number short (found mid source text end begins after before h here left) taken
 
 -- The same, where its line feed has come already.
-pub ready_found : (old mid new : ScriptLines) (result : Result Bool PlayFault) (source : Option (List ℕ)) (text : List ℕ) (end : ℕ) → mid.next ≡ mid.start → mid.octets ≡ old.octets → mid.number ≡ old.number
-    → mid.start ≤ end → end < mid.filled → end ≤ mid.start + 4096 → AllWithin (λ octet. octet ≢ 10) mid.buffer.items mid.start end → HoldsAt (λ octet. octet ≡ 10) mid.buffer.items end
-    → AreLeft mid source text → Takes result mid new end (end + 1) → IsReady result old new source text
-ready_found old mid new (Ok true) source text end begins octets number after before short h here left taken =
-    advances_found old mid new (Ok true) source text end begins octets number after before short h here left taken
-ready_found old mid new (Ok false) source text end begins octets number after before short h here left taken = tt
-ready_found old mid new (Err fault) source text end begins octets number after before short h here left taken =
-    advances_found old mid new (Err fault) source text end begins octets number after before short h here left taken
+pub ready_of : (result : Result Bool PlayFault) (old new : ScriptLines) (source : Option (List ℕ)) (text : List ℕ) → Advances result old new source text → IsReady result old new source text
+ready_of (Ok false) old new source text h = tt
+ready_of _ old new source text h = h
 
 -- There is one then.
 pub ready_is : (mid new : ScriptLines) (result : Result Bool PlayFault) (end : ℕ) → mid.start ≤ end → Takes result mid new end (end + 1) → IfOk result (λ more. more ≡ false → ⊥)
@@ -115,70 +114,34 @@ ready_is mid new (Ok true) end after taken = λ none. true≢false none
 ready_is mid new (Ok false) end after taken = λ none. absurd (omega (arith, taken, after))
 ready_is mid new (Err fault) end after taken = tt
 
--- The last line, which has none.
-record IsLast (lines : ScriptLines) (source : Option (List ℕ)) (text : List ℕ) : Type 0 where
-  at_end : lines.is_at_end ≡ true
-  tells : source ≡ Some []
-  is : text ≡ drop lines.start (take lines.filled lines.buffer.items)
-  pieces : lines.start < lines.filled → pieces_of text ≡ drop lines.start (take lines.filled lines.buffer.items) ∷ pieces_of []
-  line : line_in (drop lines.start (take lines.filled lines.buffer.items)) ≡ drop lines.start (take lines.filled lines.buffer.items)
-  size : length (drop lines.start (take lines.filled lines.buffer.items)) ≡ lines.filled - lines.start
-  past : drop lines.filled (take lines.filled lines.buffer.items) ≡ []
-
+-- It is the last, which has none.
 last : (lines : ScriptLines) (source : Option (List ℕ)) (text : List ℕ) → lines.next ≡ lines.start → lines.is_at_end ≡ true
-    → AllWithin (λ octet. octet ≢ 10) lines.buffer.items lines.start lines.filled → AreLeft lines source text → IsLast lines source text
+    → AllWithin (λ octet. octet ≢ 10) lines.buffer.items lines.start lines.filled → AreLeft lines source text → IsPiece lines source text lines.filled lines.filled
 last lines source text begins at_end h left =
     let open_is : IsOpen (drop lines.start (take lines.filled lines.buffer.items)) = open_part lines.buffer.items lines.start lines.filled (omega (arith, lines.buffer.ok.0)) h in
     let size : length (drop lines.start (take lines.filled lines.buffer.items)) ≡ lines.filled - lines.start = length-between lines.buffer.items lines.start lines.filled (omega (arith, lines.buffer.ok.0)) in
     let is : text ≡ drop lines.start (take lines.filled lines.buffer.items) =
     left.is ∙ ap (λ (list : List ℕ). held lines ++ list) (left.ended at_end) ∙ append-nil (held lines) ∙ sought lines begins in
+    let past : drop lines.filled (take lines.filled lines.buffer.items) ≡ [] = drop_all lines.filled (take lines.filled lines.buffer.items) (simp length-take (omega arith)) in
     record {
-      at_end = at_end;
-      tells = left.tells ∙ ap (λ (list : List ℕ). Some list) (left.ended at_end);
-      is = is;
-      pieces = λ some. ap pieces_of is ∙ piece_last (drop lines.start (take lines.filled lines.buffer.items)) (omega (arith, size)) open_is;
+      piece = drop lines.start (take lines.filled lines.buffer.items);
+      rest = left.rest;
+      tells = left.tells;
+      ended = left.ended;
+      none = λ none. (is ∙ drop_all lines.start (take lines.filled lines.buffer.items) (simp length-take (omega (arith, none))), left.ended at_end);
+      pieces = λ some. ap pieces_of is ∙ piece_last (drop lines.start (take lines.filled lines.buffer.items)) (omega (arith, size, some)) open_is
+          ∙ ap (λ (list : List ℕ). drop lines.start (take lines.filled lines.buffer.items) ∷ pieces_of list) (sym (ap (λ (list : List ℕ). list ++ left.rest) past ∙ left.ended at_end));
+      whole = λ goes_on. absurd (true≢false (sym at_end ∙ goes_on));
       line = line_last (drop lines.start (take lines.filled lines.buffer.items)) open_is;
       size = size;
-      past = drop_all lines.filled (take lines.filled lines.buffer.items) (simp length-take (omega arith));
+      short = size;
     }
-
-take_last : (old mid new : ScriptLines) (result : Result Bool PlayFault) (source : Option (List ℕ)) (text : List ℕ) → mid.octets ≡ old.octets → mid.number ≡ old.number
-    → mid.filled ≤ mid.start + 4096 → IsLast mid source text → Takes result mid new mid.filled mid.filled → Advances result old new source text
-take_last old mid new (Ok true) source text octets number short is taken = record {
-  piece = drop mid.start (take mid.filled mid.buffer.items);
-  more = [];
-  pieces = is.pieces taken.some;
-  left = record {
-    rest = [];
-    tells = is.tells;
-    is = sym (append-nil (held new) ∙ taken.after ∙ is.past);
-    ended = λ _. refl;
-  };
-  line = taken.line ∙ sym is.line;
-  short = rw is.line (omega (arith, is.size));
-  number = omega (arith, taken.number);
-  octets = omega (arith, taken.octets, is.size);
-  whole = λ goes_on. absurd (true≢false (sym is.at_end ∙ sym taken.at_end ∙ goes_on));
-}
-take_last old mid new (Ok false) source text octets number short is taken =
-    (is.is ∙ drop_all mid.start (take mid.filled mid.buffer.items) (simp length-take (omega (arith, taken))), is.tells)
-take_last old mid new (Err fault) source text octets number short is taken =
-    subst (λ (told : PlayFault). Advances (Err told) old new source text) (sym taken.0) (
-      refl,
-      record {
-        piece = drop mid.start (take mid.filled mid.buffer.items);
-        more = [];
-        pieces = is.pieces (omega (arith, taken.1, mid.bounded));
-        long = λ _. omega (arith, taken.1, is.size);
-        number = omega arith;
-      },
-    )
 
 pub advances_last : (old mid new : ScriptLines) (result : Result Bool PlayFault) (source : Option (List ℕ)) (text : List ℕ) → mid.next ≡ mid.start → mid.octets ≡ old.octets → mid.number ≡ old.number
     → mid.is_at_end ≡ true → mid.filled ≤ mid.start + 4096 → AllWithin (λ octet. octet ≢ 10) mid.buffer.items mid.start mid.filled
     → AreLeft mid source text → Takes result mid new mid.filled mid.filled → Advances result old new source text
 advances_last old mid new result source text begins octets number at_end short h left taken =
-    take_last old mid new result source text octets number short (last mid source text begins at_end h left) taken
+    take_piece old mid new result source text mid.filled mid.filled octets number short (last mid source text begins at_end h left) taken
 
 -- A line without a line feed in the whole buffer is too long,
 told_overlong : (old mid new : ScriptLines) (fault : PlayFault) (source : Option (List ℕ)) (text : List ℕ) → mid.number ≡ old.number → HasPiece text 4097 → fault ≡ too_long_after mid

@@ -16,17 +16,14 @@ not_first : (t u : Bool) → false ≡ t → false ≡ (t && u)
 not_first t u e = ap (λ test. test && u) e
 
 pub no_frame : (words : List (Bor (List ℕ))) → 2 ≤ length words → length words < 3 → false ≡ bytes_eq (at words 0) (codes "frame") → None ≡ job (texts words)
-no_frame [] low high e = absurd (omega (arith, low))
-no_frame (a ∷ []) low high e = absurd (omega (arith, low))
 no_frame (a ∷ b ∷ []) low high e = otherwise (bytes_eq a.now (codes "frame")) (Some (frame b.now false)) None e
 no_frame (a ∷ b ∷ c ∷ more) low high e = absurd (omega (arith, high))
+no_frame _ low high e = absurd (omega (arith, low))
 
 pub no_network : (words : List (Bor (List ℕ))) → 3 ≤ length words → length words < 4 → false ≡ (bytes_eq (at words 0) (codes "frame") && bytes_eq (at words 2) (codes "--network")) → None ≡ job (texts words)
-no_network [] low high e = absurd (omega (arith, low))
-no_network (a ∷ []) low high e = absurd (omega (arith, low))
-no_network (a ∷ b ∷ []) low high e = absurd (omega (arith, low))
 no_network (a ∷ b ∷ c ∷ []) low high e = otherwise (bytes_eq a.now (codes "frame") && bytes_eq c.now (codes "--network")) (Some (frame b.now true)) None e
 no_network (a ∷ b ∷ c ∷ d ∷ more) low high e = absurd (omega (arith, high))
+no_network _ low high e = absurd (omega (arith, low))
 
 pub other_name : (words : List (Bor (List ℕ))) → false ≡ bytes_eq (at words 0) (codes "frame") → false ≡ (bytes_eq (at words 0) (codes "frame") && bytes_eq (at words 2) (codes "--network"))
 other_name words e = not_first (bytes_eq (at words 0) (codes "frame")) (bytes_eq (at words 2) (codes "--network")) e
@@ -39,13 +36,8 @@ limits_at words = job_or_none (limits_of (at words 1) (at words 2) (at words 3) 
 
 six : (words : List (Bor (List ℕ))) → 6 ≤ length words → length words < 7 → cond (bytes_eq (at words 0) (codes "limits")) (limits_at words) None ≡ job (texts words)
 six (a ∷ b ∷ c ∷ d ∷ e ∷ f ∷ []) low high = refl
-six [] low high = absurd (omega (arith, low))
-six (a ∷ []) low high = absurd (omega (arith, low))
-six (a ∷ b ∷ []) low high = absurd (omega (arith, low))
-six (a ∷ b ∷ c ∷ []) low high = absurd (omega (arith, low))
-six (a ∷ b ∷ c ∷ d ∷ []) low high = absurd (omega (arith, low))
-six (a ∷ b ∷ c ∷ d ∷ e ∷ []) low high = absurd (omega (arith, low))
 six (a ∷ b ∷ c ∷ d ∷ e ∷ f ∷ g ∷ more) low high = absurd (omega (arith, high))
+six _ low high = absurd (omega (arith, low))
 
 pub no_limits : (words : List (Bor (List ℕ))) → 6 ≤ length words → length words < 7 → false ≡ bytes_eq (at words 0) (codes "limits") → None ≡ job (texts words)
 no_limits words low high e = otherwise (bytes_eq (at words 0) (codes "limits")) (limits_at words) None e ∙ six words low high

@@ -18,16 +18,7 @@ grouped ra rb rc = do
 pub nine_given : (words : List (Bor (List ℕ))) → length words ≡ 9
     → nine_numbers (texts words) ≡ grouped (three_numbers (at words 0) (at words 1) (at words 2)) (three_numbers (at words 3) (at words 4) (at words 5)) (three_numbers (at words 6) (at words 7) (at words 8))
 nine_given (a ∷ b ∷ c ∷ d ∷ e ∷ f ∷ g ∷ h ∷ i ∷ []) n = refl
-nine_given (a ∷ b ∷ c ∷ d ∷ e ∷ f ∷ g ∷ h ∷ i ∷ j ∷ more) n = absurd (omega (arith, n))
-nine_given [] n = absurd (omega (arith, n))
-nine_given (a ∷ []) n = absurd (omega (arith, n))
-nine_given (a ∷ b ∷ []) n = absurd (omega (arith, n))
-nine_given (a ∷ b ∷ c ∷ []) n = absurd (omega (arith, n))
-nine_given (a ∷ b ∷ c ∷ d ∷ []) n = absurd (omega (arith, n))
-nine_given (a ∷ b ∷ c ∷ d ∷ e ∷ []) n = absurd (omega (arith, n))
-nine_given (a ∷ b ∷ c ∷ d ∷ e ∷ f ∷ []) n = absurd (omega (arith, n))
-nine_given (a ∷ b ∷ c ∷ d ∷ e ∷ f ∷ g ∷ []) n = absurd (omega (arith, n))
-nine_given (a ∷ b ∷ c ∷ d ∷ e ∷ f ∷ g ∷ h ∷ []) n = absurd (omega (arith, n))
+nine_given _ n = absurd (omega (arith, n))
 
 pub nine_grouped : (words : List (Bor (List ℕ))) (ra rb rc : Result (ℕ × ℕ × ℕ) FaultKind) → length words ≡ 9
     → ra ≡ three_numbers (at words 0) (at words 1) (at words 2) → rb ≡ three_numbers (at words 3) (at words 4) (at words 5) → rc ≡ three_numbers (at words 6) (at words 7) (at words 8)
@@ -41,50 +32,19 @@ nine_grouped words ra rb rc n ea eb ec =
 pub with_tenth : (words : List (Bor (List ℕ))) → length words ≡ 10
     → card_numbers (texts words) ≡ cond (is_user (at words 9)) (for_user (nine_numbers (texts (take 9 words)))) (ten_numbers (texts (take 9 words)) (at words 9))
 with_tenth (a ∷ b ∷ c ∷ d ∷ e ∷ f ∷ g ∷ h ∷ i ∷ j ∷ []) n = refl
-with_tenth [] n = absurd (omega (arith, n))
-with_tenth (a ∷ []) n = absurd (omega (arith, n))
-with_tenth (a ∷ b ∷ []) n = absurd (omega (arith, n))
-with_tenth (a ∷ b ∷ c ∷ []) n = absurd (omega (arith, n))
-with_tenth (a ∷ b ∷ c ∷ d ∷ []) n = absurd (omega (arith, n))
-with_tenth (a ∷ b ∷ c ∷ d ∷ e ∷ []) n = absurd (omega (arith, n))
-with_tenth (a ∷ b ∷ c ∷ d ∷ e ∷ f ∷ []) n = absurd (omega (arith, n))
-with_tenth (a ∷ b ∷ c ∷ d ∷ e ∷ f ∷ g ∷ []) n = absurd (omega (arith, n))
-with_tenth (a ∷ b ∷ c ∷ d ∷ e ∷ f ∷ g ∷ h ∷ []) n = absurd (omega (arith, n))
-with_tenth (a ∷ b ∷ c ∷ d ∷ e ∷ f ∷ g ∷ h ∷ i ∷ []) n = absurd (omega (arith, n))
-with_tenth (a ∷ b ∷ c ∷ d ∷ e ∷ f ∷ g ∷ h ∷ i ∷ j ∷ k ∷ more) n = absurd (omega (arith, n))
+with_tenth _ n = absurd (omega (arith, n))
 
 -- eleven words: the last says that;
 pub with_eleventh : (words : List (Bor (List ℕ))) → length words ≡ 11
     → card_numbers (texts words) ≡ cond (is_user (at words 10)) (for_user (ten_numbers (texts (take 9 words)) (at words 9))) (Err BadNumberOfWords)
 with_eleventh (a ∷ b ∷ c ∷ d ∷ e ∷ f ∷ g ∷ h ∷ i ∷ j ∷ k ∷ []) n = refl
-with_eleventh [] n = absurd (omega (arith, n))
-with_eleventh (a ∷ []) n = absurd (omega (arith, n))
-with_eleventh (a ∷ b ∷ []) n = absurd (omega (arith, n))
-with_eleventh (a ∷ b ∷ c ∷ []) n = absurd (omega (arith, n))
-with_eleventh (a ∷ b ∷ c ∷ d ∷ []) n = absurd (omega (arith, n))
-with_eleventh (a ∷ b ∷ c ∷ d ∷ e ∷ []) n = absurd (omega (arith, n))
-with_eleventh (a ∷ b ∷ c ∷ d ∷ e ∷ f ∷ []) n = absurd (omega (arith, n))
-with_eleventh (a ∷ b ∷ c ∷ d ∷ e ∷ f ∷ g ∷ []) n = absurd (omega (arith, n))
-with_eleventh (a ∷ b ∷ c ∷ d ∷ e ∷ f ∷ g ∷ h ∷ []) n = absurd (omega (arith, n))
-with_eleventh (a ∷ b ∷ c ∷ d ∷ e ∷ f ∷ g ∷ h ∷ i ∷ []) n = absurd (omega (arith, n))
-with_eleventh (a ∷ b ∷ c ∷ d ∷ e ∷ f ∷ g ∷ h ∷ i ∷ j ∷ []) n = absurd (omega (arith, n))
-with_eleventh (a ∷ b ∷ c ∷ d ∷ e ∷ f ∷ g ∷ h ∷ i ∷ j ∷ k ∷ l ∷ more) n = absurd (omega (arith, n))
+with_eleventh _ n = absurd (omega (arith, n))
 
 -- and else they are nine numbers, or too few, or too many.
 pub without : (words : List (Bor (List ℕ))) → (length words ≡ 10 → ⊥) → (length words ≡ 11 → ⊥) → nine_numbers (texts words) ≡ card_numbers (texts words)
-without [] n m = refl
-without (a ∷ []) n m = refl
-without (a ∷ b ∷ []) n m = refl
-without (a ∷ b ∷ c ∷ []) n m = refl
-without (a ∷ b ∷ c ∷ d ∷ []) n m = refl
-without (a ∷ b ∷ c ∷ d ∷ e ∷ []) n m = refl
-without (a ∷ b ∷ c ∷ d ∷ e ∷ f ∷ []) n m = refl
-without (a ∷ b ∷ c ∷ d ∷ e ∷ f ∷ g ∷ []) n m = refl
-without (a ∷ b ∷ c ∷ d ∷ e ∷ f ∷ g ∷ h ∷ []) n m = refl
-without (a ∷ b ∷ c ∷ d ∷ e ∷ f ∷ g ∷ h ∷ i ∷ []) n m = refl
 without (a ∷ b ∷ c ∷ d ∷ e ∷ f ∷ g ∷ h ∷ i ∷ j ∷ []) n m = absurd (n refl)
 without (a ∷ b ∷ c ∷ d ∷ e ∷ f ∷ g ∷ h ∷ i ∷ j ∷ k ∷ []) n m = absurd (m refl)
-without (a ∷ b ∷ c ∷ d ∷ e ∷ f ∷ g ∷ h ∷ i ∷ j ∷ k ∷ l ∷ more) n m = refl
+without _ n m = refl
 
 either : {A : Type 0} (t : Bool) (x : A) → cond t x x ≡ x
 either true x = refl
@@ -92,32 +52,12 @@ either false x = refl
 
 -- twelve words are too many for each first word, and so are more
 too_many : (word : Word) (a b c d e f g h i j k l : List ℕ) (more : List (List ℕ)) → read_as word (a ∷ b ∷ c ∷ d ∷ e ∷ f ∷ g ∷ h ∷ i ∷ j ∷ k ∷ l ∷ more) ≡ Err BadNumberOfWords
-too_many (Card kind) a b c d e f g h i j k l more = refl
-too_many Rx a b c d e f g h i j k l more = refl
-too_many In a b c d e f g h i j k l more = refl
-too_many Failed a b c d e f g h i j k l more = refl
-too_many Next a b c d e f g h i j k l more = refl
-too_many Pull a b c d e f g h i j k l more = refl
-too_many Wait a b c d e f g h i j k l more = refl
-too_many Timers a b c d e f g h i j k l more = refl
-too_many Stored a b c d e f g h i j k l more = refl
-too_many Counters a b c d e f g h i j k l more = refl
 too_many (Ask what) a b c d e f g h i j k l more = either (carries_octets what) (Err BadNumberOfWords)
+too_many _ a b c d e f g h i j k l more = refl
 
 pub taken_words : (word : Word) (words : List (List ℕ)) → read_as word (take 12 words) ≡ read_as word words
-taken_words word [] = refl
-taken_words word (a ∷ []) = refl
-taken_words word (a ∷ b ∷ []) = refl
-taken_words word (a ∷ b ∷ c ∷ []) = refl
-taken_words word (a ∷ b ∷ c ∷ d ∷ []) = refl
-taken_words word (a ∷ b ∷ c ∷ d ∷ e ∷ []) = refl
-taken_words word (a ∷ b ∷ c ∷ d ∷ e ∷ f ∷ []) = refl
-taken_words word (a ∷ b ∷ c ∷ d ∷ e ∷ f ∷ g ∷ []) = refl
-taken_words word (a ∷ b ∷ c ∷ d ∷ e ∷ f ∷ g ∷ h ∷ []) = refl
-taken_words word (a ∷ b ∷ c ∷ d ∷ e ∷ f ∷ g ∷ h ∷ i ∷ []) = refl
-taken_words word (a ∷ b ∷ c ∷ d ∷ e ∷ f ∷ g ∷ h ∷ i ∷ j ∷ []) = refl
-taken_words word (a ∷ b ∷ c ∷ d ∷ e ∷ f ∷ g ∷ h ∷ i ∷ j ∷ k ∷ []) = refl
 taken_words word (a ∷ b ∷ c ∷ d ∷ e ∷ f ∷ g ∷ h ∷ i ∷ j ∷ k ∷ l ∷ more) = too_many word a b c d e f g h i j k l [] ∙ sym (too_many word a b c d e f g h i j k l more)
+taken_words word _ = refl
 
 abbrev first_word : List (List ℕ) → List ℕ
 first_word [] = []

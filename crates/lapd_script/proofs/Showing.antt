@@ -12,11 +12,9 @@ pub unshown : (r : Result Unit FrameFault) (fault : FrameFault) (side : Side) (d
 unshown r fault side digits a e h = subst (λ s. ShowsFrame s side digits a a) (sym e) (go fault h)
   where
     go : (f : FrameFault) → IsUnshown f side digits → ShowsFrame (Err f) side digits a a
-    go BadOctets h = (h, refl)
-    go TooLong h = (h, refl)
-    go (NoFrame why) h = (h, refl)
     go Write h = absurd h
     go OutOfMemory h = absurd h
+    go _ h = (h, refl)
 
 pub length-take_most : (n : ℕ) (l : List ℕ) → length (take n l) ≤ n
 length-take_most zero l = omega arith

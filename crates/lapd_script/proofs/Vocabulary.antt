@@ -1,7 +1,7 @@
 -- The words with which the proofs of this crate speak, from where they are defined.
 pub use Rattle.std.proofs.Common.{Bool, Bor, Err, List, None, Ok, Option, Result, Some, [], ap, append_assoc, arith, bytes_eq, codes, cond, drop, eqb, false, get_or, if◌then◌else◌, inl, inr, is_some, length, length-append, length-drop, ltb, nat_eq, refl, subst, suc, sym, take, take_all, true, zero, ℕ, ◌%◌, ◌&&◌, ◌*◌, ◌++◌, ◌+◌, ◌-◌, ◌/◌, ◌<◌, ◌==◌, ◌^◌, ◌∙◌, ◌∷◌, ◌≡◌, ◌≢◌, ◌≤◌}
 pub use Rattle.std.proofs.Math.Seq.{take-append-add, take-append_seam}
-pub use Rattle.std.proofs.lemmas.Bool.{cases_lt, eqb-false, false≢true, ne_eqb}
+pub use Rattle.std.proofs.lemmas.Bool.{cases_lt, eqb-false, eqb-true, false≢true, ne_eqb}
 pub use Rattle.std.proofs.lemmas.Bool.Decides.{eqb_tells, nat_tests}
 pub use Rattle.std.proofs.lemmas.Grind.{common_steps}
 pub use Rattle.std.proofs.lemmas.List.{append-nil, drop-append-le, drop-drop, drop_all, drop_more, get_or-drop, get_or-take, length-map, length-take, map-append, take-append-drop, take-append-le, take-take, take_at, with_items_is}

@@ -177,11 +177,12 @@ impl ScriptLines {
         self.end = 0;
         self.next = 0;
         self.filled = begun;
-        match source.read(&mut self.buffer[begun..]) {
-            Ok(0) => self.is_at_end = true,
-            Ok(count) => self.filled = begun + count,
+        let count = match source.read(&mut self.buffer[begun..]) {
+            Ok(count) => count,
             Err(_) => return Err(PlayFault::Read),
-        }
+        };
+        self.is_at_end = count == 0;
+        self.filled = begun + count;
         Ok(begun)
     }
 

@@ -10,17 +10,15 @@ each_at R (a ∷ xs) (b ∷ ys) (suc i) x y h e = each_at R xs ys i x y (omega (
 
 pub each_set : {A B : Type 0} (R : A → B → Type 0) (xs : List A) (ys : List B) (i : ℕ) (x : A) (y : B) → R x y → Each R xs ys → Each R (set xs i x) (set ys i y)
 each_set R [] [] i x y r e = e
-each_set R [] (b ∷ ys) i x y r e = absurd e
-each_set R (a ∷ xs) [] i x y r e = absurd e
 each_set R (a ∷ xs) (b ∷ ys) zero x y r e = (r, e.1)
 each_set R (a ∷ xs) (b ∷ ys) (suc i) x y r e = (e.0, each_set R xs ys i x y r e.1)
+each_set R _ _ i x y r e = absurd e
 
 -- and one more
 each_next : {A B : Type 0} (R : A → B → Type 0) (n : ℕ) (xs : List A) (x : A) (y : B) → Each R xs (replicate n y) → R x y → Each R (xs ++ x ∷ []) (replicate (suc n) y)
 each_next R zero [] x y h r = (r, tt)
-each_next R (suc n) [] x y h r = absurd h
-each_next R zero (a ∷ xs) x y h r = absurd h
 each_next R (suc n) (a ∷ xs) x y h r = (h.0, each_next R n xs x y h.1 r)
+each_next R _ _ x y h r = absurd h
 
 -- one more that is like the others
 pub each_more : {A B : Type 0} (R : A → B → Type 0) (n : ℕ) (xs : List A) (x : A) (y : B) → Each R xs (replicate n y) → R x y → Each R (xs ++ x ∷ []) (replicate (n + 1) y)

@@ -30,51 +30,41 @@ write_failures a b page h = (puts_unwritten a (output b page) h.0 h.1).failed
 pub cut_failures : (r : Result Unit PlayFault) (a b : Taken) (page : List ℕ) → is_cut r ≡ true → PutsSome r (output a []) (output b page) → b.failures ≡ writes_failed_by r a.failures
 cut_failures (Err Read) a b page cut h = read_failures a b page h
 cut_failures (Err Write) a b page cut h = write_failures a b page h
-cut_failures (Ok u) a b page cut h = absurd (true≢false (sym cut))
-cut_failures (Err (Script number kind)) a b page cut h = absurd (true≢false (sym cut))
-cut_failures (Err OutOfMemory) a b page cut h = absurd (true≢false (sym cut))
+cut_failures _ a b page cut h = absurd (true≢false (sym cut))
 
 pub cut_ends : (r : Result Unit PlayFault) (a b : Taken) (page text : List ℕ) (remaining : Option (List ℕ)) → is_cut r ≡ true → PutsSome r (output a []) (output b page)
     → PlaysOn r text remaining (output a []) (output b page) → Plays r text remaining a b
 cut_ends (Err Read) a b page text remaining cut h p = read_ends a b page text remaining h p
 cut_ends (Err Write) a b page text remaining cut h p = puts_unwritten a (output b page) (transcript text) p
-cut_ends (Ok u) a b page text remaining cut h p = absurd (true≢false (sym cut))
-cut_ends (Err (Script number kind)) a b page text remaining cut h p = absurd (true≢false (sym cut))
-cut_ends (Err OutOfMemory) a b page text remaining cut h p = absurd (true≢false (sym cut))
+cut_ends _ a b page text remaining cut h p = absurd (true≢false (sym cut))
 
 -- after any other end the page goes out,
 pub sent_failures : (r : Result Unit PlayFault) (a b c : Taken) (page : List ℕ) → is_cut r ≡ false → IsWritten b c page
     → PutsSome r (output a []) (output b page) → c.failures ≡ writes_failed_by r a.failures
-sent_failures (Ok u) a b c page open_is sent h = (puts_written (Ok tt) a c (output b page) h.0 h.1 sent).steady
-sent_failures (Err (Script number kind)) a b c page open_is sent h = (puts_written (Ok tt) a c (output b page) h.0 h.1 sent).steady
-sent_failures (Err OutOfMemory) a b c page open_is sent h = (puts_written (Ok tt) a c (output b page) h.0 h.1 sent).steady
 sent_failures (Err Read) a b c page open_is sent h = absurd (true≢false open_is)
 sent_failures (Err Write) a b c page open_is sent h = absurd (true≢false open_is)
+sent_failures _ a b c page open_is sent h = (puts_written (Ok tt) a c (output b page) h.0 h.1 sent).steady
 
 pub sent_ends : (r : Result Unit PlayFault) (a b c : Taken) (page text : List ℕ) (remaining : Option (List ℕ)) → is_cut r ≡ false → IsWritten b c page
     → PlaysOn r text remaining (output a []) (output b page) → Plays r text remaining a c
 sent_ends (Ok u) a b c page text remaining open_is sent h = (h.0, puts_written (Ok tt) a c (output b page) _ h.1 sent, h.2)
 sent_ends (Err (Script number kind)) a b c page text remaining open_is sent h = (h.0, puts_written (Ok tt) a c (output b page) _ h.1 sent)
 sent_ends (Err OutOfMemory) a b c page text remaining open_is sent h = (puts_written (Ok tt) a c (output b page) _ h.0 sent, h.1)
-sent_ends (Err Read) a b c page text remaining open_is sent h = absurd (true≢false open_is)
-sent_ends (Err Write) a b c page text remaining open_is sent h = absurd (true≢false open_is)
+sent_ends _ a b c page text remaining open_is sent h = absurd (true≢false open_is)
 
 -- or a write of it fails
 pub unsent_failures : (r : Result Unit PlayFault) (e : WriteFailed) (a b c : Taken) (page : List ℕ) → is_cut r ≡ false → IsBroken b c page
     → PutsSome r (output a []) (output b page) → c.failures ≡ one_failure_more a.failures
-unsent_failures (Ok u) e a b c page open_is sent h = (puts_written (Err e) a c (output b page) h.0 h.1 sent).failed
-unsent_failures (Err (Script number kind)) e a b c page open_is sent h = (puts_written (Err e) a c (output b page) h.0 h.1 sent).failed
-unsent_failures (Err OutOfMemory) e a b c page open_is sent h = (puts_written (Err e) a c (output b page) h.0 h.1 sent).failed
 unsent_failures (Err Read) e a b c page open_is sent h = absurd (true≢false open_is)
 unsent_failures (Err Write) e a b c page open_is sent h = absurd (true≢false open_is)
+unsent_failures _ e a b c page open_is sent h = (puts_written (Err e) a c (output b page) h.0 h.1 sent).failed
 
 pub unsent_ends : (r : Result Unit PlayFault) (e : WriteFailed) (a b c : Taken) (page text : List ℕ) (remaining : Option (List ℕ)) → is_cut r ≡ false → IsBroken b c page
     → PlaysOn r text remaining (output a []) (output b page) → IsBroken a c (transcript text)
 unsent_ends (Ok u) e a b c page text remaining open_is sent h = puts_written (Err e) a c (output b page) _ h.1 sent
 unsent_ends (Err (Script number kind)) e a b c page text remaining open_is sent h = puts_written (Err e) a c (output b page) _ h.1 sent
 unsent_ends (Err OutOfMemory) e a b c page text remaining open_is sent h = broken_more a c [] (transcript text) (puts_written (Err e) a c (output b page) _ h.0 sent)
-unsent_ends (Err Read) e a b c page text remaining open_is sent h = absurd (true≢false open_is)
-unsent_ends (Err Write) e a b c page text remaining open_is sent h = absurd (true≢false open_is)
+unsent_ends _ e a b c page text remaining open_is sent h = absurd (true≢false open_is)
 
 -- ---- before more is read
 
@@ -84,16 +74,13 @@ grows h = absurd (omega (arith, h))
 
 -- no more was read
 pub ready_puts : (fault : PlayFault) (a : Output) → ((count : ℕ) → (reads_failed fault count ≡ count) × (writes_failed fault count ≡ count)) → PutsNone {A = Bool} (Err fault) a a
-ready_puts (Script number kind) a steady = puts_nothing a
-ready_puts OutOfMemory a steady = puts_nothing a
 ready_puts Read a steady = absurd (grows (steady 0).0)
 ready_puts Write a steady = absurd (grows (steady 0).1)
+ready_puts _ a steady = puts_nothing a
 
 pub ready_reaches : (fault : PlayFault) (old new : ScriptLines) (remaining : Option (List ℕ)) (text : List ℕ) → Advances (Err fault) old new remaining text → Reaches (Err fault) old new remaining text
-ready_reaches (Script number kind) old new remaining text h = h
-ready_reaches OutOfMemory old new remaining text h = h
-ready_reaches Read old new remaining text h = h
 ready_reaches Write old new remaining text h = tt
+ready_reaches _ old new remaining text h = h
 
 -- the page is out, and more was read
 goes_out : (a b : Taken) (page next : List ℕ) → next ≡ [] → IsWritten a b page → IsPut (output a page) (output b next) []
@@ -103,18 +90,14 @@ goes_out a b page next none sent = record {
 
 pub read_puts : (r : Result Bool PlayFault) (a b : Taken) (page next : List ℕ) → next ≡ [] → IsWritten a b page
     → IfErr r (λ fault. (count : ℕ) → writes_failed fault count ≡ count) → PutsNone r (output a page) (output b next)
-read_puts (Ok more) a b page next none sent steady = goes_out a b page next none sent
-read_puts (Err (Script number kind)) a b page next none sent steady = goes_out a b page next none sent
-read_puts (Err OutOfMemory) a b page next none sent steady = goes_out a b page next none sent
 read_puts (Err Read) a b page next none sent steady = (none, goes_out a b page next none sent)
 read_puts (Err Write) a b page next none sent steady = absurd (grows (steady 0))
+read_puts _ a b page next none sent steady = goes_out a b page next none sent
 
 pub read_grows : (r : Result Bool PlayFault) (old mid new : ScriptLines) → mid ≡ old → IfOk r (λ more. IsTrue more → mid.octets < new.octets) → IfOk r (λ more. IsTrue more → old.octets < new.octets)
 read_grows r old mid new same h = subst (λ (lines : ScriptLines). IfOk r (λ more. IsTrue more → lines.octets < new.octets)) same h
 
 pub read_reaches : (r : Result Bool PlayFault) (old mid new : ScriptLines) (remaining : Option (List ℕ)) (text : List ℕ) → mid ≡ old → Advances r mid new remaining text → Reaches r old new remaining text
-read_reaches (Ok more) old mid new remaining text same h = subst (λ lines. Advances (Ok more) lines new remaining text) same h
-read_reaches (Err (Script number kind)) old mid new remaining text same h = subst (λ lines. Advances (Err (Script number kind)) lines new remaining text) same h
 read_reaches (Err OutOfMemory) old mid new remaining text same h = absurd h
-read_reaches (Err Read) old mid new remaining text same h = subst (λ lines. Advances (Err Read) lines new remaining text) same h
 read_reaches (Err Write) old mid new remaining text same h = tt
+read_reaches r old mid new remaining text same h = subst (λ lines. Advances r lines new remaining text) same h

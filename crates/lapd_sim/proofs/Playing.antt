@@ -4,10 +4,10 @@ use Rattle.model_sim.specs.Setup as machine
 use Rattle.lapd_sim.specs.declared.setup.Setup.{Setup}
 use Rattle.lapd_script.specs.declared.faults.LineFault.TheVariants as line
 use Rattle.lapd_script.specs.ScriptLines.{IsNext}
-use Rattle.lapd_sim.proofs.Wholes.{AreWhole, no_whole, whole_more, first_whole, some_octet, split_first, read_whole}
+use Rattle.lapd_sim.proofs.Wholes.{AreWhole, join, whole_before, whole_more, text_is, read_whole}
 
 -- These pieces of the text have been played without a fault, and what is left of it is still to be read.
-pub record IsPlayed (lines : ScriptLines) (setup : Option Setup) (remaining : Option (List ℕ)) (text : List ℕ) (old new : Output) : Type 0 where
+pub record IsPlayed (lines : ScriptLines) (setup : Option Setup) (remaining : Option (List ℕ)) (text : List ℕ) : Type 0 where
   pub done : List (List ℕ)
   pub left : List ℕ
   pub is : pieces_of text ≡ done ++ pieces_of left
@@ -16,12 +16,12 @@ pub record IsPlayed (lines : ScriptLines) (setup : Option Setup) (remaining : Op
   pub octets : lines.octets ≡ (played done).octets
   pub sound : (played done).fault ≡ None
   pub has : Has setup (played done).setup
-  pub written : IsPut old new (played done).written
-  -- the octets of these pieces; they are whole lines but where they are all that the source gave
-  pub front : List ℕ
-  pub joined : text ≡ front ++ left
-  pub while_open : lines.is_at_end ≡ false → AreWhole front done
-  pub before_more : (o : ℕ) (t : List ℕ) → left ≡ o ∷ t → AreWhole front done
+  -- they are whole lines unless they are all that the source gave
+  pub whole : lines.is_at_end ≡ false → AreWhole done
+
+-- Their transcript has been put.
+abbrev pub HasPlayed : ScriptLines → Option Setup → Option (List ℕ) → List ℕ → Output → Output → Type 0
+HasPlayed lines setup remaining text old new = (p : IsPlayed lines setup remaining text) × IsPut old new (played p.done).written
 
 -- What a line leads to, by what it says.
 abbrev pub after_said : List ℕ → Result Said FaultKind → Played → Played
@@ -85,151 +85,15 @@ pub stays : (pieces : List (List ℕ)) (p : Played) (fault : Fault) → p.fault 
 stays [] p fault e = refl
 stays (piece ∷ pieces) p fault e = ap (λ q. fold one_more q pieces) (stays_one piece p.fault fault p e) ∙ stays pieces p fault e
 
--- what has been written stays written
-abbrev Grows : Played → Played → Type 0
-Grows p q = (more : List ℕ) × (q.written ≡ p.written ++ more)
-
-grows_said : (piece : List ℕ) (x : Result Said FaultKind) (p : Played) → Grows p (after_said piece x p)
-grows_said piece (Ok s) p = (s.text, refl)
-grows_said piece (Err kind) p = ([], sym (append-nil p.written))
-
-grows_test : (b : Bool) (p q r : Played) → Grows p q → Grows p r → Grows p (cond b q r)
-grows_test true p q r h k = h
-grows_test false p q r h k = k
-
-grows_piece : (piece : List ℕ) (p : Played) → Grows p (after_piece piece p)
-grows_piece piece p = grows_test (is_too_long piece p) p (faulty TooLong p) (after_reading piece (read (line_in piece)) p)
-    ([], sym (append-nil p.written))
-    (subst (λ q. Grows p q) (sym (read_is piece (read (line_in piece)) p)) (grows_said piece (said (line_in piece) p.setup) p))
-
-grows_one : (piece : List ℕ) (o : Option Fault) (p : Played) → Grows p (unless_faulty piece o p)
-grows_one piece None p = grows_piece piece p
-grows_one piece (Some fault) p = ([], sym (append-nil p.written))
-
-pub grows : (pieces : List (List ℕ)) (p : Played) → Grows p (fold one_more p pieces)
-grows [] p = ([], sym (append-nil p.written))
-grows (piece ∷ pieces) p =
-    let first = grows_one piece p.fault p in
-    let rest = grows pieces (one_more p piece) in
-    (first.0 ++ rest.0, rest.1 ∙ ap (λ text. text ++ rest.0) first.1 ∙ append_assoc p.written first.0 rest.0)
-
--- the whole text, where these pieces have been played and one is next
-pub all_played : (text left : List ℕ) (done : List (List ℕ)) (piece : List ℕ) (more : List (List ℕ)) → pieces_of text ≡ done ++ pieces_of left → pieces_of left ≡ piece ∷ more
-    → (played done).fault ≡ None → played (pieces_of text) ≡ fold one_more (after_piece piece (played done)) more
-all_played text left done piece more is next sound =
-    ap played (is ∙ ap (λ pieces. done ++ pieces) next) ∙ fold-append one_more not_begun done (piece ∷ more)
-    ∙ ap (λ p. fold one_more p more) (unless_is piece (played done).fault (played done) sound)
-
--- a fault is the first
-pub fault_is : (text left : List ℕ) (done : List (List ℕ)) (piece : List ℕ) (more : List (List ℕ)) (kind : FaultKind) → pieces_of text ≡ done ++ pieces_of left → pieces_of left ≡ piece ∷ more
-    → (played done).fault ≡ None → after_piece piece (played done) ≡ faulty kind (played done) → played (pieces_of text) ≡ faulty kind (played done)
-fault_is text left done piece more kind is next sound fault =
-    all_played text left done piece more is next sound ∙ ap (λ p. fold one_more p more) fault
-    ∙ stays more (faulty kind (played done)) (record { line = (played done).lines + 1; kind = kind }) refl
-
--- nothing has been played yet
-pub begins : (lines : ScriptLines) (setup : Option Setup) (remaining : Option (List ℕ)) (text : List ℕ) (a : Output) → setup ≡ None → lines.number ≡ 0 → lines.octets ≡ 0
-    → AreLeft lines remaining text → IsPlayed lines setup remaining text a a
-begins lines setup remaining text a none number octets unread = record {
-  done = [];
-  left = text;
-  is = refl;
-  unread = unread;
-  number = number;
-  octets = octets;
-  sound = refl;
-  has = subst (λ b. Has b None) (sym none) tt;
-  written = puts_nothing a;
-  front = [];
-  joined = refl;
-  while_open = λ e. no_whole;
-  before_more = λ o t e. no_whole;
-}
-
--- no line is left
-pub ends : (lines : ScriptLines) (setup : Option Setup) (remaining : Option (List ℕ)) (text : List ℕ) (a b : Output) (p : IsPlayed lines setup remaining text a b) → p.left ≡ []
-    → (first_fault text ≡ None) × IsPut a b (transcript text)
-ends lines setup remaining text a b p none =
-    let all : played (pieces_of text) ≡ played p.done = ap played (p.is ∙ ap (λ l. p.done ++ pieces_of l) none ∙ append-nil p.done) in
-    (ap (λ q. Played.fault q) all ∙ p.sound, subst (λ t. IsPut a b t) (sym (ap (λ q. Played.written q) all)) p.written)
-
--- the next line is too long
-pub stops_long : (lines : ScriptLines) (setup : Option Setup) (remaining : Option (List ℕ)) (text : List ℕ) (a b : Output) (p : IsPlayed lines setup remaining text a b) (number : ℕ) → IsTooLong lines number p.left
-    → (first_fault text ≡ Some (record { line = number; kind = TooLong })) × IsPut a b (transcript text)
-stops_long lines setup remaining text a b p number long =
-    let fault = long_is long.piece (played p.done) (λ short. subst (λ n. 2 ^ 63 < n + length long.piece) p.octets (long.long short)) in
-    let all = fault_is text p.left p.done long.piece (pieces_of long.more) TooLong p.is long.pieces p.sound fault in (
-      ap (λ q. Played.fault q) all ∙ ap (λ n. Some (record { line = n; kind = TooLong })) (sym (long.number ∙ ap (λ n. n + 1) p.number)),
-      subst (λ t. IsPut a b t) (sym (ap (λ q. Played.written q) all)) p.written,
-    )
-
--- the next line leads to what it says
-pub next_is : (lines new : ScriptLines) (setup : Option Setup) (remaining left : Option (List ℕ)) (text : List ℕ) (a b : Output) (p : IsPlayed lines setup remaining text a b) (n : IsNext lines new left p.left)
-    → new.octets ≤ 2 ^ 63 → after_piece n.piece (played p.done) ≡ after_said n.piece (said (line_in n.piece) (played p.done).setup) (played p.done)
-next_is lines new setup remaining left text a b p n bound =
-    short_is n.piece (played p.done) n.short (subst (λ octets. octets ≤ 2 ^ 63) (n.octets ∙ ap (λ octets. octets + length n.piece) p.octets) bound)
-
--- the next line is faulty
-pub stops_faulty : (lines new : ScriptLines) (setup : Option Setup) (remaining left : Option (List ℕ)) (text : List ℕ) (a b : Output) (p : IsPlayed lines setup remaining text a b) (n : IsNext lines new left p.left)
-    → new.octets ≤ 2 ^ 63 → (kind : FaultKind) → said (line_in n.piece) (played p.done).setup ≡ Err kind
-    → (first_fault text ≡ Some (record { line = new.number; kind = kind })) × IsPut a b (transcript text)
-stops_faulty lines new setup remaining left text a b p n bound kind fault =
-    let next = next_is lines new setup remaining left text a b p n bound ∙ ap (λ x. after_said n.piece x (played p.done)) fault in
-    let all = fault_is text p.left p.done n.piece (pieces_of n.more) kind p.is n.pieces p.sound next in (
-      ap (λ q. Played.fault q) all ∙ ap (λ i. Some (record { line = i; kind = kind })) (sym (n.number ∙ ap (λ i. i + 1) p.number)),
-      subst (λ t. IsPut a b t) (sym (ap (λ q. Played.written q) all)) p.written,
-    )
-
--- a write of the next line fails
-pub stops_broken : (lines new : ScriptLines) (setup : Option Setup) (remaining left : Option (List ℕ)) (text : List ℕ) (a b c : Output) (p : IsPlayed lines setup remaining text a b) (n : IsNext lines new left p.left)
-    → new.octets ≤ 2 ^ 63 → (s : Said) → said (line_in n.piece) (played p.done).setup ≡ Ok s → IsStuck b c s.text → IsStuck a c (transcript text)
-stops_broken lines new setup remaining left text a b c p n bound s fine broken =
-    let next = next_is lines new setup remaining left text a b p n bound ∙ ap (λ x. after_said n.piece x (played p.done)) fine in
-    let all = all_played text p.left p.done n.piece (pieces_of n.more) p.is n.pieces p.sound ∙ ap (λ q. fold one_more q (pieces_of n.more)) next in
-    let rest = grows (pieces_of n.more) (after_said n.piece (Ok s) (played p.done)) in
-    subst (λ t. IsStuck a c t) (sym (ap (λ q. Played.written q) all ∙ rest.1))
-    (stuck_more a c ((played p.done).written ++ s.text) rest.0 (puts_then (Err (record {})) a b c (played p.done).written s.text p.written broken))
-
--- the next line has been played
-pub goes_on : (lines new : ScriptLines) (setup later : Option Setup) (remaining left : Option (List ℕ)) (text : List ℕ) (a b c : Output) (p : IsPlayed lines setup remaining text a b) (n : IsNext lines new left p.left)
-    → new.octets ≤ 2 ^ 63 → (s : Said) → said (line_in n.piece) (played p.done).setup ≡ Ok s → IsPut b c s.text → Has later s.setup → IsPlayed new later left text a c
-goes_on lines new setup later remaining left text a b c p n bound s fine written has =
-    let is : played (p.done ++ n.piece ∷ []) ≡ after_said n.piece (Ok s) (played p.done) =
-    played_more p.done n.piece p.sound ∙ next_is lines new setup remaining left text a b p n bound ∙ ap (λ x. after_said n.piece x (played p.done)) fine in
-    let octet = some_octet p.left n.piece (pieces_of n.more) n.pieces in
-    let whole = p.before_more octet.0 octet.1.0 octet.1.1 in
-    record {
-      done = p.done ++ n.piece ∷ [];
-      left = n.more;
-      is = p.is ∙ ap (λ pieces. p.done ++ pieces) n.pieces ∙ sym (append_assoc p.done (n.piece ∷ []) (pieces_of n.more));
-      unread = n.left;
-      number = n.number ∙ ap (λ i. i + 1) p.number ∙ sym (ap (λ q. Played.lines q) is);
-      octets = n.octets ∙ ap (λ i. i + length n.piece) p.octets ∙ sym (ap (λ q. Played.octets q) is);
-      sound = ap (λ q. Played.fault q) is ∙ p.sound;
-      has = subst (λ q. Has later (Played.setup q)) (sym is) has;
-      written = subst (λ q. IsPut a c (Played.written q)) (sym is) (puts_then (Ok tt) a b c (played p.done).written s.text p.written written);
-      front = p.front ++ n.piece;
-      joined = p.joined ∙ ap (λ l. p.front ++ l) (split_first p.left n.piece n.more n.pieces) ∙ sym (append_assoc p.front n.piece n.more);
-      while_open = λ e. whole_more p.front p.done p.left n.piece (pieces_of n.more) whole n.pieces (n.whole e);
-      before_more = λ o t e. whole_more p.front p.done p.left n.piece (pieces_of n.more) whole n.pieces (first_whole p.left n.piece n.more o t n.pieces e);
-    }
-
--- what a line put, where it stopped the script and where it did not; and that there is a setup after it
-pub does_fail : (fault : LineFault) (number : ℕ) (a b c : Output) (m : Option machine.Setup) (has : Option machine.Setup → Type 0) (x : Result Said FaultKind) (text : List ℕ) → IsPut a b text
-    → Does (Err fault) b c m has x → PutsSome {A = Unit} (Err (fault_at fault number)) a c
-does_fail (Faulty kind) number a b c m has x text p h = (text, subst (λ d. IsPut a d text) (sym h.0) p)
-does_fail line.Write number a b c m has (Ok s) text p h = (text ++ s.text, puts_then (Err (record {})) a b c text s.text p h)
-does_fail line.Write number a b c m has (Err kind) text p h = absurd h
-does_fail line.OutOfMemory number a b c m has x text p h = (text, subst (λ d. IsPut a d text) (sym h.0) p)
-
-pub does_ok : (u : Unit {0}) (a b : Output) (m : Option machine.Setup) (has : Option machine.Setup → Type 0) (x : Result Said FaultKind) → Does (Ok u) a b m has x
-    → (s : Said) × (x ≡ Ok s) × IsPut a b s.text × has s.setup
-does_ok u a b m has (Ok s) h = (s, refl, h.0, h.1)
-does_ok u a b m has (Err kind) h = absurd h
-
--- where there is no card yet, nothing has been written
+-- What has been written stays written; and where there is no card yet, nothing has been.
 abbrev Silent : Played → Type 0
 Silent p = p.setup ≡ None → p.written ≡ []
+
+abbrev Grows : Played → Played → Type 0
+Grows p q = ((more : List ℕ) × (q.written ≡ p.written ++ more)) × (Silent p → Silent q)
+
+grows_not : (p : Played) → Grows p p
+grows_not p = (([], sym (append-nil p.written)), λ h. h)
 
 silent_start : (piece : List ℕ) (x : Result (Option machine.Setup) FaultKind) (p : Played) → p.written ≡ [] → Silent (after_said piece (said_without x) p)
 silent_start piece (Ok setup) p h = λ e. append-nil p.written ∙ h
@@ -247,39 +111,154 @@ silent_read : (piece : List ℕ) (r : Result Meaning FaultKind) (p : Played) →
 silent_read piece (Err kind) p h = h
 silent_read piece (Ok m) p h = silent_meant piece m p.setup p refl h
 
-silent_test : (b : Bool) (q r : Played) → Silent q → Silent r → Silent (cond b q r)
-silent_test true q r h k = h
-silent_test false q r h k = k
+grows_said : (piece : List ℕ) (x : Result Said FaultKind) (p : Played) → (Silent p → Silent (after_said piece x p)) → Grows p (after_said piece x p)
+grows_said piece (Ok s) p h = ((s.text, refl), h)
+grows_said piece (Err kind) p h = (([], sym (append-nil p.written)), h)
 
-silent_one : (piece : List ℕ) (o : Option Fault) (p : Played) → Silent p → Silent (unless_faulty piece o p)
-silent_one piece None p h = silent_test (is_too_long piece p) (faulty TooLong p) (after_reading piece (read (line_in piece)) p) h
-    (subst Silent (sym (read_is piece (read (line_in piece)) p)) (silent_read piece (read (line_in piece)) p h))
-silent_one piece (Some fault) p h = h
+grows_test : (b : Bool) (p q r : Played) → Grows p q → Grows p r → Grows p (cond b q r)
+grows_test true p q r h k = h
+grows_test false p q r h k = k
 
-silent_after : (pieces : List (List ℕ)) (p : Played) → Silent p → Silent (fold one_more p pieces)
-silent_after [] p h = h
-silent_after (piece ∷ pieces) p h = silent_after pieces (one_more p piece) (silent_one piece p.fault p h)
+grows_one : (piece : List ℕ) (o : Option Fault) (p : Played) → Grows p (unless_faulty piece o p)
+grows_one piece None p =
+    let r = read (line_in piece) in
+    grows_test (is_too_long piece p) p (faulty TooLong p) (after_reading piece r p) (([], sym (append-nil p.written)), λ h. h)
+    (subst (λ q. Grows p q) (sym (read_is piece r p)) (grows_said piece (said_by r p.setup) p (silent_read piece r p)))
+grows_one piece (Some fault) p = grows_not p
 
-silent : (pieces : List (List ℕ)) → (played pieces).setup ≡ None → (played pieces).written ≡ []
-silent pieces = silent_after pieces not_begun (λ e. refl)
+pub grows : (pieces : List (List ℕ)) (p : Played) → Grows p (fold one_more p pieces)
+grows [] p = grows_not p
+grows (piece ∷ pieces) p =
+    let first = grows_one piece p.fault p in
+    let rest = grows pieces (one_more p piece) in (
+      (first.0.0 ++ rest.0.0, rest.0.1 ∙ ap (λ text. text ++ rest.0.0) first.0.1 ∙ append_assoc p.written first.0.0 rest.0.0),
+      λ h. rest.1 (first.1 h),
+    )
+
+-- the whole text, where these pieces have been played and one is next
+pub all_played : (text left : List ℕ) (done : List (List ℕ)) (piece : List ℕ) (more : List (List ℕ)) → pieces_of text ≡ done ++ pieces_of left → pieces_of left ≡ piece ∷ more
+    → (played done).fault ≡ None → played (pieces_of text) ≡ fold one_more (after_piece piece (played done)) more
+all_played text left done piece more is next sound =
+    ap played (is ∙ ap (λ pieces. done ++ pieces) next) ∙ fold-append one_more not_begun done (piece ∷ more)
+    ∙ ap (λ p. fold one_more p more) (unless_is piece (played done).fault (played done) sound)
+
+-- a fault is the first
+pub fault_is : (text left : List ℕ) (done : List (List ℕ)) (piece : List ℕ) (more : List (List ℕ)) (kind : FaultKind) → pieces_of text ≡ done ++ pieces_of left → pieces_of left ≡ piece ∷ more
+    → (played done).fault ≡ None → after_piece piece (played done) ≡ faulty kind (played done) → played (pieces_of text) ≡ faulty kind (played done)
+fault_is text left done piece more kind is next sound fault =
+    all_played text left done piece more is next sound ∙ ap (λ p. fold one_more p more) fault
+    ∙ stays more (faulty kind (played done)) (record { line = (played done).lines + 1; kind = kind }) refl
+
+-- nothing has been played yet
+pub begins : (lines : ScriptLines) (setup : Option Setup) (remaining : Option (List ℕ)) (text : List ℕ) (a : Output) → setup ≡ None → lines.number ≡ 0 → lines.octets ≡ 0
+    → AreLeft lines remaining text → HasPlayed lines setup remaining text a a
+begins lines setup remaining text a none number octets unread = (
+  record {
+    done = [];
+    left = text;
+    is = refl;
+    unread = unread;
+    number = number;
+    octets = octets;
+    sound = refl;
+    has = subst (λ b. Has b None) (sym none) tt;
+    whole = λ e. tt;
+  },
+  puts_nothing a,
+)
+
+-- no line is left
+pub ends : (lines : ScriptLines) (setup : Option Setup) (remaining : Option (List ℕ)) (text : List ℕ) (a b : Output) (p : IsPlayed lines setup remaining text) → p.left ≡ [] → IsPut a b (played p.done).written
+    → (first_fault text ≡ None) × IsPut a b (transcript text)
+ends lines setup remaining text a b p none put =
+    let all : played (pieces_of text) ≡ played p.done = ap played (p.is ∙ ap (λ l. p.done ++ pieces_of l) none ∙ append-nil p.done) in
+    (ap (λ q. Played.fault q) all ∙ p.sound, subst (λ t. IsPut a b t) (sym (ap (λ q. Played.written q) all)) put)
+
+-- the next line is faulty,
+stops_at : (lines : ScriptLines) (setup : Option Setup) (remaining : Option (List ℕ)) (text : List ℕ) (a b : Output) (p : IsPlayed lines setup remaining text) (piece more : List ℕ) (number : ℕ) (kind : FaultKind)
+    → pieces_of p.left ≡ piece ∷ pieces_of more → number ≡ lines.number + 1 → after_piece piece (played p.done) ≡ faulty kind (played p.done) → IsPut a b (played p.done).written
+    → (first_fault text ≡ Some (record { line = number; kind = kind })) × IsPut a b (transcript text)
+stops_at lines setup remaining text a b p piece more number kind next is fault put =
+    let all = fault_is text p.left p.done piece (pieces_of more) kind p.is next p.sound fault in (
+      ap (λ q. Played.fault q) all ∙ ap (λ n. Some (record { line = n; kind = kind })) (sym (is ∙ ap (λ n. n + 1) p.number)),
+      subst (λ t. IsPut a b t) (sym (ap (λ q. Played.written q) all)) put,
+    )
+
+-- or too long
+stops_long : (lines : ScriptLines) (setup : Option Setup) (remaining : Option (List ℕ)) (text : List ℕ) (a b : Output) (p : IsPlayed lines setup remaining text) (number : ℕ) → IsTooLong lines number p.left → IsPut a b (played p.done).written
+    → (first_fault text ≡ Some (record { line = number; kind = TooLong })) × IsPut a b (transcript text)
+stops_long lines setup remaining text a b p number long put =
+    stops_at lines setup remaining text a b p long.piece long.more number TooLong long.pieces long.number
+    (long_is long.piece (played p.done) (λ short. subst (λ n. 2 ^ 63 < n + length long.piece) p.octets (long.long short))) put
+
+-- the next line leads to what it says
+next_is : (lines new : ScriptLines) (setup : Option Setup) (remaining left : Option (List ℕ)) (text : List ℕ) (p : IsPlayed lines setup remaining text) (n : IsNext lines new left p.left)
+    → after_piece n.piece (played p.done) ≡ after_said n.piece (said (line_in n.piece) (played p.done).setup) (played p.done)
+next_is lines new setup remaining left text p n =
+    short_is n.piece (played p.done) n.short (subst (λ octets. octets ≤ 2 ^ 63) (n.octets ∙ ap (λ octets. octets + length n.piece) p.octets) new.bounded)
+
+-- a write of it fails
+stops_broken : (lines new : ScriptLines) (setup : Option Setup) (remaining left : Option (List ℕ)) (text : List ℕ) (a b c : Output) (p : IsPlayed lines setup remaining text) (n : IsNext lines new left p.left) → IsPut a b (played p.done).written
+    → (s : Said) → said (line_in n.piece) (played p.done).setup ≡ Ok s → IsStuck b c s.text → IsStuck a c (transcript text)
+stops_broken lines new setup remaining left text a b c p n put s fine broken =
+    let next = next_is lines new setup remaining left text p n ∙ ap (λ x. after_said n.piece x (played p.done)) fine in
+    let all = all_played text p.left p.done n.piece (pieces_of n.more) p.is n.pieces p.sound ∙ ap (λ q. fold one_more q (pieces_of n.more)) next in
+    let rest = (grows (pieces_of n.more) (after_said n.piece (Ok s) (played p.done))).0 in
+    subst (λ t. IsStuck a c t) (sym (ap (λ q. Played.written q) all ∙ rest.1))
+    (stuck_more a c ((played p.done).written ++ s.text) rest.0 (puts_then (Err (record {})) a b c (played p.done).written s.text put broken))
+
+-- it has been played
+pub goes_on : (lines new : ScriptLines) (setup later : Option Setup) (remaining left : Option (List ℕ)) (text : List ℕ) (a b c : Output) (p : IsPlayed lines setup remaining text) (n : IsNext lines new left p.left) → IsPut a b (played p.done).written
+    → (s : Said) → said (line_in n.piece) (played p.done).setup ≡ Ok s → IsPut b c s.text → Has later s.setup → HasPlayed new later left text a c
+goes_on lines new setup later remaining left text a b c p n put s fine written has =
+    let is : played (p.done ++ n.piece ∷ []) ≡ after_said n.piece (Ok s) (played p.done) =
+    played_more p.done n.piece p.sound ∙ next_is lines new setup remaining left text p n ∙ ap (λ x. after_said n.piece x (played p.done)) fine in
+    let next : pieces_of text ≡ p.done ++ n.piece ∷ pieces_of n.more = p.is ∙ ap (λ pieces. p.done ++ pieces) n.pieces in (
+      record {
+        done = p.done ++ n.piece ∷ [];
+        left = n.more;
+        is = next ∙ sym (append_assoc p.done (n.piece ∷ []) (pieces_of n.more));
+        unread = n.left;
+        number = n.number ∙ ap (λ i. i + 1) p.number ∙ sym (ap (λ q. Played.lines q) is);
+        octets = n.octets ∙ ap (λ i. i + length n.piece) p.octets ∙ sym (ap (λ q. Played.octets q) is);
+        sound = ap (λ q. Played.fault q) is ∙ p.sound;
+        has = subst (λ q. Has later (Played.setup q)) (sym is) has;
+        whole = λ e. whole_more p.done n.piece (whole_before text p.done n.piece (pieces_of n.more) next) (n.whole e);
+      },
+      subst (λ q. IsPut a c (Played.written q)) (sym is) (puts_then (Ok tt) a b c (played p.done).written s.text put written),
+    )
+
+-- what a line put, where it stopped the script and where it did not; and that there is a setup after it
+pub does_fail : (fault : LineFault) (number : ℕ) (a b c : Output) (m : Option machine.Setup) (has : Option machine.Setup → Type 0) (x : Result Said FaultKind) (text : List ℕ) → IsPut a b text
+    → Does (Err fault) b c m has x → PutsSome {A = Unit} (Err (fault_at fault number)) a c
+does_fail line.Write number a b c m has (Ok s) text p h = (text ++ s.text, puts_then (Err (record {})) a b c text s.text p h)
+does_fail line.Write number a b c m has (Err kind) text p h = absurd h
+does_fail _ number a b c m has x text p h = (text, subst (λ d. IsPut a d text) (sym h.0) p)
+
+pub does_ok : (u : Unit {0}) (a b : Output) (m : Option machine.Setup) (has : Option machine.Setup → Type 0) (x : Result Said FaultKind) → Does (Ok u) a b m has x
+    → (s : Said) × (x ≡ Ok s) × IsPut a b s.text × has s.setup
+does_ok u a b m has (Ok s) h = (s, refl, h.0, h.1)
+does_ok u a b m has (Err kind) h = absurd h
 
 -- the next line stops the script
 pub stops : (fault : LineFault) (lines new : ScriptLines) (setup : Option Setup) (remaining left : Option (List ℕ)) (text : List ℕ) (a b c : Output) (has : Option machine.Setup → Type 0)
-    (p : IsPlayed lines setup remaining text a b) (n : IsNext lines new left p.left) → new.octets ≤ 2 ^ 63
+    (p : IsPlayed lines setup remaining text) (n : IsNext lines new left p.left) → IsPut a b (played p.done).written
     → Does (Err fault) b c (played p.done).setup has (said (line_in n.piece) (played p.done).setup)
     → PlaysOn (Err (fault_at fault new.number)) text left a c
-stops (Faulty kind) lines new setup remaining left text a b c has p n bound h =
-    let found = stops_faulty lines new setup remaining left text a b p n bound kind h.1 in
+stops (Faulty kind) lines new setup remaining left text a b c has p n put h =
+    let next = next_is lines new setup remaining left text p n ∙ ap (λ x. after_said n.piece x (played p.done)) h.1 in
+    let found = stops_at lines setup remaining text a b p n.piece n.more new.number kind n.pieces n.number next put in
     (found.0, subst (λ t. IsPut a t (transcript text)) (sym h.0) found.1)
-stops line.Write lines new setup remaining left text a b c has p n bound h =
+stops line.Write lines new setup remaining left text a b c has p n put h =
     stops_write (said (line_in n.piece) (played p.done).setup) refl h where
       stops_write : (x : Result Said FaultKind) → said (line_in n.piece) (played p.done).setup ≡ x → Does (Err line.Write) b c (played p.done).setup has x → IsStuck a c (transcript text)
-      stops_write (Ok s) e k = stops_broken lines new setup remaining left text a b c p n bound s e k
+      stops_write (Ok s) e k = stops_broken lines new setup remaining left text a b c p n put s e k
       stops_write (Err kind) e k = absurd k
-stops line.OutOfMemory lines new setup remaining left text a b c has p n bound h =
+stops line.OutOfMemory lines new setup remaining left text a b c has p n put h =
     let is : played (p.done ++ n.piece ∷ []) ≡ after_said n.piece (Ok (record { setup = Some h.1.card; text = [] })) (played p.done) =
-    played_more p.done n.piece p.sound ∙ next_is lines new setup remaining left text a b p n bound ∙ ap (λ x. after_said n.piece x (played p.done)) h.1.begins in (
-      subst (λ t. IsPut a t []) (sym h.0) (subst (λ t. IsPut a b t) (silent p.done h.1.none) p.written),
+    played_more p.done n.piece p.sound ∙ next_is lines new setup remaining left text p n ∙ ap (λ x. after_said n.piece x (played p.done)) h.1.begins in
+    let silent = (grows p.done not_begun).1 (λ e. refl) h.1.none in (
+      subst (λ t. IsPut a t []) (sym h.0) (subst (λ t. IsPut a b t) silent put),
       inr (record {
         before = p.done;
         piece = n.piece;
@@ -305,22 +284,20 @@ next true old new remaining text e h = h
 next false old new remaining text e h = absurd (true≢false (sym e))
 
 -- reading stops the script
-pub stops_reading : (fault : PlayFault) (lines new : ScriptLines) (setup : Option Setup) (remaining left : Option (List ℕ)) (text : List ℕ) (a b : Output) (p : IsPlayed lines setup remaining text a b)
+pub stops_reading : (fault : PlayFault) (lines new : ScriptLines) (setup : Option Setup) (remaining left : Option (List ℕ)) (text : List ℕ) (a b : Output) (p : IsPlayed lines setup remaining text) → IsPut a b (played p.done).written
     → Advances (Err fault) lines new left p.left → PlaysOn (Err fault) text left a b
-stops_reading Read lines new setup remaining left text a b p h =
-    let pieces = read_whole p.front h.begun p.done (p.while_open h.goes_on) h.open_is in
-    record {
-      read = p.front ++ h.begun;
-      unread = h.rest;
-      is = p.joined ∙ ap (λ l. p.front ++ l) h.is ∙ sym (append_assoc p.front h.begun h.rest);
-      tells = h.tells;
-      answered = subst (λ ps. AreAnswered ps (IsPut a b)) (sym pieces) (record { sound = p.sound; written = p.written });
-    }
-stops_reading (Script number kind) lines new setup remaining left text a b p h =
-    let found = stops_long lines setup remaining text a b p number h.1 in
+stops_reading Read lines new setup remaining left text a b p put h = record {
+  read = join p.done ++ h.begun;
+  unread = h.rest;
+  is = text_is text p.done p.left p.is ∙ ap (λ l. join p.done ++ l) h.is ∙ sym (append_assoc (join p.done) h.begun h.rest);
+  tells = h.tells;
+  answered = subst (λ ps. AreAnswered ps (IsPut a b)) (sym (read_whole p.done text p.left h.begun p.is (p.whole h.goes_on) h.open_is)) (record { sound = p.sound; written = put });
+}
+stops_reading (Script number kind) lines new setup remaining left text a b p put h =
+    let found = stops_long lines setup remaining text a b p number h.1 put in
     (found.0 ∙ ap (λ k. Some (record { line = number; kind = k })) (sym h.0), found.1)
-stops_reading Write lines new setup remaining left text a b p h = absurd h
-stops_reading OutOfMemory lines new setup remaining left text a b p h = absurd h
+stops_reading Write lines new setup remaining left text a b p put h = absurd h
+stops_reading OutOfMemory lines new setup remaining left text a b p put h = absurd h
 
 -- the line that starts the card, or is skipped before it
 has_none : (b : Option Setup) (m : Option machine.Setup) → b ≡ None → Has b m → m ≡ None
@@ -342,11 +319,9 @@ starts before setup a meaning line m e h is k =
 goes_as : (r : Result Unit LineFault) (setup : Setup) (a b : Output) (m : machine.Setup) (x : Result Scene FaultKind) → Obeys r a b (Stands setup) x
     → Does r a b (Some m) (Has (Some setup)) (said_with x)
 goes_as (Ok u) setup a b m (Ok s) h = h
-goes_as (Ok u) setup a b m (Err kind) h = absurd h
 goes_as (Err (Faulty kind)) setup a b m x h = (h.0, ap said_with h.1)
 goes_as (Err line.Write) setup a b m (Ok s) h = h
-goes_as (Err line.Write) setup a b m (Err kind) h = absurd h
-goes_as (Err line.OutOfMemory) setup a b m x h = absurd h
+goes_as _ setup a b m _ h = absurd h
 
 pub goes : (before : Option Setup) (old new : Setup) (r : Result Unit LineFault) (a b : Output) (meaning : Meaning) (line : List ℕ) (m : Option machine.Setup) → before ≡ Some old → Has before m → Ok meaning ≡ read line
     → ((n : machine.Setup) → Stands old n → Obeys r a b (Stands new) (with_card meaning (scene n))) → Does r a b m (Has (Some new)) (said line m)

@@ -1,51 +1,17 @@
 -- What a line says, event by event.
-use Rattle.lapd_sim.proofs.Vocabulary.{◌≡◌, ℕ, zero, suc, ◌+◌, ◌<◌, ◌≤◌, nat_lt, List, [], ◌∷◌, ◌++◌, length, take, drop, get_or, fold, Bool, true, false, cond, Option, None, Some, Result, Ok, Err, OnOk, refl, sym, ap, ◌∙◌, subst, append_assoc, lt-ltb, le-leb, CardKind, BadNumber, BadLine, BadFrame, append-nil, map-append, take_more, take-append-drop, fold-append, octet, Event, at, answer, Config, Output, IsStuck, Puts, stuck_more, WriteFailed, Setup, LengthFault, due_at, FaultKind, Scene, with_event, with_events, octets_at, after_rx, at_line, answer_text, expiries, expired, Pulls, pulls, one_pull, after_coming, can_come, for_octets, for_frames, with_card, LineFault, Faulty, Obeys, Tells, scene, written, Exchange, Holds, Stands, Each, Hears, Sends}
+use Rattle.lapd_sim.proofs.Vocabulary.{◌≡◌, ℕ, zero, suc, ◌<◌, ◌≤◌, nat_lt, List, [], ◌∷◌, length, Bool, true, false, cond, Option, None, Some, Result, Ok, Err, OnOk, refl, sym, ap, ◌∙◌, subst, lt-ltb, le-leb, CardKind, BadNumber, BadLine, BadFrame, Event, at, Config, Output, Puts, WriteFailed, Setup, LengthFault, due_at, FaultKind, Scene, with_event, with_events, at_line, expiries, expired, Pulls, pulls, one_pull, after_coming, can_come, for_octets, for_frames, with_card, LineFault, Faulty, Obeys, Tells, scene, written, Exchange, Holds, Stands, Each, Hears, Sends}
 use Rattle.lapd_script.specs.Meaning as meaning
 use Rattle.lapd_script.specs.declared.command.CardKind.TheVariants.{Octets, Frames}
 use Rattle.lapd_sim.specs.declared.setup.Setup as rust
 use Rattle.lapd_script.specs.declared.faults.LineFault.TheVariants.{Write, OutOfMemory}
-
--- one octet more
-pub rx_more : (line : ℕ) (xs : List ℕ) (i : ℕ) (s : Scene) → i < length xs
-    → after_rx line (take (i + 1) xs) s ≡ with_event (after_rx line (take i xs) s) (at line (octet (get_or xs i 0)))
-rx_more line xs i s h =
-    ap (λ l. fold with_event s (octets_at line l)) (take_more xs i 0 h)
-    ∙ ap (fold with_event s) (map-append (λ value. at line (octet value)) (take i xs) (get_or xs i 0 ∷ []))
-    ∙ fold-append with_event s (octets_at line (take i xs)) (octets_at line (get_or xs i 0 ∷ []))
 
 -- lengths of timers that are in range are obeyed, and leave all else as it was
 pub obeyed_by : (r : Result Unit LineFault) (before : Output) (P Q : Setup → Type 0) (o : Option LengthFault) (s : Scene) → (P s.setup → Q s.setup)
     → Obeys r before before P (elim o as (λ o. Result Scene FaultKind) [ None ↦ Ok s | Some timer ↦ Err BadNumber ])
     → Obeys r before before Q (elim o as (λ o. Result Scene FaultKind) [ None ↦ Ok s | Some timer ↦ Err BadNumber ])
 obeyed_by (Ok u) before P Q None s f h = (h.0, f h.1)
-obeyed_by (Ok u) before P Q (Some timer) s f h = h
 obeyed_by (Err (Faulty kind)) before P Q o s f h = h
-obeyed_by (Err Write) before P Q o s f h = h
-obeyed_by (Err OutOfMemory) before P Q o s f h = h
-
--- what has been said stays said
-pub events_say : (es : List Event) (s : Scene) → (more : List ℕ) × ((with_events es s).text ≡ s.text ++ more)
-events_say [] s = ([], sym (append-nil s.text))
-events_say (e ∷ es) s =
-    let rest = events_say es (with_event s e) in
-    let said = answer_text e.line (answer e s.setup.card) in
-    (said ++ rest.0, rest.1 ∙ append_assoc s.text said rest.0)
-
-pub rx_says : (line : ℕ) (xs : List ℕ) (n : ℕ) (s : Scene) → (more : List ℕ) × ((after_rx line xs s).text ≡ (after_rx line (take n xs) s).text ++ more)
-rx_says line xs n s =
-    let rest = events_say (octets_at line (drop n xs)) (after_rx line (take n xs) s) in (
-      rest.0,
-      ap (λ l. (after_rx line l s).text) (sym (take-append-drop n xs))
-          ∙ ap (λ es. (fold with_event s es).text) (map-append (λ value. at line (octet value)) (take n xs) (drop n xs))
-          ∙ ap (λ z. Scene.text z) (fold-append with_event s (octets_at line (take n xs)) (octets_at line (drop n xs)))
-          ∙ rest.1,
-    )
-
--- a beginning of the first octets' text is a beginning of the whole
-pub broken_rx : (a b : Output) (line : ℕ) (xs : List ℕ) (n : ℕ) (s : Scene) → IsStuck a b (after_rx line (take n xs) s).text → IsStuck a b (after_rx line xs s).text
-broken_rx a b line xs n s h =
-    let rest = rx_says line xs n s in
-    subst (λ text. IsStuck a b text) (sym rest.1) (stuck_more a b (after_rx line (take n xs) s).text rest.0 h)
+obeyed_by _ before P Q _ s f h = h
 
 -- events leave the terminals, what was taken, and the card's configuration
 abbrev pub Keeps : Setup → Setup → Type 0
@@ -71,11 +37,9 @@ expiries_keep (suc n) end s =
 pub obeyed_at : (r : Result Unit LineFault) (a b : Output) (P Q : Setup → Type 0) (test : Bool) (t : Scene) (kind : FaultKind) → (P t.setup → Q t.setup)
     → Obeys r a b P (cond test (Ok t) (Err kind)) → Obeys r a b Q (cond test (Ok t) (Err kind))
 obeyed_at (Ok u) a b P Q true t kind f h = (h.0, f h.1)
-obeyed_at (Ok u) a b P Q false t kind f h = absurd h
 obeyed_at (Err (Faulty k)) a b P Q test t kind f h = h
 obeyed_at (Err Write) a b P Q true t kind f h = h
-obeyed_at (Err Write) a b P Q false t kind f h = absurd h
-obeyed_at (Err OutOfMemory) a b P Q test t kind f h = absurd h
+obeyed_at _ a b P Q _ t kind f h = absurd h
 
 -- what is said at a line that is there, on a card of the right kind
 pub there : {at_it line : ℕ} → line ≡ at_it → (word : ℕ → Scene → Scene) (m : Setup) → line < m.card.config.lines

@@ -99,21 +99,17 @@ sent_is r a b P Q line octets t given framer many few gives =
     ∙ ap (λ l. gives.octets ++ l) none
     ∙ append-nil gives.octets)
 
-pub sent_told : (r : Result Unit WriteFailed) (a b : Output) (P Q : Setup → Type 0) (line : ℕ) (octets : List ℕ) (t : Terminal) (given : List ℕ) (framer : Framing) → length given ≡ t.given → length framer.left < 8
-    → Gives r a b P Q line (sending octets t) given framer → (m : Setup) → P m → Tells r a b Q (after_rx line (octets_sent octets t) (scene m))
-sent_told r a b P Q line octets t given framer many few gives m holds =
-    subst (λ l. Tells r a b Q (after_rx line l (scene m))) (sent_is r a b P Q line octets t given framer many few gives) (gives.told m holds)
-
-pub sent_after : (r : Result Unit WriteFailed) (a b : Output) (P Q : Setup → Type 0) (line : ℕ) (octets : List ℕ) (t : Terminal) (given : List ℕ) (terminal : rust.Terminal) → length given ≡ t.given → length terminal.framer.left < 8
-    → Gives r a b P Q line (sending octets t) given terminal.framer → Sends terminal (after_sending octets t)
-sent_after r a b P Q line octets t given terminal many few gives = record {
-  octets = given ++ gives.octets;
-  stands = gives.stands;
-  given =
-      length-append given gives.octets
-      ∙ ap (λ n. n + length gives.octets) many
-      ∙ ap (λ l. t.given + length l) (sent_is r a b P Q line octets t given terminal.framer many few gives);
-}
+pub sent : (r : Result Unit WriteFailed) (a b : Output) (P Q : Setup → Type 0) (line : ℕ) (octets : List ℕ) (t : Terminal) (given : List ℕ) (terminal : rust.Terminal) → length given ≡ t.given → length terminal.framer.left < 8
+    → Gives r a b P Q line (sending octets t) given terminal.framer → ((m : Setup) → P m → Tells r a b Q (after_rx line (octets_sent octets t) (scene m))) × Sends terminal (after_sending octets t)
+sent r a b P Q line octets t given terminal many few gives =
+    let is = sent_is r a b P Q line octets t given terminal.framer many few gives in (
+      λ m holds. subst (λ l. Tells r a b Q (after_rx line l (scene m))) is (gives.told m holds),
+      record {
+        octets = given ++ gives.octets;
+        stands = gives.stands;
+        given = length-append given gives.octets ∙ ap (λ n. n + length gives.octets) many ∙ ap (λ l. t.given + length l) is;
+      },
+    )
 
 -- where a write failed, the octets up to there are a beginning
 pub sent_broken : (e : WriteFailed) (a b : Output) (P Q : Setup → Type 0) (line : ℕ) (octets : List ℕ) (t : Terminal) (given : List ℕ) (framer : Framing) (items : List Item) → length given ≡ t.given

@@ -4,12 +4,13 @@ pub use Rattle.std.proofs.Math.Logic.{∥∥₁_elim, ∥∥₁_map}
 pub use Rattle.std.proofs.Math.Numerals.{suc-eq-add-one}
 pub use Rattle.std.proofs.Props.{props}
 pub use Rattle.std.proofs.lemmas.Bool.{le-leb, le-ltb, lt-ltb, ltb-false, ne_eqb, true≢false}
-pub use Rattle.std.proofs.lemmas.Grind.{fold-append}
+pub use Rattle.std.proofs.lemmas.Grind.{flat_map-append, fold-append}
 pub use Rattle.std.proofs.lemmas.List.{append-nil, length-take, map-append, take-append-drop, take_at, take_more, take_more_set}
-pub use Rattle.std.proofs.lemmas.List.Elements.{All-append, All-head, All-tail, All-weaker, filter-append}
+pub use Rattle.std.proofs.lemmas.List.Elements.{All-append, All-weaker}
 pub use Rattle.std.proofs.lemmas.List.Folds.{list_any_none}
 pub use Rattle.std.proofs.lemmas.Option.{none-some}
 pub use Rattle.std.specs.Io.KnownBytes.{Appends}
+pub use Rattle.std.specs.List.{flat_map}
 pub use Rattle.std.specs.Prelude.{IfErr, IfOk, IsTrue, filter, ◌||◌}
 pub use Rattle.lapd_clock.specs.Timer.{AreInRange, Lengths, Timer, first_out_of_range}
 pub use Rattle.lapd_clock.specs.Timers.{Timers, due_at, time_until}
@@ -66,7 +67,7 @@ pub use Rattle.model_card.specs.HappeningsCounted.{happening_counted}
 pub use Rattle.model_card.specs.Machine.{after, answer}
 unfoldable pub use Rattle.model_card.specs.Run.{after_all}
 pub use Rattle.model_line.proofs.Ranges.{ranges_of}
-pub use Rattle.model_line.specs.Event.{expiry, octet, pull, refused, request, told}
+pub use Rattle.model_line.specs.Event.{expiry, pull, refused, request, told}
 pub use Rattle.model_line.specs.Laws.{orders_in}
 pub use Rattle.model_line.specs.Pull.{taken}
 pub use Rattle.model_line.specs.Request.{Request, request_of}

@@ -9,23 +9,8 @@ encoded_singly (octet ∷ more) = ap (λ digits. slice_index upper_digits (octet
 
 -- one digit in upper case
 upper_digit : (n : ℕ) → n < 16 → to_ascii_uppercase (slice_index lower_digits n) ≡ slice_index upper_digits n
-upper_digit zero h = refl
-upper_digit (suc zero) h = refl
-upper_digit (suc (suc zero)) h = refl
-upper_digit (suc (suc (suc zero))) h = refl
-upper_digit (suc (suc (suc (suc zero)))) h = refl
-upper_digit (suc (suc (suc (suc (suc zero))))) h = refl
-upper_digit (suc (suc (suc (suc (suc (suc zero)))))) h = refl
-upper_digit (suc (suc (suc (suc (suc (suc (suc zero))))))) h = refl
-upper_digit (suc (suc (suc (suc (suc (suc (suc (suc zero)))))))) h = refl
-upper_digit (suc (suc (suc (suc (suc (suc (suc (suc (suc zero))))))))) h = refl
-upper_digit (suc (suc (suc (suc (suc (suc (suc (suc (suc (suc zero)))))))))) h = refl
-upper_digit (suc (suc (suc (suc (suc (suc (suc (suc (suc (suc (suc zero))))))))))) h = refl
-upper_digit (suc (suc (suc (suc (suc (suc (suc (suc (suc (suc (suc (suc zero)))))))))))) h = refl
-upper_digit (suc (suc (suc (suc (suc (suc (suc (suc (suc (suc (suc (suc (suc zero))))))))))))) h = refl
-upper_digit (suc (suc (suc (suc (suc (suc (suc (suc (suc (suc (suc (suc (suc (suc zero)))))))))))))) h = refl
-upper_digit (suc (suc (suc (suc (suc (suc (suc (suc (suc (suc (suc (suc (suc (suc (suc zero))))))))))))))) h = refl
 upper_digit (suc (suc (suc (suc (suc (suc (suc (suc (suc (suc (suc (suc (suc (suc (suc (suc n)))))))))))))))) h = absurd (omega (arith, h))
+upper_digit _ h = refl
 
 -- and the two of an octet
 pub upper_pair : (octet : ℕ) → octet < 256 → to_ascii_uppercase (slice_index (encode_lower (octet ∷ [])) 0) ∷ to_ascii_uppercase (slice_index (encode_lower (octet ∷ [])) 1) ∷ [] ≡ encode_upper (octet ∷ [])

@@ -88,7 +88,5 @@ nothing_told line t heard event is other =
     nothing = puts_nothing t
 
     silent : (heard : Heard) → ((octets : Bor (List ℕ)) → heard ≡ Frame octets → ⊥) → events_text line (option_to_list (heard_of heard)) ≡ []
-    silent Nothing other = refl
-    silent (Dropped cause) other = refl
     silent (Frame octets) other = absurd (other octets refl)
-    silent (Overlong octets) other = refl
+    silent _ other = refl

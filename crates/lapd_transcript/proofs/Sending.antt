@@ -15,15 +15,8 @@ octets_of-bits_then (octet ∷ octets) more h =
 
 -- fewer than eight bits
 pub octets_of-few : (few : List Bool) → length few < 8 → octets_of few ≡ []
-octets_of-few [] h = refl
-octets_of-few (a ∷ []) h = refl
-octets_of-few (a ∷ b ∷ []) h = refl
-octets_of-few (a ∷ b ∷ c ∷ []) h = refl
-octets_of-few (a ∷ b ∷ c ∷ d ∷ []) h = refl
-octets_of-few (a ∷ b ∷ c ∷ d ∷ e ∷ []) h = refl
-octets_of-few (a ∷ b ∷ c ∷ d ∷ e ∷ f ∷ []) h = refl
-octets_of-few (a ∷ b ∷ c ∷ d ∷ e ∷ f ∷ g ∷ []) h = refl
 octets_of-few (a ∷ b ∷ c ∷ d ∷ e ∷ f ∷ g ∷ i ∷ more) h = absurd (omega arith)
+octets_of-few _ h = refl
 
 -- what is left of a line's octets after those that were given before
 pub octets_since : (framer : Framing) (items : List Item) (given octets : List ℕ) (tail : List Bool) → AreOctets octets → framing.Stands framer items (given ++ octets)

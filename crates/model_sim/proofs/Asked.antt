@@ -35,10 +35,7 @@ each c h =
 -- what is read as a number is in its range
 in_range : (a b c d : Bool) (v n : ℕ) (y : Result ℕ FaultKind) → (y ≡ Ok n → ⊥) → cond (a && b && c && d) (Ok v) y ≡ Ok n → (c ≡ true) × (d ≡ true) × (v ≡ n)
 in_range true true true true v n y never e = (refl, refl, cc)
-in_range true true true false v n y never e = absurd (never e)
-in_range true true false d v n y never e = absurd (never e)
-in_range true false c d v n y never e = absurd (never e)
-in_range false b c d v n y never e = absurd (never e)
+in_range _ _ _ _ v n y never e = absurd (never e)
 
 read_in_range : (low high : ℕ) (word : List ℕ) (n : ℕ) → number low high word ≡ Ok n → Within low high n
 read_in_range low high word n e =

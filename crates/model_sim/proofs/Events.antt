@@ -256,19 +256,9 @@ card_begins piece kind config p e = go (configs.first_fault config) refl
     go (Some field) fault = stops e _ refl
 
 reading_begins : (piece : List ℕ) (r : Result line.Meaning FaultKind) (p : Played) → Begins r (after_reading piece r (on None None p))
-reading_begins piece (Err kind) p = stops refl _ refl
 reading_begins piece (Ok line.skip) p = waits refl refl
 reading_begins piece (Ok (line.card kind config)) p = card_begins piece kind config (on None None p) refl
-reading_begins piece (Ok (line.rx number octets)) p = stops refl _ refl
-reading_begins piece (Ok (line.into number octets)) p = stops refl _ refl
-reading_begins piece (Ok (line.failed number fault)) p = stops refl _ refl
-reading_begins piece (Ok (line.next number)) p = stops refl _ refl
-reading_begins piece (Ok (line.pull number count)) p = stops refl _ refl
-reading_begins piece (Ok (line.wait milliseconds)) p = stops refl _ refl
-reading_begins piece (Ok (line.timers t200 t203 t201)) p = stops refl _ refl
-reading_begins piece (Ok line.stored) p = stops refl _ refl
-reading_begins piece (Ok (line.counters number)) p = stops refl _ refl
-reading_begins piece (Ok (line.ask number tei what octets)) p = stops refl _ refl
+reading_begins piece _ p = stops refl _ refl
 
 line_begins : (piece : List ℕ) (fault : Option Fault) (p : Played) → Begins (read (line_in piece)) (one_more (on None fault p) piece)
 line_begins piece (Some fault) p = stops refl fault refl

@@ -1,34 +1,32 @@
 -- Hand-written answers for `receive`.
-use Rattle.lapd_sim.proofs.Vocabulary.{◌+◌, Ok, Err, sym, subst, take, take_all, get_or, ◌∙◌, octet, at, IsPut, IsStuck, output, puts_then, Scene, after_rx, with_event, scene, Holds}
-use Rattle.lapd_sim.proofs.Scenes.{rx_more, broken_rx}
+use Rattle.lapd_sim.proofs.Vocabulary.{◌≡◌, [], ◌∷◌, ◌++◌, ◌+◌, Ok, Err, ap, sym, subst, take, take_all, take_more, take-append-drop, drop, get_or, ◌∙◌, WriteFailed, IsStuck, output, after_rx, scene, Tells, Holds}
+use Rattle.lapd_sim.proofs.OneByOne.{tells_then, broken_then}
 use Rattle.lapd_sim.proofs.traffic.receive.Goals as goal
 
 pub returns-in-Err-clause-told : goal.returns-in-Err-clause-told
 returns-in-Err-clause-told g c = λ m h.
     let i = c.loop-octet.octet-index in
-    let s = after_rx c.args.line (take i c.args.octets.now) (scene m) in
+    let octets = c.args.octets.now in
     let before = c.loop-octet.invariant.1 m h in
-    let event = at c.args.line (octet (get_or c.args.octets.now i 0)) in
-    let more = rx_more c.args.line c.args.octets.now i (scene m) c.loop-octet-test.true in
-    broken_rx _ _ c.args.line c.args.octets.now (i + 1) (scene m)
-    (subst (λ (z : Scene). IsStuck (output (g.T.Target.taken c.args.target.now) c.args.page.now.items) (output (g.T.Target.taken c.octet.new.target) c.octet.new.page.items) z.text) (sym more)
-    (puts_then (Err c.in-Err.field-0) _ _ _ s.text (with_event (scene s.setup) event).text before.0 (c.in-Err.ensures.told s.setup before.1)))
+    let split : (take i octets ++ get_or octets i 0 ∷ []) ++ drop (i + 1) octets ≡ octets =
+    ap (λ front. front ++ drop (i + 1) octets) (sym (take_more octets i 0 c.loop-octet-test.true)) ∙ take-append-drop (i + 1) octets in
+    subst (λ l. IsStuck (output (g.T.Target.taken c.args.target.now) c.args.page.now.items) (output (g.T.Target.taken c.octet.new.target) c.octet.new.page.items) (after_rx c.args.line l (scene m)).text) split
+    (broken_then _ _ c.args.line (take i octets ++ get_or octets i 0 ∷ []) (drop (i + 1) octets) m
+    (tells_then (Err c.in-Err.field-0) _ _ _ (Holds c.octet.new.self) c.args.line (take i octets) (get_or octets i 0 ∷ []) m before.0 (c.in-Err.ensures.told _ before.1)))
 
 pub loop-octet-preserved : goal.loop-octet-preserved
 loop-octet-preserved g c = (
   c.in_default.ensures.plan ∙ c.loop-octet.invariant.0,
   λ m h.
       let i = c.loop-octet.octet-index in
-      let s = after_rx c.args.line (take i c.args.octets.now) (scene m) in
+      let octets = c.args.octets.now in
       let before = c.loop-octet.invariant.1 m h in
-      let event = at c.args.line (octet (get_or c.args.octets.now i 0)) in
-      let told = c.in_default.ensures.told s.setup before.1 in
-      let more = rx_more c.args.line c.args.octets.now i (scene m) c.loop-octet-test.true in
-      subst (λ (z : Scene). IsPut (output (g.T.Target.taken c.args.target.now) c.args.page.now.items) (output (g.T.Target.taken c.octet.new.target) c.octet.new.page.items) z.text × Holds c.octet.new.self z.setup) (sym more)
-      (puts_then (Ok tt) _ _ _ s.text (with_event (scene s.setup) event).text before.0 told.0, told.1),
+      subst (λ l. Tells {E = WriteFailed} (Ok tt) (output (g.T.Target.taken c.args.target.now) c.args.page.now.items) (output (g.T.Target.taken c.octet.new.target) c.octet.new.page.items) (Holds c.octet.new.self) (after_rx c.args.line l (scene m)))
+      (sym (take_more octets i 0 c.loop-octet-test.true))
+      (tells_then (Ok tt) _ _ _ (Holds c.octet.new.self) c.args.line (take i octets) (get_or octets i 0 ∷ []) m before.0 (c.in_default.ensures.told _ before.1)),
 )
 
 pub returns-clause-told : goal.returns-clause-told
 returns-clause-told g c = λ m h.
-    subst (λ l. IsPut (output (g.T.Target.taken c.args.target.now) c.args.page.now.items) (output (g.T.Target.taken c.loop-octet.target) c.loop-octet.page.items) (after_rx c.args.line l (scene m)).text × Holds c.loop-octet.exchange (after_rx c.args.line l (scene m)).setup)
+    subst (λ l. Tells {E = WriteFailed} (Ok tt) (output (g.T.Target.taken c.args.target.now) c.args.page.now.items) (output (g.T.Target.taken c.loop-octet.target) c.loop-octet.page.items) (Holds c.loop-octet.exchange) (after_rx c.args.line l (scene m)))
     (take_all _ _ c.loop-octet-test.false) (c.loop-octet.invariant.1 m h)

@@ -1,6 +1,7 @@
 -- Hand-written answers for `send`.
-use Rattle.lapd_sim.proofs.Vocabulary.{◌++◌, length, Ok, Err, with_frame, Holds, output}
-use Rattle.lapd_sim.proofs.Terminals.{gives_loaded, gives_whole, gives_rest, sent_told, sent_after, sent_broken, on_ok}
+use Rattle.lapd_sim.proofs.Vocabulary.{◌++◌, ◌∙◌, length, Ok, Err, with_frame, Holds, Sends, output}
+use Rattle.lapd_sim.proofs.Terminals.{gives_loaded, gives_whole, gives_rest, sent, sent_broken, on_ok}
+use Rattle.lapd_transcript.specs.Terminal.{Terminal}
 use Rattle.lapd_transcript.proofs.Sending.{items_tail, frame_tail, none_left, rest_stays}
 use Rattle.lapd_sim.proofs.traffic.send.Goals as goal
 
@@ -16,38 +17,28 @@ returns-in-Err-give-clause-told g c = λ m t holds s.
     sent_broken c.in-Err-give.field-0 (output (g.T.Target.taken c.args.target.now) c.args.page.now.items) (output (g.T.Target.taken c.give-2.new.target) c.give-2.new.page.items) (Holds c.args.exchange.now) (Holds c.give-2.new.exchange) c.args.line c.args.frame.now t s.octets c.give-2.new.terminal.framer (with_frame c.args.frame.now t.items) s.given
     (frame_tail c.args.frame.now t) gives m holds
 
-pub returns-then-has_rest-clause-told : goal.returns-then-has_rest-clause-told
-returns-then-has_rest-clause-told g c = λ m t holds s.
+pub returns-then-has_rest : goal.returns-then-has_rest
+returns-then-has_rest g c =
+    let few = c.in_default-give.ensures.rest in
+    let all = λ (t : Terminal) (s : Sends c.args.terminal.now t).
     let first = gives_loaded (Ok c.in_default-give.field-0) c.in_default.field-0 (output (g.T.Target.taken c.args.target.now) c.args.page.now.items) (output (g.T.Target.taken c.give.new.target) c.give.new.page.items) (output (g.T.Target.taken c.give-2.new.target) c.give-2.new.page.items) (Holds c.args.exchange.now) (Holds c.give.new.exchange) (Holds c.give-2.new.exchange) c.args.line c.args.frame.now t s.octets c.give.new.terminal.framer c.load.new.self.framer c.give-2.new.terminal.framer
     (c.in_default.ensures.told t.items s.octets s.stands) c.load.ensures c.in_default-give.ensures.told in
-    let few = c.in_default-give.ensures.rest in
     let gives = gives_rest c.octet.result c.in_default-give.field-0 (output (g.T.Target.taken c.args.target.now) c.args.page.now.items) (output (g.T.Target.taken c.give-2.new.target) c.give-2.new.page.items) (output (g.T.Target.taken c.octet.new.target) c.octet.new.page.items) (Holds c.args.exchange.now) (Holds c.give-2.new.exchange) (Holds c.octet.new.self) c.args.line c.octet-octet.result c.args.frame.now t s.octets c.give-2.new.terminal.framer c.octet-octet.new.self.framer
     first (c.has_rest.ensures.0 c.if-has_rest.true) few c.octet-octet.type_inv c.octet-octet.ensures.stands c.octet.ensures.told in
     let after = rest_stays c.give-2.new.terminal.framer c.octet-octet.new.self.framer c.octet-octet.result (with_frame c.args.frame.now t.items) (s.octets ++ first.octets) first.stands few (c.octet-octet.ensures.stands (with_frame c.args.frame.now t.items) (s.octets ++ first.octets) first.stands) in
-    sent_told c.octet.result (output (g.T.Target.taken c.args.target.now) c.args.page.now.items) (output (g.T.Target.taken c.octet.new.target) c.octet.new.page.items) (Holds c.args.exchange.now) (Holds c.octet.new.self) c.args.line c.args.frame.now t s.octets c.octet-octet.new.self.framer s.given after gives m holds
+    sent c.octet.result (output (g.T.Target.taken c.args.target.now) c.args.page.now.items) (output (g.T.Target.taken c.octet.new.target) c.octet.new.page.items) (Holds c.args.exchange.now) (Holds c.octet.new.self) c.args.line c.args.frame.now t s.octets c.octet-octet.new.self s.given after gives in
+    record {
+      plan = c.octet.ensures.plan ∙ c.give-2.ensures.plan ∙ c.give.ensures.plan;
+      told = λ m t holds s. (all t s).0 m holds;
+      after = on_ok c.octet.result (λ t s. (all t s).1);
+    }
 
-pub returns-then-has_rest-clause-after : goal.returns-then-has_rest-clause-after
-returns-then-has_rest-clause-after g c = on_ok c.octet.result (λ t s.
-    let first = gives_loaded (Ok c.in_default-give.field-0) c.in_default.field-0 (output (g.T.Target.taken c.args.target.now) c.args.page.now.items) (output (g.T.Target.taken c.give.new.target) c.give.new.page.items) (output (g.T.Target.taken c.give-2.new.target) c.give-2.new.page.items) (Holds c.args.exchange.now) (Holds c.give.new.exchange) (Holds c.give-2.new.exchange) c.args.line c.args.frame.now t s.octets c.give.new.terminal.framer c.load.new.self.framer c.give-2.new.terminal.framer
-    (c.in_default.ensures.told t.items s.octets s.stands) c.load.ensures c.in_default-give.ensures.told in
-    let few = c.in_default-give.ensures.rest in
-    let gives = gives_rest c.octet.result c.in_default-give.field-0 (output (g.T.Target.taken c.args.target.now) c.args.page.now.items) (output (g.T.Target.taken c.give-2.new.target) c.give-2.new.page.items) (output (g.T.Target.taken c.octet.new.target) c.octet.new.page.items) (Holds c.args.exchange.now) (Holds c.give-2.new.exchange) (Holds c.octet.new.self) c.args.line c.octet-octet.result c.args.frame.now t s.octets c.give-2.new.terminal.framer c.octet-octet.new.self.framer
-    first (c.has_rest.ensures.0 c.if-has_rest.true) few c.octet-octet.type_inv c.octet-octet.ensures.stands c.octet.ensures.told in
-    let after = rest_stays c.give-2.new.terminal.framer c.octet-octet.new.self.framer c.octet-octet.result (with_frame c.args.frame.now t.items) (s.octets ++ first.octets) first.stands few (c.octet-octet.ensures.stands (with_frame c.args.frame.now t.items) (s.octets ++ first.octets) first.stands) in
-    sent_after c.octet.result (output (g.T.Target.taken c.args.target.now) c.args.page.now.items) (output (g.T.Target.taken c.octet.new.target) c.octet.new.page.items) (Holds c.args.exchange.now) (Holds c.octet.new.self) c.args.line c.args.frame.now t s.octets c.octet-octet.new.self s.given after gives)
-
-pub returns-clause-told : goal.returns-clause-told
-returns-clause-told g c = λ m t holds s.
-    let first = gives_loaded (Ok c.in_default-give.field-0) c.in_default.field-0 (output (g.T.Target.taken c.args.target.now) c.args.page.now.items) (output (g.T.Target.taken c.give.new.target) c.give.new.page.items) (output (g.T.Target.taken c.give-2.new.target) c.give-2.new.page.items) (Holds c.args.exchange.now) (Holds c.give.new.exchange) (Holds c.give-2.new.exchange) c.args.line c.args.frame.now t s.octets c.give.new.terminal.framer c.load.new.self.framer c.give-2.new.terminal.framer
-    (c.in_default.ensures.told t.items s.octets s.stands) c.load.ensures c.in_default-give.ensures.told in
+pub returns : goal.returns
+returns g c =
     let none = none_left c.has_rest.result (length c.give-2.new.terminal.framer.left) c.if-has_rest.false c.has_rest.ensures.1 in
-    sent_told (Ok c.in_default-give.field-0) (output (g.T.Target.taken c.args.target.now) c.args.page.now.items) (output (g.T.Target.taken c.give-2.new.target) c.give-2.new.page.items) (Holds c.args.exchange.now) (Holds c.give-2.new.exchange) c.args.line c.args.frame.now t s.octets c.give-2.new.terminal.framer s.given c.in_default-give.ensures.rest
-    (gives_whole (Ok c.in_default-give.field-0) (output (g.T.Target.taken c.args.target.now) c.args.page.now.items) (output (g.T.Target.taken c.give-2.new.target) c.give-2.new.page.items) (Holds c.args.exchange.now) (Holds c.give-2.new.exchange) c.args.line c.args.frame.now t s.octets c.give-2.new.terminal.framer none first) m holds
-
-pub returns-clause-after : goal.returns-clause-after
-returns-clause-after g c = λ t s.
+    let all = λ (t : Terminal) (s : Sends c.args.terminal.now t).
     let first = gives_loaded (Ok c.in_default-give.field-0) c.in_default.field-0 (output (g.T.Target.taken c.args.target.now) c.args.page.now.items) (output (g.T.Target.taken c.give.new.target) c.give.new.page.items) (output (g.T.Target.taken c.give-2.new.target) c.give-2.new.page.items) (Holds c.args.exchange.now) (Holds c.give.new.exchange) (Holds c.give-2.new.exchange) c.args.line c.args.frame.now t s.octets c.give.new.terminal.framer c.load.new.self.framer c.give-2.new.terminal.framer
     (c.in_default.ensures.told t.items s.octets s.stands) c.load.ensures c.in_default-give.ensures.told in
-    let none = none_left c.has_rest.result (length c.give-2.new.terminal.framer.left) c.if-has_rest.false c.has_rest.ensures.1 in
-    sent_after (Ok c.in_default-give.field-0) (output (g.T.Target.taken c.args.target.now) c.args.page.now.items) (output (g.T.Target.taken c.give-2.new.target) c.give-2.new.page.items) (Holds c.args.exchange.now) (Holds c.give-2.new.exchange) c.args.line c.args.frame.now t s.octets c.give-2.new.terminal s.given c.in_default-give.ensures.rest
-    (gives_whole (Ok c.in_default-give.field-0) (output (g.T.Target.taken c.args.target.now) c.args.page.now.items) (output (g.T.Target.taken c.give-2.new.target) c.give-2.new.page.items) (Holds c.args.exchange.now) (Holds c.give-2.new.exchange) c.args.line c.args.frame.now t s.octets c.give-2.new.terminal.framer none first)
+    sent (Ok c.in_default-give.field-0) (output (g.T.Target.taken c.args.target.now) c.args.page.now.items) (output (g.T.Target.taken c.give-2.new.target) c.give-2.new.page.items) (Holds c.args.exchange.now) (Holds c.give-2.new.exchange) c.args.line c.args.frame.now t s.octets c.give-2.new.terminal s.given c.in_default-give.ensures.rest
+    (gives_whole (Ok c.in_default-give.field-0) (output (g.T.Target.taken c.args.target.now) c.args.page.now.items) (output (g.T.Target.taken c.give-2.new.target) c.give-2.new.page.items) (Holds c.args.exchange.now) (Holds c.give-2.new.exchange) c.args.line c.args.frame.now t s.octets c.give-2.new.terminal.framer none first) in
+    record { plan = c.give-2.ensures.plan ∙ c.give.ensures.plan; told = λ m t holds s. (all t s).0 m holds; after = λ t s. (all t s).1 }

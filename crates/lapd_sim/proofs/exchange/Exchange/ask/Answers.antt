@@ -1,20 +1,12 @@
 -- Hand-written answers for `Exchange::ask`.
-use Rattle.lapd_sim.proofs.Vocabulary.{◌∙◌, sym, ap, subst, AreInRange, moment_counted, moment_of, at, request_of}
+use Rattle.lapd_sim.proofs.Vocabulary.{◌∙◌, ap, moment_counted, moment_of, at, request_of}
 use Rattle.model_line.specs.Event as line_event
 use Rattle.lapd_sim.proofs.Exchanges.{past_on}
 use Rattle.lapd_sim.proofs.Refusing.{refused-told, refused-clock}
 use Rattle.lapd_sim.proofs.exchange.Exchange.ask.Goals as goal
 
-pub invariant_of-self : goal.invariant_of-self
-invariant_of-self g c = record {
-  in_range = c.args.self.now.in_range;
-  same_lines = c.request.ensures.after.lines ∙ c.args.self.now.same_lines;
-  same_kind = c.request.ensures.after.kind ∙ c.args.self.now.same_kind;
-  past = past_on c.args.self.now.plan.config (at c.args.line (line_event.request (request_of c.args.request))) c.args.self.now.board c.request.new.self c.request.ensures.after c.args.self.now.past;
-  clock_lines = c.carry_out.ensures.lines ∙ c.args.self.now.clock_lines;
-  lengths = subst AreInRange (sym c.carry_out.ensures.lengths) c.args.self.now.lengths;
-  in_time = c.args.self.now.in_time;
-}
+pub invariant_of-self-clause-past : goal.invariant_of-self-clause-past
+invariant_of-self-clause-past g c = past_on c.args.self.now.plan.config (at c.args.line (line_event.request (request_of c.args.request))) c.args.self.now.board c.request.new.self c.request.ensures.after c.args.self.now.past
 
 pub invariant_of-self-in-Err-1 : goal.invariant_of-self-in-Err-1
 invariant_of-self-in-Err-1 g c = record {

@@ -1,21 +1,13 @@
 -- Hand-written answers for `Exchange::frame`.
-use Rattle.lapd_sim.proofs.Vocabulary.{◌<◌, ◌∙◌, refl, sym, subst, arith, AreInRange, are-octets, report_told, Config, told, orders_in, comes, answer_text, frame_at_once, Frames, scene, Holds}
+use Rattle.lapd_sim.proofs.Vocabulary.{◌<◌, refl, sym, subst, arith, are-octets, report_told, Config, told, orders_in, comes, answer_text, frame_at_once, Frames, scene, Holds}
 use Rattle.lapd_sim.proofs.Boards.{exchange_leads, on_frames, holds_once, told_as}
 use Rattle.lapd_sim.proofs.Exchanges.{past_by}
 use Rattle.lapd_sim.proofs.exchange.Exchange.frame.Goals as goal
 
-pub invariant_of-self : goal.invariant_of-self
-invariant_of-self g c =
+pub invariant_of-self-clause-past : goal.invariant_of-self-clause-past
+invariant_of-self-clause-past g c =
     let leads = exchange_leads c.args.self.now c.in-Frames.card c.in-Frames.is (comes c.args.line c.args.octets.now) c.frame-report.new.self (λ m there. (there, are-octets c.args.octets.now (λ i. omega (arith, c.type_inv.octets i)))) c.requires.line c.frame-report.ensures.after in
-    record {
-      in_range = c.args.self.now.in_range;
-      same_lines = leads.lines ∙ c.args.self.now.same_lines;
-      same_kind = leads.kind ∙ c.args.self.now.same_kind;
-      past = past_by c.args.self.now.plan.config (comes c.args.line c.args.octets.now) c.args.self.now.board (Frames c.frame-report.new.self) leads c.args.self.now.past;
-      clock_lines = c.carry_out.ensures.lines ∙ c.args.self.now.clock_lines;
-      lengths = subst AreInRange (sym c.carry_out.ensures.lengths) c.args.self.now.lengths;
-      in_time = c.args.self.now.in_time;
-    }
+    past_by c.args.self.now.plan.config (comes c.args.line c.args.octets.now) c.args.self.now.board (Frames c.frame-report.new.self) leads c.args.self.now.past
 
 pub returns-clause-told : goal.returns-clause-told
 returns-clause-told g c = λ m h.

@@ -1,34 +1,18 @@
 -- Hand-written answers for `Exchange::next`.
-use Rattle.lapd_sim.proofs.Vocabulary.{◌<◌, ◌∙◌, [], fold, refl, sym, ap, subst, AreInRange, IsNext, Config, taken, line_at, goes, ordered, orders_of, next_at_once, Frames, scene, Holds}
+use Rattle.lapd_sim.proofs.Vocabulary.{◌<◌, ◌∙◌, [], fold, refl, sym, ap, subst, IsNext, Config, taken, line_at, goes, ordered, orders_of, next_at_once, Frames, scene, Holds}
 use Rattle.lapd_sim.proofs.Boards.{exchange_leads, on_frames, room_is, fits_is, holds_once, taken_is, orders_are, none_is}
 use Rattle.lapd_sim.proofs.Exchanges.{past_by}
 use Rattle.lapd_sim.proofs.exchange.Exchange.next.Goals as goal
 
-pub invariant_of-self : goal.invariant_of-self
-invariant_of-self c =
+pub invariant_of-self-clause-past : goal.invariant_of-self-clause-past
+invariant_of-self-clause-past c =
     let leads = exchange_leads c.args.self.now c.in-Frames.card c.in-Frames.is (goes c.args.line) c.next_frame.new.self (λ m there. (there, tt)) c.requires.line c.in-Ok-Some.ensures.after in
-    record {
-      in_range = c.args.self.now.in_range;
-      same_lines = leads.lines ∙ c.args.self.now.same_lines;
-      same_kind = leads.kind ∙ c.args.self.now.same_kind;
-      past = past_by c.args.self.now.plan.config (goes c.args.line) c.args.self.now.board (Frames c.next_frame.new.self) leads c.args.self.now.past;
-      clock_lines = c.order.ensures.lines ∙ c.args.self.now.clock_lines;
-      lengths = subst AreInRange (sym c.order.ensures.lengths) c.args.self.now.lengths;
-      in_time = c.args.self.now.in_time;
-    }
+    past_by c.args.self.now.plan.config (goes c.args.line) c.args.self.now.board (Frames c.next_frame.new.self) leads c.args.self.now.past
 
-pub invariant_of-self-in-Ok-None : goal.invariant_of-self-in-Ok-None
-invariant_of-self-in-Ok-None c =
+pub invariant_of-self-in-Ok-None-clause-past : goal.invariant_of-self-in-Ok-None-clause-past
+invariant_of-self-in-Ok-None-clause-past c =
     let leads = exchange_leads c.args.self.now c.in-Frames.card c.in-Frames.is (goes c.args.line) c.next_frame.new.self (λ m there. (there, tt)) c.requires.line c.in-Ok-None.ensures.after in
-    record {
-      in_range = c.args.self.now.in_range;
-      same_lines = leads.lines ∙ c.args.self.now.same_lines;
-      same_kind = leads.kind ∙ c.args.self.now.same_kind;
-      past = past_by c.args.self.now.plan.config (goes c.args.line) c.args.self.now.board (Frames c.next_frame.new.self) leads c.args.self.now.past;
-      clock_lines = c.args.self.now.clock_lines;
-      lengths = c.args.self.now.lengths;
-      in_time = c.args.self.now.in_time;
-    }
+    past_by c.args.self.now.plan.config (goes c.args.line) c.args.self.now.board (Frames c.next_frame.new.self) leads c.args.self.now.past
 
 -- there is room
 pub unreachable-requires : goal.unreachable-requires

@@ -1,7 +1,7 @@
 -- The invariants of the loops of `Player::play`.
 use Rattle.lapd_sim.proofs.Vocabulary.{◌≡◌, ◌-◌, ◌^◌, ℕ, List, Option, AreLeft, Has, output, IsPut}
 use Rattle.model_sim.specs.Setup as machine
-use Rattle.lapd_sim.proofs.Playing.{IsPlayed}
+use Rattle.lapd_sim.proofs.Playing.{HasPlayed}
 use Rattle.lapd_sim.proofs.player.Player.play.Given as goal
 
 -- no read has failed; some text has been put; there is a setup that is stood for; and these lines of the text that was
@@ -12,7 +12,7 @@ invariant-loop-fault g l =
     × ((text : List ℕ) × IsPut (output (g.T.Target.taken l.fn.target) l.fn.page.items) (output (g.T.Target.taken l.target) l.page.items) text)
     × ((m : Option machine.Setup) × Has l.self.setup m)
     × ((text : List ℕ) → AreLeft l.fn.lines (g.S.Source.remaining l.fn.source) text
-    → IsPlayed l.lines l.self.setup (g.S.Source.remaining l.source) text (output (g.T.Target.taken l.fn.target) l.fn.page.items) (output (g.T.Target.taken l.target) l.page.items))
+    → HasPlayed l.lines l.self.setup (g.S.Source.remaining l.source) text (output (g.T.Target.taken l.fn.target) l.fn.page.items) (output (g.T.Target.taken l.target) l.page.items))
 
 -- the octets that a script can still have
 abbrev pub decreases-loop-fault : goal.decreases-loop-fault

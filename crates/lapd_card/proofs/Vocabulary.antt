@@ -13,7 +13,7 @@ pub use Rattle.std.specs.Prelude.{OnOk, is_err}
 pub use Rattle.lapd_card.specs.Card.{Held, HeldOf, line_count}
 pub use Rattle.lapd_card.specs.Counted.{counters_in, frame_counters_in}
 pub use Rattle.lapd_card.specs.FrameCard.{frame_limit, frame_limit_in, room_for_frames}
-pub use Rattle.lapd_card.specs.FrameDrive.{MissesReply, Taken, after_happenings, all_of, happening_of}
+pub use Rattle.lapd_card.specs.FrameDrive.{MissesAt, MissesReply, Taken, after_happenings, all_of, happening_of}
 pub use Rattle.lapd_card.specs.Kept.{kept_of}
 pub use Rattle.lapd_card.specs.Lines.{AreFresh, IsFit, IsFresh, LineKind, Stand, of_frames, of_octets, owned, told_at, told_if_at, told_of}
 pub use Rattle.lapd_card.specs.Reply.{answer_of_result}

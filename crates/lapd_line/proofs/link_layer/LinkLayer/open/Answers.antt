@@ -10,9 +10,6 @@ open-requires-clause-within g c = (coming c.requires.changing c.requires.gained)
 pub open-requires-clause-tei : goal.open-requires-clause-tei
 open-requires-clause-tei g c = (coming c.requires.changing c.requires.gained).low
 
-pub open-requires-clause-range : goal.open-requires-clause-range
-open-requires-clause-range g c = (coming c.requires.changing c.requires.gained).range
-
 pub open-requires-clause-down : goal.open-requires-clause-down
 open-requires-clause-down g c =
     let k = coming c.requires.changing c.requires.gained in
@@ -26,9 +23,6 @@ open-requires-2-clause-within g c =
 
 pub open-requires-2-clause-tei : goal.open-requires-2-clause-tei
 open-requires-2-clause-tei g c = (coming c.requires.changing c.requires.gained).low
-
-pub open-requires-2-clause-range : goal.open-requires-2-clause-range
-open-requires-2-clause-range g c = (coming c.requires.changing c.requires.gained).range
 
 pub open-requires-2-clause-down : goal.open-requires-2-clause-down
 open-requires-2-clause-down g c =

@@ -23,15 +23,10 @@ pub contents-requires : goal.contents-requires
 contents-requires g c =
     given_used c.args.self.now (g.S.Shelf.store c.args.shelf.now) c.args.number c.offer.new.self c.in-Some.offer c.requires.within c.requires.stands c.in-Some.ensures
 
-pub load-requires-clause-frame : goal.load-requires-clause-frame
-load-requires-clause-frame g c =
-    (loads c.args.self.now (g.S.Shelf.store c.args.shelf.now) c.args.number c.offer.new.self c.in-Some.offer c.address-address.result c.contents.result.now c.requires.within c.requires.stands c.in-Some.ensures
-    c.address-address.ensures c.contents.ensures).frame
-
-pub load-requires-clause-info : goal.load-requires-clause-info
-load-requires-clause-info g c =
+pub load-requires : goal.load-requires
+load-requires g c =
     let l = loads c.args.self.now (g.S.Shelf.store c.args.shelf.now) c.args.number c.offer.new.self c.in-Some.offer c.address-address.result c.contents.result.now c.requires.within c.requires.stands c.in-Some.ensures c.address-address.ensures c.contents.ensures in
-    omega (arith, l.size, c.requires.room)
+    record { free = c.requires.free; frame = l.frame; info = omega (arith, l.size, c.requires.room) }
 
 pub returns : goal.returns
 returns g c =

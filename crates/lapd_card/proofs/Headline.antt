@@ -1,5 +1,5 @@
 -- A law of the machine holds of the events of a card's list, and of every front of it.
-use Rattle.lapd_card.proofs.Vocabulary.{ℕ, ◌<◌, List, [], ◌∷◌, take, refl, sym, subst, All-nil, All-head, All-tail, All-append, All-map, All-take, All-weaker, All, Config, IsInRange, Card, fresh, Event, event_of, IsAtLine, AreAtLines, after_all, IsSound, reached-sound, Happening, events_at, events_of, spelled, AreIdle, IsIdle, all_at, config_stays, Store, HeldOf, Held, line_count, LineKind, StandsOf, Stands, happening_of, all_of}
+use Rattle.lapd_card.proofs.Vocabulary.{ArePriced, AreDropsWithoutCost, AreDropsWithoutEffect, frames_amortised, lines_isolated, frames_linear, pool_never_full, deliveries_numbered, stored_within_limit, text_goes_on, frames_by_event, drops_cost_nothing, drops_change_nothing, IsWithinLimit, IsAmortised, IsAmortisedFromZero, HasSixOctetsAFrame, HasSevenOctetsAReject, IsLinear, IsIsolated, IsNeverFull, IsNumbered, IsNumberedFromZero, IsTextual, ℕ, ◌<◌, List, [], ◌∷◌, take, refl, sym, subst, All-nil, All-head, All-tail, All-append, All-map, All-take, All-weaker, All, Config, IsInRange, Card, fresh, Event, event_of, IsAtLine, AreAtLines, after_all, IsSound, reached-sound, Happening, events_at, events_of, spelled, AreIdle, IsIdle, all_at, config_stays, Store, HeldOf, Held, line_count, LineKind, StandsOf, Stands, happening_of, all_of}
 use Rattle.model_card.specs.declared.events.Event as rust
 use Rattle.model_card.specs.Happening as happenings
 use Rattle.lapd_card.specs.declared.happenings.Happening as rust_happening
@@ -32,18 +32,49 @@ happen_at_lines store card hs within m s =
     All-map (λ h. happenings.line_of h < m.config.lines) happening_of hs
     (All-weaker (λ h. frames.line_of h < line_count card) (λ h. frames.line_of h < m.config.lines) (λ h below. subst (λ c. frames.line_of h < c.lines) (sym s.config) below) hs within)
 
--- A law of every sound card and list of events holds of those of a list,
-module _ {L S : Type 0} {k : LineKind L} (store : S → Store) (card : HeldOf L S) (list : Card → List Event) (within : (m : Card) → StandsOf k store card m → AreAtLines m (list m)) where
-  pub whole_list : (P : Card → List Event → Type 0) → ((m : Card) (es : List Event) → IsSound m → AreAtLines m es → P m es) → (m : Card) → StandsOf k store card m → P m (list m)
-  whole_list P law m s = law m (list m) (reached-sound m s.reached) (within m s)
+-- The laws hold of the events of a list, of each front of it, and of each front of that of a card as it begins.
+pub record Laws {L S : Type 0} (k : LineKind L) (store : S → Store) (card : HeldOf L S) (list : Card → List Event) : Type 0 where
+  pub by_event : (m : Card) → StandsOf k store card m → ArePriced m (list m)
+  pub drops : (m : Card) → StandsOf k store card m → AreDropsWithoutCost m (list m)
+  pub without_effect : (m : Card) → StandsOf k store card m → AreDropsWithoutEffect m (list m)
+  pub within_limit : (m : Card) (count : ℕ) → StandsOf k store card m → IsWithinLimit m (take count (list m))
+  pub amortised : (m : Card) (count : ℕ) → StandsOf k store card m → IsAmortised m (take count (list m))
+  pub amortised_from_zero : (count : ℕ) → StandsOf k store card (fresh card.config) → IsAmortisedFromZero card.config (take count (list (fresh card.config)))
+  pub six_octets_a_frame : (count : ℕ) → StandsOf k store card (fresh card.config) → HasSixOctetsAFrame card.config (take count (list (fresh card.config)))
+  pub seven_octets_a_reject : (count : ℕ) → StandsOf k store card (fresh card.config) → HasSevenOctetsAReject card.config (take count (list (fresh card.config)))
+  pub linear : (count : ℕ) → StandsOf k store card (fresh card.config) → IsLinear card.config (take count (list (fresh card.config)))
+  pub isolated : (count : ℕ) → StandsOf k store card (fresh card.config) → IsIsolated card.config (take count (list (fresh card.config)))
+  pub never_full : (count : ℕ) → StandsOf k store card (fresh card.config) → IsNeverFull card.config (take count (list (fresh card.config)))
+  pub numbered : (m : Card) (count : ℕ) → StandsOf k store card m → IsNumbered m (take count (list m))
+  pub from_zero : (count : ℕ) → StandsOf k store card (fresh card.config) → IsNumberedFromZero card.config (take count (list (fresh card.config)))
+  pub textual : (m : Card) (count : ℕ) → StandsOf k store card m → IsTextual m (take count (list m))
 
-  -- of each front,
-  pub each_front : (P : Card → List Event → Type 0) → ((m : Card) (es : List Event) → IsSound m → AreAtLines m es → P m es) → (m : Card) (count : ℕ) → StandsOf k store card m → P m (take count (list m))
-  each_front P law m count s = law m (take count (list m)) (reached-sound m s.reached) (All-take (IsAtLine m) count (list m) (within m s))
+pub laws : {L S : Type 0} {k : LineKind L} (store : S → Store) (card : HeldOf L S) (list : Card → List Event) → ((m : Card) → StandsOf k store card m → AreAtLines m (list m)) → Laws k store card list
+laws {k = k} store card list within = record {
+  by_event = whole ArePriced frames_by_event.in_runs;
+  drops = whole AreDropsWithoutCost drops_cost_nothing;
+  without_effect = whole AreDropsWithoutEffect (λ m es s within. drops_change_nothing m es);
+  within_limit = front IsWithinLimit stored_within_limit.always;
+  amortised = front IsAmortised frames_amortised;
+  amortised_from_zero = first IsAmortisedFromZero frames_linear.amortised;
+  six_octets_a_frame = first HasSixOctetsAFrame frames_linear.frames;
+  seven_octets_a_reject = first HasSevenOctetsAReject frames_linear.rejects;
+  linear = first IsLinear frames_linear.linear;
+  isolated = first IsIsolated lines_isolated;
+  never_full = first IsNeverFull pool_never_full;
+  numbered = front IsNumbered deliveries_numbered.numbered;
+  from_zero = first IsNumberedFromZero deliveries_numbered.from_zero;
+  textual = front IsTextual text_goes_on;
+}
+  where
+    whole : (P : Card → List Event → Type 0) → ((m : Card) (es : List Event) → IsSound m → AreAtLines m es → P m es) → (m : Card) → StandsOf k store card m → P m (list m)
+    whole P law m s = law m (list m) (reached-sound m s.reached) (within m s)
 
-  -- and one of a card as it begins of each front there.
-  pub fresh_front : (P : Config → List Event → Type 0) → ((c : Config) (es : List Event) → IsInRange c → AreAtLines (fresh c) es → P c es) → (count : ℕ) → StandsOf k store card (fresh card.config) → P card.config (take count (list (fresh card.config)))
-  fresh_front P law count s = law card.config (take count (list (fresh card.config))) s.reached.config (All-take (IsAtLine (fresh card.config)) count (list (fresh card.config)) (within (fresh card.config) s))
+    front : (P : Card → List Event → Type 0) → ((m : Card) (es : List Event) → IsSound m → AreAtLines m es → P m es) → (m : Card) (count : ℕ) → StandsOf k store card m → P m (take count (list m))
+    front P law m count s = law m (take count (list m)) (reached-sound m s.reached) (All-take (IsAtLine m) count (list m) (within m s))
+
+    first : (P : Config → List Event → Type 0) → ((c : Config) (es : List Event) → IsInRange c → AreAtLines (fresh c) es → P c es) → (count : ℕ) → StandsOf k store card (fresh card.config) → P card.config (take count (list (fresh card.config)))
+    first P law count s = law card.config (take count (list (fresh card.config))) s.reached.config (All-take (IsAtLine (fresh card.config)) count (list (fresh card.config)) (within (fresh card.config) s))
 
 -- a law of every sound card and line holds of a line of the card
 pub at_line : {L S : Type 0} {k : LineKind L} (store : S → Store) (card : HeldOf L S) (line : ℕ) → line < line_count card → (P : Card → Type 0) → ((m : Card) → IsSound m → line < m.config.lines → P m) → (m : Card) → StandsOf k store card m → P m

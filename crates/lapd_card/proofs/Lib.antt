@@ -4,7 +4,6 @@ pub mod OneLine
 pub mod OneEvent
 pub mod Begins
 pub mod Headline
-pub mod AnswerLaws
 pub mod Amounts
 pub mod OneHappening
 pub mod Counting

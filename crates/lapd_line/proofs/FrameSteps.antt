@@ -19,10 +19,6 @@ module _ (old : FrameLine) {s : Store} {e : LinkLayer} {t : Store} {h : Option s
   pub served : Serves (aim_of_event (config_of old) (Some heard)) (octets_of (Some heard)) old.layer s e t o
   served = subst (λ x. Serves (aim_of_event (config_of old) x) (octets_of x) old.layer s e t o) is serves
 
-  pub heard_told : (r : Report) → report_told r ≡ told_in (octets_of h) o → (others : List Owned) (m : machine.Line) → Stands old s others m
-      → report_told r ≡ (of_heard (config_of old) heard m).told
-  heard_told r reported others m st = reported ∙ ap (λ x. told_in (octets_of x) o) is ∙ served.told others m st.layer
-
 -- a frame that leaves the line idle
 pub frame_leads : {old : FrameLine} {s : Store} {e : LinkLayer} {t : Store} {h : Option stream.Event} {o : BareReport} (octets : List ℕ) → AreOctets octets
     → h ≡ Some (came (config_of old).n201 octets) → Serves (aim_of_event (config_of old) h) (octets_of h) old.layer s e t o

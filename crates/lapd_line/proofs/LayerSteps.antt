@@ -115,11 +115,6 @@ few_places e s others m st = omega (arith, ap (λ t. length t.places) st.managem
 pub numbered : (e : LinkLayer) (s : Store) (tei place : ℕ) {result number : ℕ} → Standing e s → IsAt e.teis.places place tei → (place ≤ 8 → result ≡ number) → result ≡ number
 numbered e s tei place (others, m, st) at h = h (omega (arith, at-within e.teis.places place tei at, few_places e s others m st))
 
--- and has its bit among those that are awake
-pub low_number : (e : LinkLayer) (s : Store) (service : Service) (tei place : ℕ) {number : ℕ} → Standing e s → IsAt e.teis.places place tei → (place ≤ 8 → number ≡ link_number place service) → number < 32
-low_number e s service tei place (others, m, st) at h =
-    omega (arith, numbered e s tei place (others, m, st) at h, (named e s others m service tei place st at).few, (ranges_of e.config st.range).terminals.most)
-
 -- for calls on its links
 pub links_standing : {e : LinkLayer} {s : Store} → Standing e s → (c : Config) × (others : List Owned) × (ms : List machine.Link) × LinksStand c e.links s others ms
 links_standing {e} {s} (others, m, st) = (e.config, beside_links e m others, m.links, links_part e s others m st)

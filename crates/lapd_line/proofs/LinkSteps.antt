@@ -123,14 +123,6 @@ opened_terms old c service tei k n200 is_k is_n200 queue control =
     ∙ ap (λ x. record old { service = service; tei = tei; k = window c service; n200 = c.n200; n201 = c.n201; queue = c.queue; control = x }) control
 
 -- what holds of a result, by what holds of another
-pub if_err : {A E : Type 0} {P Q : E → Type 0} (r : Result A E) → ((e : E) → P e → Q e) → IfErr r P → IfErr r Q
-if_err (Ok a) f h = h
-if_err (Err e) f h = f e h
-
-pub on_err : {A E P Q : Type 0} (r : Result A E) → (P → Q) → OnErr r P → OnErr r Q
-on_err (Ok a) f h = h
-on_err (Err e) f h = f h
-
 pub on_ok : {A E P Q : Type 0} (r : Result A E) → (P → Q) → OnOk r P → OnOk r Q
 on_ok (Ok a) f h = f h
 on_ok (Err e) f h = h
@@ -138,7 +130,3 @@ on_ok (Err e) f h = h
 pub both_ok : {A E Q : Type 0} {P R : A → Type 0} (r : Result A E) → ((a : A) → Q → P a → R a) → OnOk r Q → IfOk r P → IfOk r R
 both_ok (Ok a) f q h = f a q h
 both_ok (Err e) f q h = h
-
--- a link that is as it was leaves all as they were
-pub put_same : (links : List Link) (number : ℕ) (x : Link) → x ≡ get_or links number x → set links number x ≡ links
-put_same links number x is = ap (set links number) is ∙ set-get_or links number x

@@ -10,7 +10,8 @@ use Rattle.lapd_line.specs.declared.line.Line.{Line}
 use Rattle.lapd_line.specs.LinkLayer as layer
 use Rattle.lapd_line.specs.Stands.{Stands}
 use Rattle.lapd_line.proofs.LayerRequests.{establish_rows, release_rows, data_rows, set_busy_rows, clear_busy_rows}
-use Rattle.lapd_line.proofs.LinkSteps.{if_err, on_ok}
+use Rattle.std.proofs.lemmas.Result.{IfErr-weaker}
+use Rattle.lapd_line.proofs.LinkSteps.{on_ok}
 use Rattle.lapd_line.proofs.LineSteps.{with_layer}
 
 -- a request that is this one is refused, or granted, as this one
@@ -18,7 +19,7 @@ module _ {X : Type 0} (e : LinkLayer) (s : Store) (full : Bool) {r this : Reques
     (same : (m : machine.Line) → refusal e.config full this m ≡ f m) (result : Result X Refusal) where
   pub refused_as : IfErr result (λ why. (others : List Owned) (m : machine.Line) → layer.Stands e s others m → f m ≡ Some why)
       → IfErr result (λ why. (others : List Owned) (m : machine.Line) → layer.Stands e s others m → refusal e.config full r m ≡ Some why)
-  refused_as h = if_err result (λ why k. λ others m st. ap (λ x. refusal e.config full x m) is ∙ same m ∙ k others m st) h
+  refused_as h = IfErr-weaker result _ _ (λ why k. λ others m st. ap (λ x. refusal e.config full x m) is ∙ same m ∙ k others m st) h
 
   pub granted_as : OnOk result ((others : List Owned) (m : machine.Line) → layer.Stands e s others m → f m ≡ None)
       → OnOk result ((others : List Owned) (m : machine.Line) → layer.Stands e s others m → refusal e.config full r m ≡ None)

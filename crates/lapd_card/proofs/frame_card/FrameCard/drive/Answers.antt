@@ -1,10 +1,10 @@
 -- Hand-written answers for `FrameCard::drive`.
-use Rattle.lapd_card.proofs.Vocabulary.{rules, [], ◌∷◌, ◌++◌, refl, sym, ap, subst, arith, ◌∙◌, take, get_or, take_all, length-map, slice_get-get_or, Comes, happening_of, all_of, Taken, MissesReply, after_happenings, after_all, events_of, spelled, said, replies, happening_counted, happenings_counted, frame_counters_in, answers_say_it, ArePriced, AreDropsWithoutCost, AreDropsWithoutEffect, frames_amortised, run_is_moments, lines_isolated, frames_linear, pool_never_full, deliveries_numbered, stored_within_limit, text_goes_on, refused_by_the_table, frames_by_event, drops_cost_nothing, drops_change_nothing, IsWithinLimit, IsAmortised, IsAmortisedFromZero, HasSixOctetsAFrame, HasSevenOctetsAReject, IsLinear, IsIsolated, IsNeverFull, IsNumbered, IsNumberedFromZero, IsTextual}
+use Rattle.lapd_card.proofs.Vocabulary.{◌≡◌, ◌+◌, Card, rules, [], ◌∷◌, ◌++◌, refl, sym, ap, subst, arith, ◌∙◌, take, get_or, take_all, length-map, slice_get-get_or, Comes, happening_of, all_of, Taken, MissesReply, MissesAt, after_happenings, after_all, events_of, spelled, said, replies, happening_counted, happenings_counted, frame_counters_in, answers_say_it, run_is_moments, refused_by_the_table}
 use Rattle.model_card.specs.Happening as happenings
 use Rattle.lapd_card.specs.FrameStands.{Stands}
 use Rattle.lapd_card.proofs.Taken.{Taken-more, one-further, one-at, after-more, replies-more, counts-more, at_ok, at_err}
 use Rattle.lapd_card.proofs.Counting.{numbers_in_lists}
-use Rattle.lapd_card.proofs.Headline.{spelled_at, happen_at_lines, whole_list, each_front, fresh_front, all-idle}
+use Rattle.lapd_card.proofs.Headline.{spelled_at, happen_at_lines, laws, all-idle}
 use Rattle.lapd_card.proofs.frame_card.FrameCard.drive.Goals as goal
 
 pub loop-at-init : goal.loop-at-init
@@ -27,77 +27,15 @@ pub returns-then-is_err : goal.returns-then-is_err
 returns-then-is_err g c =
     let is = slice_get-get_or c.args.happenings.now c.loop-at.at (Comes 0 (record { ref_ptr = (0, 0); now = [] })) c.loop-at-test.true in
     let yes = sym c.is_err.ensures.value ∙ c.if-is_err.true in
-    let whole = whole_list g.S.Shelf.store c.args.self.now (λ m. spelled m (all_of c.args.happenings.now)) (λ m s. spelled_at m (all_of c.args.happenings.now) (happen_at_lines g.S.Shelf.store c.args.self.now c.args.happenings.now c.requires m s)) in
-    let front = each_front g.S.Shelf.store c.args.self.now (λ m. spelled m (all_of c.args.happenings.now)) (λ m s. spelled_at m (all_of c.args.happenings.now) (happen_at_lines g.S.Shelf.store c.args.self.now c.args.happenings.now c.requires m s)) in
-    let fresh = fresh_front g.S.Shelf.store c.args.self.now (λ m. spelled m (all_of c.args.happenings.now)) (λ m s. spelled_at m (all_of c.args.happenings.now) (happen_at_lines g.S.Shelf.store c.args.self.now c.args.happenings.now c.requires m s)) in
-    record {
-      ok = search rules;
-      at = search rules;
-      failed = search rules;
-      not_failed = search rules;
-      config = search rules;
-      ran = search rules;
-      taken = search rules;
-      counters = search rules;
-      stopped = λ m s. subst (Stands g.S.Shelf.store c.answer.new.self) (sym (one-further happening_of (after_happenings m) (λ hs h. after_all (after_happenings m hs) (events_of (after_happenings m hs) h)) (after-more m) c.args.happenings.now c.loop-at.at _ is)) (c.answer.ensures.leads.stands _ (c.loop-at.invariant.ran m s));
-      taken_before = λ m s. record { before = c.loop-at.sink; taken = c.loop-at.invariant.taken m s; missed = subst (λ o. MissesReply g.K.FrameSink.misses (after_happenings m (take c.loop-at.at (all_of c.args.happenings.now))) o c.loop-at.sink c.answer.new.sink) (sym (one-at happening_of c.args.happenings.now c.loop-at.at _ is)) (at_err c.answer.result _ yes c.answer.ensures.not_taken _ (c.loop-at.invariant.ran m s)) };
-      counters_before = λ m s. c.answer.ensures.leads.counted _ (c.loop-at.invariant.ran m s) ∙ ap (λ k. happening_counted k (after_happenings m (take c.loop-at.at (all_of c.args.happenings.now))) (happening_of (get_or c.args.happenings.now c.loop-at.at (Comes 0 (record { ref_ptr = (0, 0); now = [] }))))) (c.loop-at.invariant.counted m s) ∙ (sym (one-further happening_of (happenings_counted (frame_counters_in c.args.self.now.lines) m) (λ hs h. happening_counted (happenings_counted (frame_counters_in c.args.self.now.lines) m hs) (after_happenings m hs) h) (counts-more (frame_counters_in c.args.self.now.lines) m) c.args.happenings.now c.loop-at.at _ is));
-      idle = all-idle g.S.Shelf.store c.args.self.now;
-      answers = answers_say_it;
-      moments = run_is_moments;
-      refused = refused_by_the_table;
-      counters_add_up = numbers_in_lists;
-      by_event = whole ArePriced frames_by_event.in_runs;
-      drops = whole AreDropsWithoutCost drops_cost_nothing;
-      without_effect = whole AreDropsWithoutEffect (λ m es s within. drops_change_nothing m es);
-      within_limit = front IsWithinLimit stored_within_limit.always;
-      amortised = front IsAmortised frames_amortised;
-      amortised_from_zero = fresh IsAmortisedFromZero frames_linear.amortised;
-      six_octets_a_frame = fresh HasSixOctetsAFrame frames_linear.frames;
-      seven_octets_a_reject = fresh HasSevenOctetsAReject frames_linear.rejects;
-      linear = fresh IsLinear frames_linear.linear;
-      isolated = fresh IsIsolated lines_isolated;
-      never_full = fresh IsNeverFull pool_never_full;
-      numbered = front IsNumbered deliveries_numbered.numbered;
-      from_zero = fresh IsNumberedFromZero deliveries_numbered.from_zero;
-      textual = front IsTextual text_goes_on;
-    }
+    let stopped : (m : Card) → Stands g.S.Shelf.store c.args.self.now m → Stands g.S.Shelf.store c.answer.new.self (after_happenings m (take (c.loop-at.at + 1) (all_of c.args.happenings.now))) = λ m s. subst (Stands g.S.Shelf.store c.answer.new.self) (sym (one-further happening_of (after_happenings m) (λ hs h. after_all (after_happenings m hs) (events_of (after_happenings m hs) h)) (after-more m) c.args.happenings.now c.loop-at.at _ is)) (c.answer.ensures.leads.stands _ (c.loop-at.invariant.ran m s)) in
+    let missed : (m : Card) → Stands g.S.Shelf.store c.args.self.now m → MissesAt g.K.FrameSink.takes g.K.FrameSink.misses m (all_of c.args.happenings.now) c.loop-at.at c.args.sink.now c.answer.new.sink = λ m s. record { before = c.loop-at.sink; taken = c.loop-at.invariant.taken m s; missed = subst (λ o. MissesReply g.K.FrameSink.misses (after_happenings m (take c.loop-at.at (all_of c.args.happenings.now))) o c.loop-at.sink c.answer.new.sink) (sym (one-at happening_of c.args.happenings.now c.loop-at.at _ is)) (at_err c.answer.result _ yes c.answer.ensures.not_taken _ (c.loop-at.invariant.ran m s)) } in
+    let counters : (m : Card) → Stands g.S.Shelf.store c.args.self.now m → frame_counters_in c.answer.new.self.lines ≡ happenings_counted (frame_counters_in c.args.self.now.lines) m (take (c.loop-at.at + 1) (all_of c.args.happenings.now)) = λ m s. c.answer.ensures.leads.counted _ (c.loop-at.invariant.ran m s) ∙ ap (λ k. happening_counted k (after_happenings m (take c.loop-at.at (all_of c.args.happenings.now))) (happening_of (get_or c.args.happenings.now c.loop-at.at (Comes 0 (record { ref_ptr = (0, 0); now = [] }))))) (c.loop-at.invariant.counted m s) ∙ (sym (one-further happening_of (happenings_counted (frame_counters_in c.args.self.now.lines) m) (λ hs h. happening_counted (happenings_counted (frame_counters_in c.args.self.now.lines) m hs) (after_happenings m hs) h) (counts-more (frame_counters_in c.args.self.now.lines) m) c.args.happenings.now c.loop-at.at _ is)) in
+    search (rules, laws g.S.Shelf.store c.args.self.now (λ m. spelled m (all_of c.args.happenings.now)) (λ m s. spelled_at m (all_of c.args.happenings.now) (happen_at_lines g.S.Shelf.store c.args.self.now c.args.happenings.now c.requires m s)), stopped, missed, counters, all-idle g.S.Shelf.store c.args.self.now, answers_say_it, run_is_moments, refused_by_the_table, numbers_in_lists)
 
 pub returns : goal.returns
 returns g c =
-    let whole = whole_list g.S.Shelf.store c.args.self.now (λ m. spelled m (all_of c.args.happenings.now)) (λ m s. spelled_at m (all_of c.args.happenings.now) (happen_at_lines g.S.Shelf.store c.args.self.now c.args.happenings.now c.requires m s)) in
-    let front = each_front g.S.Shelf.store c.args.self.now (λ m. spelled m (all_of c.args.happenings.now)) (λ m s. spelled_at m (all_of c.args.happenings.now) (happen_at_lines g.S.Shelf.store c.args.self.now c.args.happenings.now c.requires m s)) in
-    let fresh = fresh_front g.S.Shelf.store c.args.self.now (λ m. spelled m (all_of c.args.happenings.now)) (λ m s. spelled_at m (all_of c.args.happenings.now) (happen_at_lines g.S.Shelf.store c.args.self.now c.args.happenings.now c.requires m s)) in
     let all = take_all c.loop-at.at (all_of c.args.happenings.now) (omega (arith, c.loop-at-test.false, length-map c.args.happenings.now happening_of)) in
-    record {
-      ok = search rules;
-      at = search rules;
-      failed = search rules;
-      not_failed = search rules;
-      config = search rules;
-      ran = λ m s. subst (λ hs. Stands g.S.Shelf.store c.loop-at.self (after_happenings m hs)) all (c.loop-at.invariant.ran m s);
-      taken = λ m s. subst (λ hs. Taken g.K.FrameSink.takes c.args.sink.now (replies m hs) c.loop-at.sink) all (c.loop-at.invariant.taken m s);
-      counters = λ m s. c.loop-at.invariant.counted m s ∙ ap (happenings_counted (frame_counters_in c.args.self.now.lines) m) all;
-      stopped = search rules;
-      taken_before = search rules;
-      counters_before = search rules;
-      idle = all-idle g.S.Shelf.store c.args.self.now;
-      answers = answers_say_it;
-      moments = run_is_moments;
-      refused = refused_by_the_table;
-      counters_add_up = numbers_in_lists;
-      by_event = whole ArePriced frames_by_event.in_runs;
-      drops = whole AreDropsWithoutCost drops_cost_nothing;
-      without_effect = whole AreDropsWithoutEffect (λ m es s within. drops_change_nothing m es);
-      within_limit = front IsWithinLimit stored_within_limit.always;
-      amortised = front IsAmortised frames_amortised;
-      amortised_from_zero = fresh IsAmortisedFromZero frames_linear.amortised;
-      six_octets_a_frame = fresh HasSixOctetsAFrame frames_linear.frames;
-      seven_octets_a_reject = fresh HasSevenOctetsAReject frames_linear.rejects;
-      linear = fresh IsLinear frames_linear.linear;
-      isolated = fresh IsIsolated lines_isolated;
-      never_full = fresh IsNeverFull pool_never_full;
-      numbered = front IsNumbered deliveries_numbered.numbered;
-      from_zero = fresh IsNumberedFromZero deliveries_numbered.from_zero;
-      textual = front IsTextual text_goes_on;
-    }
+    let ran : (m : Card) → Stands g.S.Shelf.store c.args.self.now m → Stands g.S.Shelf.store c.loop-at.self (after_happenings m (all_of c.args.happenings.now)) = λ m s. subst (λ hs. Stands g.S.Shelf.store c.loop-at.self (after_happenings m hs)) all (c.loop-at.invariant.ran m s) in
+    let taken : (m : Card) → Stands g.S.Shelf.store c.args.self.now m → Taken g.K.FrameSink.takes c.args.sink.now (replies m (all_of c.args.happenings.now)) c.loop-at.sink = λ m s. subst (λ hs. Taken g.K.FrameSink.takes c.args.sink.now (replies m hs) c.loop-at.sink) all (c.loop-at.invariant.taken m s) in
+    let counters : (m : Card) → Stands g.S.Shelf.store c.args.self.now m → frame_counters_in c.loop-at.self.lines ≡ happenings_counted (frame_counters_in c.args.self.now.lines) m (all_of c.args.happenings.now) = λ m s. c.loop-at.invariant.counted m s ∙ ap (happenings_counted (frame_counters_in c.args.self.now.lines) m) all in
+    search (rules, laws g.S.Shelf.store c.args.self.now (λ m. spelled m (all_of c.args.happenings.now)) (λ m s. spelled_at m (all_of c.args.happenings.now) (happen_at_lines g.S.Shelf.store c.args.self.now c.args.happenings.now c.requires m s)), ran, taken, counters, all-idle g.S.Shelf.store c.args.self.now, answers_say_it, run_is_moments, refused_by_the_table, numbers_in_lists)

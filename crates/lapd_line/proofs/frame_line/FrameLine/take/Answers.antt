@@ -7,15 +7,6 @@ pub returns-in_err-orders-clause-after : goal.returns-in_err-orders-clause-after
 returns-in_err-orders-clause-after g c =
     next_leads c.args.self.now (g.S.Shelf.store c.args.shelf.now) c.take.new.self (g.S.Shelf.store c.take.new.shelf) _ c.take.new.out.octets _ c.take.new.out.length (orders_taken c.take.result) c.take.ensures
 
--- the end of the frame in its octets
-pub shared_ref_as_front-put : goal.shared_ref_as_front-put
-shared_ref_as_front-put g c =
-    let s = g.S.Shelf.store c.args.shelf.now in
-    let t = g.S.Shelf.store c.take.new.shelf in
-    let some = subst (λ r. Takes taken c.args.self.now.layer s _ c.take.new.self t (in_octets c.take.new.out.octets c.take.new.out.length) (orders_taken r)) c.in_ok-orders.was c.take.ensures in
-    let few = taken_few c.args.self.now s c.take.new.self t _ c.take.new.out.octets _ c.take.new.out.length _ some c.requires.stands in
-    omega (arith, few.2)
-
 pub put-requires : goal.put-requires
 put-requires g c =
     let s = g.S.Shelf.store c.args.shelf.now in

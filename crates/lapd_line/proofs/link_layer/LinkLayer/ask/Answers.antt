@@ -1,7 +1,7 @@
 -- Hand-written answers for `LinkLayer::ask`.
-use Rattle.lapd_line.proofs.Vocabulary.{[], nat_le, sym, arith, used_slots, place_of-is}
+use Rattle.lapd_line.proofs.Vocabulary.{[], nat_le, sym, arith, used_slots}
 use Rattle.lapd_link.specs.Events as link
-use Rattle.lapd_line.proofs.LayerSteps.{links_standing, low_number}
+use Rattle.lapd_line.proofs.LayerSteps.{links_standing}
 use Rattle.lapd_line.proofs.LayerRequests.{no_link, asked, asked_serves}
 use Rattle.lapd_line.proofs.link_layer.LinkLayer.ask.Goals as goal
 
@@ -11,10 +11,6 @@ returns-in_default-clause-refused g c = λ others m st.
 
 pub request-requires-clause-stands : goal.request-requires-clause-stands
 request-requires-clause-stands g c = links_standing c.requires.stands
-
-pub wake-requires : goal.wake-requires
-wake-requires g c =
-    low_number c.args.self.now (g.S.Shelf.store c.args.shelf.now) c.args.service c.args.tei c.in-Some.place c.requires.stands (place_of-is c.args.self.now.teis.places c.args.tei c.in-Some.place (sym c.in-Some.ensures.place)).1 c.link_number-number.ensures
 
 pub returns-in-Ok-clause-granted : goal.returns-in-Ok-clause-granted
 returns-in-Ok-clause-granted g c = λ others m st.

@@ -7,35 +7,28 @@ use Rattle.lapd_line.proofs.LinkSteps.{same_many}
 use Rattle.lapd_line.proofs.TeiChangeSteps.{going, few_told, left}
 use Rattle.lapd_line.proofs.link_layer.LinkLayer.clear.Goals as goal
 
-pub clear-call-requires-clause-within : goal.clear-call-requires-clause-within
-clear-call-requires-clause-within g c = (going c.requires.changing c.requires.left).within Call c.link_number.ensures
-
-pub clear-call-requires-clause-stands : goal.clear-call-requires-clause-stands
-clear-call-requires-clause-stands g c =
+pub clear-call-requires : goal.clear-call-requires
+clear-call-requires g c =
     let k = going c.requires.changing c.requires.left in
-    (c.args.self.now.config, k.others, k.ms, k.stand)
+    record { within = k.within Call c.link_number.ensures; stands = (c.args.self.now.config, k.others, k.ms, k.stand) }
 
-pub clear-packet-requires-clause-within : goal.clear-packet-requires-clause-within
-clear-packet-requires-clause-within g c =
-    let k = going c.requires.changing c.requires.left in
-    omega (arith, same_many c.clear-call.new.self c.args.self.now.links c.clear-call.ensures.terms, k.within Packet c.link_number-2.ensures)
-
-pub clear-packet-requires-clause-stands : goal.clear-packet-requires-clause-stands
-clear-packet-requires-clause-stands g c =
+pub clear-packet-requires : goal.clear-packet-requires
+clear-packet-requires g c =
     let k = going c.requires.changing c.requires.left in
     let config = c.args.self.now.config in
     let ts = terms config Call c.args.tei in
-    (config, k.others, set k.ms c.link_number.result (after ts event.cleared (machine_at k.ms c.link_number.result)), c.clear-call.ensures.goes_on config ts k.others k.ms (k.has Call c.link_number.ensures) k.stand)
+    record {
+      within = omega (arith, same_many c.clear-call.new.self c.args.self.now.links c.clear-call.ensures.terms, k.within Packet c.link_number-2.ensures);
+      stands = (config, k.others, set k.ms c.link_number.result (after ts event.cleared (machine_at k.ms c.link_number.result)), c.clear-call.ensures.goes_on config ts k.others k.ms (k.has Call c.link_number.ensures) k.stand);
+    }
 
-pub with_cleared-requires-clause-notes : goal.with_cleared-requires-clause-notes
-with_cleared-requires-clause-notes g c =
+pub with_cleared-requires : goal.with_cleared-requires
+with_cleared-requires g c =
     let (call, packet) = few_told (going c.requires.changing c.requires.left) c.link_number.ensures c.link_number-2.ensures c.clear-call.ensures c.clear-packet.ensures in
-    omega (arith, c.requires.short.notes, ap (λ t. length t.notes) (c.of_management.ensures []), call.0, packet.0)
-
-pub with_cleared-requires-clause-orders : goal.with_cleared-requires-clause-orders
-with_cleared-requires-clause-orders g c =
-    let (call, packet) = few_told (going c.requires.changing c.requires.left) c.link_number.ensures c.link_number-2.ensures c.clear-call.ensures c.clear-packet.ensures in
-    omega (arith, c.requires.short.orders, ap (λ t. length t.orders) (c.of_management.ensures []), call.1, packet.1)
+    record {
+      notes = omega (arith, c.requires.short.notes, ap (λ t. length t.notes) (c.of_management.ensures []), call.0, packet.0);
+      orders = omega (arith, c.requires.short.orders, ap (λ t. length t.orders) (c.of_management.ensures []), call.1, packet.1);
+    }
 
 pub returns : goal.returns
 returns g c = λ what before octets is.

@@ -1,16 +1,10 @@
 -- Hand-written answers for `LinkLayer::expire_link`.
 use Rattle.lapd_line.proofs.Vocabulary.{[]}
-use Rattle.lapd_line.proofs.LayerSteps.{links_standing, number_there, at_link_serves, low_number}
+use Rattle.lapd_line.proofs.LayerSteps.{links_standing, number_there, at_link_serves}
 use Rattle.lapd_line.proofs.link_layer.LinkLayer.expire_link.Goals as goal
 
-pub wake-requires : goal.wake-requires
-wake-requires g c = low_number c.args.self.now (g.S.Shelf.store c.args.shelf.now) c.args.service c.args.tei c.args.place c.requires.stands c.requires.at c.link_number-number.ensures
-
-pub expire-requires-clause-stands : goal.expire-requires-clause-stands
-expire-requires-clause-stands g c = links_standing c.requires.stands
-
-pub expire-requires-clause-within : goal.expire-requires-clause-within
-expire-requires-clause-within g c = number_there c.args.service c.requires.stands c.requires.at c.link_number-number.ensures
+pub expire-requires : goal.expire-requires
+expire-requires g c = record { within = number_there c.args.service c.requires.stands c.requires.at c.link_number-number.ensures; stands = links_standing c.requires.stands }
 
 pub returns : goal.returns
 returns g c = at_link_serves c.requires.stands c.requires.at c.link_number-number.ensures c.wake.ensures c.expire.ensures (c.of_link.ensures [])

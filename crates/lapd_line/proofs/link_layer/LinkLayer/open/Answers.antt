@@ -4,43 +4,28 @@ use Rattle.model_link.specs.Link as machine
 use Rattle.lapd_line.proofs.TeiChangeSteps.{coming, joined}
 use Rattle.lapd_line.proofs.link_layer.LinkLayer.open.Goals as goal
 
-pub open-requires-clause-within : goal.open-requires-clause-within
-open-requires-clause-within g c = (coming c.requires.changing c.requires.gained).within Call c.link_number.ensures
-
-pub open-requires-clause-tei : goal.open-requires-clause-tei
-open-requires-clause-tei g c = (coming c.requires.changing c.requires.gained).low
-
-pub open-requires-clause-range : goal.open-requires-clause-range
-open-requires-clause-range g c = (coming c.requires.changing c.requires.gained).range
-
-pub open-requires-clause-down : goal.open-requires-clause-down
-open-requires-clause-down g c =
+pub open-requires : goal.open-requires
+open-requires g c =
     let k = coming c.requires.changing c.requires.gained in
-    (g.S.Shelf.store c.args.shelf.now, k.others, k.ms, k.stand, k.fresh Call c.link_number.ensures)
+    record {
+      within = k.within Call c.link_number.ensures;
+      tei = k.low;
+      range = k.range;
+      down = (g.S.Shelf.store c.args.shelf.now, k.others, k.ms, k.stand, k.fresh Call c.link_number.ensures);
+    }
 
-pub open-requires-2-clause-within : goal.open-requires-2-clause-within
-open-requires-2-clause-within g c =
-    let k = coming c.requires.changing c.requires.gained in
-    let stand = c.open.ensures.stands (g.S.Shelf.store c.args.shelf.now) k.others k.ms k.stand in
-    omega (arith, k.within Packet c.link_number-2.ensures, k.stand.same, stand.same, length-set k.ms c.link_number.result machine.fresh)
-
-pub open-requires-2-clause-tei : goal.open-requires-2-clause-tei
-open-requires-2-clause-tei g c = (coming c.requires.changing c.requires.gained).low
-
-pub open-requires-2-clause-range : goal.open-requires-2-clause-range
-open-requires-2-clause-range g c = (coming c.requires.changing c.requires.gained).range
-
-pub open-requires-2-clause-down : goal.open-requires-2-clause-down
-open-requires-2-clause-down g c =
+pub open-requires-2 : goal.open-requires-2
+open-requires-2 g c =
     let s = g.S.Shelf.store c.args.shelf.now in
-    let k = coming c.requires.changing c.requires.gained in (
-      s,
-      k.others,
-      set k.ms c.link_number.result machine.fresh,
-      c.open.ensures.stands s k.others k.ms k.stand,
-      get_or-set_other k.ms c.link_number.result c.link_number-2.result machine.fresh machine.fresh (λ q. omega (arith, q, k.exact c.link_number.ensures, k.exact c.link_number-2.ensures))
-          ∙ k.fresh Packet c.link_number-2.ensures,
-    )
+    let k = coming c.requires.changing c.requires.gained in
+    let stand = c.open.ensures.stands s k.others k.ms k.stand in
+    let fresh = get_or-set_other k.ms c.link_number.result c.link_number-2.result machine.fresh machine.fresh (λ q. omega (arith, q, k.exact c.link_number.ensures, k.exact c.link_number-2.ensures)) in
+    record {
+      within = omega (arith, k.within Packet c.link_number-2.ensures, k.stand.same, stand.same, length-set k.ms c.link_number.result machine.fresh);
+      tei = k.low;
+      range = k.range;
+      down = (s, k.others, set k.ms c.link_number.result machine.fresh, stand, fresh ∙ k.fresh Packet c.link_number-2.ensures);
+    }
 
 pub returns : goal.returns
 returns g c = λ what before octets is.

@@ -2,16 +2,13 @@
 use Rattle.lapd_line.proofs.Vocabulary.{arith}
 use Rattle.lapd_line.proofs.LayerSteps.{links_standing}
 use Rattle.lapd_line.proofs.LinkSteps.{same_many}
-use Rattle.lapd_line.proofs.PullTakesLinks.{no_link, low_link, given_used, loads, link_loaded}
+use Rattle.lapd_line.proofs.PullTakesLinks.{no_link, given_used, loads, link_loaded}
 use Rattle.lapd_line.proofs.link_layer.LinkLayer.take_link.Goals as goal
 
 pub offer-requires-clause-stands : goal.offer-requires-clause-stands
 offer-requires-clause-stands g c =
     let (config, others, ms, st) = links_standing c.requires.stands in
     (config, g.S.Shelf.store c.args.shelf.now, others, ms, st)
-
-pub sleep-requires : goal.sleep-requires
-sleep-requires g c = low_link c.args.self.now (g.S.Shelf.store c.args.shelf.now) c.args.number c.requires.stands c.requires.within
 
 pub returns-in_default : goal.returns-in_default
 returns-in_default g c =
@@ -26,15 +23,10 @@ pub contents-requires : goal.contents-requires
 contents-requires g c =
     given_used c.args.self.now (g.S.Shelf.store c.args.shelf.now) c.args.number c.offer.new.self c.in-Some.offer c.requires.within c.requires.stands c.in-Some.ensures
 
-pub load-requires-clause-frame : goal.load-requires-clause-frame
-load-requires-clause-frame g c =
-    (loads c.args.self.now (g.S.Shelf.store c.args.shelf.now) c.args.number c.offer.new.self c.in-Some.offer c.address-address.result c.contents.result.now c.requires.within c.requires.stands c.in-Some.ensures
-    c.address-address.ensures c.contents.ensures).frame
-
-pub load-requires-clause-info : goal.load-requires-clause-info
-load-requires-clause-info g c =
+pub load-requires : goal.load-requires
+load-requires g c =
     let l = loads c.args.self.now (g.S.Shelf.store c.args.shelf.now) c.args.number c.offer.new.self c.in-Some.offer c.address-address.result c.contents.result.now c.requires.within c.requires.stands c.in-Some.ensures c.address-address.ensures c.contents.ensures in
-    omega (arith, l.size, c.requires.room)
+    record { free = c.requires.free; frame = l.frame; info = omega (arith, l.size, c.requires.room) }
 
 pub returns : goal.returns
 returns g c =

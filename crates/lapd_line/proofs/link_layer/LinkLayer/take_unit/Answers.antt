@@ -14,18 +14,16 @@ get-requires g c =
     let (others, m, st) = c.requires.stands in
     (oldest c.args.self.now (g.S.Shelf.store c.args.shelf.now) others m c.in_ok-unit.unit st (sym c.in_ok-unit.ensures)).used
 
-pub load-requires-clause-frame : goal.load-requires-clause-frame
-load-requires-clause-frame g c =
-    let (others, m, st) = c.requires.stands in
-    let o = oldest c.args.self.now (g.S.Shelf.store c.args.shelf.now) others m c.in_ok-unit.unit st (sym c.in_ok-unit.ensures) in
-    is_frame c.in_ok-unit.unit.service c.sapi.result c.in_ok-unit.unit.tei c.sapi.ensures (omega (arith, o.tei, o.fits.tei))
-
-pub load-requires-clause-info : goal.load-requires-clause-info
-load-requires-clause-info g c =
+pub load-requires : goal.load-requires
+load-requires g c =
     let (others, m, st) = c.requires.stands in
     let o = oldest c.args.self.now (g.S.Shelf.store c.args.shelf.now) others m c.in_ok-unit.unit st (sym c.in_ok-unit.ensures) in
     let same : c.get.result.now ≡ o.unit.contents = same_Some c.get.result.now o.unit.contents (sym c.get.ensures.octets ∙ o.contents) in
-    omega (arith, c.requires.room, o.fits.size, ap (λ l. length l) same)
+    record {
+      free = c.requires.free;
+      frame = is_frame c.in_ok-unit.unit.service c.sapi.result c.in_ok-unit.unit.tei c.sapi.ensures (omega (arith, o.tei, o.fits.tei));
+      info = omega (arith, c.requires.room, o.fits.size, ap (λ l. length l) same);
+    }
 
 pub returns : goal.returns
 returns g c =

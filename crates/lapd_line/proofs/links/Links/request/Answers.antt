@@ -1,19 +1,13 @@
 -- Hand-written answers for `Links::request`.
-use Rattle.lapd_line.proofs.Vocabulary.{set, ap, ◌∙◌}
-use Rattle.lapd_line.proofs.LinkSteps.{part_stands, serves, refuses, if_err, on_err, on_ok, both_ok, put_same}
+use Rattle.std.proofs.lemmas.Result.{IfErr-weaker}
+use Rattle.lapd_line.proofs.LinkSteps.{part_stands, serves, refuses, on_ok, both_ok}
 use Rattle.lapd_line.proofs.links.Links.request.Goals as goal
 
 pub request-requires-clause-stands : goal.request-requires-clause-stands
 request-requires-clause-stands g c = part_stands c.self.view_is c.requires.within c.index_mut.ensures.value c.requires.stands
 
 pub returns-clause-refused : goal.returns-clause-refused
-returns-clause-refused g c = if_err c.request.result (λ why. refuses c.self.view_is c.requires.within c.index_mut.ensures.value _ _) c.request.ensures.refused
-
-pub returns-clause-unchanged : goal.returns-clause-unchanged
-returns-clause-unchanged g c =
-    on_err c.request.result
-    (λ same. ap (set c.self.inside.all.items c.args.number) same ∙ put_same c.self.inside.all.items c.args.number c.index_mut.result.now c.index_mut.ensures.value ∙ c.self.view_is)
-    c.request.ensures.unchanged
+returns-clause-refused g c = IfErr-weaker c.request.result _ _ (λ why. refuses c.self.view_is c.requires.within c.index_mut.ensures.value _ _) c.request.ensures.refused
 
 pub returns-clause-granted : goal.returns-clause-granted
 returns-clause-granted g c = on_ok c.request.result (refuses c.self.view_is c.requires.within c.index_mut.ensures.value _ _) c.request.ensures.granted

@@ -81,9 +81,6 @@ returns-clause-goes c =
     Goes-sent [] (low_bits c.loop-due.total (c.loop-due.text / 16)) (low_bits c.args.count c.args.bits) (last_ones c.args.latest) (last_ones (c.loop-due.text / 2 ^ c.loop-due.total))
     (last_ones-few c.args.latest) (last_ones-few (c.loop-due.text / 2 ^ c.loop-due.total)) (sym end.0) end.1
 
-pub returns-clause-at_least : goal.returns-clause-at_least
-returns-clause-at_least c = c.loop-due.invariant.at_least
-
 pub returns-clause-pays : goal.returns-clause-pays
 returns-clause-pays c =
     let end = none_due _ _ _ _ _ c.loop-due.invariant.underway c.loop-due-test.false in

@@ -76,12 +76,9 @@ next_flag room n first second past g e few p six open_here seven q =
 
 -- as many 1s as there can be after the first bit
 begun_is : (n : ℕ) (g : List Bool) → length g ≡ suc n → latest_ones g ≡ n → g ≡ replicate n true ++ false ∷ []
-begun_is n [] size ones = absurd (omega arith)
 begun_is zero (false ∷ []) size ones = refl
-begun_is zero (false ∷ b ∷ g) size ones = absurd (omega arith)
-begun_is zero (true ∷ g) size ones = absurd (omega arith)
-begun_is (suc n) (false ∷ g) size ones = absurd (omega arith)
 begun_is (suc n) (true ∷ g) size ones = ap (λ l. true ∷ l) (begun_is n g (omega arith) (omega arith))
+begun_is _ _ size ones = absurd (omega arith)
 
 pub onto-ones : (n : ℕ) (past : List Bool) → onto (replicate n true) past ≡ replicate n true ++ past
 onto-ones zero past = refl

@@ -40,7 +40,7 @@ stuffed_after_five (false ∷ b) = refl
 stuffed_after_five (true ∷ b) = refl
 
 -- Stuffing by patterns is stuffing by the count, also with 1s before.
-stuffed_alike : (n : ℕ) (b : List Bool) → n < 5 → stuffed (replicate n true ++ b) ≡ replicate n true ++ stuffed_after n b
+pub stuffed_alike : (n : ℕ) (b : List Bool) → n < 5 → stuffed (replicate n true ++ b) ≡ replicate n true ++ stuffed_after n b
 stuffed_alike (suc (suc (suc (suc (suc n))))) b h = absurd (omega arith)
 stuffed_alike (suc (suc (suc (suc zero)))) (true ∷ b) h =
     ap (λ t. true ∷ true ∷ true ∷ true ∷ true ∷ t) (ap (λ t. false ∷ t) (stuffed_alike 0 b (omega arith)) ∙ sym (stuffed_after_five b))

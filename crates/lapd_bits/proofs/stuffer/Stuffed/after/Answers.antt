@@ -79,15 +79,15 @@ pub returns-clause-goes : goal.returns-clause-goes
 returns-clause-goes c =
     let end = none_due _ _ _ _ _ c.loop-due.invariant.underway c.loop-due-test.false in
     Goes-sent [] (low_bits c.loop-due.total (c.loop-due.text / 16)) (low_bits c.args.count c.args.bits) (last_ones c.args.latest) (last_ones (c.loop-due.text / 2 ^ c.loop-due.total))
-    (last_ones-few c.args.latest) (last_ones-few (c.loop-due.text / 2 ^ c.loop-due.total)) (sym end.0) end.1
+    (last_ones-few c.args.latest) (last_ones-few (c.loop-due.text / 2 ^ c.loop-due.total)) (sym (ap (λ p. p.0) end)) (ap (λ p. p.1) end)
 
 pub returns-clause-pays : goal.returns-clause-pays
 returns-clause-pays c =
     let end = none_due _ _ _ _ _ c.loop-due.invariant.underway c.loop-due-test.false in
     omega (
       arith,
-      ap length end.0,
-      end.1,
+      ap (λ p. length p.0) end,
+      ap (λ p. p.1) end,
       length-low_bits c.loop-due.total (c.loop-due.text / 16),
       length-low_bits c.args.count c.args.bits,
       stuffed_after-pays (last_ones c.args.latest) (low_bits c.args.count c.args.bits) (omega (arith, last_ones-few c.args.latest)),

@@ -19,12 +19,12 @@ low_bits-digit number place digit below small =
     ∙ ap (λ k. low_bits place number ++ nat_eq (k % 2) 1 ∷ []) above
     ∙ ap (λ k. low_bits place number ++ nat_eq k 1 ∷ []) (mod-eq_of_lt small)
 
-pub low_bits-with_one : (number place : ℕ) → number < 2 ^ place → low_bits (place + 1) (number + 2 ^ place) ≡ low_bits place number ++ true ∷ []
-low_bits-with_one number place below =
+pub low_bits_with_one : (number place : ℕ) → number < 2 ^ place → low_bits (place + 1) (number + 2 ^ place) ≡ low_bits place number ++ true ∷ []
+low_bits_with_one number place below =
     ap (λ k. low_bits (place + 1) (number + k)) (sym (mul-one (2 ^ place))) ∙ low_bits-digit number place 1 below (omega arith)
 
-pub low_bits-with_zero : (number place : ℕ) → number < 2 ^ place → low_bits (place + 1) number ≡ low_bits place number ++ false ∷ []
-low_bits-with_zero number place below =
+pub low_bits_with_zero : (number place : ℕ) → number < 2 ^ place → low_bits (place + 1) number ≡ low_bits place number ++ false ∷ []
+low_bits_with_zero number place below =
     ap (low_bits (place + 1)) (omega arith) ∙ low_bits-digit number place 0 below (omega arith)
 
 -- the weight of a bit of an octet fits the octet
@@ -46,9 +46,9 @@ Keeps-none octets =
     }
 
 -- and no bits make no octets
-pub Assembles-none : (octets : List ℕ) → Assembles octets 0 None 0 0 []
+pub Assembles_none : (octets : List ℕ) → Assembles octets 0 None 0 0 []
 unfolding low_bits
-Assembles-none octets =
+Assembles_none octets =
     record {
       whole = [];
       are_octets = All-nil (λ x. x < 256);
@@ -57,8 +57,8 @@ Assembles-none octets =
     }
 
 -- an octet more that there is no room for
-pub Keeps-beyond : (octets whole : List ℕ) (count register o : ℕ) (beyond : Option ℕ) → count ≡ length octets → Keeps octets count beyond whole → HoldsDivision register (bits whole ++ low_bits 8 o) → Keeps octets count (Some register) (whole ++ o ∷ [])
-Keeps-beyond octets whole count register o beyond full k d =
+pub Keeps_beyond : (octets whole : List ℕ) (count register o : ℕ) (beyond : Option ℕ) → count ≡ length octets → Keeps octets count beyond whole → HoldsDivision register (bits whole ++ low_bits 8 o) → Keeps octets count (Some register) (whole ++ o ∷ [])
+Keeps_beyond octets whole count register o beyond full k d =
     let min_is = k.counted in
     let one : length (whole ++ o ∷ []) ≡ length whole + 1 = length-append whole (o ∷ []) in
     record {

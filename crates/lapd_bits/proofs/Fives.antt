@@ -1,7 +1,7 @@
 -- Where five 1s come together in a number's bits: they go as they are up to there, and then goes a 0.
 use Rattle.lapd_bits.proofs.Vocabulary.{◌≡◌, ℕ, suc, zero, ◌+◌, ◌/◌, ◌%◌, ◌^◌, ◌<◌, ◌≤◌, min, Bool, true, false, if◌then◌else◌, nat_eq, bit_and, List, [], ◌∷◌, ◌++◌, refl, ap, sym, ◌∙◌, arith, append_assoc, eqb-true, lt-ltb, and_shr, and_le_r, shr-shr, bit_at-suc, bit_at_lowest, div-one, bit_at, low_bits, first_ones, last_ones, fives, stuffed_after, ones_sent}
 use lib.Bits.{and_step}
-use Rattle.lapd_bits.proofs.StuffingAtOnce.{last_ones-few}
+use Rattle.lapd_bits.proofs.StuffingAtOnce.{last_ones_few}
 
 -- ---- where five 1s begin
 
@@ -103,7 +103,7 @@ unfolding low_bits
 number_goes x m none =
     let bit = nat_eq (x / 16 % 2) 1 in
     let half : x / 16 / 2 ≡ x / 2 / 16 = omega arith in
-    bit_goes (last_ones x) bit (low_bits m (x / 16 / 2)) (last_ones-few x)
+    bit_goes (last_ones x) bit (low_bits m (x / 16 / 2)) (last_ones_few x)
     ∙ ap (λ n. behind (bit ∷ []) (going n (low_bits m (x / 16 / 2)))) (sym (last_ones-next x bit refl none))
     ∙ ap (λ y. behind (bit ∷ []) (going (last_ones (x / 2)) (low_bits m y))) half
 
@@ -112,7 +112,7 @@ number_goes x m none =
 pub calm_goes : (m x : ℕ) → fives x ≡ 0 → going (last_ones x) (low_bits m (x / 16)) ≡ (low_bits m (x / 16), last_ones (x / 2 ^ m))
 unfolding low_bits
 calm_goes zero x none =
-    simp (lt-ltb (last_ones x) 5 (omega (arith, last_ones-few x))) (ap (λ y. ([], last_ones y)) (sym (div-one x)))
+    simp (lt-ltb (last_ones x) 5 (omega (arith, last_ones_few x))) (ap (λ y. ([], last_ones y)) (sym (div-one x)))
 calm_goes (suc m) x none =
     let bit = nat_eq (x / 16 % 2) 1 in
     let half : x / 2 / 16 ≡ x / 16 / 2 = omega arith in

@@ -58,10 +58,10 @@ HoldsGap-ones octets octets' gap gap' n (Some g) long since taken h =
     }
 
 -- and where no bits have come, those that are put in hold of the next gap
-pub Assembles-begun :
+pub Assembles_begun :
     (octets : List ℕ) (count : ℕ) (beyond : Option ℕ) (partial filled content n : ℕ)
     → Assembles octets count beyond partial filled [] → Assembles octets count beyond content n (low_bits n content)
-Assembles-begun octets count beyond partial filled content n a =
+Assembles_begun octets count beyond partial filled content n a =
     record {
       whole = a.whole;
       are_octets = a.are_octets;

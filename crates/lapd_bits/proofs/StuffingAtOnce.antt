@@ -47,9 +47,9 @@ four_few : (d c b a : Bool) → first_ones (d ∷ c ∷ b ∷ a ∷ []) ≤ 4
 four_few true true true true = omega arith
 four_few _ _ _ _ = omega arith
 
-pub last_ones-few : (x : ℕ) → last_ones x ≤ 4
+pub last_ones_few : (x : ℕ) → last_ones x ≤ 4
 unfolding low_bits
-last_ones-few x = four_few _ _ _ _
+last_ones_few x = four_few _ _ _ _
 
 pub last_ones-none : last_ones 0 ≡ 0
 unfolding low_bits

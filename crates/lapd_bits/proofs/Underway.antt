@@ -2,7 +2,7 @@
 use Rattle.lapd_bits.proofs.Vocabulary.{◌≡◌, ℕ, suc, zero, ◌+◌, ◌-◌, ◌*◌, ◌/◌, ◌%◌, ◌^◌, ◌<◌, ◌≤◌, min, Bool, false, nat_eq, List, [], ◌∷◌, ◌++◌, length, reverse, refl, ap, sym, ◌∙◌, arith, append_assoc, length-append, subst, ⊎_elim, shr-shr, div-mul-add, pow-add, pow_pos, pow_below, bit_at-suc, bit_at_lowest, bit_at-trailing_zeros, div-one, div-add-mod, mod-lt, mod-eq_of_lt, add-mul-mod_self_right, div-le_self, div-mul-le_self, mul-le-mul_left, shr_lt, cases_lt, bit_at, w64, low_bits, first_ones, last_ones, Goes, fives, low_bits-add, low_bits-mod, length-low_bits, stuffed_after, stuffed_after-pays, stuffed_after-at_least}
 use lib.Count.{count_trailing_zeros}
 use native.Mathlib.Nat.{pow-suc}
-use Rattle.lapd_bits.proofs.StuffingAtOnce.{Goes-sent, last_ones-few}
+use Rattle.lapd_bits.proofs.StuffingAtOnce.{Goes-sent, last_ones_few}
 use Rattle.lapd_bits.proofs.Fives.{fives-shr, fives-half, fives-low, fives-below, going, behind, behind_both, calm_goes, IsFirst, first_goes}
 
 -- of `total` bits above the latest four, `done` are as they go; `left` bits are still to be stuffed, and `due` marks where
@@ -321,5 +321,5 @@ calm latest more n four none =
     let last = last_ones-low latest more four in
     let goes : going (last_ones latest) (low_bits n more) ≡ (low_bits n more, last_ones (x / 2 ^ n)) =
     (λ i. going (sym last i) (low_bits n (sym back i))) ∙ calm_goes n x none ∙ ap (λ y. (low_bits n y, last_ones (x / 2 ^ n))) back in
-    Goes-sent [] (low_bits n more) (low_bits n more) (last_ones latest) (last_ones (x / 2 ^ n)) (last_ones-few latest) (last_ones-few (x / 2 ^ n))
+    Goes-sent [] (low_bits n more) (low_bits n more) (last_ones latest) (last_ones (x / 2 ^ n)) (last_ones_few latest) (last_ones_few (x / 2 ^ n))
     (ap (λ p. p.0) goes) (sym (ap (λ p. p.1) goes))

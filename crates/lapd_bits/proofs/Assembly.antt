@@ -33,6 +33,9 @@ bit_weight place h =
     let below : 2 ^ place < 2 ^ 8 = pow_below place 8 h in
     ap (λ w. w % 256) (one-mul (2 ^ place)) ∙ mod-eq_of_lt below
 
+-- what a number with one bit more needs
+pub ruleset bit_rules = (low_bits_with_one, low_bits_with_zero, bit_weight)
+
 -- ---- octets that are kept
 
 -- of no octets none are kept

@@ -35,6 +35,9 @@ busy_is next end count size is few = (
   λ many. lt-ltb next end (omega arith),
 )
 
+-- what tells how many are left
+pub ruleset busy_rules = (length_to_give, busy_is)
+
 -- ---- the bits that an octet is taken from
 
 pub refilled-enough : (left : List Bool) → 8 ≤ length left → left ≡ refilled left

@@ -311,6 +311,7 @@ fn left_of_six(octets: &[u8], at: usize) -> u16
 }
 
 // What is left of an octet with so many octets of 0s after it.
+#[tactic(auto, using(crate::proofs::Division::Tables::left_at))]
 fn left_of(octet: u8, zeros: usize) -> u16
     requires { zeros < 8 }
     ensures { low_bits 16 result ≡ remainder (low_bits 8 octet ++ replicate (8 * zeros + 16) false) }

@@ -76,7 +76,7 @@ impl Framer {
     }
 
     /// Whether eight bits or more are left: no frame can be loaded then.
-    #[tactic(auto, using(crate::proofs::FramerGiven::length_to_give, crate::proofs::FramerGiven::busy_is))]
+    #[tactic(auto, using(crate::proofs::FramerGiven::busy_rules))]
     pub fn busy(&self) -> bool
         ensures { IsTrue result ↔ (8 ≤ length self.now.left) }
     {

@@ -234,7 +234,7 @@ impl Gap {
 }
 
 /// The number with one bit more, above its `place` low ones.
-#[tactic(auto, using(crate::proofs::Assembly::low_bits_with_one, crate::proofs::Assembly::low_bits_with_zero, crate::proofs::Assembly::bit_weight))]
+#[tactic(auto, using(crate::proofs::Assembly::bit_rules))]
 fn with_bit(number: u8, place: u8, bit: bool) -> u8
     requires place { place < 8 }
     requires below { number < 2 ^ place }

@@ -18,8 +18,8 @@ low_bits-left_with : (n octet : ℕ) → low_bits 16 (left_with n octet) ≡ rem
 low_bits-left_with n octet =
     low_bits-number_of_n 16 (remainder (low_bits 8 octet ++ replicate n false)) (length-remainder (low_bits 8 octet ++ replicate n false))
 
-pub left-at : (octet zeros : ℕ) → octet < 256 → zeros < 8 → low_bits 16 (get_or LEFT (zeros * 256 + octet) 0) ≡ remainder (low_bits 8 octet ++ replicate (8 * zeros + 16) false)
-left-at octet zeros small few =
+pub left_at : (octet zeros : ℕ) → octet < 256 → zeros < 8 → low_bits 16 (get_or LEFT (zeros * 256 + octet) 0) ≡ remainder (low_bits 8 octet ++ replicate (8 * zeros + 16) false)
+left_at octet zeros small few =
     let at = zeros * 256 + octet in
     let row : at / 256 ≡ zeros = omega arith in
     let column : at % 256 ≡ octet = omega arith in

@@ -1,5 +1,5 @@
 -- How a deframer's fields follow the bits of an open gap: octets are put together and kept.
-use Rattle.lapd_bits.proofs.Vocabulary.{◌≡◌, ◌≢◌, ℕ, ◌+◌, ◌-◌, ◌*◌, ◌/◌, ◌%◌, ◌^◌, ◌<◌, ◌≤◌, Bool, true, false, List, [], ◌∷◌, ◌++◌, length, take, set, Option, Some, None, IfSome, is_some, nat_eq, nat_lt, refl, ap, sym, ◌∙◌, subst, arith, length-append, append_assoc, lt-ltb, le-ltb, ltb-true, ltb-false, ne_eqb, false_from_ne_true, take-append-le, take-take, take_more_set, All-nil, All-cons, All-append, pow_pos, pow_below, length-set, take-length, add-mul-mod_self_left, add-mul-div_left, mod-eq_of_lt, div-eq_of_lt, one-mul, zero-add, bits, low_bits, same_bits, is_good, HoldsDivision, overlong, dropped, is_short, judged, flag_front, closing_event, Keeps, Assembles, Ragged, Short, Fcs, low_bits-add, low_bits-mod, length-low_bits, bits-push, same_from_low_bits, same_from_test}
+use Rattle.lapd_bits.proofs.Vocabulary.{◌≡◌, ◌≢◌, ℕ, ◌+◌, ◌-◌, ◌*◌, ◌/◌, ◌%◌, ◌^◌, ◌<◌, ◌≤◌, Bool, true, false, List, [], ◌∷◌, ◌++◌, length, take, Option, Some, None, is_some, nat_eq, nat_lt, refl, ap, sym, ◌∙◌, subst, arith, length-append, append_assoc, lt-ltb, le-ltb, ltb-true, ltb-false, ne_eqb, false_from_ne_true, take-append-le, take-take, All-nil, All-cons, All-append, pow_pos, pow_below, take-length, add-mul-mod_self_left, add-mul-div_left, mod-eq_of_lt, div-eq_of_lt, one-mul, zero-add, bits, low_bits, same_bits, is_good, HoldsDivision, overlong, dropped, is_short, judged, flag_front, closing_event, Keeps, Assembles, Ragged, Short, Fcs, low_bits-add, low_bits-mod, length-low_bits, bits-push, same_from_low_bits, same_from_test}
 use Rattle.std.proofs.Math.Nat.{mul-one}
 use Rattle.model_bits.specs.Stream.{frame}
 use Rattle.std.proofs.lemmas.List.{append-nil}
@@ -19,12 +19,12 @@ low_bits-digit number place digit below small =
     ∙ ap (λ k. low_bits place number ++ nat_eq (k % 2) 1 ∷ []) above
     ∙ ap (λ k. low_bits place number ++ nat_eq k 1 ∷ []) (mod-eq_of_lt small)
 
-pub low_bits-with_one : (number place : ℕ) → number < 2 ^ place → low_bits (place + 1) (number + 2 ^ place) ≡ low_bits place number ++ true ∷ []
-low_bits-with_one number place below =
+pub low_bits_with_one : (number place : ℕ) → number < 2 ^ place → low_bits (place + 1) (number + 2 ^ place) ≡ low_bits place number ++ true ∷ []
+low_bits_with_one number place below =
     ap (λ k. low_bits (place + 1) (number + k)) (sym (mul-one (2 ^ place))) ∙ low_bits-digit number place 1 below (omega arith)
 
-pub low_bits-with_zero : (number place : ℕ) → number < 2 ^ place → low_bits (place + 1) number ≡ low_bits place number ++ false ∷ []
-low_bits-with_zero number place below =
+pub low_bits_with_zero : (number place : ℕ) → number < 2 ^ place → low_bits (place + 1) number ≡ low_bits place number ++ false ∷ []
+low_bits_with_zero number place below =
     ap (low_bits (place + 1)) (omega arith) ∙ low_bits-digit number place 0 below (omega arith)
 
 -- the weight of a bit of an octet fits the octet
@@ -32,6 +32,9 @@ pub bit_weight : (place : ℕ) → place < 8 → 1 * 2 ^ place % 256 ≡ 2 ^ pla
 bit_weight place h =
     let below : 2 ^ place < 2 ^ 8 = pow_below place 8 h in
     ap (λ w. w % 256) (one-mul (2 ^ place)) ∙ mod-eq_of_lt below
+
+-- what a number with one bit more needs
+pub ruleset bit_rules = (low_bits_with_one, low_bits_with_zero, bit_weight)
 
 -- ---- octets that are kept
 
@@ -46,9 +49,9 @@ Keeps-none octets =
     }
 
 -- and no bits make no octets
-pub Assembles-none : (octets : List ℕ) → Assembles octets 0 None 0 0 []
+pub Assembles_none : (octets : List ℕ) → Assembles octets 0 None 0 0 []
 unfolding low_bits
-Assembles-none octets =
+Assembles_none octets =
     record {
       whole = [];
       are_octets = All-nil (λ x. x < 256);
@@ -56,34 +59,9 @@ Assembles-none octets =
       assembled = refl;
     }
 
--- of what is not there anything holds
-of_none : (o : Option ℕ) (P : ℕ → Type 0) → is_some o ≡ false → IfSome o P
-of_none None P none = tt
-of_none (Some n) P none = cc
-
--- an octet more that there is room for
-pub Keeps-more : (octets whole : List ℕ) (count o : ℕ) (beyond : Option ℕ) → count < length octets → Keeps octets count beyond whole → Keeps (set octets count o) (count + 1) beyond (whole ++ o ∷ [])
-Keeps-more octets whole count o beyond room k =
-    let min_is = k.counted in
-    let all : count ≡ length whole = omega arith in
-    let one : length (whole ++ o ∷ []) ≡ count + 1 = length-append whole (o ∷ []) ∙ omega arith in
-    let same : length (set octets count o) ≡ length octets = length-set octets count o in
-    let fitted : nat_lt (length octets) (length whole) ≡ false = le-ltb (length octets) (length whole) (omega arith) in
-    let fits : nat_lt (length (set octets count o)) (length (whole ++ o ∷ [])) ≡ false =
-    le-ltb (length (set octets count o)) (length (whole ++ o ∷ [])) (omega arith) in
-    let before : take count octets ≡ whole = k.kept ∙ ap (λ n. take n whole) all ∙ take-length whole in
-    record {
-      counted = omega arith;
-      kept =
-          take_more_set octets count o room ∙ ap (λ l. l ++ o ∷ []) before
-          ∙ sym (ap (λ n. take n (whole ++ o ∷ [])) (sym one) ∙ take-length (whole ++ o ∷ []));
-      too_many = k.too_many ∙ fitted ∙ sym fits;
-      divided = of_none beyond (λ register. HoldsDivision register (bits (whole ++ o ∷ []))) (k.too_many ∙ fitted);
-    }
-
 -- an octet more that there is no room for
-pub Keeps-beyond : (octets whole : List ℕ) (count register o : ℕ) (beyond : Option ℕ) → count ≡ length octets → Keeps octets count beyond whole → HoldsDivision register (bits whole ++ low_bits 8 o) → Keeps octets count (Some register) (whole ++ o ∷ [])
-Keeps-beyond octets whole count register o beyond full k d =
+pub Keeps_beyond : (octets whole : List ℕ) (count register o : ℕ) (beyond : Option ℕ) → count ≡ length octets → Keeps octets count beyond whole → HoldsDivision register (bits whole ++ low_bits 8 o) → Keeps octets count (Some register) (whole ++ o ∷ [])
+Keeps_beyond octets whole count register o beyond full k d =
     let min_is = k.counted in
     let one : length (whole ++ o ∷ []) ≡ length whole + 1 = length-append whole (o ∷ []) in
     record {
@@ -188,18 +166,6 @@ told-frame octets whole count beyond none k h g =
 pub Keeps_same : (octets whole : List ℕ) (count count' : ℕ) (beyond beyond' : Option ℕ) → count' ≡ count → beyond' ≡ beyond → Keeps octets count beyond whole → Keeps octets count' beyond' whole
 Keeps_same octets whole count count' beyond beyond' p q k =
     subst (λ n. Keeps octets n beyond' whole) (sym p) (subst (λ b. Keeps octets count b whole) (sym q) k)
-
--- a bit that fills no octet
-pub Assembles-bit : (octets : List ℕ) (count count' : ℕ) (beyond beyond' : Option ℕ) (partial filled later : ℕ) (text : List Bool) (b : Bool) → count' ≡ count → beyond' ≡ beyond → Assembles octets count beyond partial filled text → low_bits (filled + 1) later ≡ low_bits filled partial ++ b ∷ [] → Assembles octets count' beyond' later (filled + 1) (text ++ b ∷ [])
-Assembles-bit octets count count' beyond beyond' partial filled later text b p q a e =
-    record {
-      whole = a.whole;
-      are_octets = a.are_octets;
-      keeps = Keeps_same octets a.whole count count' beyond beyond' p q a.keeps;
-      assembled =
-          ap (λ t. t ++ b ∷ []) a.assembled ∙ append_assoc (bits a.whole) (low_bits filled partial) (b ∷ [])
-          ∙ ap (λ t. bits a.whole ++ t) (sym e);
-    }
 
 -- a bit that fills one, which is kept
 pub Assembles-octet : (octets later_octets : List ℕ) (count later_count : ℕ) (beyond later_beyond : Option ℕ) (partial filled octet partial' filled' : ℕ) (text : List Bool) (b : Bool) → (a : Assembles octets count beyond partial filled text) → filled ≡ 7 → low_bits (filled + 1) octet ≡ low_bits filled partial ++ b ∷ [] → octet < 2 ^ (filled + 1) → partial' ≡ 0 → filled' ≡ 0 → Keeps later_octets later_count later_beyond (a.whole ++ octet ∷ []) → Assembles later_octets later_count later_beyond partial' filled' (text ++ b ∷ [])

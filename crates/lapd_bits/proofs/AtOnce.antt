@@ -1,5 +1,5 @@
--- Bits in which no six 1s in a row come end nothing, and go on the open gap all at once.
-use Rattle.lapd_bits.proofs.Vocabulary.{◌≡◌, ◌≢◌, ℕ, suc, zero, ◌+◌, ◌<◌, ◌≤◌, Bool, true, false, List, [], ◌∷◌, ◌++◌, reverse, replicate, Option, Some, None, option_map, option_to_list, refl, ap, sym, ◌∙◌, subst, arith, append_assoc, append-nil, false≢true, reverse-append, append_cancel_left, reverse-reverse, low_bits, unstuffed, heard_until, heard_at, run_of, open_gap, one_more, HoldsGap, HoldsPast, with_bits, has_six, IsContent, IsJoined, Gap, reverse-cons, ones_after-reverse, heard_at-one, heard_at-zero, open_gap-one, open_gap-zero, ones_after, unstuffed_after, unstuffed-counted, unstuffed_after-append, NoSix}
+-- Bits in which no flag and no abort ends go on the open gap all at once.
+use Rattle.lapd_bits.proofs.Vocabulary.{◌≡◌, ◌≢◌, ℕ, suc, zero, ◌+◌, ◌-◌, ◌<◌, ◌≤◌, Bool, true, false, List, [], ◌∷◌, ◌++◌, ◌||◌, reverse, replicate, Option, Some, None, option_map, option_to_list, refl, ap, sym, ◌∙◌, subst, arith, append_assoc, append-nil, false≢true, ⊎_elim, cases_lt, reverse-append, append_cancel_left, reverse-reverse, low_bits, unstuffed, heard_until, heard_at, run_of, open_gap, one_more, HoldsGap, HoldsPast, with_bits, has_six, IsContent, IsJoined, Gap, reverse-cons, ones_after-reverse, heard_at-one, heard_at-zero, open_gap-one, open_gap-zero, ones_after, unstuffed_after, unstuffed-counted, unstuffed_after-append}
 use Rattle.lapd_bits.proofs.BitSteps.{open_run, for_open}
 
 -- a place after more bits, in order of time
@@ -24,35 +24,52 @@ with_bits-onto octet past = sym (onto-reverse (low_bits 8 octet) past)
 
 -- ---- the test for six 1s
 
-pub NoSix-by_test : (n : ℕ) (text : List Bool) → has_six (replicate n true ++ text) ≡ false → (n ≤ 5) × NoSix n text
-NoSix-by_test zero [] h = (omega arith, tt)
-NoSix-by_test (suc zero) [] h = (omega arith, tt)
-NoSix-by_test (suc (suc zero)) [] h = (omega arith, tt)
-NoSix-by_test (suc (suc (suc zero))) [] h = (omega arith, tt)
-NoSix-by_test (suc (suc (suc (suc zero)))) [] h = (omega arith, tt)
-NoSix-by_test (suc (suc (suc (suc (suc zero))))) [] h = (omega arith, tt)
-NoSix-by_test zero (false ∷ text) h = (omega arith, (NoSix-by_test 0 text h).1)
-NoSix-by_test (suc zero) (false ∷ text) h = (omega arith, (NoSix-by_test 0 text h).1)
-NoSix-by_test (suc (suc zero)) (false ∷ text) h = (omega arith, (NoSix-by_test 0 text h).1)
-NoSix-by_test (suc (suc (suc zero))) (false ∷ text) h = (omega arith, (NoSix-by_test 0 text h).1)
-NoSix-by_test (suc (suc (suc (suc zero)))) (false ∷ text) h = (omega arith, (NoSix-by_test 0 text h).1)
-NoSix-by_test (suc (suc (suc (suc (suc zero))))) (false ∷ text) h = (omega arith, (NoSix-by_test 0 text h).1)
-NoSix-by_test zero (true ∷ text) h = (omega arith, (omega arith, (NoSix-by_test 1 text h).1))
-NoSix-by_test (suc zero) (true ∷ text) h = (omega arith, (omega arith, (NoSix-by_test 2 text h).1))
-NoSix-by_test (suc (suc zero)) (true ∷ text) h = (omega arith, (omega arith, (NoSix-by_test 3 text h).1))
-NoSix-by_test (suc (suc (suc zero))) (true ∷ text) h = (omega arith, (omega arith, (NoSix-by_test 4 text h).1))
-NoSix-by_test (suc (suc (suc (suc zero)))) (true ∷ text) h = (omega arith, (omega arith, (NoSix-by_test 5 text h).1))
-NoSix-by_test (suc (suc (suc (suc (suc zero))))) (true ∷ text) h = absurd (false≢true (sym h))
-NoSix-by_test (suc (suc (suc (suc (suc (suc n)))))) text h = absurd (false≢true (sym h))
+or_false : (a b : Bool) → (a || b) ≡ false → b ≡ false
+or_false false b h = h
+or_false true b h = absurd (false≢true (sym h))
 
-pub has_six-many : (n : ℕ) (text : List Bool) → 5 < n → has_six (replicate n true ++ text) ≡ true
-has_six-many (suc (suc (suc (suc (suc (suc n)))))) text h = refl
-has_six-many zero text h = absurd (omega arith)
-has_six-many (suc zero) text h = absurd (omega arith)
-has_six-many (suc (suc zero)) text h = absurd (omega arith)
-has_six-many (suc (suc (suc zero))) text h = absurd (omega arith)
-has_six-many (suc (suc (suc (suc zero)))) text h = absurd (omega arith)
-has_six-many (suc (suc (suc (suc (suc zero))))) text h = absurd (omega arith)
+six_begin : (m : ℕ) (text : List Bool)
+    → has_six (replicate (suc (suc (suc (suc (suc (suc m)))))) true ++ text) ≡ true
+six_begin m text = refl
+
+-- fewer than six come before a text
+pub few_before : (n : ℕ) (text : List Bool) → has_six (replicate n true ++ text) ≡ false → n ≤ 5
+few_before n text none =
+    ⊎_elim
+    (λ few. omega (arith, few))
+    (λ many.
+    let six : suc (suc (suc (suc (suc (suc (n - 6)))))) ≡ n = omega (arith, many) in
+    absurd (false≢true (sym none ∙ ap (λ k. has_six (replicate k true ++ text)) (sym six) ∙ six_begin (n - 6) text)))
+    (cases_lt n 6)
+
+-- nor do they stand behind its 0
+none_behind : (n : ℕ) (text : List Bool) → has_six (replicate n true ++ false ∷ text) ≡ false → has_six text ≡ false
+none_behind zero text h = h
+none_behind (suc n) text h = none_behind n text (or_false _ _ h)
+
+pub ones_push : (n : ℕ) (text : List Bool) → replicate n true ++ true ∷ text ≡ true ∷ (replicate n true ++ text)
+ones_push zero text = refl
+ones_push (suc n) text = ap (λ t. true ∷ t) (ones_push n text)
+
+-- ---- bits that end nothing: up to six 1s, and no 0 after six
+
+abbrev pub Calm : ℕ → List Bool → Type 0
+Calm n [] = Unit {0}
+Calm n (true ∷ text) = (n < 6) × Calm (suc n) text
+Calm n (false ∷ text) = (n ≢ 6) × Calm 0 text
+
+pub Calm-ones : (n k : ℕ) → n + k ≤ 6 → Calm n (replicate k true)
+Calm-ones n zero h = tt
+Calm-ones n (suc k) h = (omega arith, Calm-ones (suc n) k (omega arith))
+
+-- so do those in which no six 1s come
+pub Calm-by_six : (n : ℕ) (text : List Bool) → has_six (replicate n true ++ text) ≡ false → Calm n text
+Calm-by_six n [] h = tt
+Calm-by_six n (true ∷ text) h =
+    (omega (arith, few_before n (true ∷ text) h), Calm-by_six (suc n) text (sym (ap has_six (ones_push n text)) ∙ h))
+Calm-by_six n (false ∷ text) h =
+    let few = few_before n (false ∷ text) h in
+    (λ six. absurd (omega (arith, six, few)), Calm-by_six 0 text (none_behind n text h))
 
 -- ---- what such a text brings
 
@@ -66,11 +83,11 @@ pub record IsQuiet (room : ℕ) (text past : List Bool) : Type 0 where
   pub run : run_of (onto text past) ≡ ones_after (run_of past) text
   pub gap : open_gap (onto text past) ≡ option_map (onto text) (open_gap past)
 
-pub option_map-none : (gap : Option (List Bool)) → gap ≡ option_map (onto []) gap
+option_map-none : (gap : Option (List Bool)) → gap ≡ option_map (onto []) gap
 option_map-none None = refl
 option_map-none (Some g) = refl
 
-pub quiet-more :
+quiet-more :
     (room : ℕ) (b : Bool) (text past : List Bool) (n : ℕ) → heard_at room (b ∷ past) ≡ None
     → open_gap (b ∷ past) ≡ one_more b (open_gap past) → run_of (b ∷ past) ≡ n → IsQuiet room text (b ∷ past)
     → (run_of (onto text (b ∷ past)) ≡ ones_after n text)
@@ -82,17 +99,17 @@ quiet-more room b text past n none grown run q = (
   q.gap ∙ ap (option_map (onto text)) grown ∙ option_map-more b text (open_gap past),
 )
 
-pub quiet : (room : ℕ) (text past : List Bool) → run_of past ≤ 5 → NoSix (run_of past) text → IsQuiet room text past
-quiet room [] past few p = record { heard = refl; run = refl; gap = option_map-none (open_gap past) }
-quiet room (true ∷ text) past few p =
-    let run : run_of (true ∷ past) ≡ suc (run_of past) = omega (arith, p.0) in
-    let again = quiet room text (true ∷ past) (omega (arith, p.0)) (subst (λ n. NoSix n text) (sym run) p.1) in
+pub calm : (room n : ℕ) (text past : List Bool) → run_of past ≡ n → n ≤ 6 → Calm n text → IsQuiet room text past
+calm room n [] past e few p = record { heard = refl; run = refl; gap = option_map-none (open_gap past) }
+calm room n (true ∷ text) past e few p =
+    let run : run_of (true ∷ past) ≡ suc (run_of past) = omega (arith, e, p.0) in
+    let again = calm room (suc n) text (true ∷ past) (run ∙ ap suc e) (omega (arith, p.0)) p.1 in
     let more =
-    quiet-more room true text past (suc (run_of past)) (heard_at-one room past (omega arith)) (open_gap-one past (omega arith)) run again in
+    quiet-more room true text past (suc (run_of past)) (heard_at-one room past (omega (arith, e, p.0))) (open_gap-one past (omega (arith, e, p.0))) run again in
     record { heard = more.1; run = more.0; gap = more.2 }
-quiet room (false ∷ text) past few p =
-    let other : run_of past ≢ 6 = λ six. absurd (omega arith) in
-    let again = quiet room text (false ∷ past) (omega arith) p in
+calm room n (false ∷ text) past e few p =
+    let other : run_of past ≢ 6 = λ six. p.0 (sym e ∙ six) in
+    let again = calm room 0 text (false ∷ past) refl (omega arith) p.1 in
     let more = quiet-more room false text past 0 (heard_at-zero room past other) (open_gap-zero past other) refl again in
     record { heard = more.1; run = more.0; gap = more.2 }
 
@@ -121,23 +138,8 @@ run_of-ones (suc n) h = omega (arith, run_of-ones n (omega arith))
 
 -- ---- an octet that ends nothing
 
--- what the lookup says of an octet, by the count of 1s
-pub content_after :
-    (ones octet content count run : ℕ) → has_six (replicate ones true ++ low_bits 8 octet) ≡ false
-    → IsContent ones octet content count run
-    → (unstuffed_after ones (low_bits 8 octet) ≡ low_bits count content) × (run ≡ ones_after ones (low_bits 8 octet))
-content_after ones octet content count run none c =
-    let text = low_bits 8 octet in
-    let test = NoSix-by_test ones text none in
-    let before = replicate ones true ++ false ∷ [] in
-    let is_run : run_of before ≡ ones = run_of-ones ones test.0 in
-    let here = quiet 0 text before (omega (arith, test.0)) (subst (λ n. NoSix n text) (sym is_run) test.1) in (
-      append_cancel_left (replicate ones true) (unstuffed_after ones text) (low_bits count content) (sym (unstuffed-ones ones text) ∙ c.stays),
-      c.run_is ∙ ap run_of (with_bits-onto octet before) ∙ here.run ∙ ap (λ n. ones_after n text) is_run,
-    )
-
 -- what stays of it joins the open gap
-pub joined_after :
+joined_after :
     (past : List Bool) (ones octet content count : ℕ) → ones ≡ run_of past
     → unstuffed_after ones (low_bits 8 octet) ≡ low_bits count content → IsJoined octet (low_bits count content) (open_gap past)
 joined_after past ones octet content count e stays =
@@ -154,43 +156,43 @@ joined_after past ones octet content count e stays =
     ∙ ap (λ l. l ++ unstuffed_after ones text) (sym (unstuffed-counted (reverse g)))
     ∙ ap (λ l. unstuffed (reverse g) ++ l) stays)
 
-pub joined :
-    (past : List Bool) (ones octet content count run : ℕ) → ones ≡ run_of past
-    → has_six (replicate ones true ++ low_bits 8 octet) ≡ false → IsContent ones octet content count run
-    → IsJoined octet (low_bits count content) (open_gap past)
-joined past ones octet content count run e none c =
-    joined_after past ones octet content count e (content_after ones octet content count run none c).0
-
-pub same_map : (octet : ℕ) (g : Option (List Bool)) → option_map (with_bits 8 octet) g ≡ option_map (onto (low_bits 8 octet)) g
+same_map : (octet : ℕ) (g : Option (List Bool)) → option_map (with_bits 8 octet) g ≡ option_map (onto (low_bits 8 octet)) g
 same_map octet None = refl
 same_map octet (Some g) = ap Some (with_bits-onto octet g)
 
--- what the fields stand for after it
-pub HoldsPast-octet :
-    (octets octets' : List ℕ) (ones ones' : ℕ) (gap gap' : Option Gap) (past : List Bool) (octet content count run : ℕ)
-    → has_six (replicate ones true ++ low_bits 8 octet) ≡ false → IsContent ones octet content count run → ones' ≡ run
-    → ((g : Option (List Bool)) → IsJoined octet (low_bits count content) g → HoldsGap octets gap g → HoldsGap octets' gap' (option_map (with_bits 8 octet) g))
-    → HoldsPast octets ones gap past → HoldsPast octets' ones' gap' (with_bits 8 octet past)
-HoldsPast-octet octets octets' ones ones' gap gap' past octet content count run none c e taken h =
-    let text = low_bits 8 octet in
-    let test = NoSix-by_test ones text none in
-    let here = quiet 0 text past (omega (arith, h.run, test.0)) (subst (λ n. NoSix n text) h.run test.1) in
-    record {
-      run =
-          e ∙ (content_after ones octet content count run none c).1
-          ∙ ap (λ n. ones_after n text) h.run ∙ sym here.run ∙ ap run_of (sym (with_bits-onto octet past));
-      open_is =
-          subst (HoldsGap octets' gap')
-          (same_map octet (open_gap past) ∙ sym here.gap ∙ ap open_gap (sym (with_bits-onto octet past)))
-          (taken (open_gap past) (joined past ones octet content count run h.run none c) h.open_is);
-    }
+module _
+    (ones octet content count run : ℕ) (few : ones ≤ 5) (p : Calm ones (low_bits 8 octet))
+    (c : IsContent ones octet content count run) (past : List Bool) (is_run : ones ≡ run_of past) where
+  abbrev text : List Bool
+  text = low_bits 8 octet
 
--- and nothing is heard
-pub heard-octet :
-    (room ones : ℕ) (past : List Bool) (octet : ℕ) → has_six (replicate ones true ++ low_bits 8 octet) ≡ false → ones ≡ run_of past
-    → heard_until room (with_bits 8 octet past) ≡ heard_until room past ++ []
-heard-octet room ones past octet none e =
-    let text = low_bits 8 octet in
-    let test = NoSix-by_test ones text none in
-    let here = quiet room text past (omega (arith, e, test.0)) (subst (λ n. NoSix n text) e test.1) in
-    ap (heard_until room) (with_bits-onto octet past) ∙ here.heard ∙ sym (append-nil (heard_until room past))
+  here : (room : ℕ) → IsQuiet room text past
+  here room = calm room ones text past (sym is_run) (omega (arith, few)) p
+
+  -- nothing is heard
+  pub heard-octet : (room : ℕ) → heard_until room (with_bits 8 octet past) ≡ heard_until room past ++ []
+  heard-octet room =
+      ap (heard_until room) (with_bits-onto octet past) ∙ (here room).heard ∙ sym (append-nil (heard_until room past))
+
+  -- and what stays of it joins the gap
+  pub HoldsPast-octet :
+      (octets octets' : List ℕ) (ones' : ℕ) (gap gap' : Option Gap) → ones' ≡ run
+      → ((g : Option (List Bool)) → IsJoined octet (low_bits count content) g → HoldsGap octets gap g
+      → HoldsGap octets' gap' (option_map (with_bits 8 octet) g))
+      → HoldsGap octets gap (open_gap past) → HoldsPast octets' ones' gap' (with_bits 8 octet past)
+  HoldsPast-octet octets octets' ones' gap gap' e taken h =
+      let before = replicate ones true ++ (false ∷ []) in
+      let there = calm 0 ones text before (run_of-ones ones few) (omega (arith, few)) p in
+      let stays : unstuffed_after ones text ≡ low_bits count content =
+      append_cancel_left (replicate ones true) (unstuffed_after ones text) (low_bits count content)
+      (sym (unstuffed-ones ones text) ∙ c.stays) in
+      record {
+        run =
+            e ∙ c.run_is ∙ ap run_of (with_bits-onto octet before) ∙ there.run
+            ∙ ap (λ n. ones_after n text) (run_of-ones ones few ∙ is_run)
+            ∙ sym (here 0).run ∙ ap run_of (sym (with_bits-onto octet past));
+        open_is =
+            subst (HoldsGap octets' gap')
+            (same_map octet (open_gap past) ∙ sym (here 0).gap ∙ ap open_gap (sym (with_bits-onto octet past)))
+            (taken (open_gap past) (joined_after past ones octet content count is_run stays) h);
+      }

@@ -1,7 +1,7 @@
 -- Where five 1s come together in a number's bits: they go as they are up to there, and then goes a 0.
-use Rattle.lapd_bits.proofs.Vocabulary.{◌≡◌, ℕ, suc, zero, ◌+◌, ◌/◌, ◌%◌, ◌^◌, ◌<◌, ◌≤◌, min, Bool, true, false, if◌then◌else◌, nat_eq, bit_and, List, [], ◌∷◌, ◌++◌, refl, ap, sym, ◌∙◌, arith, eqb-true, lt-ltb, and_shr, and_le_r, shr-shr, bit_at-suc, bit_at_lowest, div-one, bit_at, low_bits, first_ones, last_ones, fives, stuffed_after, stuffed_after_fifth, ones_sent}
+use Rattle.lapd_bits.proofs.Vocabulary.{◌≡◌, ℕ, suc, zero, ◌+◌, ◌/◌, ◌%◌, ◌^◌, ◌<◌, ◌≤◌, min, Bool, true, false, if◌then◌else◌, nat_eq, bit_and, List, [], ◌∷◌, ◌++◌, refl, ap, sym, ◌∙◌, arith, append_assoc, eqb-true, lt-ltb, and_shr, and_le_r, shr-shr, bit_at-suc, bit_at_lowest, div-one, bit_at, low_bits, first_ones, last_ones, fives, stuffed_after, ones_sent}
 use lib.Bits.{and_step}
-use Rattle.lapd_bits.proofs.StuffingAtOnce.{last_ones-few}
+use Rattle.lapd_bits.proofs.StuffingAtOnce.{last_ones_few}
 
 -- ---- where five 1s begin
 
@@ -42,26 +42,20 @@ fives-twos x =
 -- ---- the latest four bits and the next
 
 -- the next is a 1 after three at most
-one_more : (a b c d : Bool) → first_ones (d ∷ c ∷ b ∷ a ∷ []) ≤ 3 → first_ones (true ∷ d ∷ c ∷ b ∷ []) ≡ suc (first_ones (d ∷ c ∷ b ∷ a ∷ []))
-one_more a b c false h = refl
-one_more a b false true h = refl
-one_more a false true true h = refl
-one_more false true true true h = refl
+one_more : (d c b a : Bool) → first_ones (d ∷ c ∷ b ∷ a ∷ []) ≤ 3 → first_ones (true ∷ d ∷ c ∷ b ∷ []) ≡ suc (first_ones (d ∷ c ∷ b ∷ a ∷ []))
 one_more true true true true h = absurd (omega (arith, h))
+one_more _ _ _ _ h = refl
 
 -- three at most where they are not all 1s
-not_all : (a b c d : Bool) → (a ≡ true → b ≡ true → c ≡ true → d ≡ true → ⊥) → first_ones (d ∷ c ∷ b ∷ a ∷ []) ≤ 3
-not_all a b c false h = omega arith
-not_all a b false true h = omega arith
-not_all a false true true h = omega arith
-not_all false true true true h = omega arith
+not_all : (d c b a : Bool) → (a ≡ true → b ≡ true → c ≡ true → d ≡ true → ⊥) → first_ones (d ∷ c ∷ b ∷ a ∷ []) ≤ 3
 not_all true true true true h = absurd (h refl refl refl refl)
+not_all _ _ _ _ h = omega arith
 
 -- where no five begin, fewer than four are before a 1
 three_before : (x : ℕ) → fives x % 2 ≡ 0 → x / 16 % 2 ≡ 1 → last_ones x ≤ 3
 unfolding low_bits
 three_before x none fifth =
-    not_all (nat_eq (x % 2) 1) (nat_eq (x / 2 % 2) 1) (nat_eq (x / 2 / 2 % 2) 1) (nat_eq (x / 2 / 2 / 2 % 2) 1)
+    not_all (nat_eq (x / 2 / 2 / 2 % 2) 1) (nat_eq (x / 2 / 2 % 2) 1) (nat_eq (x / 2 % 2) 1) (nat_eq (x % 2) 1)
     (λ a b c d. absurd (omega (arith, fives-low x, none, fifth, eqb-true (x % 2) 1 a, eqb-true (x / 2 % 2) 1 b, eqb-true (x / 2 / 2 % 2) 1 c, eqb-true (x / 2 / 2 / 2 % 2) 1 d)))
 
 is_one : (y : ℕ) → y ≡ 1 → nat_eq y 1 ≡ true
@@ -85,80 +79,64 @@ last_ones-next x false is none =
 last_ones-next x true is none =
     let same : x / 2 / 2 / 2 / 2 % 2 ≡ x / 16 % 2 = omega arith in
     ap (λ b. first_ones (b ∷ nat_eq (x / 2 / 2 / 2 % 2) 1 ∷ nat_eq (x / 2 / 2 % 2) 1 ∷ nat_eq (x / 2 % 2) 1 ∷ [])) (ap (λ y. nat_eq y 1) same ∙ is)
-    ∙ one_more (nat_eq (x % 2) 1) _ _ _ (three_before x none (eqb-true (x / 16 % 2) 1 is))
+    ∙ one_more _ _ _ (nat_eq (x % 2) 1) (three_before x none (eqb-true (x / 16 % 2) 1 is))
+
+-- What goes of bits after so many 1s, and the 1s that then stand at the end.
+abbrev pub going : ℕ → List Bool → List Bool × ℕ
+going n b = (stuffed_after n b, ones_sent n b)
+
+-- the same after bits that have gone
+abbrev pub behind : List Bool → List Bool × ℕ → List Bool × ℕ
+behind front p = (front ++ p.0, p.1)
+
+pub behind_both : (a b : List Bool) (p : List Bool × ℕ) → behind a (behind b p) ≡ behind (a ++ b) p
+behind_both a b p i = (sym (append_assoc a b p.0) i, p.1)
 
 -- a bit goes after four 1s at most
-bit_goes : (n : ℕ) (b : Bool) (rest : List Bool) → n ≤ 4 → stuffed_after n (b ∷ rest) ≡ b ∷ stuffed_after (if b then suc n else 0) rest
+bit_goes : (n : ℕ) (b : Bool) (rest : List Bool) → n ≤ 4 → going n (b ∷ rest) ≡ behind (b ∷ []) (going (if b then suc n else 0) rest)
 bit_goes n false rest few = simp (lt-ltb n 5 (omega arith)) refl
 bit_goes n true rest few = simp (lt-ltb n 5 (omega arith)) refl
 
-bit_leaves : (n : ℕ) (b : Bool) (rest : List Bool) → n ≤ 4 → ones_sent n (b ∷ rest) ≡ ones_sent (if b then suc n else 0) rest
-bit_leaves n false rest few = refl
-bit_leaves n true rest few = simp (lt-ltb n 5 (omega arith)) refl
-
 -- and so does one of a number where no five begin
-number_goes : (x m : ℕ) → fives x % 2 ≡ 0 → stuffed_after (last_ones x) (low_bits (suc m) (x / 16)) ≡ nat_eq (x / 16 % 2) 1 ∷ stuffed_after (last_ones (x / 2)) (low_bits m (x / 2 / 16))
+number_goes : (x m : ℕ) → fives x % 2 ≡ 0 → going (last_ones x) (low_bits (suc m) (x / 16)) ≡ behind (nat_eq (x / 16 % 2) 1 ∷ []) (going (last_ones (x / 2)) (low_bits m (x / 2 / 16)))
 unfolding low_bits
 number_goes x m none =
+    let bit = nat_eq (x / 16 % 2) 1 in
     let half : x / 16 / 2 ≡ x / 2 / 16 = omega arith in
-    bit_goes (last_ones x) (nat_eq (x / 16 % 2) 1) (low_bits m (x / 16 / 2)) (last_ones-few x)
-    ∙ ap (λ n. nat_eq (x / 16 % 2) 1 ∷ stuffed_after n (low_bits m (x / 16 / 2))) (sym (last_ones-next x (nat_eq (x / 16 % 2) 1) refl none))
-    ∙ ap (λ y. nat_eq (x / 16 % 2) 1 ∷ stuffed_after (last_ones (x / 2)) (low_bits m y)) half
-
-number_leaves : (x m : ℕ) → fives x % 2 ≡ 0 → ones_sent (last_ones x) (low_bits (suc m) (x / 16)) ≡ ones_sent (last_ones (x / 2)) (low_bits m (x / 2 / 16))
-unfolding low_bits
-number_leaves x m none =
-    let half : x / 16 / 2 ≡ x / 2 / 16 = omega arith in
-    bit_leaves (last_ones x) (nat_eq (x / 16 % 2) 1) (low_bits m (x / 16 / 2)) (last_ones-few x)
-    ∙ ap (λ n. ones_sent n (low_bits m (x / 16 / 2))) (sym (last_ones-next x (nat_eq (x / 16 % 2) 1) refl none))
-    ∙ ap (λ y. ones_sent (last_ones (x / 2)) (low_bits m y)) half
+    bit_goes (last_ones x) bit (low_bits m (x / 16 / 2)) (last_ones_few x)
+    ∙ ap (λ n. behind (bit ∷ []) (going n (low_bits m (x / 16 / 2)))) (sym (last_ones-next x bit refl none))
+    ∙ ap (λ y. behind (bit ∷ []) (going (last_ones (x / 2)) (low_bits m y))) half
 
 -- ---- where none begin
 
-pub calm_goes : (m x : ℕ) → fives x ≡ 0 → stuffed_after (last_ones x) (low_bits m (x / 16)) ≡ low_bits m (x / 16)
+pub calm_goes : (m x : ℕ) → fives x ≡ 0 → going (last_ones x) (low_bits m (x / 16)) ≡ (low_bits m (x / 16), last_ones (x / 2 ^ m))
 unfolding low_bits
-calm_goes zero x none = simp (lt-ltb (last_ones x) 5 (omega (arith, last_ones-few x))) refl
+calm_goes zero x none =
+    simp (lt-ltb (last_ones x) 5 (omega (arith, last_ones_few x))) (ap (λ y. ([], last_ones y)) (sym (div-one x)))
 calm_goes (suc m) x none =
+    let bit = nat_eq (x / 16 % 2) 1 in
     let half : x / 2 / 16 ≡ x / 16 / 2 = omega arith in
+    let one : 1 + m ≡ suc m = omega arith in
     number_goes x m (omega (arith, none))
-    ∙ ap (λ l. nat_eq (x / 16 % 2) 1 ∷ l) (calm_goes m (x / 2) (omega (arith, fives-half x, none)) ∙ ap (low_bits m) half)
-
-pub calm_leaves : (m x : ℕ) → fives x ≡ 0 → ones_sent (last_ones x) (low_bits m (x / 16)) ≡ last_ones (x / 2 ^ m)
-unfolding low_bits
-calm_leaves zero x none = simp (lt-ltb (last_ones x) 5 (omega (arith, last_ones-few x))) (ap last_ones (sym (div-one x)))
-calm_leaves (suc m) x none =
-    let half : suc m ≡ 1 + m = omega arith in
-    number_leaves x m (omega (arith, none))
-    ∙ calm_leaves m (x / 2) (omega (arith, fives-half x, none))
-    ∙ ap last_ones (shr-shr x 1 m ∙ ap (λ n. x / 2 ^ n) (sym half))
+    ∙ ap (behind (bit ∷ [])) (calm_goes m (x / 2) (omega (arith, fives-half x, none)))
+    ∙ (λ i. (bit ∷ low_bits m (half i), last_ones ((shr-shr x 1 m ∙ ap (λ n. x / 2 ^ n) one) i)))
 
 -- ---- where the first begin
 
 -- at once, a 0 goes after the fifth
-five_goes : (m x : ℕ) → fives x % 2 ≡ 1 → stuffed_after (last_ones x) (low_bits (suc m) (x / 16)) ≡ true ∷ false ∷ stuffed_after 0 (low_bits m (x / 32))
+fifth_goes : (b : List Bool) → going 4 (true ∷ b) ≡ behind (true ∷ false ∷ []) (going 0 b)
+fifth_goes [] = refl
+fifth_goes (false ∷ b) = refl
+fifth_goes (true ∷ b) = refl
+
+five_goes : (m x : ℕ) → fives x % 2 ≡ 1 → going (last_ones x) (low_bits (suc m) (x / 16)) ≡ behind (true ∷ false ∷ []) (going 0 (low_bits m (x / 32)))
 unfolding low_bits
 five_goes m x five =
     let fifth : nat_eq (x / 16 % 2) 1 ≡ true = is_one (x / 16 % 2) (omega (arith, fives-low x, five)) in
     let half : x / 16 / 2 ≡ x / 32 = omega arith in
-    ap (λ n. stuffed_after n (nat_eq (x / 16 % 2) 1 ∷ low_bits m (x / 16 / 2))) (four_before x five)
-    ∙ ap (λ b. stuffed_after 4 (b ∷ low_bits m (x / 16 / 2))) fifth
-    ∙ ap (λ l. true ∷ l) (stuffed_after_fifth 5 (low_bits m (x / 16 / 2)) (omega arith))
-    ∙ ap (λ y. true ∷ false ∷ stuffed_after 0 (low_bits m y)) half
-
-ones_sent_fifth : (b : List Bool) → ones_sent 5 b ≡ ones_sent 0 b
-ones_sent_fifth [] = refl
-ones_sent_fifth (false ∷ b) = refl
-ones_sent_fifth (true ∷ b) = refl
-
-five_leaves : (m x : ℕ) → fives x % 2 ≡ 1 → ones_sent (last_ones x) (low_bits (suc m) (x / 16)) ≡ ones_sent 0 (low_bits m (x / 32))
-unfolding low_bits
-five_leaves m x five =
-    let fifth : nat_eq (x / 16 % 2) 1 ≡ true = is_one (x / 16 % 2) (omega (arith, fives-low x, five)) in
-    let half : x / 16 / 2 ≡ x / 32 = omega arith in
-    ap (λ n. ones_sent n (nat_eq (x / 16 % 2) 1 ∷ low_bits m (x / 16 / 2))) (four_before x five)
-    ∙ ap (λ b. ones_sent 4 (b ∷ low_bits m (x / 16 / 2))) fifth
-    ∙ ones_sent_fifth (low_bits m (x / 16 / 2))
-    ∙ ap (λ y. ones_sent 0 (low_bits m y)) half
+    (λ i. going (four_before x five i) (fifth i ∷ low_bits m (x / 16 / 2)))
+    ∙ fifth_goes (low_bits m (x / 16 / 2))
+    ∙ ap (λ y. behind (true ∷ false ∷ []) (going 0 (low_bits m y))) half
 
 -- Five 1s begin at this place of a number, and at no place below.
 abbrev pub IsFirst : ℕ → ℕ → Type 0
@@ -174,34 +152,21 @@ IsFirst-half s x first = (
 IsFirst-none : (s x : ℕ) → IsFirst (suc s) x → fives x % 2 ≡ 0
 IsFirst-none s x first = sym (bit_at_lowest (fives x)) ∙ first.1 0 (omega arith)
 
-pub first_goes : (s m n x : ℕ) → n ≡ suc s + m → IsFirst s x → stuffed_after (last_ones x) (low_bits n (x / 16)) ≡ low_bits (suc s) (x / 16) ++ false ∷ stuffed_after 0 (low_bits m (x / 2 ^ (s + 5)))
+pub first_goes : (s m n x : ℕ) → n ≡ suc s + m → IsFirst s x → going (last_ones x) (low_bits n (x / 16)) ≡ behind (low_bits (suc s) (x / 16) ++ false ∷ []) (going 0 (low_bits m (x / 2 ^ (s + 5))))
 unfolding low_bits
 first_goes zero m n x parts first =
     let five : fives x % 2 ≡ 1 = sym (bit_at_lowest (fives x)) ∙ first.0 in
     let fifth : nat_eq (x / 16 % 2) 1 ≡ true = is_one (x / 16 % 2) (omega (arith, fives-low x, five)) in
     let more : n ≡ suc m = omega (arith, parts) in
-    ap (λ k. stuffed_after (last_ones x) (low_bits k (x / 16))) more
+    ap (λ k. going (last_ones x) (low_bits k (x / 16))) more
     ∙ five_goes m x five
-    ∙ ap (λ b. b ∷ false ∷ stuffed_after 0 (low_bits m (x / 32))) (sym fifth)
+    ∙ ap (λ b. behind (b ∷ false ∷ []) (going 0 (low_bits m (x / 32)))) (sym fifth)
 first_goes (suc s) m n x parts first =
     let half : x / 2 / 16 ≡ x / 16 / 2 = omega arith in
     let more : n ≡ suc (suc s + m) = omega (arith, parts) in
     let places : 1 + (s + 5) ≡ suc s + 5 = omega arith in
-    ap (λ k. stuffed_after (last_ones x) (low_bits k (x / 16))) more
+    ap (λ k. going (last_ones x) (low_bits k (x / 16))) more
     ∙ number_goes x (suc s + m) (IsFirst-none s x first)
-    ∙ ap (λ l. nat_eq (x / 16 % 2) 1 ∷ l)
+    ∙ ap (behind (nat_eq (x / 16 % 2) 1 ∷ []))
     (first_goes s m (suc s + m) (x / 2) refl (IsFirst-half s x first)
-    ∙ ap (λ y. low_bits (suc s) y ++ false ∷ stuffed_after 0 (low_bits m (x / 2 / 2 ^ (s + 5)))) half
-    ∙ ap (λ y. low_bits (suc s) (x / 16 / 2) ++ false ∷ stuffed_after 0 (low_bits m y)) (shr-shr x 1 (s + 5) ∙ ap (λ k. x / 2 ^ k) places))
-
-pub first_leaves : (s m n x : ℕ) → n ≡ suc s + m → IsFirst s x → ones_sent (last_ones x) (low_bits n (x / 16)) ≡ ones_sent 0 (low_bits m (x / 2 ^ (s + 5)))
-first_leaves zero m n x parts first =
-    let more : n ≡ suc m = omega (arith, parts) in
-    ap (λ k. ones_sent (last_ones x) (low_bits k (x / 16))) more ∙ five_leaves m x (sym (bit_at_lowest (fives x)) ∙ first.0)
-first_leaves (suc s) m n x parts first =
-    let more : n ≡ suc (suc s + m) = omega (arith, parts) in
-    let places : 1 + (s + 5) ≡ suc s + 5 = omega arith in
-    ap (λ k. ones_sent (last_ones x) (low_bits k (x / 16))) more
-    ∙ number_leaves x (suc s + m) (IsFirst-none s x first)
-    ∙ first_leaves s m (suc s + m) (x / 2) refl (IsFirst-half s x first)
-    ∙ ap (λ y. ones_sent 0 (low_bits m y)) (shr-shr x 1 (s + 5) ∙ ap (λ k. x / 2 ^ k) places)
+    ∙ (λ i. behind (low_bits (suc s) (half i) ++ false ∷ []) (going 0 (low_bits m ((shr-shr x 1 (s + 5) ∙ ap (λ k. x / 2 ^ k) places) i)))))

@@ -1,11 +1,12 @@
 -- An octet in which a flag ends: its first 1s go on the open gap, which the flag closes; the bits behind begin the next.
-use Rattle.lapd_bits.proofs.Vocabulary.{◌≡◌, ℕ, suc, zero, ◌+◌, ◌-◌, ◌/◌, ◌^◌, ◌<◌, ◌≤◌, Bool, true, false, not, ◌&&◌, List, [], ◌∷◌, ◌++◌, length, reverse, replicate, Option, Some, None, option_map, option_to_list, nat_eq, nat_lt, refl, ap, sym, ◌∙◌, subst, arith, append-nil, length-append, eqb-true, and_parts, ltb-true, lt-ltb, eq-eqb, false≢true, reverse-append, reverse-reverse, append_cancel_left, length-replicate, bits, low_bits, same_bits, unstuffed, Event, heard_until, heard_at, run_of, open_gap, closed_event, KeepsIn, Assembles, AssemblesIn, HoldsGap, HoldsPast, closing_event, with_bits, behind_zero, ends_nothing, IsFlagEnd, IsFlagBegun, IsJoined, Gap, length-low_bits, same_from_test, heard_at-flag, open_gap-flag, ones_after, unstuffed-counted, unstuffed_after, unstuffed_after-append}
+use Rattle.lapd_bits.proofs.Vocabulary.{◌≡◌, ℕ, suc, ◌+◌, ◌-◌, ◌/◌, ◌^◌, ◌<◌, ◌≤◌, ◌⊎◌, inl, inr, Bool, true, false, not, ◌&&◌, List, [], ◌∷◌, ◌++◌, length, reverse, replicate, Option, Some, None, option_map, option_to_list, nat_eq, nat_lt, refl, ap, sym, ◌∙◌, subst, arith, append-nil, length-append, eqb-true, and_parts, ltb-true, lt-ltb, eq-eqb, false≢true, reverse-append, reverse-reverse, length-replicate, bits, low_bits, same_bits, unstuffed, Event, heard_until, heard_at, run_of, open_gap, closed_event, KeepsIn, Assembles, AssemblesIn, HoldsGap, HoldsPast, closing_event, with_bits, behind_zero, ends_nothing, IsFlagEnd, IsFlagBegun, Gap, length-low_bits, same_from_test, heard_at-flag, open_gap-flag, ones_after, unstuffed-counted, unstuffed_after, unstuffed_after-append}
 use Rattle.lapd_bits.proofs.BitSteps.{closed_told}
-use Rattle.lapd_bits.proofs.AtOnce.{joined_after, same_map, run_of-ones, unstuffed-ones, onto, onto-reverse, onto-append, with_bits-onto, IsQuiet, ones_after-ones, unstuffed_after-ones}
-use Rattle.lapd_bits.proofs.Idle.{Calm, Calm-ones, calm, length-onto, onto-ones}
+use Rattle.lapd_bits.proofs.AtOnce.{Calm, Calm-ones, calm, onto, onto-reverse, onto-append, with_bits-onto, IsQuiet, ones_after-ones, unstuffed_after-ones}
+use Rattle.lapd_bits.proofs.Idle.{length-onto, onto-ones}
+use Rattle.lapd_bits.proofs.Tested.{all_pass}
 
 -- the test of bits that end nothing
-Calm-by_test : (n : ℕ) (text : List Bool) → ends_nothing n text ≡ true → Calm n text
+pub Calm-by_test : (n : ℕ) (text : List Bool) → ends_nothing n text ≡ true → Calm n text
 Calm-by_test n [] h = tt
 Calm-by_test n (true ∷ text) h =
     let parts = and_parts (nat_lt n 6) (ends_nothing (suc n) text) h in
@@ -15,26 +16,16 @@ Calm-by_test n (false ∷ text) h =
     (λ six. false≢true (ap not (sym (eq-eqb n 6 six)) ∙ parts.0), Calm-by_test 0 text parts.1)
 
 -- so many 1s, of a flag's six
-pub six_ones_are : (count : ℕ) → count ≤ 6 → low_bits count (63 / 2 ^ (6 - count)) ≡ replicate count true
-unfolding low_bits
-six_ones_are zero h = refl
-six_ones_are (suc zero) h = refl
-six_ones_are (suc (suc zero)) h = refl
-six_ones_are (suc (suc (suc zero))) h = refl
-six_ones_are (suc (suc (suc (suc zero)))) h = refl
-six_ones_are (suc (suc (suc (suc (suc zero))))) h = refl
-six_ones_are (suc (suc (suc (suc (suc (suc zero)))))) h = refl
-six_ones_are (suc (suc (suc (suc (suc (suc (suc n))))))) h = absurd (omega arith)
+abbrev are_ones : ℕ → Bool
+are_ones count =
+    same_bits (low_bits count (63 / 2 ^ (6 - count))) (replicate count true) && nat_lt (63 / 2 ^ (6 - count)) (2 ^ count)
 
-pub six_ones_fit : (count : ℕ) → count ≤ 6 → 63 / 2 ^ (6 - count) < 2 ^ count
-six_ones_fit zero h = omega arith
-six_ones_fit (suc zero) h = omega arith
-six_ones_fit (suc (suc zero)) h = omega arith
-six_ones_fit (suc (suc (suc zero))) h = omega arith
-six_ones_fit (suc (suc (suc (suc zero)))) h = omega arith
-six_ones_fit (suc (suc (suc (suc (suc zero))))) h = omega arith
-six_ones_fit (suc (suc (suc (suc (suc (suc zero)))))) h = omega arith
-six_ones_fit (suc (suc (suc (suc (suc (suc (suc n))))))) h = absurd (omega arith)
+pub six_ones_are : (count : ℕ) → count ≤ 6
+    → (low_bits count (63 / 2 ^ (6 - count)) ≡ replicate count true) × (63 / 2 ^ (6 - count) < 2 ^ count)
+unfolding low_bits
+six_ones_are count h =
+    let parts = and_parts (same_bits (low_bits count (63 / 2 ^ (6 - count))) (replicate count true)) _ (all_pass are_ones 7 count refl (omega arith)) in
+    (same_from_test _ _ parts.0, ltb-true _ _ parts.1)
 
 -- ---- 1s more of a gap
 
@@ -67,10 +58,10 @@ HoldsGap-ones octets octets' gap gap' n (Some g) long since taken h =
     }
 
 -- and where no bits have come, those that are put in hold of the next gap
-pub Assembles-begun :
+pub Assembles_begun :
     (octets : List ℕ) (count : ℕ) (beyond : Option ℕ) (partial filled content n : ℕ)
     → Assembles octets count beyond partial filled [] → Assembles octets count beyond content n (low_bits n content)
-Assembles-begun octets count beyond partial filled content n a =
+Assembles_begun octets count beyond partial filled content n a =
     record {
       whole = a.whole;
       are_octets = a.are_octets;
@@ -214,99 +205,43 @@ module _
 
 -- ---- an octet that brings all of a flag but its last bit
 
-module _
-    (ones octet content count run : ℕ) (begun : IsFlagBegun ones octet content count run)
-    (past : List Bool) (is_run : ones ≡ run_of past) where
-  abbrev text : List Bool
-  text = low_bits 8 octet
-
-  calm_here : (room : ℕ) (front : List Bool) → run_of front ≡ ones → IsQuiet room text front
-  calm_here room front e = calm room ones text front e (omega (arith, begun.few)) (Calm-by_test ones text begun.quiet)
-
-  -- it brings nothing
-  pub heard-flag_begun : (room : ℕ) → heard_until room (with_bits 8 octet past) ≡ heard_until room past ++ []
-  heard-flag_begun room =
-      let here = calm_here room past (sym is_run) in
-      ap (heard_until room) (with_bits-onto octet past) ∙ here.heard ∙ sym (append-nil (heard_until room past))
-
-  -- and goes on the open gap
-  pub HoldsPast-flag_begun :
-      (octets octets' : List ℕ) (ones' : ℕ) (gap gap' : Option Gap) → ones' ≡ run
-      → ((g : Option (List Bool)) → IsJoined octet (low_bits count content) g → HoldsGap octets gap g
-      → HoldsGap octets' gap' (option_map (with_bits 8 octet) g))
-      → HoldsGap octets gap (open_gap past) → HoldsPast octets' ones' gap' (with_bits 8 octet past)
-  HoldsPast-flag_begun octets octets' ones' gap gap' e taken h =
-      let before = replicate ones true ++ (false ∷ []) in
-      let here = calm_here 0 past (sym is_run) in
-      let there = calm_here 0 before (run_of-ones ones begun.few) in
-      let stays : unstuffed_after ones text ≡ low_bits count content =
-      append_cancel_left (replicate ones true) (unstuffed_after ones text) (low_bits count content)
-      (sym (unstuffed-ones ones text) ∙ begun.stays) in
-      record {
-        run =
-            e ∙ begun.run_is ∙ ap run_of (with_bits-onto octet before) ∙ there.run
-            ∙ ap (λ n. ones_after n text) (run_of-ones ones begun.few ∙ is_run)
-            ∙ sym here.run ∙ ap run_of (sym (with_bits-onto octet past));
-        open_is =
-            subst (HoldsGap octets' gap')
-            (same_map octet (open_gap past) ∙ sym here.gap ∙ ap open_gap (sym (with_bits-onto octet past)))
-            (taken (open_gap past) (joined_after past ones octet content count is_run stays) h);
-      }
-
--- ---- what stays of such an octet
-
 abbrev is_begun : ℕ → ℕ → ℕ → ℕ → Bool
-is_begun ones octet content count =
+is_begun octet content count ones =
     ends_nothing ones (low_bits 8 octet)
     && (same_bits (unstuffed (replicate ones true ++ low_bits 8 octet)) (replicate ones true ++ low_bits count content)
     && nat_eq 6 (run_of (with_bits 8 octet (replicate ones true ++ (false ∷ [])))))
 
-IsFlagBegun-by_test : (ones octet content count : ℕ) → ones ≤ 5 → is_begun ones octet content count ≡ true
+IsFlagBegun-by_test : (ones octet content count : ℕ) → ones ≤ 5 → is_begun octet content count ones ≡ true
     → IsFlagBegun ones octet content count 6
 IsFlagBegun-by_test ones octet content count few h =
     let a = and_parts (ends_nothing ones (low_bits 8 octet)) _ h in
     let b =
     and_parts (same_bits (unstuffed (replicate ones true ++ low_bits 8 octet)) (replicate ones true ++ low_bits count content)) _ a.1 in
-    record { few = few; quiet = a.0; stays = same_from_test _ _ b.0; run_is = eqb-true _ _ b.1 }
+    record { few = few; quiet = a.0; brings = record { stays = same_from_test _ _ b.0; run_is = eqb-true _ _ b.1 } }
 
 -- after fewer than five 1s its first 0 stays
-begun_whole : (ones first : ℕ) → first ≤ 1 → ones + first ≤ 4 → is_begun ones (252 + first) (252 + first) 8 ≡ true
+pub begun-whole : (ones octet : ℕ) → 252 ≤ octet → octet ≤ 253 → (octet < 253) ⊎ (253 ≤ octet) → ones + (octet - 252) < 5 → IsFlagBegun ones octet octet 8 6
 unfolding low_bits
-begun_whole zero zero h few = refl
-begun_whole (suc zero) zero h few = refl
-begun_whole (suc (suc zero)) zero h few = refl
-begun_whole (suc (suc (suc zero))) zero h few = refl
-begun_whole (suc (suc (suc (suc zero)))) zero h few = refl
-begun_whole zero (suc zero) h few = refl
-begun_whole (suc zero) (suc zero) h few = refl
-begun_whole (suc (suc zero)) (suc zero) h few = refl
-begun_whole (suc (suc (suc zero))) (suc zero) h few = refl
-begun_whole (suc (suc (suc (suc (suc n))))) zero h few = absurd (omega arith)
-begun_whole (suc (suc (suc (suc n)))) (suc zero) h few = absurd (omega arith)
-begun_whole ones (suc (suc n)) h few = absurd (omega arith)
+begun-whole ones octet low high (inl side) few =
+    let is : 252 ≡ octet = omega (arith, side) in
+    subst (λ o. IsFlagBegun ones o o 8 6) is
+    (IsFlagBegun-by_test ones 252 252 8 (omega arith) (all_pass (is_begun 252 252 8) 5 ones refl (omega arith)))
+begun-whole ones octet low high (inr side) few =
+    let is : 253 ≡ octet = omega (arith, side) in
+    subst (λ o. IsFlagBegun ones o o 8 6) is
+    (IsFlagBegun-by_test ones 253 253 8 (omega arith) (all_pass (is_begun 253 253 8) 4 ones refl (omega arith)))
 
 -- after five it is a stuffed one
-begun_stuffed : (ones first : ℕ) → first ≤ 1 → ones + first ≡ 5 → is_begun ones (252 + first) (126 + first) 7 ≡ true
-unfolding low_bits
-begun_stuffed ones zero h five =
-    let is : 5 ≡ ones = omega arith in
-    subst (λ n. is_begun n 252 126 7 ≡ true) is refl
-begun_stuffed ones (suc zero) h five =
-    let is : 4 ≡ ones = omega arith in
-    subst (λ n. is_begun n 253 127 7 ≡ true) is refl
-begun_stuffed ones (suc (suc n)) h five = absurd (omega arith)
-
-pub begun-whole : (ones octet : ℕ) → 252 ≤ octet → octet ≤ 253 → ones + (octet - 252) < 5 → IsFlagBegun ones octet octet 8 6
-begun-whole ones octet low high few =
-    let is : 252 + (octet - 252) ≡ octet = omega arith in
-    subst (λ o. IsFlagBegun ones o o 8 6) is
-    (IsFlagBegun-by_test ones (252 + (octet - 252)) (252 + (octet - 252)) 8 (omega arith)
-    (begun_whole ones (octet - 252) (omega arith) (omega arith)))
-
-pub begun-stuffed : (ones octet : ℕ) → 252 ≤ octet → octet ≤ 253 → ones + (octet - 252) ≡ 5
+pub begun-stuffed : (ones octet : ℕ) → 252 ≤ octet → octet ≤ 253 → (octet < 253) ⊎ (253 ≤ octet) → ones + (octet - 252) ≡ 5
     → IsFlagBegun ones octet (126 + (octet - 252)) 7 6
-begun-stuffed ones octet low high five =
-    let is : 252 + (octet - 252) ≡ octet = omega arith in
-    subst (λ o. IsFlagBegun ones o (126 + (octet - 252)) 7 6) is
-    (IsFlagBegun-by_test ones (252 + (octet - 252)) (126 + (octet - 252)) 7 (omega arith)
-    (begun_stuffed ones (octet - 252) (omega arith) five))
+unfolding low_bits
+begun-stuffed ones octet low high (inl side) five =
+    let is : 252 ≡ octet = omega (arith, side) in
+    let all : 5 ≡ ones = omega (arith, five, side) in
+    subst (λ o. IsFlagBegun ones o (126 + (o - 252)) 7 6) is
+    (subst (λ n. IsFlagBegun n 252 126 7 6) all (IsFlagBegun-by_test 5 252 126 7 (omega arith) refl))
+begun-stuffed ones octet low high (inr side) five =
+    let is : 253 ≡ octet = omega (arith, side) in
+    let all : 4 ≡ ones = omega (arith, five, side) in
+    subst (λ o. IsFlagBegun ones o (126 + (o - 252)) 7 6) is
+    (subst (λ n. IsFlagBegun n 253 127 7 6) all (IsFlagBegun-by_test 4 253 127 7 (omega arith) refl))

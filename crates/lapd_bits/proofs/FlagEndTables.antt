@@ -1,5 +1,6 @@
 -- The tables hold what each octet brings in which a flag ends.
-use Rattle.lapd_bits.proofs.Vocabulary.{◌≡◌, ℕ, ◌+◌, ◌^◌, ◌<◌, ◌≤◌, Bool, true, false, ◌&&◌, ◌||◌, List, [], ◌∷◌, ◌++◌, get_or, map, replicate, reverse, nat_eq, nat_le, nat_lt, if◌then◌else◌, refl, sym, ap, ◌∙◌, arith, range_with_len, and-true, and-false, leb-true, ltb-true, eqb-true, and_parts, le-ltb, ne_eqb, false≢true, get_or-replicate, get_or-map-range_with_len, low_bits, same_bits, unstuffed, run_of, ones_before, behind_zero, ends_nothing, only_flag_ends, IsFlagEnd, ONES_BEFORE, BITS_BEHIND, COUNTS_BEHIND, RUNS_BEHIND, same_from_test}
+use Rattle.lapd_bits.proofs.Vocabulary.{◌≡◌, ℕ, ◌+◌, ◌^◌, ◌<◌, ◌≤◌, Bool, true, false, ◌&&◌, ◌||◌, List, [], ◌∷◌, ◌++◌, get_or, map, replicate, reverse, nat_eq, nat_le, nat_lt, if◌then◌else◌, refl, sym, ap, ◌∙◌, arith, range_with_len, and-true, and-false, leb-true, ltb-true, eqb-true, and_parts, le-ltb, ne_eqb, false≢true, get_or-map-range_with_len, low_bits, same_bits, unstuffed, run_of, ones_before, behind_zero, ends_nothing, only_flag_ends, IsFlagEnd, ONES_BEFORE, BITS_BEHIND, COUNTS_BEHIND, RUNS_BEHIND, same_from_test}
+use Rattle.lapd_bits.proofs.Tested.{all_pass}
 
 -- the bits of an octet behind its first 0
 abbrev behind : ℕ → List Bool
@@ -58,13 +59,6 @@ entries_are = refl
 entries_fit : map fits_at (range_with_len 0 256) ≡ replicate 256 true
 entries_fit = refl
 
--- a test that all octets pass
-passed : (test : ℕ → Bool) (octet : ℕ)
-    → map test (range_with_len 0 256) ≡ replicate 256 true → octet < 256 → test octet ≡ true
-passed test octet all small =
-    sym (get_or-map-range_with_len test 0 256 octet octet false small (omega arith))
-    ∙ ap (λ t. get_or t octet false) all ∙ get_or-replicate 256 octet true false small
-
 module _ (octet : ℕ) (small : octet < 256) where
   abbrev before : ℕ
   before = get_or ONES_BEFORE octet 0
@@ -80,7 +74,7 @@ module _ (octet : ℕ) (small : octet < 256) where
 
   pub fits : (before ≤ 8) × (content < 2 ^ count) × (run ≤ 7)
   fits =
-      let parts = and_parts (nat_le before 8) _ (passed fits_at octet entries_fit small) in
+      let parts = and_parts (nat_le before 8) _ (all_pass fits_at 256 octet entries_fit small) in
       let more = and_parts (nat_lt content (2 ^ count)) _ parts.1 in
       (leb-true _ _ parts.0, ltb-true _ _ more.0, leb-true _ _ more.1)
 
@@ -89,7 +83,7 @@ module _ (octet : ℕ) (small : octet < 256) where
   entry ones six =
       let few : nat_lt 6 before ≡ false = le-ltb 6 before (omega arith) in
       let all : is_entry octet before content count run ≡ true =
-      unmarked (nat_lt 6 before) _ few (passed is_entry_at octet entries_are small) in
+      unmarked (nat_lt 6 before) _ few (all_pass is_entry_at 256 octet entries_are small) in
       let a = and_parts (same_bits (low_bits 8 octet) (replicate before true ++ (false ∷ behind octet))) _ all in
       let b = and_parts (ends_nothing 0 (behind octet)) _ a.1 in
       let d = and_parts (same_bits (unstuffed (behind octet)) (low_bits count content)) _ b.1 in

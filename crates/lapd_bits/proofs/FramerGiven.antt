@@ -4,8 +4,8 @@ use Rattle.std.proofs.lemmas.List.{length-take, get_or-take}
 
 -- ---- how much it is
 
-pub length-to_give : (octets : List ℕ) (next end : ℕ) (after : Waiting) → end ≤ length octets → length (to_give octets next end after) ≡ 8 * (end - next) + after.count
-length-to_give octets next end after within =
+pub length_to_give : (octets : List ℕ) (next end : ℕ) (after : Waiting) → end ≤ length octets → length (to_give octets next end after) ≡ 8 * (end - next) + after.count
+length_to_give octets next end after within =
     let some = drop next (take end octets) in
     omega (arith, length-append (bits some) (low_bits after.count after.bits), length-bits some, length-drop next (take end octets), length-take end octets, length-low_bits after.count after.bits)
 
@@ -34,6 +34,9 @@ busy_is next end count size is few = (
   λ t. ⊎_elim (λ less. omega arith) (λ other. absurd (false≢true (sym (le-ltb next end other) ∙ t))) (cases_lt next end),
   λ many. lt-ltb next end (omega arith),
 )
+
+-- what tells how many are left
+pub ruleset busy_rules = (length_to_give, busy_is)
 
 -- ---- the bits that an octet is taken from
 

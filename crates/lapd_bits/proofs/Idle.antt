@@ -1,32 +1,8 @@
 -- An octet of a line of flags brings nothing, and leaves the open gap as it was.
-use Rattle.lapd_bits.proofs.Vocabulary.{◌≡◌, ◌≢◌, ℕ, suc, zero, ◌+◌, ◌-◌, ◌<◌, ◌≤◌, Bool, true, false, List, [], ◌∷◌, ◌++◌, length, replicate, get_or, Option, Some, None, option_map, option_to_list, nat_lt, refl, ap, sym, ◌∙◌, subst, arith, append-nil, lt-ltb, low_bits, heard_until, heard_at, run_of, open_gap, closed_event, given_up_event, HoldsGap, HoldsPast, with_bits, StaysIdle, Gap, IDLE, length-replicate, heard_at-one, heard_at-zero, heard_at-abort, heard_at-flag, open_gap-one, open_gap-zero, open_gap-abort, open_gap-flag, latest_ones, ones_after}
-use Rattle.lapd_bits.proofs.AtOnce.{onto, onto-append, with_bits-onto, IsQuiet, quiet-more, option_map-none, ones_after-ones}
+use Rattle.lapd_bits.proofs.Vocabulary.{◌≡◌, ℕ, suc, zero, ◌+◌, ◌-◌, ◌<◌, ◌≤◌, Bool, true, false, List, [], ◌∷◌, ◌++◌, length, replicate, get_or, same_bits, same_from_test, Option, Some, None, option_map, option_to_list, nat_lt, refl, ap, sym, ◌∙◌, subst, arith, append-nil, lt-ltb, low_bits, heard_until, heard_at, run_of, open_gap, closed_event, given_up_event, HoldsGap, HoldsPast, with_bits, StaysIdle, Gap, IDLE, length-replicate, heard_at-abort, heard_at-flag, open_gap-abort, open_gap-flag, latest_ones, ones_after}
+use Rattle.lapd_bits.proofs.AtOnce.{Calm, Calm-ones, calm, onto, onto-append, with_bits-onto, ones_push, ones_after-ones}
 use Rattle.lapd_bits.proofs.BitSteps.{open_run}
-
--- ---- bits that end nothing: up to six 1s, and no 0 after six
-
-abbrev pub Calm : ℕ → List Bool → Type 0
-Calm n [] = Unit {0}
-Calm n (true ∷ text) = (n < 6) × Calm (suc n) text
-Calm n (false ∷ text) = (n ≢ 6) × Calm 0 text
-
-pub Calm-ones : (n k : ℕ) → n + k ≤ 6 → Calm n (replicate k true)
-Calm-ones n zero h = tt
-Calm-ones n (suc k) h = (omega arith, Calm-ones (suc n) k (omega arith))
-
-pub calm : (room n : ℕ) (text past : List Bool) → run_of past ≡ n → n ≤ 6 → Calm n text → IsQuiet room text past
-calm room n [] past e few p = record { heard = refl; run = refl; gap = option_map-none (open_gap past) }
-calm room n (true ∷ text) past e few p =
-    let run : run_of (true ∷ past) ≡ suc (run_of past) = omega (arith, e, p.0) in
-    let again = calm room (suc n) text (true ∷ past) (run ∙ ap suc e) (omega (arith, p.0)) p.1 in
-    let more =
-    quiet-more room true text past (suc (run_of past)) (heard_at-one room past (omega (arith, e, p.0))) (open_gap-one past (omega (arith, e, p.0))) run again in
-    record { heard = more.1; run = more.0; gap = more.2 }
-calm room n (false ∷ text) past e few p =
-    let other : run_of past ≢ 6 = λ six. p.0 (sym e ∙ six) in
-    let again = calm room 0 text (false ∷ past) refl (omega arith) p.1 in
-    let more = quiet-more room false text past 0 (heard_at-zero room past other) (open_gap-zero past other) refl again in
-    record { heard = more.1; run = more.0; gap = more.2 }
+use Rattle.lapd_bits.proofs.Tested.{all_pass}
 
 -- ---- 1s that go on after seven
 
@@ -100,32 +76,20 @@ next_flag room n first second past g e few p six open_here seven q =
 
 -- as many 1s as there can be after the first bit
 begun_is : (n : ℕ) (g : List Bool) → length g ≡ suc n → latest_ones g ≡ n → g ≡ replicate n true ++ false ∷ []
-begun_is n [] size ones = absurd (omega arith)
 begun_is zero (false ∷ []) size ones = refl
-begun_is zero (false ∷ b ∷ g) size ones = absurd (omega arith)
-begun_is zero (true ∷ g) size ones = absurd (omega arith)
-begun_is (suc n) (false ∷ g) size ones = absurd (omega arith)
 begun_is (suc n) (true ∷ g) size ones = ap (λ l. true ∷ l) (begun_is n g (omega arith) (omega arith))
+begun_is _ _ size ones = absurd (omega arith)
 
 pub onto-ones : (n : ℕ) (past : List Bool) → onto (replicate n true) past ≡ replicate n true ++ past
 onto-ones zero past = refl
 onto-ones (suc n) past = onto-ones n (true ∷ past) ∙ ones_push n past
-  where
-    ones_push : (m : ℕ) (l : List Bool) → replicate m true ++ true ∷ l ≡ true ∷ (replicate m true ++ l)
-    ones_push zero l = refl
-    ones_push (suc m) l = ap (λ t. true ∷ t) (ones_push m l)
 
 -- the octet by the number of bits that have come, after the first one's 0 and `n` 1s
-idle_bits : (n : ℕ) → n ≤ 6 → low_bits 8 (get_or IDLE (suc n) 0) ≡ replicate (6 - n) true ++ (false ∷ (false ∷ replicate n true))
+idle_bits : (n : ℕ) → n < 7 → low_bits 8 (get_or IDLE (suc n) 0) ≡ replicate (6 - n) true ++ (false ∷ (false ∷ replicate n true))
 unfolding low_bits
-idle_bits zero h = refl
-idle_bits (suc zero) h = refl
-idle_bits (suc (suc zero)) h = refl
-idle_bits (suc (suc (suc zero))) h = refl
-idle_bits (suc (suc (suc (suc zero)))) h = refl
-idle_bits (suc (suc (suc (suc (suc zero))))) h = refl
-idle_bits (suc (suc (suc (suc (suc (suc zero)))))) h = refl
-idle_bits (suc (suc (suc (suc (suc (suc (suc n))))))) h = absurd (omega arith)
+idle_bits n h =
+    same_from_test _ _
+    (all_pass (λ k. same_bits (low_bits 8 (get_or IDLE (suc k) 0)) (replicate (6 - k) true ++ (false ∷ (false ∷ replicate k true)))) 7 n refl h)
 
 idle_bits_none : low_bits 8 (get_or IDLE 0 0) ≡ (false ∷ replicate 6 true) ++ (false ∷ [])
 unfolding low_bits
@@ -167,7 +131,7 @@ module _ (octets : List ℕ) (ones : ℕ) (gap : Gap) (past g : List Bool) (h : 
       let latest = (open_run past g open_here).0 in
       let g_is = begun_is n g (sym counted ∙ since) (sym latest ∙ sym h.run ∙ run) in
       let six : ones_after n (replicate (6 - n) true) ≡ 6 = ones_after-ones n (6 - n) ∙ omega arith in
-      stays_by octets ones (Some gap) (get_or IDLE (suc n) 0) (replicate (6 - n) true) (false ∷ replicate n true) past g (idle_bits n few) h open_here
+      stays_by octets ones (Some gap) (get_or IDLE (suc n) 0) (replicate (6 - n) true) (false ∷ replicate n true) past g (idle_bits n (omega arith)) h open_here
       (onto-ones n (false ∷ []) ∙ sym g_is) (ones_after-ones 0 n ∙ omega (arith, run))
       (λ room. next_flag room n (replicate (6 - n) true) (false ∷ replicate n true) past g (sym h.run ∙ run) few
       (Calm-ones n (6 - n) (omega arith)) six open_here

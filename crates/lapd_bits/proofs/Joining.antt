@@ -72,13 +72,13 @@ left_below joined n h below =
 -- ---- the gap
 
 -- a gap with the bits of an octet more
-pub HoldsGap-joined :
+pub HoldsGap_joined :
     (octets octets' : List ℕ) (gap gap' : Gap) (octet : ℕ) (content : List Bool) (g : Option (List Bool)) → gap'.since ≡ 8
     → ((text : List Bool) → AssemblesIn octets gap text → AssemblesIn octets' gap' (text ++ content))
     → IsJoined octet content g → HoldsGap octets (Some gap) g
     → HoldsGap octets' (Some gap') (option_map (with_bits 8 octet) g)
-HoldsGap-joined octets octets' gap gap' octet content None since taken joined h = absurd h
-HoldsGap-joined octets octets' gap gap' octet content (Some g) since taken joined h =
+HoldsGap_joined octets octets' gap gap' octet content None since taken joined h = absurd h
+HoldsGap_joined octets octets' gap gap' octet content (Some g) since taken joined h =
     record {
       counted =
           omega (arith, since, length-append (reverse (low_bits 8 octet)) g, length-reverse (low_bits 8 octet), length-low_bits 8 octet);

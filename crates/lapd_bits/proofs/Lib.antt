@@ -1,5 +1,6 @@
 -- Lemmas: the frame check in a register; a deframer, bit by bit and octets at once; a framer.
 pub mod Vocabulary
+pub mod Tested
 pub mod Division
 pub mod StuffingClosed
 pub mod Lent

@@ -2,7 +2,7 @@
 use Rattle.lapd_bits.proofs.Vocabulary.{◌≡◌, ℕ, zero, suc, ◌+◌, ◌*◌, ◌^◌, ◌<◌, Bool, List, [], ◌∷◌, ◌++◌, ◌≤◌, length, take, drop, drop-cons, get_or, get_or-drop, refl, ap, sym, subst, ◌∙◌, arith, append_assoc, append-nil, length-take, take-add, get_or-take, take-set_at, drop_all, drop-drop, take-append-drop, first_chunks, slice_set, from_le_bytes, w32, low_bits, bits, last_ones, text_after, Goes, waits, made, StuffedText, bits-append, bits-push}
 use Rattle.std.proofs.Common.{length-drop}
 use Rattle.lapd_bits.proofs.Joining.{above_bits}
-use Rattle.lapd_bits.proofs.StuffingAtOnce.{text_after-none, last_ones-few}
+use Rattle.lapd_bits.proofs.StuffingAtOnce.{text_after-none, last_ones_few}
 
 -- ---- it goes on
 
@@ -26,7 +26,7 @@ Goes-made text later buffer more same goes =
 pub Goes-ended : (before after b : List Bool) (ones latest : ℕ) → Goes before ones b after (last_ones latest) → after ≡ before ++ text_after ones b
 Goes-ended before after b ones latest goes =
     sym (append-nil after)
-    ∙ ap (λ l. after ++ l) (sym (text_after-none (last_ones latest) (last_ones-few latest)))
+    ∙ ap (λ l. after ++ l) (sym (text_after-none (last_ones latest) (last_ones_few latest)))
     ∙ goes []
     ∙ ap (λ l. before ++ text_after ones l) (append-nil b)
 
@@ -79,8 +79,8 @@ bits-parts octets n = sym (bits-append (take n octets) (drop n octets)) ∙ ap b
 
 -- ---- an octet goes into the buffer
 
-pub made-given : (octets : List ℕ) (end octet : ℕ) (waits waits' : List Bool) → end < length octets → waits ≡ low_bits 8 octet ++ waits' → bits (take (end + 1) (slice_set octets end octet)) ++ waits' ≡ bits (take end octets) ++ waits
-made-given octets end octet waits waits' within is =
+pub made_given : (octets : List ℕ) (end octet : ℕ) (waits waits' : List Bool) → end < length octets → waits ≡ low_bits 8 octet ++ waits' → bits (take (end + 1) (slice_set octets end octet)) ++ waits' ≡ bits (take end octets) ++ waits
+made_given octets end octet waits waits' within is =
     ap (λ l. bits l ++ waits') (take-set_at octets end (end + 1) octet refl within)
     ∙ ap (λ l. l ++ waits') (bits-push (take end octets) octet)
     ∙ append_assoc (bits (take end octets)) (low_bits 8 octet) waits'

@@ -1,15 +1,10 @@
 -- Bits are stuffed all at once, the 0 after a fifth 1 with it.
-use Rattle.lapd_bits.proofs.Vocabulary.{◌≡◌, ℕ, suc, zero, ◌≤◌, Bool, true, false, List, [], ◌∷◌, ◌++◌, drop, replicate, refl, ap, sym, ◌∙◌, arith, ⊎_elim, append_assoc, lt-ltb, le-ltb, cases_lt, low_bits, stuffed, first_ones, last_ones, text_after, Goes, ones_sent, stuffed_after, stuffed_zero, ones_left, stuffed-counted, stuffed_after_fifth}
+use Rattle.lapd_bits.proofs.Vocabulary.{◌≡◌, ℕ, suc, ◌≤◌, Bool, true, false, List, [], ◌∷◌, ◌++◌, drop, replicate, refl, ap, sym, ◌∙◌, arith, ⊎_elim, append_assoc, lt-ltb, le-ltb, cases_lt, drop_at, length-replicate, low_bits, stuffed, first_ones, last_ones, text_after, Goes, ones_sent, stuffed_after, stuffed_zero, ones_left, stuffed_alike, stuffed_after_fifth}
 
 -- the end of a stuffed text, by the count of 1s
-stuffed_end : (n : ℕ) (b : List Bool) → n ≤ 5 → drop n (stuffed (replicate n true ++ b)) ≡ stuffed_after n b
-stuffed_end zero b h = stuffed-counted b
-stuffed_end (suc zero) b h = ap (drop 1) (stuffed-counted (true ∷ b))
-stuffed_end (suc (suc zero)) b h = ap (drop 2) (stuffed-counted (true ∷ true ∷ b))
-stuffed_end (suc (suc (suc zero))) b h = ap (drop 3) (stuffed-counted (true ∷ true ∷ true ∷ b))
-stuffed_end (suc (suc (suc (suc zero)))) b h = ap (drop 4) (stuffed-counted (true ∷ true ∷ true ∷ true ∷ b))
-stuffed_end (suc (suc (suc (suc (suc zero))))) b h = ap (drop 5) (stuffed-counted (true ∷ true ∷ true ∷ true ∷ true ∷ b))
-stuffed_end (suc (suc (suc (suc (suc (suc n)))))) b h = absurd (omega arith)
+stuffed_end : (n : ℕ) (b : List Bool) → n ≤ 4 → drop n (stuffed (replicate n true ++ b)) ≡ stuffed_after n b
+stuffed_end n b h =
+    ap (drop n) (stuffed_alike n b (omega arith)) ∙ drop_at (replicate n true) (stuffed_after n b) n (length-replicate n true)
 
 -- after the 0 that is due
 stuffed_after-due : (ones : ℕ) (b : List Bool) → stuffed_after ones b ≡ stuffed_zero ones ++ stuffed_after (ones_left ones) b
@@ -48,16 +43,13 @@ Goes-sent before sent b ones run few after_few is run_is rest =
 -- ---- the latest four bits
 
 -- of four bits at most four are 1s
-four_few : (a b c d : Bool) → first_ones (d ∷ c ∷ b ∷ a ∷ []) ≤ 4
-four_few a b c false = omega arith
-four_few a b false true = omega arith
-four_few a false true true = omega arith
-four_few false true true true = omega arith
+four_few : (d c b a : Bool) → first_ones (d ∷ c ∷ b ∷ a ∷ []) ≤ 4
 four_few true true true true = omega arith
+four_few _ _ _ _ = omega arith
 
-pub last_ones-few : (x : ℕ) → last_ones x ≤ 4
+pub last_ones_few : (x : ℕ) → last_ones x ≤ 4
 unfolding low_bits
-last_ones-few x = four_few _ _ _ _
+last_ones_few x = four_few _ _ _ _
 
 pub last_ones-none : last_ones 0 ≡ 0
 unfolding low_bits

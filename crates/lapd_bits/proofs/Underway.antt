@@ -1,9 +1,9 @@
 -- Bits are stuffed one 0 after the other: what lies below a place is done, and the places above where five 1s begin are known.
-use Rattle.lapd_bits.proofs.Vocabulary.{◌≡◌, ℕ, suc, zero, ◌+◌, ◌-◌, ◌*◌, ◌/◌, ◌%◌, ◌^◌, ◌<◌, ◌≤◌, min, Bool, false, nat_eq, List, [], ◌∷◌, ◌++◌, length, reverse, refl, ap, sym, ◌∙◌, arith, append_assoc, length-append, subst, ⊎_elim, shr-shr, div-mul-add, pow-add, pow_pos, pow_below, bit_at-suc, bit_at_lowest, bit_at-trailing_zeros, div-one, div-add-mod, mod-lt, mod-eq_of_lt, add-mul-mod_self_right, div-le_self, div-mul-le_self, mul-le-mul_left, shr_lt, cases_lt, bit_at, w64, low_bits, first_ones, last_ones, Goes, fives, low_bits-add, low_bits-mod, length-low_bits, stuffed_after, ones_sent, stuffed_after-pays, stuffed_after-at_least}
+use Rattle.lapd_bits.proofs.Vocabulary.{◌≡◌, ℕ, suc, zero, ◌+◌, ◌-◌, ◌*◌, ◌/◌, ◌%◌, ◌^◌, ◌<◌, ◌≤◌, min, Bool, false, nat_eq, List, [], ◌∷◌, ◌++◌, length, reverse, refl, ap, sym, ◌∙◌, arith, append_assoc, length-append, subst, ⊎_elim, shr-shr, div-mul-add, pow-add, pow_pos, pow_below, bit_at-suc, bit_at_lowest, bit_at-trailing_zeros, div-one, div-add-mod, mod-lt, mod-eq_of_lt, add-mul-mod_self_right, div-le_self, div-mul-le_self, mul-le-mul_left, shr_lt, cases_lt, bit_at, w64, low_bits, first_ones, last_ones, Goes, fives, low_bits-add, low_bits-mod, length-low_bits, stuffed_after, stuffed_after-pays, stuffed_after-at_least}
 use lib.Count.{count_trailing_zeros}
 use native.Mathlib.Nat.{pow-suc}
-use Rattle.lapd_bits.proofs.StuffingAtOnce.{Goes-sent, last_ones-few}
-use Rattle.lapd_bits.proofs.Fives.{fives-shr, fives-half, fives-low, fives-below, calm_goes, calm_leaves, IsFirst, first_goes, first_leaves}
+use Rattle.lapd_bits.proofs.StuffingAtOnce.{Goes-sent, last_ones_few}
+use Rattle.lapd_bits.proofs.Fives.{fives-shr, fives-half, fives-low, fives-below, going, behind, behind_both, calm_goes, IsFirst, first_goes}
 
 -- of `total` bits above the latest four, `done` are as they go; `left` bits are still to be stuffed, and `due` marks where
 -- five 1s begin in them
@@ -13,8 +13,7 @@ pub record Underway (ones : ℕ) (b : List Bool) (text total due : ℕ) : Type 0
   pub all : total ≡ done + left
   pub below : text < 2 ^ (total + 4)
   pub due_is : due ≡ fives (text / 2 ^ done) * 2 ^ done
-  pub sent : stuffed_after ones b ≡ low_bits done (text / 16) ++ stuffed_after (last_ones (text / 2 ^ done)) (low_bits left (text / 2 ^ done / 16))
-  pub run : ones_sent ones b ≡ ones_sent (last_ones (text / 2 ^ done)) (low_bits left (text / 2 ^ done / 16))
+  pub goes : going ones b ≡ behind (low_bits done (text / 16)) (going (last_ones (text / 2 ^ done)) (low_bits left (text / 2 ^ done / 16)))
 
 -- ---- the latest four bits by the low ones of a number
 
@@ -45,8 +44,7 @@ begin latest bits count four below =
       all = omega arith;
       below = omega (arith, below, pow-add 2 count 4);
       due_is = omega (arith, ap fives one);
-      sent = ap (λ n. stuffed_after n (low_bits count bits)) last ∙ ap (λ y. stuffed_after (last_ones (x / 2 ^ 0)) (low_bits count y)) more;
-      run = ap (λ n. ones_sent n (low_bits count bits)) last ∙ ap (λ y. ones_sent (last_ones (x / 2 ^ 0)) (low_bits count y)) more;
+      goes = ap (λ n. going n (low_bits count bits)) last ∙ ap (λ y. going (last_ones (x / 2 ^ 0)) (low_bits count y)) more;
     }
 
 -- ---- how long it is
@@ -59,7 +57,7 @@ module _ (ones : ℕ) (b : List Bool) (text total due : ℕ) (u : Underway ones 
         arith,
         u.all,
         stuffed_after-pays ones b (omega (arith, few)),
-        ap length u.sent,
+        ap (λ p. length p.0) u.goes,
         length-append (low_bits u.done (text / 16)) (stuffed_after (last_ones (text / 2 ^ u.done)) rest),
         length-low_bits u.done (text / 16),
         length-low_bits u.left (text / 2 ^ u.done / 16),
@@ -68,22 +66,18 @@ module _ (ones : ℕ) (b : List Bool) (text total due : ℕ) (u : Underway ones 
 
   -- ---- nothing is due
 
-  pub none_due : due ≡ 0 → (low_bits total (text / 16) ≡ stuffed_after ones b) × (last_ones (text / 2 ^ total) ≡ ones_sent ones b)
+  pub none_due : due ≡ 0 → (low_bits total (text / 16), last_ones (text / 2 ^ total)) ≡ going ones b
   none_due none =
       let y = text / 2 ^ u.done in
       let calm : fives y ≡ 0 = no_product (fives y) (2 ^ u.done) (pow_pos u.done) (sym u.due_is ∙ none) in
       let moved : text / 16 / 2 ^ u.done ≡ y / 16 =
-      shr-shr text 4 u.done ∙ ap (λ n. text / 2 ^ n) (omega arith) ∙ sym (shr-shr text u.done 4) in (
-        ap (λ n. low_bits n (text / 16)) u.all
-            ∙ low_bits-add u.done u.left (text / 16)
-            ∙ ap (λ z. low_bits u.done (text / 16) ++ low_bits u.left z) moved
-            ∙ ap (λ l. low_bits u.done (text / 16) ++ l) (sym (calm_goes u.left y calm))
-            ∙ sym u.sent,
-        ap (λ n. last_ones (text / 2 ^ n)) u.all
-            ∙ ap last_ones (sym (shr-shr text u.done u.left))
-            ∙ sym (calm_leaves u.left y calm)
-            ∙ sym u.run,
-      )
+      shr-shr text 4 u.done ∙ ap (λ n. text / 2 ^ n) (omega arith) ∙ sym (shr-shr text u.done 4) in
+      let whole : low_bits (u.done + u.left) (text / 16) ≡ low_bits u.done (text / 16) ++ low_bits u.left (y / 16) =
+      low_bits-add u.done u.left (text / 16) ∙ ap (λ z. low_bits u.done (text / 16) ++ low_bits u.left z) moved in
+      ap (λ n. (low_bits n (text / 16), last_ones (text / 2 ^ n))) u.all
+      ∙ (λ i. (whole i, last_ones (sym (shr-shr text u.done u.left) i)))
+      ∙ ap (behind (low_bits u.done (text / 16))) (sym (calm_goes u.left y calm))
+      ∙ sym u.goes
     where
       no_product : (f p : ℕ) → 0 < p → f * p ≡ 0 → f ≡ 0
       no_product zero p some none = refl
@@ -248,9 +242,8 @@ module _ (ones : ℕ) (b : List Bool) (text total due : ℕ) (u : Underway ones 
         let first : IsFirst m.own y = (m.one, m.none) in
         let beyond : z ≡ new / 2 ^ (place + 2) / 16 = omega (arith, three) in
         let fresh : 0 ≡ last_ones (new / 2 ^ (place + 2)) = sym (ap last_ones three ∙ last_ones-three z) in
-        let tail : stuffed_after 0 (low_bits rest (y / 2 ^ (m.own + 5))) ≡ stuffed_after (last_ones (new / 2 ^ (place + 2))) (low_bits rest (new / 2 ^ (place + 2) / 16)) =
-        ap (λ n. stuffed_after n (low_bits rest (y / 2 ^ (m.own + 5)))) fresh
-        ∙ ap (λ t. stuffed_after (last_ones (new / 2 ^ (place + 2))) (low_bits rest t)) (high ∙ beyond) in
+        let tail : going 0 (low_bits rest (y / 2 ^ (m.own + 5))) ≡ going (last_ones (new / 2 ^ (place + 2))) (low_bits rest (new / 2 ^ (place + 2) / 16)) =
+        λ i. going (fresh i) (low_bits rest ((high ∙ beyond) i)) in
         let front : low_bits u.done (text / 16) ++ low_bits (suc m.own) (y / 16) ≡ low_bits (place + 1) (text / 16) =
         ap (λ t. low_bits u.done (text / 16) ++ low_bits (suc m.own) t) above
         ∙ sym (low_bits-add u.done (suc m.own) (text / 16))
@@ -275,19 +268,15 @@ module _ (ones : ℕ) (b : List Bool) (text total due : ℕ) (u : Underway ones 
               ∙ ap (λ f. f * (4 * p)) (sym (fives-three z))
               ∙ ap (λ w. fives (7 + 16 * z) * w) (sym three_power)
               ∙ ap (λ t. fives t * 2 ^ (place + 2)) (sym three);
-          sent =
-              u.sent
-              ∙ ap (λ l. low_bits u.done (text / 16) ++ l) (first_goes m.own rest u.left y parts first)
-              ∙ sym (append_assoc (low_bits u.done (text / 16)) (low_bits (suc m.own) (y / 16)) (false ∷ stuffed_after 0 (low_bits rest (y / 2 ^ (m.own + 5)))))
-              ∙ ap (λ l. l ++ false ∷ stuffed_after 0 (low_bits rest (y / 2 ^ (m.own + 5)))) front
-              ∙ sym (append_assoc (low_bits (place + 1) (text / 16)) (false ∷ []) (stuffed_after 0 (low_bits rest (y / 2 ^ (m.own + 5)))))
-              ∙ ap (λ l. l ++ stuffed_after 0 (low_bits rest (y / 2 ^ (m.own + 5)))) (sym (put_bits text place z put.after))
-              ∙ ap (λ l. low_bits (place + 2) (new / 16) ++ l) tail;
-          run =
-              u.run
-              ∙ first_leaves m.own rest u.left y parts first
-              ∙ ap (λ n. ones_sent n (low_bits rest (y / 2 ^ (m.own + 5)))) fresh
-              ∙ ap (λ t. ones_sent (last_ones (new / 2 ^ (place + 2))) (low_bits rest t)) (high ∙ beyond);
+          goes =
+              u.goes
+              ∙ ap (behind (low_bits u.done (text / 16))) (first_goes m.own rest u.left y parts first)
+              ∙ behind_both (low_bits u.done (text / 16)) (low_bits (suc m.own) (y / 16) ++ false ∷ []) _
+              ∙ (λ i. behind
+              ((sym (append_assoc (low_bits u.done (text / 16)) (low_bits (suc m.own) (y / 16)) (false ∷ []))
+              ∙ ap (λ l. l ++ false ∷ []) front
+              ∙ sym (put_bits text place z put.after)) i)
+              (tail i));
         }
       where
         regroup : (f w : ℕ) → f * (32 * w) * 2 ≡ 16 * f * (4 * w)
@@ -330,11 +319,7 @@ calm latest more n four none =
     let x = latest + more * 16 in
     let back : x / 16 ≡ more = omega arith in
     let last = last_ones-low latest more four in
-    Goes-sent [] (low_bits n more) (low_bits n more) (last_ones latest) (last_ones (x / 2 ^ n)) (last_ones-few latest) (last_ones-few (x / 2 ^ n))
-    (ap (λ m. stuffed_after m (low_bits n more)) (sym last)
-    ∙ ap (λ y. stuffed_after (last_ones x) (low_bits n y)) (sym back)
-    ∙ calm_goes n x none
-    ∙ ap (low_bits n) back)
-    (sym (calm_leaves n x none)
-    ∙ ap (λ y. ones_sent (last_ones x) (low_bits n y)) back
-    ∙ ap (λ m. ones_sent m (low_bits n more)) last)
+    let goes : going (last_ones latest) (low_bits n more) ≡ (low_bits n more, last_ones (x / 2 ^ n)) =
+    (λ i. going (sym last i) (low_bits n (sym back i))) ∙ calm_goes n x none ∙ ap (λ y. (low_bits n y, last_ones (x / 2 ^ n))) back in
+    Goes-sent [] (low_bits n more) (low_bits n more) (last_ones latest) (last_ones (x / 2 ^ n)) (last_ones_few latest) (last_ones_few (x / 2 ^ n))
+    (ap (λ p. p.0) goes) (sym (ap (λ p. p.1) goes))

@@ -43,7 +43,7 @@ pub use Rattle.model_bits.proofs.Division.Sums.{differ_self, length-plus, plus-a
 pub use Rattle.model_bits.proofs.Hearing.{heard_at-abort, heard_at-flag, heard_at-one, heard_at-zero, open_gap-abort, open_gap-flag, open_gap-one, open_gap-zero}
 pub use Rattle.model_bits.proofs.Items.{last_octets-push, latest-push, line_text-push}
 pub use Rattle.model_bits.proofs.Places.{NoFlag, NoSix-reverse, front_of_flag, gap_has_no_flag, latest_ones, latest_ones-below, ones_after-reverse, reverse-cons, run_of-gap}
-pub use Rattle.model_bits.proofs.StuffingCounted.{NoSix, ones_after, ones_after-append, ones_after-unstuffed_after, ones_left, stuffed-counted, stuffed_after, stuffed_after_fifth, stuffed_zero, unstuffed-counted, unstuffed_after, unstuffed_after-append}
+pub use Rattle.model_bits.proofs.StuffingCounted.{NoSix, ones_after, ones_after-append, ones_after-unstuffed_after, ones_left, stuffed-counted, stuffed_after, stuffed_alike, stuffed_after_fifth, stuffed_zero, unstuffed-counted, unstuffed_after, unstuffed_after-append}
 pub use Rattle.model_bits.proofs.StuffingLengths.{ones_sent, stuffed_after-at_least, stuffed_after-pays}
 pub use Rattle.model_bits.proofs.StuffingOctets.{none_where_none_sent, octets_are_those_sent}
 pub use Rattle.model_bits.proofs.StuffingShape.{ones_after-stuffed, stuffed-unstuffed, unstuffed-stuffed}

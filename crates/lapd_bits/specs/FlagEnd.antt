@@ -3,7 +3,7 @@ use Rattle.std.specs.Prelude.{◌≡◌, ℕ, suc, ◌+◌, ◌≤◌, nat_eq, n
 use Rattle.model_bits.specs.Bits.{low_bits}
 use Rattle.model_bits.specs.Stuffing.{unstuffed}
 use Rattle.model_bits.specs.OpenGap.{run_of}
-use Rattle.lapd_bits.specs.Steps.{with_bits}
+use Rattle.lapd_bits.specs.Unstuffer.{IsContent}
 
 -- the 1s with which a text begins
 abbrev pub ones_before : List Bool → ℕ
@@ -40,5 +40,4 @@ pub record IsFlagEnd (ones octet before content count run : ℕ) : Type 0 where
 pub record IsFlagBegun (ones octet content count run : ℕ) : Type 0 where
   pub few : ones ≤ 5
   pub quiet : ends_nothing ones (low_bits 8 octet) ≡ true
-  pub stays : unstuffed (replicate ones true ++ low_bits 8 octet) ≡ replicate ones true ++ low_bits count content
-  pub run_is : run ≡ run_of (with_bits 8 octet (replicate ones true ++ (false ∷ [])))
+  pub brings : IsContent ones octet content count run

@@ -193,6 +193,7 @@ static LEFT: [u16; 2048] = [
 /// The frame check sequence of a frame's octets: the ones complement of what the division by
 /// x^16 + x^12 + x^5 + 1 leaves (Q.921 clause 2.7). Its low octet goes first on the line. The check of the text
 /// `123456789` is 906E.
+#[tactic(auto, using(crate::proofs::Division::Holds::HoldsDivision_check))]
 pub fn fcs(octets: &[u8]) -> u16
     ensures is_check { low_bits 16 result ≡ check (bits octets.now) }
 {
@@ -210,6 +211,7 @@ pub(crate) fn fcs_of_both(head: &[u8], info: &[u8]) -> u16
 }
 
 /// The register after one octet more.
+#[tactic(auto, using(crate::proofs::Division::Tables::HoldsDivision_by_octet))]
 pub(crate) fn divided(register: u16, octet: u8) -> u16
     ensures { (d : List Bool) → HoldsDivision register d
         → HoldsDivision result (d ++ low_bits 8 octet) }
@@ -218,6 +220,7 @@ pub(crate) fn divided(register: u16, octet: u8) -> u16
 }
 
 /// Whether the register tells of no error over a frame and its check.
+#[tactic(auto, using(crate::proofs::Division::Holds::HoldsDivision_good))]
 pub(crate) fn shows_no_error(register: u16) -> bool
     ensures { (d : List Bool) → HoldsDivision register d → result ≡ is_good d }
 {
@@ -255,6 +258,7 @@ fn divided_twos(register: u16, octets: &[u8]) -> u16
 }
 
 // The register after two octets more.
+#[tactic(auto, using(crate::proofs::Division::Tables::HoldsDivision_two))]
 fn divided_two(register: u16, octets: &[u8], at: usize) -> u16
     requires two { at + 2 ≤ length octets.now }
     ensures { (d : List Bool) → HoldsDivision register d
@@ -279,6 +283,7 @@ fn divided_eights(register: u16, octets: &[u8]) -> u16
 }
 
 // The register after eight octets more: no part of it stays, since it has as many bits as the first two.
+#[tactic(auto, using(crate::proofs::Division::Tables::HoldsDivision_eight))]
 fn divided_eight(register: u16, octets: &[u8], at: usize) -> u16
     requires eight { at + 8 ≤ length octets.now }
     ensures { (d : List Bool) → HoldsDivision register d
@@ -306,6 +311,7 @@ fn left_of_six(octets: &[u8], at: usize) -> u16
 }
 
 // What is left of an octet with so many octets of 0s after it.
+#[tactic(auto, using(crate::proofs::Division::Tables::left_at))]
 fn left_of(octet: u8, zeros: usize) -> u16
     requires { zeros < 8 }
     ensures { low_bits 16 result ≡ remainder (low_bits 8 octet ++ replicate (8 * zeros + 16) false) }

@@ -76,6 +76,7 @@ impl Framer {
     }
 
     /// Whether eight bits or more are left: no frame can be loaded then.
+    #[tactic(auto, using(crate::proofs::FramerGiven::busy_rules))]
     pub fn busy(&self) -> bool
         ensures { IsTrue result ↔ (8 ≤ length self.now.left) }
     {
@@ -83,6 +84,7 @@ impl Framer {
     }
 
     /// The number of bits that are left, where it is below 8; else 8.
+    #[tactic(auto, using(crate::proofs::FramerGiven::length_to_give))]
     pub fn left(&self) -> u8
         ensures { result ≡ min 8 (length self.now.left) }
     {

@@ -42,6 +42,7 @@ impl Gap {
     ghost use Rattle.lapd_bits.specs.Ended.{FitsIn, event_in, closing_event};
 
     /// The gap that a flag opens.
+    #[tactic(auto, using(crate::proofs::Assembly::Assembles_none))]
     pub(crate) fn new() -> Gap
         ensures count { result.count ≡ 0 }
         ensures since { result.since ≡ 0 }
@@ -174,6 +175,7 @@ impl Gap {
     /// Takes an octet that there is no room for.
     #[inline(never)]
     #[cold]
+    #[tactic(auto, using(crate::proofs::Assembly::Keeps_beyond))]
     fn pass_over(&mut self, octets: &Vec<u8>, octet: u8)
         requires full { self.old.count ≡ vec_len octets.now }
         ensures count { self.new.count ≡ self.old.count }
@@ -232,6 +234,7 @@ impl Gap {
 }
 
 /// The number with one bit more, above its `place` low ones.
+#[tactic(auto, using(crate::proofs::Assembly::bit_rules))]
 fn with_bit(number: u8, place: u8, bit: bool) -> u8
     requires place { place < 8 }
     requires below { number < 2 ^ place }

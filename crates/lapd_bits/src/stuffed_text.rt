@@ -121,6 +121,7 @@ impl StuffedText {
 
     // Goes on with four octets, the first lowest.
     #[inline(always)]
+    #[tactic(auto, using(crate::proofs::StuffingAtOnce::last_ones_few))]
     fn stuff_four(&mut self, buffer: &mut [u8], four: u32)
         requires low { self.old.waiting.count < 8 }
         requires room { fifths self.old + 48 * 4 ≤ 40 * length buffer.old }
@@ -144,6 +145,7 @@ impl StuffedText {
 
     // Has what so many bits make of themselves wait.
     #[inline(always)]
+    #[tactic(auto, using(crate::proofs::StuffingAtOnce::last_ones_few))]
     fn push(&mut self, bits: u64, count: u64)
         requires few { count ≤ 40 }
         requires below { bits < 2 ^ count }
@@ -197,6 +199,7 @@ impl StuffedText {
 
     // Puts the first octet of the bits that wait into the buffer.
     #[inline(always)]
+    #[tactic(auto, using(crate::proofs::StuffedText::made_given))]
     fn give(&mut self, buffer: &mut [u8])
         requires eight { 8 ≤ self.old.waiting.count }
         requires room { self.old.end < length buffer.old }

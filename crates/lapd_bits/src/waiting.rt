@@ -60,6 +60,7 @@ impl Waiting {
     }
 
     /// The first eight of them as an octet.
+    #[tactic(auto, using(crate::proofs::Joining::split_octet, crate::proofs::Joining::left_below))]
     pub(crate) fn octet(&mut self) -> u8
         requires eight { 8 ≤ self.old.count }
         ensures bits { waits self.old ≡ low_bits 8 result ++ waits self.new }

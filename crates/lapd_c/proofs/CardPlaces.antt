@@ -1,19 +1,7 @@
 -- What stands in the machine for a card's place: a word, and what it owns.
 use Rattle.lapd_c.proofs.Vocabulary.{◌≡◌, ℕ, List, [], ◌∷◌, ◌++◌, IsSome, refl, subst, false≢true, Some, ghosts, box_owns, AnyCard, HeldCard, card_owns, card_row, heap}
 use Rattle.std.specs.declared.option.Option.TheVariants.{None}
-use mir.Raw.{raw as bare}
-use mir.Val.{Val, vptr, vstruct, of_list}
-use seplogic.Ra.Ura.{Ura}
-use base.Logic.{never, fst∗}
-use types.Logic.{Logic, sem}
-use types.Kit.{Item, Goal, Seq, Step, step, ‵, ◌$◌, drop, fsplit, fjoin, fpick, fpack, feq_i, feq_l}
-use denote.RattleType.{RattleType, Valss}
-use denote.Builtin.{RawPtr}
-use denote.Memory.{lone}
-use denote.RawPtr.{Ptr, block_ptr, null_ptr, ptr_val, in_a_block}
-use denote.Steps.{nothing}
-use denote.Struct.Struct.{within}
-use denote.Struct.Owning.{shape}
+use Rattle.lapd_c.proofs.Machine.{Goal, Item, Logic, Ptr, RattleType, RawPtr, Seq, Step, Ura, Val, Valss, bare, block_ptr, drop, feq_i, feq_l, fjoin, fpack, fpick, fsplit, fst∗, in_a_block, lone, never, nothing, null_ptr, of_list, ptr_val, sem, shape, step, vptr, vstruct, within, ‵, ◌$◌}
 use Rattle.lapd_c.specs.contracts.card_slot.CardSlot as slot
 use Rattle.lapd_c.proofs.ClockPlaces.{word}
 

@@ -1,19 +1,7 @@
 -- What stands in the machine for a clock's place: a word, and what it owns.
 use Rattle.lapd_c.proofs.Vocabulary.{◌≡◌, ℕ, List, [], ◌∷◌, ◌++◌, IsSome, refl, subst, false≢true, Some, ghosts, box_owns, Timers, HeldClock, clock_owns, heap}
 use Rattle.std.specs.declared.option.Option.TheVariants.{None}
-use mir.Raw.{raw as bare}
-use mir.Val.{Val, vptr, vstruct, vcons, vnil, of_list}
-use seplogic.Ra.Ura.{Ura}
-use base.Logic.{never, fst∗}
-use types.Logic.{Logic, sem}
-use types.Kit.{Item, Goal, Seq, Step, step, ‵, ◌$◌, drop, fsplit, fjoin, fpick, fpack, feq_i, feq_l}
-use denote.RattleType.{RattleType, Valss}
-use denote.Builtin.{RawPtr}
-use denote.Memory.{lone}
-use denote.RawPtr.{Ptr, block_ptr, null_ptr, ptr_val, in_a_block}
-use denote.Steps.{nothing}
-use denote.Struct.Struct.{within}
-use denote.Struct.Owning.{shape}
+use Rattle.lapd_c.proofs.Machine.{Goal, Item, Logic, Ptr, RattleType, RawPtr, Seq, Step, Ura, Val, Valss, bare, block_ptr, drop, feq_i, feq_l, fjoin, fpack, fpick, fsplit, fst∗, in_a_block, lone, never, nothing, null_ptr, of_list, ptr_val, sem, shape, step, vcons, vnil, vptr, vstruct, within, ‵, ◌$◌}
 use Rattle.lapd_clock.specs.contracts.clock.Clock as clock
 use Rattle.lapd_c.specs.contracts.clock_slot.ClockSlot as slot
 

@@ -1,5 +1,5 @@
 -- Contents that an answer delivers have at most N201 octets.
-use Rattle.lapd_c.proofs.Vocabulary.{◌≡◌, ℕ, ◌≤◌, Bool, true, false, cond, List, [], length, Option, nat_lt, refl, sym, ap, ◌∙◌, subst, arith, None, leb-true, ltb-false, and_parts, false≢true, option_or, option_map_or, Control, Information, ReceiveReady, ReceiveNotReady, Reject, Sabme, Disc, Ui, Ua, Dm, Frmr, Xid, Refusal, Service, Timer, T200, T203, T201, State, TeiAssigned, AwaitingEstablishment, AwaitingRelease, Established, TimerRecovery, Terms, LinkTimer, Arrived, is_eligible, eligible_of, eligible, information_in, Link, Course, Step, begun, by_bit, leave_unserved, deliver_unit, delivered-at_once, no_more, another, how_many, Telling, HasTold, frames_in_4, frames_in_5, frames_in_6, frames_in_7, frames_in_8, expired_tells, malformed_tells, granted_tells, cleared_tells, Change, Gained, Left, Config, octet, expiry, request, pull, Answer, LineTold, told, refused, pulled, nothing, at_none, told_of_management, of_link, of_change, of_management, of_aim, at_timer, aim_of_expiry, Line, link_in, terms, place_in, unless_refused, unless_refused_told, gained, aim_of_heard, with_received, refusal, of_heard, Request, Establish, Release, Data, Unit, Assign, Remove, Check, SetBusy, ClearBusy, at_requested, aim_of_request, heard_aims, PoolFull, line_at, wants_room, contents_of, contents_in, ContentsFit}
+use Rattle.lapd_c.proofs.Vocabulary.{◌≡◌, ℕ, ◌≤◌, Bool, true, false, cond, List, length, Option, nat_lt, refl, sym, ap, subst, arith, None, leb-true, ltb-false, and_parts, option_or, option_map_or, Control, Ui, Refusal, Service, Timer, T200, T203, T201, State, TeiAssigned, AwaitingEstablishment, AwaitingRelease, Established, TimerRecovery, Terms, LinkTimer, Arrived, is_eligible, eligible_of, information_in, Link, Course, Step, begun, by_bit, leave_unserved, deliver_unit, delivered-at_once, no_more, another, how_many, Telling, HasTold, frames_in_4, frames_in_5, frames_in_6, frames_in_7, frames_in_8, expired_tells, malformed_tells, granted_tells, Change, Gained, Left, Config, octet, expiry, request, pull, refused, nothing, at_none, told_of_management, of_link, of_change, of_management, of_aim, at_timer, aim_of_expiry, Line, link_in, terms, place_in, unless_refused, unless_refused_told, gained, aim_of_heard, with_received, refusal, of_heard, Request, Establish, Release, Data, Unit, Assign, Remove, Check, SetBusy, ClearBusy, at_requested, aim_of_request, heard_aims, PoolFull, line_at, wants_room, contents_of, contents_in, ContentsFit}
 use Rattle.model_link.proofs.Leads.{Leads}
 use Rattle.std.proofs.Common.{Some}
 use Rattle.model_bits.specs.Stream as stream

@@ -1,5 +1,5 @@
 -- One step more of an exchange.
-use Rattle.lapd_c.proofs.Vocabulary.{◌≡◌, ◌⊎◌, inl, inr, ℕ, suc, ◌+◌, ◌-◌, ◌*◌, ◌%◌, ◌/◌, ◌==◌, Bool, true, false, not, cond, List, [], ◌∷◌, ◌++◌, length, get_or, refl, sym, ap, ◌∙◌, subst, arith, fold-append, Answer, octet, pull, told, nothing, Card, Event, at, answer, moment_counted, moment_of, all_counted, Run, run, one_more, moments, after_all, run_is_moments, Counters, Store, Held, counters_in, moments-more, PlainReport, ShowsAnswer, CardStands, shelf_of, is_quiet, step_event, steps_made, card_after, answer_after, with_step, given_after, AllQuiet, Exchanged, IsThrough, IsTold}
+use Rattle.lapd_c.proofs.Vocabulary.{◌≡◌, ℕ, suc, ◌+◌, ◌-◌, Bool, true, false, not, List, [], ◌∷◌, ◌++◌, refl, sym, ap, ◌∙◌, subst, arith, fold-append, Card, Event, answer, moment_counted, moment_of, all_counted, Run, run, one_more, moments, after_all, run_is_moments, Counters, Store, Held, counters_in, moments-more, PlainReport, ShowsAnswer, CardStands, shelf_of, is_quiet, step_event, steps_made, card_after, answer_after, with_step, given_after, AllQuiet}
 use Rattle.model_card.specs.Machine.{after}
 use Rattle.lapd_card.specs.Stands.{Leads}
 

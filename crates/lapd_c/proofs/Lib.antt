@@ -1,5 +1,6 @@
 -- Lemmas: where cards and clocks lie; what is served at them; two cards that exchange frames.
 pub mod Vocabulary
+pub mod Machine
 pub mod Places
 pub mod ClockPlaces
 pub mod CardPlaces

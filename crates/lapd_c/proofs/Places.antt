@@ -1,23 +1,6 @@
 -- What stands in the machine for a box as its address: two words, and what they own.
 use Rattle.lapd_c.proofs.Vocabulary.{◌≡◌, ℕ, List, [], ◌∷◌, ◌++◌, refl, subst, Ghosts, Al, handle_tells, Good, box_owns, and_tt}
-use mathlib.Core.Bool.{true, ◌&&◌}
-use lib.Dec.{T}
-use mir.Syntax.{impl, tnil, dnil}
-use mir.Raw.{raw as bare}
-use mir.Val.{Val, vptr, vstruct, vcons, vnil, of_list, has_ty, WT}
-use base.Logic.{never, fst∗}
-use types.Logic.{Logic, sem}
-use types.Kit.{Item, Goal, Seq, Step, step, ‵, ◌$◌, move, drop, fsplit, fjoin, fpick, fpack, feq_i, feq_l}
-use seplogic.Ra.Ura.{Ura}
-use denote.RattleType.{RattleType, Valss}
-use denote.Builtin.{RawPtr}
-use denote.Memory.{lone}
-use denote.RawPtr.{Ptr, block_ptr, null_ptr, ptr_val, in_a_block}
-use denote.Steps.{nothing}
-use denote.Param.{layout}
-use denote.Param.Laws.{Laws}
-use denote.Struct.Struct.{within}
-use denote.Struct.Owning.{shape}
+use Rattle.lapd_c.proofs.Machine.{Goal, Item, Laws, Logic, Ptr, RattleType, RawPtr, Seq, Step, T, Ura, Val, Valss, WT, bare, block_ptr, dnil, drop, feq_i, feq_l, fjoin, fpack, fpick, fsplit, fst∗, has_ty, impl, in_a_block, layout, lone, move, never, nothing, null_ptr, of_list, ptr_val, sem, shape, step, tnil, true, vcons, vnil, vptr, vstruct, within, ‵, ◌$◌, ◌&&◌}
 use Rattle.lapd_c.specs.contracts.loose.Loose as loose
 
 -- a struct of two words

@@ -1,5 +1,5 @@
 -- What a report shows is what the machine answers.
-use Rattle.lapd_c.proofs.Vocabulary.{◌≡◌, ℕ, ◌≤◌, ◌<◌, List, length, Option, IfSome, Result, Ok, Err, IfOk, sym, subst, arith, option_copied, Note, Order, Report, report_told, LineTold, told, Line, of_heard, ranges_of, Card, Event, answer, IsReached, says, PlainReport, Shows, told_by, contents_of, ShowsAnswer, contents_in}
+use Rattle.lapd_c.proofs.Vocabulary.{◌≡◌, ◌≤◌, List, length, Option, IfSome, Result, Ok, IfOk, sym, subst, arith, option_copied, Note, Order, Report, report_told, LineTold, told, Line, of_heard, ranges_of, Card, Event, answer, IsReached, says, PlainReport, Shows, told_by, contents_of, ShowsAnswer, contents_in}
 use Rattle.std.proofs.Common.{Some}
 use Rattle.model_bits.specs.Stream as stream
 use Rattle.lapd_c.proofs.Contents.{contents_fit, heard_fits}

@@ -1,5 +1,5 @@
 -- A card as C holds it.
-use Rattle.std.specs.Prelude.{◌≡◌, ◌≤◌, ◌<◌, ℕ, is_some, Option, None, Some, option_map}
+use Rattle.std.specs.Prelude.{◌≡◌, ℕ, is_some, Option, None, Some, option_map}
 use Rattle.model_card.specs.Card as machine
 use Rattle.model_line.specs.Event.{Answer, told, refused, pulled}
 use Rattle.lapd_c.specs.declared.plain.reports.PlainReport.{PlainReport}

@@ -2,7 +2,7 @@
 use Rattle.std.specs.Prelude.{◌≡◌, ◌⊎◌, ℕ, zero, suc, ◌+◌, ◌*◌, ◌/◌, ◌%◌, ◌==◌, nat_le, Bool, true, false, not, ◌&&◌, List, [], ◌∷◌, ◌++◌, length, get_or, set, is_none, None, Some, if◌then◌else◌}
 use Rattle.model_card.specs.Card.{Card}
 use Rattle.model_card.specs.Event.{Event, at}
-use Rattle.model_card.specs.Machine.{after, answer}
+use Rattle.model_card.specs.Machine.{answer}
 use Rattle.model_card.specs.Run.{run}
 use Rattle.model_line.specs.Event.{Answer, octet, pull, told, refused, pulled, nothing}
 use Rattle.lapd_store.specs.Store.{Store}

@@ -24,21 +24,8 @@ ones_after-reverse (true ∷ g) =
 
 -- seven 1s end where the latest seven bits are 1s
 pub ends_abort-latest : (g : List Bool) → ends_abort g ≡ nat_le 7 (latest_ones g)
-ends_abort-latest [] = refl
-ends_abort-latest (false ∷ g) = refl
-ends_abort-latest (true ∷ []) = refl
-ends_abort-latest (true ∷ false ∷ g) = refl
-ends_abort-latest (true ∷ true ∷ []) = refl
-ends_abort-latest (true ∷ true ∷ false ∷ g) = refl
-ends_abort-latest (true ∷ true ∷ true ∷ []) = refl
-ends_abort-latest (true ∷ true ∷ true ∷ false ∷ g) = refl
-ends_abort-latest (true ∷ true ∷ true ∷ true ∷ []) = refl
-ends_abort-latest (true ∷ true ∷ true ∷ true ∷ false ∷ g) = refl
-ends_abort-latest (true ∷ true ∷ true ∷ true ∷ true ∷ []) = refl
-ends_abort-latest (true ∷ true ∷ true ∷ true ∷ true ∷ false ∷ g) = refl
-ends_abort-latest (true ∷ true ∷ true ∷ true ∷ true ∷ true ∷ []) = refl
-ends_abort-latest (true ∷ true ∷ true ∷ true ∷ true ∷ true ∷ false ∷ g) = refl
 ends_abort-latest (true ∷ true ∷ true ∷ true ∷ true ∷ true ∷ true ∷ g) = sym (le-leb 7 (latest_ones g + 7) (omega arith)) ∙ ap (nat_le 7) (omega arith)
+ends_abort-latest _ = refl
 
 -- a run of 1s that goes on is longer than what went before
 run_of-six_more : (g : List Bool) → run_of (true ∷ true ∷ true ∷ true ∷ true ∷ true ∷ true ∷ g) ≡ 7
@@ -46,21 +33,8 @@ run_of-six_more g = omega arith
 
 -- a flag ends at a 0 exactly where six 1s and no more stand before it
 pub ends_flag-run : (past : List Bool) → ends_flag (false ∷ past) ≡ nat_eq (run_of past) 6
-ends_flag-run [] = refl
-ends_flag-run (false ∷ g) = refl
-ends_flag-run (true ∷ []) = refl
-ends_flag-run (true ∷ false ∷ g) = refl
-ends_flag-run (true ∷ true ∷ []) = refl
-ends_flag-run (true ∷ true ∷ false ∷ g) = refl
-ends_flag-run (true ∷ true ∷ true ∷ []) = refl
-ends_flag-run (true ∷ true ∷ true ∷ false ∷ g) = refl
-ends_flag-run (true ∷ true ∷ true ∷ true ∷ []) = refl
-ends_flag-run (true ∷ true ∷ true ∷ true ∷ false ∷ g) = refl
-ends_flag-run (true ∷ true ∷ true ∷ true ∷ true ∷ []) = refl
-ends_flag-run (true ∷ true ∷ true ∷ true ∷ true ∷ false ∷ g) = refl
-ends_flag-run (true ∷ true ∷ true ∷ true ∷ true ∷ true ∷ []) = refl
-ends_flag-run (true ∷ true ∷ true ∷ true ∷ true ∷ true ∷ false ∷ g) = refl
 ends_flag-run (true ∷ true ∷ true ∷ true ∷ true ∷ true ∷ true ∷ g) = sym (ap (λ n. nat_eq n 6) (run_of-six_more g))
+ends_flag-run _ = refl
 
 -- no abort ends where fewer than seven 1s have come, and one ends where seven or more have
 pub no_abort_at : (g : List Bool) → latest_ones g < 7 → ends_abort g ≡ false
@@ -147,18 +121,5 @@ NoSix-reverse (false ∷ g) p h =
 
 -- where six 1s and no more come latest, seven bits or more are the front of a flag after the others
 pub front_of_flag : (g : List Bool) → latest_ones g ≡ 6 → 7 ≤ length g → g ≡ true ∷ true ∷ true ∷ true ∷ true ∷ true ∷ false ∷ drop 7 g
-front_of_flag [] e h = absurd (omega arith)
-front_of_flag (false ∷ g) e h = absurd (omega arith)
-front_of_flag (true ∷ []) e h = absurd (omega arith)
-front_of_flag (true ∷ false ∷ g) e h = absurd (omega arith)
-front_of_flag (true ∷ true ∷ []) e h = absurd (omega arith)
-front_of_flag (true ∷ true ∷ false ∷ g) e h = absurd (omega arith)
-front_of_flag (true ∷ true ∷ true ∷ []) e h = absurd (omega arith)
-front_of_flag (true ∷ true ∷ true ∷ false ∷ g) e h = absurd (omega arith)
-front_of_flag (true ∷ true ∷ true ∷ true ∷ []) e h = absurd (omega arith)
-front_of_flag (true ∷ true ∷ true ∷ true ∷ false ∷ g) e h = absurd (omega arith)
-front_of_flag (true ∷ true ∷ true ∷ true ∷ true ∷ []) e h = absurd (omega arith)
-front_of_flag (true ∷ true ∷ true ∷ true ∷ true ∷ false ∷ g) e h = absurd (omega arith)
-front_of_flag (true ∷ true ∷ true ∷ true ∷ true ∷ true ∷ []) e h = absurd (omega arith)
 front_of_flag (true ∷ true ∷ true ∷ true ∷ true ∷ true ∷ false ∷ g) e h = refl
-front_of_flag (true ∷ true ∷ true ∷ true ∷ true ∷ true ∷ true ∷ g) e h = absurd (omega arith)
+front_of_flag _ e h = absurd (omega arith)

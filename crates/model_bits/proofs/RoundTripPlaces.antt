@@ -1,7 +1,8 @@
 -- What is heard over bits that come after a place, and over the bits between two flags.
-use Rattle.model_bits.proofs.Vocabulary.{◌≡◌, ℕ, zero, suc, ◌<◌, Bool, true, false, ◌||◌, List, [], ◌∷◌, ◌++◌, length, take, reverse, Some, None, option_to_list, option_map, option_and_then, cond, ltb, refl, ap, sym, ◌∙◌, arith, append_assoc, length-reverse, reverse-reverse, le-ltb, or_from, flag, Event, ends_flag, ends_abort, since_flag, has_abort, closed_by_flag, gap_event, given_up, heard_at, heard_until}
+use Rattle.model_bits.proofs.Vocabulary.{◌≡◌, ℕ, suc, ◌<◌, Bool, true, false, ◌||◌, List, [], ◌∷◌, ◌++◌, length, take, reverse, Some, None, option_to_list, option_map, option_and_then, cond, ltb, refl, ap, sym, ◌∙◌, arith, append_assoc, length-reverse, reverse-reverse, le-ltb, ne_eqb, or_from, flag, Event, ends_flag, since_flag, has_abort, closed_by_flag, gap_event, given_up, heard_at, heard_until, run_of}
 use Rattle.std.proofs.lemmas.List.{append-nil}
 use mathlib.Core.List.{reverse_aux}
+use Rattle.model_bits.proofs.Places.{latest_ones, ends_flag-run, no_abort_at}
 use Rattle.model_bits.proofs.StuffingCounted.{NoSix}
 
 -- what is heard over bits, in order of time, after a place
@@ -29,64 +30,36 @@ hears-append room (b ∷ s) t past =
 abbrev pub after_flag : List Bool → List Bool
 after_flag past = false ∷ true ∷ true ∷ true ∷ true ∷ true ∷ true ∷ false ∷ past
 
--- the contiguous 1s up to a place
-abbrev pub run : List Bool → ℕ
-run [] = 0
-run (false ∷ g) = 0
-run (true ∷ g) = suc (run g)
-
 -- Before each of the bits since a flag stand fewer than six contiguous 1s.
 abbrev pub Calm : List Bool → Type 0
 Calm [] = Unit {0}
-Calm (b ∷ g) = (run g < 6) × Calm g
+Calm (b ∷ g) = (latest_ones g < 6) × Calm g
+
+-- the run after a 0
+run_behind_zero : (g past : List Bool) → latest_ones g < 6 → run_of (g ++ false ∷ past) ≡ latest_ones g
+run_behind_zero [] past h = refl
+run_behind_zero (false ∷ g) past h = refl
+run_behind_zero (true ∷ g) past h = omega (arith, run_behind_zero g past (omega arith))
 
 -- no flag ends at a 0 after fewer than six 1s
-no_flag : (g past : List Bool) → run g < 6 → ends_flag (false ∷ g ++ false ∷ past) ≡ false
-no_flag [] past h = refl
-no_flag (false ∷ g) past h = refl
-no_flag (true ∷ []) past h = refl
-no_flag (true ∷ false ∷ g) past h = refl
-no_flag (true ∷ true ∷ []) past h = refl
-no_flag (true ∷ true ∷ false ∷ g) past h = refl
-no_flag (true ∷ true ∷ true ∷ []) past h = refl
-no_flag (true ∷ true ∷ true ∷ false ∷ g) past h = refl
-no_flag (true ∷ true ∷ true ∷ true ∷ []) past h = refl
-no_flag (true ∷ true ∷ true ∷ true ∷ false ∷ g) past h = refl
-no_flag (true ∷ true ∷ true ∷ true ∷ true ∷ []) past h = refl
-no_flag (true ∷ true ∷ true ∷ true ∷ true ∷ false ∷ g) past h = refl
-no_flag (true ∷ true ∷ true ∷ true ∷ true ∷ true ∷ g) past h = absurd (omega arith)
-
--- no abort ends where fewer than seven 1s do
-no_abort : (g : List Bool) → run g < 7 → ends_abort g ≡ false
-no_abort [] h = refl
-no_abort (false ∷ g) h = refl
-no_abort (true ∷ []) h = refl
-no_abort (true ∷ false ∷ g) h = refl
-no_abort (true ∷ true ∷ []) h = refl
-no_abort (true ∷ true ∷ false ∷ g) h = refl
-no_abort (true ∷ true ∷ true ∷ []) h = refl
-no_abort (true ∷ true ∷ true ∷ false ∷ g) h = refl
-no_abort (true ∷ true ∷ true ∷ true ∷ []) h = refl
-no_abort (true ∷ true ∷ true ∷ true ∷ false ∷ g) h = refl
-no_abort (true ∷ true ∷ true ∷ true ∷ true ∷ []) h = refl
-no_abort (true ∷ true ∷ true ∷ true ∷ true ∷ false ∷ g) h = refl
-no_abort (true ∷ true ∷ true ∷ true ∷ true ∷ true ∷ []) h = refl
-no_abort (true ∷ true ∷ true ∷ true ∷ true ∷ true ∷ false ∷ g) h = refl
-no_abort (true ∷ true ∷ true ∷ true ∷ true ∷ true ∷ true ∷ g) h = absurd (omega arith)
+no_flag : (g past : List Bool) → latest_ones g < 6 → ends_flag (false ∷ g ++ false ∷ past) ≡ false
+no_flag g past h =
+    ends_flag-run (g ++ false ∷ past)
+    ∙ ne_eqb (run_of (g ++ false ∷ past)) 6 (λ six. absurd (omega (arith, six, run_behind_zero g past h)))
 
 -- one bit more
-run_more : (b : Bool) (g : List Bool) → run g < 6 → run (b ∷ g) < 7
+run_more : (b : Bool) (g : List Bool) → latest_ones g < 6 → latest_ones (b ∷ g) < 7
 run_more true g h = omega arith
 run_more false g h = omega arith
 
-no_flag_calm : (b : Bool) (g past : List Bool) → run g < 6 → ends_flag (b ∷ g ++ after_flag past) ≡ false
+no_flag_calm : (b : Bool) (g past : List Bool) → latest_ones g < 6 → ends_flag (b ∷ g ++ after_flag past) ≡ false
 no_flag_calm true g past h = refl
 no_flag_calm false g past h = no_flag g (true ∷ true ∷ true ∷ true ∷ true ∷ true ∷ false ∷ past) h
 
 -- no abort is among calm bits
 no_abort_calm : (g : List Bool) → Calm g → has_abort g ≡ false
 no_abort_calm [] c = refl
-no_abort_calm (b ∷ g) c = rw (no_abort (b ∷ g) (run_more b g c.0)) (no_abort_calm g c.1)
+no_abort_calm (b ∷ g) c = rw (no_abort_at (b ∷ g) (run_more b g c.0)) (no_abort_calm g c.1)
 
 -- the bits since the latest flag
 pub since_flag_calm : (g past : List Bool) → Calm g → since_flag (g ++ after_flag past) ≡ Some g
@@ -97,7 +70,7 @@ since_flag_calm (b ∷ g) past c = rw (no_flag_calm b g past c.0) (ap (option_ma
 nothing_calm : (room : ℕ) (b : Bool) (g past : List Bool) → Calm (b ∷ g) → heard_at room (b ∷ g ++ after_flag past) ≡ None
 nothing_calm room b g past c =
     rw (no_flag_calm b g past c.0)
-    (ap (option_and_then (λ l. given_up (b ∷ l))) (since_flag_calm g past c.1) ∙ rw (no_abort (b ∷ g) (run_more b g c.0)) refl)
+    (ap (option_and_then (λ l. given_up (b ∷ l))) (since_flag_calm g past c.1) ∙ rw (no_abort_at (b ∷ g) (run_more b g c.0)) refl)
 
 -- bits before calm ones are calm
 Calm_before : (text g : List Bool) → Calm (reverse_aux text g) → Calm g
@@ -110,13 +83,13 @@ hears_calm room (b ∷ text) g past c =
     rw (nothing_calm room b g past (Calm_before text (b ∷ g) c)) (hears_calm room text (b ∷ g) past c)
 
 -- a text with no six contiguous 1s, and the front of a flag after it, are calm
-pub Calm_onto : (text g : List Bool) → Calm g → run g < 6 → NoSix (run g) text → Calm (reverse_aux text g) × (run (reverse_aux text g) < 6)
+pub Calm_onto : (text g : List Bool) → Calm g → latest_ones g < 6 → NoSix (latest_ones g) text → Calm (reverse_aux text g) × (latest_ones (reverse_aux text g) < 6)
 Calm_onto [] g c h p = (c, h)
 Calm_onto (false ∷ text) g c h p = Calm_onto text (false ∷ g) (h, c) (omega arith) p
 Calm_onto (true ∷ text) g c h p = Calm_onto text (true ∷ g) (h, c) (omega arith) p.1
 
 -- what a closing flag after a calm text is heard as
-pub heard_at_close : (room : ℕ) (b : Bool) (r past : List Bool) → Calm (b ∷ r) → run (b ∷ r) < 6 → heard_at room (false ∷ true ∷ true ∷ true ∷ true ∷ true ∷ true ∷ false ∷ (b ∷ r) ++ after_flag past) ≡ Some (gap_event room (reverse (b ∷ r)))
+pub heard_at_close : (room : ℕ) (b : Bool) (r past : List Bool) → Calm (b ∷ r) → latest_ones (b ∷ r) < 6 → heard_at room (false ∷ true ∷ true ∷ true ∷ true ∷ true ∷ true ∷ false ∷ (b ∷ r) ++ after_flag past) ≡ Some (gap_event room (reverse (b ∷ r)))
 heard_at_close room b r past c h =
     let g = true ∷ true ∷ true ∷ true ∷ true ∷ true ∷ false ∷ b ∷ r in
     let calm : Calm g =
@@ -131,15 +104,8 @@ pub hears_flag : (room : ℕ) (past : List Bool) → hears room (after_flag past
 hears_flag room past = refl
 
 pub hears_cut_flag : (room : ℕ) (past : List Bool) (more : ℕ) → more < 8 → hears room (after_flag past) (take more flag) ≡ []
-hears_cut_flag room past zero h = refl
-hears_cut_flag room past (suc zero) h = refl
-hears_cut_flag room past (suc (suc zero)) h = refl
-hears_cut_flag room past (suc (suc (suc zero))) h = refl
-hears_cut_flag room past (suc (suc (suc (suc zero)))) h = refl
-hears_cut_flag room past (suc (suc (suc (suc (suc zero))))) h = refl
-hears_cut_flag room past (suc (suc (suc (suc (suc (suc zero)))))) h = refl
-hears_cut_flag room past (suc (suc (suc (suc (suc (suc (suc zero))))))) h = refl
 hears_cut_flag room past (suc (suc (suc (suc (suc (suc (suc (suc more)))))))) h = absurd (omega arith)
+hears_cut_flag room past _ h = refl
 
 -- the place after a text, where a place is before it
 reverse_aux-onto : (text g past : List Bool) → reverse_aux text (g ++ past) ≡ reverse_aux text g ++ past
@@ -155,7 +121,7 @@ abbrev flag_front : List Bool
 flag_front = false ∷ true ∷ true ∷ true ∷ true ∷ true ∷ true ∷ []
 
 -- what a closing flag is heard as
-hears_closing : (room : ℕ) (r past : List Bool) → 0 < length r → Calm r → run r < 6 → hears room (r ++ after_flag past) flag ≡ gap_event room (reverse r) ∷ []
+hears_closing : (room : ℕ) (r past : List Bool) → 0 < length r → Calm r → latest_ones r < 6 → hears room (r ++ after_flag past) flag ≡ gap_event room (reverse r) ∷ []
 hears_closing room [] past some c h = absurd (omega arith)
 hears_closing room (b ∷ r) past some c h =
     let front : Calm (reverse_aux flag_front (b ∷ r)) =

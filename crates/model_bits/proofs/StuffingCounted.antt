@@ -1,6 +1,6 @@
 -- Stuffing and its inverse with the contiguous 1s counted: the same as by patterns of five 1s, and how
 -- they go over lists that are appended.
-use Rattle.model_bits.proofs.Vocabulary.{◌≡◌, ℕ, suc, ◌<◌, ◌≤◌, Bool, true, false, List, [], ◌∷◌, ◌++◌, if◌then◌else◌, nat_lt, refl, ap, sym, ◌∙◌, arith, ⊎_elim, append_assoc, lt-ltb, le-ltb, cases_lt, stuffed, unstuffed}
+use Rattle.model_bits.proofs.Vocabulary.{◌≡◌, ℕ, suc, zero, ◌<◌, ◌≤◌, Bool, true, false, List, [], ◌∷◌, ◌++◌, if◌then◌else◌, nat_lt, replicate, refl, ap, sym, ◌∙◌, arith, ⊎_elim, append_assoc, lt-ltb, le-ltb, cases_lt, stuffed, unstuffed}
 
 -- the contiguous 1s at the end of a text, where `ones` of them stand before it
 abbrev pub ones_after : ℕ → List Bool → ℕ
@@ -33,43 +33,23 @@ stuffed_after ones [] = stuffed_zero ones
 stuffed_after ones (false ∷ b) = stuffed_zero ones ++ false ∷ stuffed_after 0 b
 stuffed_after ones (true ∷ b) = stuffed_zero ones ++ true ∷ stuffed_after (suc (ones_left ones)) b
 
--- Stuffing by patterns is stuffing by the count, also with 1s before.
-record StuffedAlike (b : List Bool) : Type 0 where
-  none : stuffed b ≡ stuffed_after 0 b
-  one : stuffed (true ∷ b) ≡ stuffed_after 0 (true ∷ b)
-  two : stuffed (true ∷ true ∷ b) ≡ stuffed_after 0 (true ∷ true ∷ b)
-  three : stuffed (true ∷ true ∷ true ∷ b) ≡ stuffed_after 0 (true ∷ true ∷ true ∷ b)
-  four : stuffed (true ∷ true ∷ true ∷ true ∷ b) ≡ stuffed_after 0 (true ∷ true ∷ true ∷ true ∷ b)
-
 -- the counted text after five 1s begins with the stuffed 0
 stuffed_after_five : (b : List Bool) → stuffed_after 5 b ≡ false ∷ stuffed_after 0 b
 stuffed_after_five [] = refl
 stuffed_after_five (false ∷ b) = refl
 stuffed_after_five (true ∷ b) = refl
 
-stuffed_alike : (b : List Bool) → StuffedAlike b
-stuffed_alike [] = record { none = refl; one = refl; two = refl; three = refl; four = refl }
-stuffed_alike (false ∷ b) =
-    let e = (stuffed_alike b).none in
-    record {
-      none = ap (λ t. false ∷ t) e;
-      one = ap (λ t. true ∷ false ∷ t) e;
-      two = ap (λ t. true ∷ true ∷ false ∷ t) e;
-      three = ap (λ t. true ∷ true ∷ true ∷ false ∷ t) e;
-      four = ap (λ t. true ∷ true ∷ true ∷ true ∷ false ∷ t) e;
-    }
-stuffed_alike (true ∷ b) =
-    let h = stuffed_alike b in
-    record {
-      none = h.one;
-      one = h.two;
-      two = h.three;
-      three = h.four;
-      four = ap (λ t. true ∷ true ∷ true ∷ true ∷ true ∷ t) (ap (λ t. false ∷ t) h.none ∙ sym (stuffed_after_five b));
-    }
+-- Stuffing by patterns is stuffing by the count, also with 1s before.
+pub stuffed_alike : (n : ℕ) (b : List Bool) → n < 5 → stuffed (replicate n true ++ b) ≡ replicate n true ++ stuffed_after n b
+stuffed_alike (suc (suc (suc (suc (suc n))))) b h = absurd (omega arith)
+stuffed_alike (suc (suc (suc (suc zero)))) (true ∷ b) h =
+    ap (λ t. true ∷ true ∷ true ∷ true ∷ true ∷ t) (ap (λ t. false ∷ t) (stuffed_alike 0 b (omega arith)) ∙ sym (stuffed_after_five b))
+stuffed_alike n (true ∷ b) h = stuffed_alike (suc n) b (omega arith)
+stuffed_alike n (false ∷ b) h = ap (λ t. replicate n true ++ false ∷ t) (stuffed_alike 0 b (omega arith))
+stuffed_alike n [] h = refl
 
 pub stuffed-counted : (b : List Bool) → stuffed b ≡ stuffed_after 0 b
-stuffed-counted b = (stuffed_alike b).none
+stuffed-counted b = stuffed_alike 0 b (omega arith)
 
 -- after five 1s or more a receiver takes out one 0, however many they are
 unstuffed_past_five : (m n : ℕ) (text : List Bool) → 5 ≤ m → 5 ≤ n → unstuffed_after m text ≡ unstuffed_after n text
@@ -79,41 +59,17 @@ unstuffed_past_five m n (true ∷ text) p q =
     ap (λ t. true ∷ t) (unstuffed_past_five (suc m) (suc n) text (omega arith) (omega arith))
 
 -- The same for a receiver, with up to five 1s before.
-record UnstuffedAlike (t : List Bool) : Type 0 where
-  none : unstuffed t ≡ unstuffed_after 0 t
-  one : unstuffed (true ∷ t) ≡ unstuffed_after 0 (true ∷ t)
-  two : unstuffed (true ∷ true ∷ t) ≡ unstuffed_after 0 (true ∷ true ∷ t)
-  three : unstuffed (true ∷ true ∷ true ∷ t) ≡ unstuffed_after 0 (true ∷ true ∷ true ∷ t)
-  four : unstuffed (true ∷ true ∷ true ∷ true ∷ t) ≡ unstuffed_after 0 (true ∷ true ∷ true ∷ true ∷ t)
-  five : unstuffed (true ∷ true ∷ true ∷ true ∷ true ∷ t) ≡ unstuffed_after 0 (true ∷ true ∷ true ∷ true ∷ true ∷ t)
-
-unstuffed_alike : (t : List Bool) → UnstuffedAlike t
-unstuffed_alike [] = record { none = refl; one = refl; two = refl; three = refl; four = refl; five = refl }
-unstuffed_alike (false ∷ t) =
-    let e = (unstuffed_alike t).none in
-    record {
-      none = ap (λ u. false ∷ u) e;
-      one = ap (λ u. true ∷ false ∷ u) e;
-      two = ap (λ u. true ∷ true ∷ false ∷ u) e;
-      three = ap (λ u. true ∷ true ∷ true ∷ false ∷ u) e;
-      four = ap (λ u. true ∷ true ∷ true ∷ true ∷ false ∷ u) e;
-      five = ap (λ u. true ∷ true ∷ true ∷ true ∷ true ∷ u) e;
-    }
-unstuffed_alike (true ∷ t) =
-    let h = unstuffed_alike t in
-    record {
-      none = h.one;
-      one = h.two;
-      two = h.three;
-      three = h.four;
-      four = h.five;
-      five =
-          ap (λ u. true ∷ u) h.five
-          ∙ ap (λ u. true ∷ true ∷ true ∷ true ∷ true ∷ true ∷ u) (unstuffed_past_five 5 6 t (omega arith) (omega arith));
-    }
+unstuffed_alike : (n : ℕ) (t : List Bool) → n < 6 → unstuffed (replicate n true ++ t) ≡ replicate n true ++ unstuffed_after n t
+unstuffed_alike (suc (suc (suc (suc (suc (suc n)))))) t h = absurd (omega arith)
+unstuffed_alike (suc (suc (suc (suc (suc zero))))) (true ∷ t) h =
+    ap (λ u. true ∷ u) (unstuffed_alike 5 t (omega arith))
+    ∙ ap (λ u. true ∷ true ∷ true ∷ true ∷ true ∷ true ∷ u) (unstuffed_past_five 5 6 t (omega arith) (omega arith))
+unstuffed_alike n (true ∷ t) h = unstuffed_alike (suc n) t (omega arith)
+unstuffed_alike n (false ∷ t) h = ap (λ u. replicate n true ++ (kept_zero n ++ u)) (unstuffed_alike 0 t (omega arith))
+unstuffed_alike n [] h = refl
 
 pub unstuffed-counted : (t : List Bool) → unstuffed t ≡ unstuffed_after 0 t
-unstuffed-counted t = (unstuffed_alike t).none
+unstuffed-counted t = unstuffed_alike 0 t (omega arith)
 
 -- The count and the unstuffed bits of a text in two parts.
 pub ones_after-append : (ones : ℕ) (s t : List Bool) → ones_after ones (s ++ t) ≡ ones_after (ones_after ones s) t

@@ -4,9 +4,9 @@ use Rattle.std.specs.Prelude.{bit_and}
 use Rattle.lapd_bits.proofs.Division.Word.{low_bits-not, low_bits-one}
 
 -- the preset stands for no bits
-pub HoldsDivision-preset : HoldsDivision 0xFFFF []
+pub HoldsDivision_preset : HoldsDivision 0xFFFF []
 unfolding low_bits
-HoldsDivision-preset = refl
+HoldsDivision_preset = refl
 
 -- ---- the bits of an octet
 
@@ -31,10 +31,10 @@ bits-take_more i octets within =
 -- ---- the answers
 
 -- the complement of the register is the check
-pub HoldsDivision-check :
+pub HoldsDivision_check :
     (register : ℕ) (d : List Bool) → register < 2 ^ 16 → HoldsDivision register d
     → low_bits 16 (0xFFFF - register) ≡ check d
-HoldsDivision-check register d small holds = low_bits-not 16 register small ∙ ap (map not) holds
+HoldsDivision_check register d small holds = low_bits-not 16 register small ∙ ap (map not) holds
 
 -- the constant of the code is the residue
 low_bits-residue : low_bits 16 0xF0B8 ≡ residue
@@ -42,10 +42,10 @@ unfolding low_bits
 low_bits-residue = refl
 
 -- a register of this value tells of no error, and no other does
-pub HoldsDivision-good :
+pub HoldsDivision_good :
     (register : ℕ) (d : List Bool) → register < 2 ^ 16 → HoldsDivision register d
     → nat_eq register 0xF0B8 ≡ is_good d
-HoldsDivision-good register d small holds =
+HoldsDivision_good register d small holds =
     sym (same_bits-low_bits 16 register 0xF0B8 small (omega arith))
     ∙ ap (λ l. same_bits (low_bits 16 register) l) low_bits-residue
     ∙ ap (λ l. same_bits l residue) holds

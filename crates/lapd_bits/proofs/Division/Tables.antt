@@ -18,8 +18,8 @@ low_bits-left_with : (n octet : ℕ) → low_bits 16 (left_with n octet) ≡ rem
 low_bits-left_with n octet =
     low_bits-number_of_n 16 (remainder (low_bits 8 octet ++ replicate n false)) (length-remainder (low_bits 8 octet ++ replicate n false))
 
-pub left-at : (octet zeros : ℕ) → octet < 256 → zeros < 8 → low_bits 16 (get_or LEFT (zeros * 256 + octet) 0) ≡ remainder (low_bits 8 octet ++ replicate (8 * zeros + 16) false)
-left-at octet zeros small few =
+pub left_at : (octet zeros : ℕ) → octet < 256 → zeros < 8 → low_bits 16 (get_or LEFT (zeros * 256 + octet) 0) ≡ remainder (low_bits 8 octet ++ replicate (8 * zeros + 16) false)
+left_at octet zeros small few =
     let at = zeros * 256 + octet in
     let row : at / 256 ≡ zeros = omega arith in
     let column : at % 256 ≡ octet = omega arith in
@@ -40,11 +40,11 @@ low_bits-moved register small =
     ∙ ap (λ y. low_bits 8 (register / 256) ++ low_bits 8 y) none
 
 -- an octet more by the table
-pub HoldsDivision-by_octet :
+pub HoldsDivision_by_octet :
     (register octet left : ℕ) (d : List Bool) → register < 2 ^ 16
     → low_bits 16 left ≡ remainder (low_bits 8 (bit_xor (register % 256) octet) ++ replicate 16 false)
     → HoldsDivision register d → HoldsDivision (bit_xor (register / 256) left) (d ++ low_bits 8 octet)
-HoldsDivision-by_octet register octet left d small entry holds =
+HoldsDivision_by_octet register octet left d small entry holds =
     let low = low_bits 8 (register % 256) in
     let high = low_bits 8 (register / 256) in
     let text = low_bits 8 octet in
@@ -137,14 +137,14 @@ HoldsDivision-octets register first second left octets d is holds =
     ∙ sym (remainder-dividend-append d (bits (first ∷ second ∷ octets)))
 
 -- eight octets more of a text
-pub HoldsDivision-eight :
+pub HoldsDivision_eight :
     (register first second others at : ℕ) (octets : List ℕ) (d : List Bool) → at + 8 ≤ length octets
     → low_bits 16 first ≡ remainder (low_bits 8 (bit_xor (register % 256) (get_or octets at 0)) ++ replicate 72 false)
     → low_bits 16 second ≡ remainder (low_bits 8 (bit_xor (register / 256) (get_or octets (at + 1) 0)) ++ replicate 64 false)
     → low_bits 16 others ≡ remainder (bits (take 6 (drop (at + 2) octets)) ++ replicate 16 false)
     → HoldsDivision register d
     → HoldsDivision (bit_xor first (bit_xor second others)) (d ++ bits (take 8 (drop at octets)))
-HoldsDivision-eight register first second others at octets d within first_is second_is others_is holds =
+HoldsDivision_eight register first second others at octets d within first_is second_is others_is holds =
     let a = get_or octets at 0 in
     let b = get_or octets (at + 1) 0 in
     let six = take 6 (drop (at + 2) octets) in
@@ -168,13 +168,13 @@ HoldsDivision-eight register first second others at octets d within first_is sec
     (HoldsDivision-octets register a b (bit_xor first (bit_xor second others)) six d all holds)
 
 -- two octets more of a text
-pub HoldsDivision-two :
+pub HoldsDivision_two :
     (register first second at : ℕ) (octets : List ℕ) (d : List Bool) → at + 2 ≤ length octets
     → low_bits 16 first ≡ remainder (low_bits 8 (bit_xor (register % 256) (get_or octets at 0)) ++ replicate 24 false)
     → low_bits 16 second ≡ remainder (low_bits 8 (bit_xor (register / 256) (get_or octets (at + 1) 0)) ++ replicate 16 false)
     → HoldsDivision register d
     → HoldsDivision (bit_xor first second) (d ++ bits (take 2 (drop at octets)))
-HoldsDivision-two register first second at octets d within first_is second_is holds =
+HoldsDivision_two register first second at octets d within first_is second_is holds =
     let a = get_or octets at 0 in
     let b = get_or octets (at + 1) 0 in
     let met_a = bit_xor (register % 256) a in

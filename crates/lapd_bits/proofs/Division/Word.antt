@@ -9,9 +9,7 @@ differ-bits zero zero a_small b_small = refl
 differ-bits zero (suc zero) a_small b_small = refl
 differ-bits (suc zero) zero a_small b_small = refl
 differ-bits (suc zero) (suc zero) a_small b_small = refl
-differ-bits zero (suc (suc b)) a_small b_small = absurd (omega arith)
-differ-bits (suc zero) (suc (suc b)) a_small b_small = absurd (omega arith)
-differ-bits (suc (suc a)) b a_small b_small = absurd (omega arith)
+differ-bits _ _ a_small b_small = absurd (omega arith)
 
 -- `^` is the sum of polynomials
 pub low_bits-xor : (n x y : ℕ) → low_bits n (bit_xor x y) ≡ plus (low_bits n x) (low_bits n y)

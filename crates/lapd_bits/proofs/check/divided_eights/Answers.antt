@@ -1,11 +1,8 @@
 -- No octets, and eight more.
-use Rattle.lapd_bits.proofs.Vocabulary.{◌*◌, ◌+◌, ◌++◌, take, drop, subst, sym, append-nil, arith, bits, HoldsDivision}
+use Rattle.lapd_bits.proofs.Vocabulary.{◌*◌, ◌+◌, ◌++◌, take, drop, bits}
 use Rattle.lapd_bits.proofs.Division.Holds.{HoldsDivision-behind}
 use Rattle.lapd_bits.proofs.Division.Tables.{bits-take_step}
 use Rattle.lapd_bits.proofs.check.divided_eights.Goals as goal
-
-pub loop-eight-init : goal.loop-eight-init
-loop-eight-init c d holds = subst (HoldsDivision c.args.register) (sym (append-nil d)) holds
 
 pub loop-eight-preserved : goal.loop-eight-preserved
 loop-eight-preserved c d holds =
@@ -14,8 +11,3 @@ loop-eight-preserved c d holds =
     let before = bits (take (8 * eight) octets) in
     HoldsDivision-behind c.divided_eight-after.result d before (bits (take 8 (drop (8 * eight) octets))) (bits (take (8 * (eight + 1)) octets)) (bits-take_step 8 eight octets)
     (c.divided_eight-after.ensures (d ++ before) (c.loop-eight.invariant d holds))
-
-pub returns : goal.returns
-returns c d holds =
-    subst (λ n. HoldsDivision c.loop-eight.after (d ++ bits (take (8 * n) c.args.octets.now))) (omega arith)
-    (c.loop-eight.invariant d holds)

@@ -1,22 +1,11 @@
 -- An octet more stands above the others.
 use Rattle.lapd_bits.proofs.Vocabulary.{◌≡◌, ◌+◌, ◌*◌, ◌%◌, ◌^◌, ◌<◌, ◌++◌, get_or, take, refl, subst, sym, ap, ◌∙◌, arith, take_more, bits, low_bits, bits-push}
-use Rattle.lapd_bits.proofs.Joining.{above_bits, above_below, above_is_word, above_fits_word}
+use Rattle.lapd_bits.proofs.Joining.{above_bits, above_below, above_is_word}
 use Rattle.lapd_bits.proofs.stuffed_text.number_of.Goals as goal
 
 pub loop-octet-init : goal.loop-octet-init
 unfolding low_bits
 loop-octet-init c = record { count = refl; bits = refl; below = omega arith }
-
-pub overflow_add-number : goal.overflow_add-number
-overflow_add-number c =
-    let i = c.loop-octet.invariant in
-    let number = c.loop-octet.number in
-    let count = c.loop-octet.count in
-    let octet = c.from.result in
-    let below = subst (λ n. number < 2 ^ n) (sym i.count) i.below in
-    let few : octet < 256 = omega (arith, c.from.ensures, c.type_inv.octets c.loop-octet.octet-index) in
-    let small : count + 8 < 64 = omega (arith, i.count, c.requires.few, c.loop-octet-test.true) in
-    omega (arith, above_fits_word number count octet 8 below few small, above_is_word number count octet 8 below few small)
 
 pub loop-octet-preserved : goal.loop-octet-preserved
 loop-octet-preserved c =

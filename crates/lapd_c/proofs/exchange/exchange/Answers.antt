@@ -1,5 +1,5 @@
 -- Hand-written answers for `exchange`.
-use Rattle.lapd_c.proofs.Vocabulary.{◌≡◌, ℕ, suc, ◌+◌, ◌*◌, ◌<◌, ◌≤◌, length, refl, sym, subst, ◌∙◌, arith, inl, inr, and_parts, eqb-true, leb-true, Config, counters_in, CardStands, card_after}
+use Rattle.lapd_c.proofs.Vocabulary.{suc, ◌+◌, ◌*◌, ◌<◌, ◌≤◌, length, sym, subst, ◌∙◌, arith, inl, inr, and_parts, eqb-true, leb-true, Config, counters_in, CardStands, card_after}
 use Rattle.lapd_c.proofs.Exchanging.{card-made, counted-made, counted-none, counted-to, octets-made, quiet-made, quiet-none, given-none, card-none, tells-made, shown-made}
 use Rattle.lapd_c.proofs.exchange.exchange.Goals as goal
 

@@ -58,17 +58,3 @@ loop-place-preserved c =
             young = inr (IsYoung-le 1 (place + 1) new.gap (omega arith) (b.ages.anew w.in_default.not-Nothing));
           }
     ]
-
--- the place is 8 when the loop ends
-all_places : (c : goal.After-loop-place) → c.loop-place.place ≡ 8
-all_places c = omega arith
-
-pub returns-clause-stands : goal.returns-clause-stands
-returns-clause-stands c past h =
-    subst (λ n. HoldsPast c.loop-place.self.octets.items c.loop-place.self.ones c.loop-place.self.gap (with_bits n c.args.octet past)) (all_places c)
-    (c.loop-place.invariant.stands past h)
-
-pub returns-clause-told : goal.returns-clause-told
-returns-clause-told c past h =
-    subst (λ n. heard_until (length c.args.self.now.octets.items) (with_bits n c.args.octet past) ≡ heard_until (length c.args.self.now.octets.items) past ++ option_to_list (event_in c.loop-place.self.octets.items c.loop-place.ended)) (all_places c)
-    (c.loop-place.invariant.told past h)

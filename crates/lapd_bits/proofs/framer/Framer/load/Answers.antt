@@ -1,6 +1,6 @@
 -- The text of the frame has been made after the bits that were left.
 use Rattle.lapd_bits.proofs.Vocabulary.{◌≡◌, ◌+◌, ◌≤◌, ◌++◌, length, take, sym, ap, ◌∙◌, subst, length-append, refl, arith, bits, flag, frame_text, Goes, last_ones, waits, made, to_give}
-use Rattle.lapd_bits.proofs.FramerGiven.{length-to_give, to_give-none}
+use Rattle.lapd_bits.proofs.FramerGiven.{length_to_give, to_give-none}
 use Rattle.lapd_bits.proofs.FramerLoad.{frame_made, written_back}
 use Rattle.lapd_bits.proofs.FramerStands.{Stands-load, begun_by}
 use Rattle.lapd_bits.proofs.StuffingAtOnce.{last_ones-none}
@@ -25,7 +25,7 @@ returns-clause-left c =
     let middle = made one c.stuff.new.buffer in
     let within : a.end ≤ length a.octets.items = omega (arith, a.octets.ok.0, c.self.invariant.end) in
     let size = ap (λ f. length f.left) c.self.view_is in
-    let none : a.end ≤ a.next = omega (arith, size, c.requires.not_busy, length-to_give a.octets.items a.next a.end a.after within) in
+    let none : a.end ≤ a.next = omega (arith, size, c.requires.not_busy, length_to_give a.octets.items a.next a.end a.after within) in
     let before : start ≡ c.args.self.now.left =
     (λ i. bits (take (c.after-text.ensures.end i) a.octets.items) ++ waits (c.after-text.ensures.waiting i))
     ∙ sym (to_give-none a.octets.items a.next a.end a.after none within)

@@ -1,6 +1,6 @@
 -- The next octet goes, or the bits after them and the beginning of a flag.
 use Rattle.lapd_bits.proofs.Vocabulary.{◌≡◌, ◌+◌, ◌<◌, ◌≤◌, ◌++◌, length, take, sym, ap, ◌∙◌, arith, ⊎_elim, cases_lt, false≢true, low_bits, flag, number_of, refilled, still_held, to_give, number_of-octet}
-use Rattle.lapd_bits.proofs.FramerGiven.{length-to_give, to_give-octet, to_give-none, refilled-enough, refilled-low, held_after}
+use Rattle.lapd_bits.proofs.FramerGiven.{length_to_give, to_give-octet, to_give-none, refilled-enough, refilled-low, held_after}
 use Rattle.lapd_bits.proofs.FramerStands.{Stands-octet}
 use Rattle.lapd_bits.proofs.framer.Framer.octet.Goals as goal
 
@@ -10,13 +10,13 @@ pub index-octet-requires : goal.index-octet-requires
 index-octet-requires c =
     let a = c.self.inside in
     let size = ap (λ f. length f.left) c.self.view_is in
-    omega (arith, size, c.busy.ensures.0 c.if-busy.true, length-to_give a.octets.items a.next a.end a.after (omega (arith, a.octets.ok.0, c.self.invariant.end)), c.self.invariant.end, c.self.invariant.after)
+    omega (arith, size, c.busy.ensures.0 c.if-busy.true, length_to_give a.octets.items a.next a.end a.after (omega (arith, a.octets.ok.0, c.self.invariant.end)), c.self.invariant.end, c.self.invariant.after)
 
 more : (c : goal.After-self-1) → c.self.inside.next < c.self.inside.end
 more c =
     let a = c.self.inside in
     let size = ap (λ f. length f.left) c.self.view_is in
-    omega (arith, size, c.busy.ensures.0 c.if-busy.true, length-to_give a.octets.items a.next a.end a.after (omega (arith, a.octets.ok.0, c.self.invariant.end)), c.self.invariant.after)
+    omega (arith, size, c.busy.ensures.0 c.if-busy.true, length_to_give a.octets.items a.next a.end a.after (omega (arith, a.octets.ok.0, c.self.invariant.end)), c.self.invariant.after)
 
 pub invariant_of-self : goal.invariant_of-self
 invariant_of-self c =
@@ -60,7 +60,7 @@ filled c =
     let a = c.self.inside in
     let size = ap (λ f. length f.left) c.self.view_is in
     let within : a.end ≤ length a.octets.items = omega (arith, a.octets.ok.0, c.self.invariant.end) in
-    let none : a.end ≤ a.next = omega (arith, size, few c, length-to_give a.octets.items a.next a.end a.after within) in
+    let none : a.end ≤ a.next = omega (arith, size, few c, length_to_give a.octets.items a.next a.end a.after within) in
     ap (λ l. low_bits 8 c.octet.result ++ l) (to_give-none a.octets.items a.next a.end c.octet.new.self none within)
     ∙ sym c.octet.ensures.bits
     ∙ c.push_flag.ensures.bits

@@ -1,13 +1,7 @@
 -- Hand-written answers for `Gap::take`.
 use Rattle.lapd_bits.proofs.Vocabulary.{◌≡◌, arith}
-use Rattle.lapd_bits.proofs.Assembly.{Assembles-bit, Assembles-octet, Keeps_same}
+use Rattle.lapd_bits.proofs.Assembly.{Assembles-octet, Keeps_same}
 use Rattle.lapd_bits.proofs.gap.Gap.take.Goals as goal
-
-pub returns-then-filled-lt7-clause-stands : goal.returns-then-filled-lt7-clause-stands
-returns-then-filled-lt7-clause-stands c text a =
-    let s = c.skip.ensures in
-    Assembles-bit c.args.octets.now.items c.args.self.now.count c.skip.new.self.count c.args.self.now.beyond c.skip.new.self.beyond c.args.self.now.partial c.args.self.now.filled c.with_bit-partial.result text c.args.bit
-    s.count s.beyond a c.with_bit-partial.ensures.bits
 
 pub returns-else-filled-lt7-clause-stands : goal.returns-else-filled-lt7-clause-stands
 returns-else-filled-lt7-clause-stands c text a =

@@ -1,6 +1,6 @@
 -- Nothing is due any more when all 0s have been put in.
 use Rattle.lapd_bits.proofs.Vocabulary.{◌<◌, ◌≤◌, ◌+◌, ◌*◌, ◌/◌, ◌^◌, [], length, ap, sym, subst, arith, pow-add, mod-eq_of_lt, mod-le, div-mul-le_self, shr_lt, pow_mono, low_bits, last_ones, length-low_bits, stuffed_after-pays}
-use Rattle.lapd_bits.proofs.StuffingAtOnce.{Goes-sent, last_ones-few}
+use Rattle.lapd_bits.proofs.StuffingAtOnce.{Goes-sent, last_ones_few}
 use Rattle.lapd_bits.proofs.Underway.{Underway, begin, total_few, none_due, place_fits, text_fits, next_word}
 use Rattle.lapd_bits.proofs.stuffer.Stuffed.after.Goals as goal
 
@@ -23,10 +23,10 @@ few : (c : goal.In-loop-due) → length (low_bits c.args.count c.args.bits) ≤ 
 few c = omega (arith, length-low_bits c.args.count c.args.bits, c.requires.few)
 
 total_small : (c : goal.In-loop-due) → c.loop-due.total ≤ 48
-total_small c = total_few _ _ _ _ _ c.loop-due.invariant.underway (last_ones-few c.args.latest) (few c)
+total_small c = total_few _ _ _ _ _ c.loop-due.invariant.underway (last_ones_few c.args.latest) (few c)
 
 place_small : (c : goal.In-loop-due) → lib.Count.count_trailing_zeros 64 c.loop-due.due + 5 < 64
-place_small c = place_fits _ _ _ _ _ c.loop-due.invariant.underway c.loop-due-test.true (omega (arith, c.loop-due.auto.due-fits)) (last_ones-few c.args.latest) (few c)
+place_small c = place_fits _ _ _ _ _ c.loop-due.invariant.underway c.loop-due-test.true (omega (arith, c.loop-due.auto.due-fits)) (last_ones_few c.args.latest) (few c)
 
 pub overflow_shr-text : goal.overflow_shr-text
 overflow_shr-text c = place_small c
@@ -37,7 +37,7 @@ overflow_shl-text-in-loop-due c = place_small c
 pub overflow_add-text-in-loop-due : goal.overflow_add-text-in-loop-due
 overflow_add-text-in-loop-due c =
     let u = c.loop-due.invariant.underway in
-    let small = text_fits _ _ _ _ _ u c.loop-due-test.true (omega (arith, c.loop-due.auto.due-fits)) (last_ones-few c.args.latest) (few c) in
+    let small = text_fits _ _ _ _ _ u c.loop-due-test.true (omega (arith, c.loop-due.auto.due-fits)) (last_ones_few c.args.latest) (few c) in
     let q = 2 ^ (lib.Count.count_trailing_zeros 64 c.loop-due.due + 5) in
     omega (arith, small, div-mul-le_self c.loop-due.text q, mod-le (c.loop-due.text / q * q) 18446744073709551616)
 
@@ -57,12 +57,12 @@ pub loop-due-preserved : goal.loop-due-preserved
 loop-due-preserved c =
     record {
       at_least = omega (arith, c.loop-due.invariant.at_least);
-      underway = next_word _ _ _ _ _ c.loop-due.invariant.underway c.loop-due-test.true (omega (arith, c.loop-due.auto.due-fits)) (last_ones-few c.args.latest) (few c);
+      underway = next_word _ _ _ _ _ c.loop-due.invariant.underway c.loop-due-test.true (omega (arith, c.loop-due.auto.due-fits)) (last_ones_few c.args.latest) (few c);
     }
 
 total_end : (c : goal.After-loop-due) → c.loop-due.total ≤ 48
 total_end c =
-    total_few _ _ _ _ _ c.loop-due.invariant.underway (last_ones-few c.args.latest) (omega (arith, length-low_bits c.args.count c.args.bits, c.requires.few))
+    total_few _ _ _ _ _ c.loop-due.invariant.underway (last_ones_few c.args.latest) (omega (arith, length-low_bits c.args.count c.args.bits, c.requires.few))
 
 pub overflow_shr-result-2 : goal.overflow_shr-result-2
 overflow_shr-result-2 c = omega (arith, total_end c)
@@ -79,19 +79,16 @@ pub returns-clause-goes : goal.returns-clause-goes
 returns-clause-goes c =
     let end = none_due _ _ _ _ _ c.loop-due.invariant.underway c.loop-due-test.false in
     Goes-sent [] (low_bits c.loop-due.total (c.loop-due.text / 16)) (low_bits c.args.count c.args.bits) (last_ones c.args.latest) (last_ones (c.loop-due.text / 2 ^ c.loop-due.total))
-    (last_ones-few c.args.latest) (last_ones-few (c.loop-due.text / 2 ^ c.loop-due.total)) (sym end.0) end.1
-
-pub returns-clause-at_least : goal.returns-clause-at_least
-returns-clause-at_least c = c.loop-due.invariant.at_least
+    (last_ones_few c.args.latest) (last_ones_few (c.loop-due.text / 2 ^ c.loop-due.total)) (sym (ap (λ p. p.0) end)) (ap (λ p. p.1) end)
 
 pub returns-clause-pays : goal.returns-clause-pays
 returns-clause-pays c =
     let end = none_due _ _ _ _ _ c.loop-due.invariant.underway c.loop-due-test.false in
     omega (
       arith,
-      ap length end.0,
-      end.1,
+      ap (λ p. length p.0) end,
+      ap (λ p. p.1) end,
       length-low_bits c.loop-due.total (c.loop-due.text / 16),
       length-low_bits c.args.count c.args.bits,
-      stuffed_after-pays (last_ones c.args.latest) (low_bits c.args.count c.args.bits) (omega (arith, last_ones-few c.args.latest)),
+      stuffed_after-pays (last_ones c.args.latest) (low_bits c.args.count c.args.bits) (omega (arith, last_ones_few c.args.latest)),
     )

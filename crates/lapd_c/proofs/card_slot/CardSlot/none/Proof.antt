@@ -1,22 +1,7 @@
 -- A null word owns nothing.
 use Rattle.lapd_c.proofs.Vocabulary.{◌≡◌, List, [], ◌∷◌, refl, lit<, proved_at, leaves, HeldCard}
 use Rattle.std.specs.declared.option.Option.TheVariants.{None}
-use mir.Val.{Val, vnull, vstruct, vcons, vnil}
-use base.Logic.{SProp, emp}
-use types.Kit.{‵, raw, ◌⊛◌, ◌$◌, ◌∵◌, !, qed, by, move, keep, drop, fjoin, fpack, use0, feq_i}
-use types.Run.{lit, of_opd, no_more, and_then, returns, enter}
-use types.ByLocal.{alloc_all, pass_all, free_all, look_at, sets}
-use types.Part.{agg}
-use contract.Monad.{fact, fact_i}
-use contract.Running.{tables}
-use denote.RattleType.{Valss}
-use denote.Builtin.{RawPtr}
-use denote.RawPtr.{null_ptr}
-use denote.Steps.{nothing}
-use denote.Struct.Struct.{within}
-use denote.Struct.Owning.{shape}
-use denote.Triple.Entry.{on_entry}
-use denote.Triple.Walked.{Stays, walk_of}
+use Rattle.lapd_c.proofs.Machine.{ !, RawPtr, SProp, Stays, Val, Valss, agg, alloc_all, and_then, by, emp, enter, fact, fact_i, feq_i, fjoin, fpack, free_all, keep, lit, look_at, no_more, nothing, null_ptr, on_entry, pass_all, qed, raw, returns, sets, shape, tables, use0, vcons, vnil, vnull, vstruct, walk_of, within, ◌$◌, ◌∵◌}
 use Rattle.lapd_c.specs.contracts.card_slot.CardSlot as slot
 use Rattle.lapd_c.specs.contracts.card_slot.CardSlot.none as f
 use Rattle.lapd_c.proofs.card_slot.CardSlot.none.Statement.{statement}

@@ -28,12 +28,10 @@ use Rattle.laws_trace.specs.ErrorsAreNoted.{is_error}
 -- The commands that await an answer, and the states that put them.
 pub data Kind : Type 0 where
   sabme : Kind
-  disc : Kind
   enquiry : Kind
 
 abbrev pub leads : Kind → State → Bool
 leads sabme AwaitingEstablishment = true
-leads disc AwaitingRelease = true
 leads enquiry TimerRecovery = true
 leads k other = false
 
@@ -42,7 +40,6 @@ abbrev pub is_why : Kind → Terms → Event → List Note → Bool
 is_why k t (expired T200) ns = true
 is_why enquiry t (expired T203) ns = true
 is_why sabme t (requested Establish full) ns = true
-is_why disc t (requested Release full) ns = true
 is_why sabme t (received what) ns = list_any (is_error t.service t.tei) ns
 is_why k t other ns = false
 
@@ -55,17 +52,14 @@ same-state TimerRecovery = refl
 
 to-4 : (k : Kind) → leads k TeiAssigned ≡ false
 to-4 sabme = refl
-to-4 disc = refl
 to-4 enquiry = refl
 
 to-7 : (k : Kind) → leads k Established ≡ false
 to-7 sabme = refl
-to-7 disc = refl
 to-7 enquiry = refl
 
 at-5 : (k : Kind) (t : Terms) (what : Received) (ns : List Note) → leads k AwaitingEstablishment ≡ true → list_any (is_error t.service t.tei) ns ≡ true → is_why k t (received what) ns ≡ true
 at-5 sabme t what ns h x = x
-at-5 disc t what ns h x = absurd (cc h)
 at-5 enquiry t what ns h x = absurd (cc h)
 
 -- Errors that are noted.
@@ -222,20 +216,17 @@ by-203 k t AwaitingEstablishment true false ns m h = absurd (cc m)
 by-203 k t AwaitingRelease true true ns m h = absurd (cc m)
 by-203 k t AwaitingRelease true false ns m h = absurd (cc m)
 by-203 sabme t Established true again ns m h = absurd (cc h)
-by-203 disc t Established true again ns m h = absurd (cc h)
 by-203 enquiry t Established true again ns m h = refl
 by-203 k t TimerRecovery true true ns m h = absurd (cc m)
 by-203 k t TimerRecovery true false ns m h = absurd (cc m)
 
 establishes : (k : Kind) (t : Terms) (full : Bool) (ns : List Note) → leads k AwaitingEstablishment ≡ true → is_why k t (requested Establish full) ns ≡ true
 establishes sabme t full ns h = refl
-establishes disc t full ns h = absurd (cc h)
 establishes enquiry t full ns h = absurd (cc h)
 
-releases : (k : Kind) (t : Terms) (full : Bool) (ns : List Note) → leads k AwaitingRelease ≡ true → is_why k t (requested Release full) ns ≡ true
-releases disc t full ns h = refl
-releases sabme t full ns h = absurd (cc h)
-releases enquiry t full ns h = absurd (cc h)
+none-6 : (k : Kind) → leads k AwaitingRelease ≡ true → ⊥
+none-6 sabme h = cc h
+none-6 enquiry h = cc h
 
 by-asked : (k : Kind) (t : Terms) (s : State) (r : Request) (full : Bool) (ns : List Note)
     → (moves s (by_request s r) || false) ≡ true → leads k (by_request s r) ≡ true → is_why k t (requested r full) ns ≡ true
@@ -247,8 +238,8 @@ by-asked k t TimerRecovery Establish full ns m h = absurd (cc m)
 by-asked k t TeiAssigned Release full ns m h = absurd (cc m)
 by-asked k t AwaitingEstablishment Release full ns m h = absurd (cc m)
 by-asked k t AwaitingRelease Release full ns m h = absurd (cc m)
-by-asked k t Established Release full ns m h = releases k t full ns h
-by-asked k t TimerRecovery Release full ns m h = releases k t full ns h
+by-asked k t Established Release full ns m h = absurd (none-6 k h)
+by-asked k t TimerRecovery Release full ns m h = absurd (none-6 k h)
 by-asked k t TeiAssigned (Data contents) full ns m h = absurd (cc m)
 by-asked k t AwaitingEstablishment (Data contents) full ns m h = absurd (cc m)
 by-asked k t AwaitingRelease (Data contents) full ns m h = absurd (cc m)

@@ -4,21 +4,20 @@ use Rattle.std.specs.Prelude.{All, flat_map, fold}
 use Rattle.std.specs.Option.{option_map_or}
 use Rattle.std.proofs.lemmas.Bool.{and_parts}
 use Rattle.std.proofs.lemmas.Grind.{flat_map-append}
-use Rattle.std.proofs.lemmas.List.{get_or-set_same, get_or-replicate}
+use Rattle.std.proofs.lemmas.List.{get_or-set_same}
 use Rattle.std.proofs.lemmas.List.Elements.{All-head, All-tail}
 use Rattle.lapd_frame.specs.declared.services.Service.{Service}
 use Rattle.lapd_tei.proofs.Tables.{place_of-is, at-within}
 use Rattle.model_link.specs.declared.frames.ControlFrame.{ControlFrame}
 use Rattle.model_link.specs.Link.{Link, fresh as fresh_link}
 use Rattle.model_line.specs.declared.config.Config.{Config}
-use Rattle.model_line.specs.Line.{Line, fresh_line, link_count, link_number, link_in, link_of, place_in, tei_at, state_of}
+use Rattle.model_line.specs.Line.{Line, fresh_line, link_count, link_number, link_in, link_of, place_in, tei_at, has_tei, state_of}
 use Rattle.model_line.specs.Machine as lines
 use Rattle.model_line.specs.Sound.{IsSound}
 use Rattle.model_line.proofs.Numbers.{place_at-number, number_within}
 use Rattle.laws_line.specs.Drains.{most_pulls}
 use Rattle.laws_line.specs.Frames.{lost_in}
 use Rattle.laws_line.specs.Pulls.{HasNothing}
-use Rattle.laws_line.proofs.TimersFollow.{nowhere}
 use Rattle.model_card.specs.Card.{Card, fresh, line_at, is_full}
 use Rattle.model_card.specs.Event as card
 use Rattle.model_card.specs.Machine as cards
@@ -42,13 +41,15 @@ use Rattle.laws_trace.proofs.ControlsDue.{controls}
 use Rattle.laws_trace.proofs.ControlsSeen.{controls_begun}
 use Rattle.laws_trace.proofs.DeliveriesKept.{run-stands}
 use Rattle.laws_trace.proofs.DeliveriesRun.{IsCount}
+use Rattle.laws_trace.proofs.LinkLed.{on-line}
 use Rattle.laws_trace.proofs.LinksMove.{differ-self, none-expires}
 use Rattle.laws_trace.proofs.Parts.{of-itself, of-nothing, both, more, behind, through}
 use Rattle.laws_trace.proofs.PullRuns.{apart}
 use Rattle.laws_trace.proofs.Runs.{nothing-seen}
-use Rattle.laws_trace.proofs.Standing.{standing, stand-is, event-stands, event-counts, fresh-stands}
+use Rattle.laws_trace.proofs.Standing.{standing, stand-is, event-stands, event-counts}
 use Rattle.laws_trace.proofs.StandingOfLink.{calm, IsStanding}
 use Rattle.laws_trace.proofs.StaysOn.{first-on, then-on, pulls-keep, after-none}
+use Rattle.laws_trace.proofs.TimersOfEvent.{off-fresh}
 use Rattle.laws_trace.proofs.UnitsGoOut.{after-both}
 
 -- One thing behind the other.
@@ -235,16 +236,32 @@ module _ (service : Service) (tei : ℕ) where
           ap controls (h.links number few tei (ap (λ p. tei_at p l) (place_at-number place service) ∙ at)).waiting
 
 pub only-due-go : Always OnlyDueGo
-only-due-go c events number ranged all within service tei =
-    let m = fresh c in
-    let off : link_of service tei (line_at number m) ≡ fresh_link =
-    ap (link_of service tei) (get_or-replicate c.lines number (fresh_line c) (fresh_line c) within) ∙ ap (λ o. option_map_or (link_in (fresh_line c) service) o fresh_link) (nowhere c tei) in
-    let ran = run-only service tei m events number 0 false false (fresh_is_sound c ranged) (begins-timely-card c) all
-    (λ up. ap (λ (k : Link). k.r) off, subst (λ (k : Link). IsStanding k false false) (sym off) fresh-stands) in
-    let begun = flat_map (controls_at c service tei) (trace_of c events number) in
-    let last = waits service tei (line_at number (after_all m events)) in
-    let due = along c service tei number (may_go_in c service tei number) at_first (moments m events) in
-    through begun (begun ++ last) due (more begun last) (subst (λ (k : Link). IsPart (begun ++ last) (controls k.waiting ++ due)) off ran)
+only-due-go c events number ranged all within service tei before since split away =
+    let whole = subst (AreAtLines (fresh c)) split all in
+    let m = after_all (fresh c) before in
+    let same-config : m.config ≡ c = config-stays (fresh c) before in
+    let first = all-left (IsAtLine (fresh c)) before since whole in
+    let later : AreAtLines m since =
+    subst (λ (c : Config). All (λ (e : card.Event). e.line < c.lines) since) (sym same-config) (all-right (IsAtLine (fresh c)) before since whole) in
+    let known = run-stands c before number ranged first within service tei in
+    let w = fold (stand c service tei) at_first (trace_of c before number) in
+    let ran = subst (Ran m w) same-config (run-only service tei m since number w.told.count w.busy w.rejected (always_sound (fresh c) before (fresh_is_sound c ranged) first)
+    (timely-all (fresh c) before (fresh_is_sound c ranged) (begins-timely-card c) first) later (known.2, known.3)) in
+    let begun = flat_map (controls_at c service tei) (trace number (moments m since)) in
+    let last = waits service tei (line_at number (after_all m since)) in
+    let due = along c service tei number (may_go_in c service tei number) w (moments m since) in
+    through begun (begun ++ last) due (more begun last)
+    (subst (λ ws. IsPart (begun ++ last) (ws ++ due)) (none-where-away (line_at number m) (place_in (line_at number m) tei) refl away)
+    (subst (λ v. IsPart (begun ++ last) (waits service tei (line_at number m) ++ along c service tei number (may_go_in c service tei number) v (moments m since))) (sym (as-calm w known.1)) ran))
+  where
+    Ran : Card → Standing → Config → Type 0
+    Ran m w d =
+        IsPart (controls_begun d service tei (trace number (moments m since)) ++ waits service tei (line_at number (after_all m since)))
+        (waits service tei (line_at number m) ++ along d service tei number (may_go_in d service tei number) (calm w.told.count w.busy w.rejected) (moments m since))
+
+    none-where-away : (l : Line) (o : Option ℕ) → place_in l tei ≡ o → has_tei tei l ≡ false → waits service tei l ≡ []
+    none-where-away l None off away = ap (λ (k : Link). controls k.waiting) (off-fresh service tei l off)
+    none-where-away l (Some place) on away = absurd (true≢false (sym (on-line l tei place on) ∙ away))
 
 pub all-due-go : Always AllDueGo
 all-due-go c events number ranged all within service tei before meanwhile pulls split only enough on =

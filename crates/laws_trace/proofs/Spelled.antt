@@ -1,4 +1,4 @@
--- Each frame that begins on a line is one that the grammar has, as the network's: the law.
+-- Each frame that begins on a line is one that the grammar has, as that of the card's side, of a service or of TEI management: the law.
 use Rattle.std.proofs.Common.{◌≡◌, ◌<◌, ◌≤◌, Bool, true, false, cond, List, [], ◌∷◌, ◌++◌, slice_get, Option, Some, None, IfSome, option_map, refl, sym, subst, arith}
 use Rattle.std.specs.Prelude.{All, option_to_list}
 use Rattle.std.specs.Option.{option_or, unwrap_or}
@@ -32,7 +32,7 @@ use Rattle.laws_line.proofs.LinkMoves.{OfLink, of-links}
 use Rattle.model_card.specs.Card.{fresh}
 use Rattle.model_card.specs.Pulled.{frame_taken}
 use Rattle.model_card.proofs.CardSound.{fresh_is_sound}
-use Rattle.laws_trace.specs.FramesAreRead.{IsSpelled, FramesAreRead}
+use Rattle.laws_trace.specs.FramesAreRead.{is_of_use, IsSpelled, FramesAreRead}
 use Rattle.laws_trace.specs.Trace as traces
 use Rattle.laws_trace.specs.Trace.{Seen, seen, frames_begun, Always}
 use Rattle.laws_trace.proofs.Fitting.{Anything}
@@ -44,16 +44,20 @@ small-sapi : (service : Service) → sapi_of service < 64
 small-sapi Call = omega arith
 small-sapi Packet = omega arith
 
+of-a-service : (service : Service) → is_of_use (sapi_of service) ≡ true
+of-a-service Call = refl
+of-a-service Packet = refl
+
 -- messages of TEI management, and unit data
 message-spelled : (c : Config) (m : Message) → IsSpelled c (message_frame c.side m)
 message-spelled c m =
     let parts : Parts = record { address = record { sapi = 63; command = true; tei = 127 }; control = Ui false; info = information_of m } in
-    (parts, record { is_frame = record { sapi = omega arith; tei = omega arith; kind = refl; size = refl }; octets_are = refl })
+    (parts, record { is_frame = record { sapi = omega arith; tei = omega arith; kind = refl; size = refl }; octets_are = refl }, refl)
 
 unit-spelled : (c : Config) (u : UnitData) → u.tei ≤ 127 → IsSpelled c (unit_frame c u)
 unit-spelled c u small =
     let parts : Parts = record { address = record { sapi = sapi_of u.service; command = true; tei = u.tei }; control = Ui false; info = u.contents } in
-    (parts, record { is_frame = record { sapi = small-sapi u.service; tei = omega (arith, small); kind = refl; size = refl }; octets_are = refl })
+    (parts, record { is_frame = record { sapi = small-sapi u.service; tei = omega (arith, small); kind = refl; size = refl }; octets_are = refl }, of-a-service u.service)
 
 -- what a link gives
 abbrev pub whole-parts : Terms → Given → Parts
@@ -63,7 +67,7 @@ pub given-spells : (c : Config) (t : Terms) (g : Given) → IsGiven t g.frame g.
 given-spells c t g h = record { is_frame = h.whole; octets_are = refl }
 
 given-spelled : (c : Config) (t : Terms) (g : Given) → IsGiven t g.frame g.contents → IsSpelled c (frame_of c t g)
-given-spelled c t g h = (whole-parts t g, given-spells c t g h)
+given-spelled c t g h = (whole-parts t g, given-spells c t g h, of-a-service t.service)
 
 module _ (c : Config) (ranged : IsInRange c) (l : Line) (s : IsSound c l) where
   abbrev Spelled : Taken → Type 0

@@ -132,13 +132,16 @@ pub data IsPart {X : Type 0} : List X → List X → Type 0 where
   left_out : (x : X) (some all : List X) → IsPart some all → IsPart some (x ∷ all)
   taken : (x : X) (some all : List X) → IsPart some all → IsPart (x ∷ some) (x ∷ all)
 
--- The control frames of a link that begin are those that may go, in their order, and none twice. (What waits where the TEI leaves
--- the line does not go.)
+-- From whenever the TEI of a link is not on the line, the control frames of the link that begin are those that may go since then, in
+-- their order, and none twice: so what waits where it leaves the line does not go (clause 5.3.4).
 abbrev pub OnlyDueGo : Config → List Event → ℕ → Type 0
 OnlyDueGo c events number =
-    (service : Service) (tei : ℕ) →
-    IsPart (flat_map (controls_at c service tei) (trace_of c events number))
-    (along c service tei number (may_go_in c service tei number) at_first (moments (fresh c) events))
+    (service : Service) (tei : ℕ) (before since : List Event) → events ≡ before ++ since →
+    let card = after_all (fresh c) before in
+    let w = fold (stand c service tei) at_first (trace_of c before number) in
+    has_tei tei (line_at number card) ≡ false →
+    IsPart (flat_map (controls_at c service tei) (trace number (moments card since)))
+    (along c service tei number (may_go_in c service tei number) w (moments card since))
 
 -- A TEI stays on the line.
 unfoldable pub StaysOn : ℕ → ℕ → Card → List Event → Type 0

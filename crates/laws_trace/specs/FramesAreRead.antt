@@ -1,7 +1,8 @@
 -- What begins on a line are frames.
-use Rattle.std.specs.Prelude.{ℕ, List, [], All}
+use Rattle.std.specs.Prelude.{◌≡◌, ℕ, ◌==◌, ◌||◌, Bool, true, List, [], All, is_some}
 use Rattle.model_bits.specs.StuffingLaws.{AreOctets}
 use Rattle.lapd_frame.specs.Grammar.{Parts, Spells}
+use Rattle.lapd_frame.specs.Services.{service_of}
 use Rattle.model_line.specs.declared.config.Config.{Config}
 use Rattle.model_line.specs.Request as asked
 use Rattle.model_line.specs.Request.{Request}
@@ -9,9 +10,12 @@ use Rattle.model_card.specs.Event.{Event}
 use Rattle.laws_trace.specs.Trace.{Seen, granted, trace_of, frames_begun, octets_put}
 use Rattle.laws_trace.specs.FramesGoOut.{GoOut}
 
--- Each is one that the grammar has, as that of the card's side (Q.921 clauses 2 and 3).
+-- Each is one that the grammar has, as that of the card's side, of a service or of TEI management (Q.921 clauses 2, 3 and 3.3.3).
+abbrev pub is_of_use : ℕ → Bool
+is_of_use sapi = sapi == 63 || is_some (service_of sapi)
+
 abbrev pub IsSpelled : Config → List ℕ → Type 0
-IsSpelled c octets = (parts : Parts) × Spells c.side parts octets
+IsSpelled c octets = (parts : Parts) × Spells c.side parts octets × (is_of_use parts.address.sapi ≡ true)
 
 abbrev pub FramesAreRead : Config → List Event → ℕ → Type 0
 FramesAreRead c events number = All (IsSpelled c) (frames_begun (trace_of c events number))

@@ -64,11 +64,11 @@ unit_parts n = record { address = record { sapi = 0; command = true; tei = 127 }
 
 is_spelled : (n : ℕ) → IsSpelled usual (spelled n)
 unfolding unit_parts
-is_spelled n = (unit_parts n, record { is_frame = record { sapi = lit< tt; tei = lit< tt; kind = refl; size = refl }; octets_are = refl })
+is_spelled n = (unit_parts n, record { is_frame = record { sapi = lit< tt; tei = lit< tt; kind = refl; size = refl }; octets_are = refl }, refl)
 
 -- Where two octets begin as a frame, or a number that is no octet, the laws are broken.
 no_frame : IsSpelled usual (0x02 ∷ 0xFF ∷ []) → ⊥
-no_frame (f, h) = none f.control h.octets_are
+no_frame (f, h, served) = none f.control h.octets_are
   where
     none : (k : Control) → (0x02 ∷ 0xFF ∷ []) ≡ spelling Network (record { address = f.address; control = k; info = f.info }) → ⊥
     none (control.Information ns nr p) e = cc e

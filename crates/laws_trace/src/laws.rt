@@ -54,9 +54,9 @@ pub fn frames_go_out()
     ensures { Always FramesGoOut }
 {}
 
-/// What begins on a line are frames. Each is one that the grammar has, as that of the card's side (`grammar`), and, where the
-/// contents that were granted are octets, each 0 to 255, it consists of octets (`octets`), and a receiver hears it as it is
-/// (`heard`; Q.921 clauses 2 and 3).
+/// What begins on a line are frames. Each is one that the grammar has, as that of the card's side, with the SAPI of a
+/// service or of TEI management (`grammar`), and, where the contents that were granted are octets, each 0 to 255, it
+/// consists of octets (`octets`), and a receiver hears it as it is (`heard`; Q.921 clauses 2 and 3).
 pub fn frames_are_read()
     ensures grammar { Always FramesAreRead }
     ensures octets { Always FramesAreOctets }
@@ -125,24 +125,26 @@ pub fn data_goes_out()
     ensures next { Always NextGoes }
 {}
 
-/// Control frames that are due go, and no others: of a link, all frames except I-frames and UI. Due are, by the state of the link
-/// before: UA to SABME, and to DISC, with F = P, except DM to SABME in state 6, and to DISC in states 4 and 5; in states 7 and 8
-/// REJ, with F = P, to the first I-frame of which nothing is told though layer 3 is not busy, RNR or RR with F=1 to each other
-/// command with P=1, and with F=0 where layer 3 comes to be busy, or is so no more; and, with P=1, SABME, DISC or an enquiry where
-/// the link comes to state 5, 6 or 8, and again where T200 expires and leaves it there. It is RNR while layer 3 is busy, and RR
-/// while it is not, with the number of contents told of the link since its numbers began, modulo 128, as it was when the frame
-/// was due. Those that begin are among these, in their order, and none twice; except that RR with F=0, and the number told, goes by
-/// itself too in states 7 and 8, while layer 3 is not busy (`only`). And while the TEI stays on the line they all go, except the
-/// last of a moment, as many as its answer counts as lost: each has begun once the line was only pulled, as often as the
-/// configuration says, in their order (`all`; Q.921 clauses 3.5.1, 3.5.2.4 to 3.5.2.6, 5.5, 5.6, 5.7, 5.8.1 and 5.10.3).
+/// Control frames that are due go, and no others: of a link, all frames except I-frames and UI. Due are, by the state
+/// of the link before: UA to SABME, and to DISC, with F = P, except DM to SABME in state 6, and to DISC in states 4 and
+/// 5; in states 7 and 8 REJ, with F = P, to the first I-frame of which nothing is told though layer 3 is not busy, RNR
+/// or RR with F=1 to each other command with P=1, and with F=0 where layer 3 comes to be busy, or is so no more; and,
+/// with P=1, SABME, DISC or an enquiry where the link comes to state 5, 6 or 8, and again where T200 expires and leaves
+/// it there. It is RNR while layer 3 is busy, and RR while it is not, with the number of contents told of the link
+/// since its numbers began, modulo 128, as it was when the frame was due. From whenever the TEI is not on the line,
+/// those that begin are among these, in their order, and none twice; except that RR with F=0, and the number told, goes
+/// by itself too in states 7 and 8, while layer 3 is not busy (`only`). And while the TEI stays on the line they all
+/// go, except the last of a moment, as many as its answer counts as lost: each has begun once the line was only pulled,
+/// as often as the configuration says, in their order (`all`; Q.921 clauses 3.5.1, 3.5.2.4 to 3.5.2.6, 5.5, 5.6, 5.7,
+/// 5.8.1 and 5.10.3).
 pub fn control_frames_go()
     ensures only { Always OnlyDueGo }
     ensures all { Always AllDueGo }
 {}
 
-/// Errors are noted. Where a link comes to state 5 by what is heard, where SABME is due, an error of it is noted. So SABME goes
-/// where this is noted, where layer 3 asks for the establishment, or where T200 expires, and nowhere else (Q.921 clauses 5.6.7,
-/// 5.7.1, 5.8.2 and 5.8.5 to 5.8.7).
+/// Errors are noted. Where a link comes to state 5 by what is heard, where SABME is due, an error of it is noted. So
+/// SABME goes where this is noted, where layer 3 asks for the establishment, or where T200 expires, and nowhere else
+/// (Q.921 clauses 5.6.7, 5.7.1, 5.8.2 and 5.8.5 to 5.8.7).
 pub fn errors_are_noted()
     ensures { Always ErrorsAreNoted }
 {}

@@ -251,8 +251,8 @@ pub fn commands_go()
     ensures { Always CommandsGo }
 {}
 
-/// News of links is told. Where the TEI of a link is on the line before and after an event, the answer notes of its establishment
-/// and its release exactly what is due: an establish indication where it comes from state 4 to state 7; from state 5 a confirm,
+/// News of links is told. Where the TEI of a link is on the line before an event, the answer notes of its establishment and its
+/// release exactly what is due; a link whose TEI leaves comes to state 4: an establish indication where it comes from state 4 to state 7; from state 5 a confirm,
 /// where layer 3 asked for that establishment, and if this side began it, or the terminal establishes a link anew by SABME, an
 /// indication exactly where an I-frame that went is not acknowledged, in state 5 as it was where the link came there; a release confirm where it comes from state 6 to state 4, or is released in state 4; and a release
 /// indication where it comes to state 4 from another state. So no confirm is told that layer 3 did not ask for, none twice, and no

@@ -80,6 +80,7 @@ pub mod NewsRows
 pub mod NewsOfLink
 pub mod NewsOfOthers
 pub mod NewsSeen
+pub mod NewsOfLeaving
 pub mod OwedOfEvent
 pub mod NewsOfEvent
 pub mod News

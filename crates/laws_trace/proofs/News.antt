@@ -2,7 +2,7 @@
 use Rattle.std.proofs.Common.{◌≡◌, ℕ, ◌<◌, ◌==◌, ◌&&◌, not, Bool, true, false, cond, List, [], ◌∷◌, get_or, set, Option, Some, refl, sym, ap, ◌∙◌, subst, arith, eqb-true, eq-eqb, true≢false}
 use Rattle.std.specs.Prelude.{fold, filter}
 use Rattle.std.specs.List.{list_any}
-use Rattle.std.specs.Option.{option_map_or}
+use Rattle.std.specs.Option.{option_map_or, unwrap_or}
 use Rattle.std.proofs.lemmas.Bool.{and_parts}
 use Rattle.std.proofs.lemmas.List.{get_or-set_same, get_or-replicate}
 use Rattle.std.proofs.lemmas.List.Elements.{All-head, All-tail}
@@ -70,9 +70,9 @@ module _ (service : Service) (tei number : ℕ) where
 
     abbrev IsDue : Line → Answer → Type 0
     IsDue x b =
-        (from to : ℕ) → state_of service tei l ≡ Some from → state_of service tei x ≡ Some to →
+        (from : ℕ) → state_of service tei l ≡ Some from →
         filter (is_news service tei) (notes_of b)
-        ≡ due service tei was (list_any (begins card.config service tei) (seen card.config e.what l b)) (releases service tei e.what b) outstanding from to
+        ≡ due service tei was (list_any (begins card.config service tei) (seen card.config e.what l b)) (releases service tei e.what b) outstanding from (unwrap_or (state_of service tei x) 4)
 
     refused-due : (what : line_event.Event) → lines.takes_slot card.config what l ≡ true → (from to : ℕ) → from ≡ to
         → [] ≡ due service tei was (list_any (begins card.config service tei) (seen card.config what l (refused PoolFull))) (releases service tei what (refused PoolFull)) outstanding from to
@@ -105,14 +105,11 @@ module _ (service : Service) (tei number : ℕ) where
     pub own-due : IsDue (line_at e.line (after e card)) (answer e card)
     own-due =
         by_room (λ ls b. IsDue (get_or ls e.line (fresh_line card.config)) b) e card
-        (λ full from to was-in is-in.
-        refused-due e.what (and_parts (lines.takes_slot card.config e.what l) (is_full card) full).0 from to (number-same from to (sym was-in ∙ is-in)))
+        (λ full from was-in.
+        refused-due e.what (and_parts (lines.takes_slot card.config e.what l) (is_full card) full).0 from (unwrap_or (state_of service tei l) 4) (sym (ap (λ o. unwrap_or o 4) was-in)))
         (λ room.
         subst (λ x. IsDue x (lines.answer card.config e.what l)) (sym now)
         (event-due card.config l (line_sound card e.line (has_lines card s) here) service tei was asks outstanding owes e.what))
-      where
-        number-same : (n m : ℕ) → Some n ≡ Some m → n ≡ m
-        number-same n m is = cc is
 
   -- Over a run.
   abbrev Stands : Bool → Owing → Line → Type 0
@@ -189,7 +186,7 @@ module _ (service : Service) (tei number : ℕ) where
       (asked service tei number was m) (owing card.config service tei number w m) (moment-stands card s timely e here within was w h)
 
 pub news-is-told : Always NewsIsTold
-news-is-told c events number ranged all within service tei before what behind is from to was_in is_in =
+news-is-told c events number ranged all within service tei before what behind is from was_in =
     let front = front-at (fresh c) before (at number what) behind (subst (AreAtLines (fresh c)) is all) in
     let card = after_all (fresh c) before in
     let e = at number what in
@@ -204,8 +201,8 @@ news-is-told c events number ranged all within service tei before what behind is
     (subst (λ (y : Link). Asks y.state false y.asked) (sym off) tt, begins-true c before number ranged front within service tei, sym (ap (λ (y : Link). not (y.s == y.a)) off)) in
     let h = run-stands service tei number (fresh c) before (fresh_is_sound c ranged) (begins-timely-card c) front within false none_owed begun in
     subst (λ b. filter (is_news service tei) (notes_of (answer e card))
-    ≡ due service tei was (list_any (begins c service tei) (cond b (seen card.config what (line_at number card) (answer e card)) [])) (releases service tei what (answer e card)) w.outstanding from to)
+    ≡ due service tei was (list_any (begins c service tei) (cond b (seen card.config what (line_at number card) (answer e card)) [])) (releases service tei what (answer e card)) w.outstanding from (unwrap_or (state_of service tei (line_at number (after e card))) 4))
     (sym (itself number))
     (subst (λ (d : Config). filter (is_news service tei) (notes_of (answer e card))
-    ≡ due service tei was (list_any (begins d service tei) (seen card.config what (line_at number card) (answer e card))) (releases service tei what (answer e card)) w.outstanding from to) kept
-    (own-due service tei number card (sound-now c before number ranged front within service tei) e here was h.0 w.outstanding h.2 from to was_in is_in))
+    ≡ due service tei was (list_any (begins d service tei) (seen card.config what (line_at number card) (answer e card))) (releases service tei what (answer e card)) w.outstanding from (unwrap_or (state_of service tei (line_at number (after e card))) 4)) kept
+    (own-due service tei number card (sound-now c before number ranged front within service tei) e here was h.0 w.outstanding h.2 from was_in))

@@ -2,6 +2,7 @@
 use Rattle.std.proofs.Common.{◌≡◌, ℕ, ◌==◌, ◌&&◌, Bool, true, false, cond, [], Option, Some, None, refl, sym, ap, ◌∙◌, subst, ◌⊎◌, inl, inr}
 use Rattle.std.specs.Prelude.{filter}
 use Rattle.std.specs.List.{list_any}
+use Rattle.std.specs.Option.{unwrap_or}
 use Rattle.std.proofs.lemmas.Option.{none-some}
 use Rattle.lapd_frame.specs.declared.services.Service.{Service}
 use Rattle.model_link.specs.declared.states.State.{State}
@@ -13,16 +14,18 @@ use Rattle.model_link.specs.Machine as links
 use Rattle.model_line.specs.declared.config.Config.{Config}
 use Rattle.model_line.specs.Event as line_event
 use Rattle.model_line.specs.Event.{Answer, told}
-use Rattle.model_line.specs.Line.{Line, link_of, place_in, state_of, terms}
+use Rattle.model_line.specs.Line.{Line, has_tei, link_of, place_in, state_of, terms}
 use Rattle.model_line.specs.Machine as lines
 use Rattle.model_line.specs.Sound.{IsSound}
 use Rattle.laws_line.specs.Heard.{notes_of}
+use Rattle.laws_line.proofs.Places.{is-off}
 use Rattle.laws_link.specs.States.{moves}
 use Rattle.laws_trace.specs.News.{is_news, establishes, releases, begins, due}
 use Rattle.laws_trace.specs.TimersAreTimely.{is_state, differ}
 use Rattle.laws_trace.specs.Trace.{seen}
 use Rattle.laws_trace.proofs.LinkLed.{on-line}
 use Rattle.laws_trace.proofs.LinksMove.{differs, no-event}
+use Rattle.laws_trace.proofs.NewsOfLeaving.{leaving-due, none-released}
 use Rattle.laws_trace.proofs.NewsOfOthers.{none-filtered, others-silent}
 use Rattle.laws_trace.proofs.NewsRows.{sabme_of, released_of}
 use Rattle.laws_trace.proofs.NewsOfLink.{event-news, Asks, event-asking}
@@ -185,8 +188,8 @@ module _ (c : Config) (l : Line) (s : IsSound c l) (service : Service) (tei : �
           ∙ ap (λ o. then_asked (told_state own.state) o) (state-on service tei (lines.after c e l) there still)))
           (stays-asked place there on still)
 
-  pub event-due : (from to : ℕ) → state_of service tei l ≡ Some from → state_of service tei (lines.after c e l) ≡ Some to → Due from to
-  event-due from to was-in is-in = go (place_in l tei) refl (place_in (lines.after c e l) tei) refl
+  both-due : (from to : ℕ) → state_of service tei l ≡ Some from → state_of service tei (lines.after c e l) ≡ Some to → Due from to
+  both-due from to was-in is-in = go (place_in l tei) refl (place_in (lines.after c e l) tei) refl
     where
       number : (n m : ℕ) → Some n ≡ Some m → n ≡ m
       number n m is = cc is
@@ -198,3 +201,30 @@ module _ (c : Config) (l : Line) (s : IsSound c l) (service : Service) (tei : �
           subst (λ n. Due n to) (number (state_number own.state) from (sym (state-on service tei l place on) ∙ was-in))
           (subst (λ n. Due (state_number own.state) n) (number (state_number next.state) to (sym (state-on service tei (lines.after c e l) there still) ∙ is-in))
           (stays-due place there on still))
+
+  -- where the TEI leaves, it comes to state 4
+  gone-due : (place : ℕ) → place_in l tei ≡ Some place → place_in (lines.after c e l) tei ≡ None → Due (state_number own.state) 4
+  gone-due place on gone =
+      let off : has_tei tei (lines.after c e l) ≡ false = is-off (lines.after c e l).management.places tei gone in
+      leaving-due service tei c e l s place on off was outstanding
+      ∙ ap (λ b. due service tei was false b outstanding (state_number own.state) 4) (sym (none-released service tei c e l (on-line l tei place on) off a))
+
+  pub event-due : (from : ℕ) → state_of service tei l ≡ Some from → Due from (unwrap_or (state_of service tei (lines.after c e l)) 4)
+  event-due from was-in = go (state_of service tei (lines.after c e l)) refl
+    where
+      number : (n m : ℕ) → Some n ≡ Some m → n ≡ m
+      number n m is = cc is
+
+      left-line : (o : Option ℕ) → place_in (lines.after c e l) tei ≡ o → state_of service tei (lines.after c e l) ≡ None → place_in (lines.after c e l) tei ≡ None
+      left-line None off none = off
+      left-line (Some there) still none = absurd (none-some (state_number next.state) (sym none ∙ state-on service tei (lines.after c e l) there still))
+
+      by-place : (o : Option ℕ) → place_in l tei ≡ o → state_of service tei (lines.after c e l) ≡ None → Due from 4
+      by-place None off none = absurd (none-some from (sym (off-state service tei l off) ∙ was-in))
+      by-place (Some place) on none =
+          subst (λ n. Due n 4) (number (state_number own.state) from (sym (state-on service tei l place on) ∙ was-in))
+          (gone-due place on (left-line (place_in (lines.after c e l) tei) refl none))
+
+      go : (o : Option ℕ) → state_of service tei (lines.after c e l) ≡ o → Due from (unwrap_or o 4)
+      go (Some to) is-in = both-due from to was-in is-in
+      go None none = by-place (place_in l tei) refl none

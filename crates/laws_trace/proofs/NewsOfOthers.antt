@@ -73,10 +73,10 @@ module _ (service : Service) (tei : ℕ) where
   other-note t other (notes.Doubled n) own = refl
   other-note t other (notes.Xid s n) own = refl
 
-  other-link : (t : Terms) → is_own service tei t.service t.tei ≡ false → (what : link.Event) (x : Link) → All No (links.told t what x).notes
+  pub other-link : (t : Terms) → is_own service tei t.service t.tei ≡ false → (what : link.Event) (x : Link) → All No (links.told t what x).notes
   other-link t other what x = All-weaker (IsOwn t) No (other-note t other) (links.told t what x).notes (notes-own t what x)
 
-  tei-note : (e : teis.Event) (o : Option Change) (ns : List Note) → ByChange e o ns → All No ns
+  pub tei-note : (e : teis.Event) (o : Option Change) (ns : List Note) → ByChange e o ns → All No ns
   tei-note e None ns is = subst (All No) (sym is) (All-nil No)
   tei-note (teis.message octets) (Some (Gained by place)) ns is = subst (All No) (sym is) (All-cons No (notes.Assigned by) [] refl (All-nil No))
   tei-note teis.expiry (Some (Gained by place)) ns is = absurd is

@@ -1,7 +1,7 @@
 -- What layer 3 is told of establishments and releases.
 use Rattle.std.specs.Prelude.{◌≡◌, ℕ, ◌==◌, ◌&&◌, ◌||◌, not, Bool, true, false, List, [], ◌∷◌, ◌++◌, fold, filter, Some, if◌then◌else◌}
 use Rattle.std.specs.List.{list_any}
-use Rattle.std.specs.Option.{option_map_or}
+use Rattle.std.specs.Option.{option_map_or, unwrap_or}
 use Rattle.lapd_frame.specs.declared.controls.Control.{Control}
 use Rattle.lapd_frame.specs.declared.controls.Control.TheVariants.{Sabme}
 use Rattle.lapd_frame.specs.declared.notes.Note.{Note}
@@ -81,7 +81,7 @@ due service tei was_asked sabme released outstanding from to =
     else []
 
 -- So the notes of a link, of these kinds, in the answer to an event at the line are exactly what is due, where its TEI is on the line
--- before and after it. (Where its TEI leaves, `notes_tell` of `Promises` says that the link is down then.)
+-- before it. A link whose TEI leaves comes to state 4 (clause 5.3.4).
 abbrev pub NewsIsTold : Config → List Event → ℕ → Type 0
 NewsIsTold c events number =
     (service : Service) (tei : ℕ) (before : List Event) (what : line_event.Event) (behind : List Event) →
@@ -90,6 +90,6 @@ NewsIsTold c events number =
     let m : Moment = record { card = card; event = at number what; answer = answer (at number what) card } in
     let was_asked = fold (asked service tei number) false (moments (fresh c) before) in
     let w = fold (owing c service tei number) none_owed (moments (fresh c) before) in
-    (from to : ℕ) → state_before service tei number m ≡ Some from → state_after service tei number m ≡ Some to →
+    (from : ℕ) → state_before service tei number m ≡ Some from →
     filter (is_news service tei) (notes_of m.answer)
-    ≡ due service tei was_asked (list_any (begins c service tei) (seen_in number m)) (releases service tei what m.answer) w.outstanding from to
+    ≡ due service tei was_asked (list_any (begins c service tei) (seen_in number m)) (releases service tei what m.answer) w.outstanding from (unwrap_or (state_after service tei number m) 4)

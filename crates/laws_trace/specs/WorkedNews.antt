@@ -11,7 +11,7 @@ use Rattle.lapd_seq.specs.Numbers.{seq}
 use Rattle.lapd_tei.specs.Events as teis
 use Rattle.model_line.specs.Event.{Event, octet, request}
 use Rattle.model_line.specs.Machine as lines
-use Rattle.model_line.specs.Request.{Assign, Establish, Release, Data}
+use Rattle.model_line.specs.Request.{Assign, Remove, Establish, Release, Data}
 use Rattle.laws_line.specs.Heard.{notes_of}
 use Rattle.model_card.specs.Card.{fresh}
 use Rattle.model_card.specs.Event as card
@@ -60,6 +60,15 @@ asks = refl
 confirmed : due Call 64 true false false false 5 7 ≡ EstablishConfirm Call 64 ∷ []
 confirmed = refl
 
+-- The TEI of a link that is up leaves: an indication of its release.
+leaves : told (sabme_comes ++ hears 0xFC ∷ []) (request (Remove 64)) ≡ ReleaseIndication Call 64 ∷ []
+unfolding moments after_all lines.after lines.answer lines.takes_slot teis.course teis.refusal low_bits reading header_of control_of unnumbered_of supervisory_of
+leaves = refl
+
+is_due_then : said (sabme_comes ++ hears 0xFC ∷ []) (request (Remove 64)) 7 4 ≡ ReleaseIndication Call 64 ∷ []
+unfolding moments after_all lines.after lines.answer lines.takes_slot teis.course teis.refusal low_bits reading header_of control_of unnumbered_of supervisory_of
+is_due_then = refl
+
 -- SABME comes again while an I-frame that went is not acknowledged: an indication.
 abbrev one_gone : List card.Event
 one_gone =
@@ -87,3 +96,10 @@ for_an_indication e = cc e
 
 for_a_confirm : ReleaseIndication Call 64 ∷ [] ≡ due Call 64 false false false false 6 4 → ⊥
 for_a_confirm e = cc e
+
+-- And where a TEI leaves, and a confirm is told for a link that is up, or a release though it is down.
+confirmed_end : ReleaseConfirm Call 64 ∷ [] ≡ due Call 64 false false false false 7 4 → ⊥
+confirmed_end e = cc e
+
+ended_twice : ReleaseIndication Call 64 ∷ [] ≡ due Call 64 false false false false 4 4 → ⊥
+ended_twice e = cc e

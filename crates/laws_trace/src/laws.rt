@@ -111,14 +111,15 @@ pub fn what_is_told_was_heard()
 {}
 
 /// Data goes out. Of each link, since its numbers began: the contents of new I-frames that begin are the first of the data
-/// that was granted, in order, each once; N(S) counts them from 0 on, modulo 128; and an I-frame that goes again, which is one
-/// of the last 127, has the contents that its number had. N(R) of each I-frame is the number of contents told of the link
+/// that was granted, in order, each once; N(S) counts them from 0 on, modulo 128; and an I-frame that goes again, which is
+/// one of the last 127, has the contents that its number had. N(R) of each I-frame is the number of contents told of the link
 /// since then, modulo 128. Where numbers begin, contents that had not gone stay, and take the first numbers, or none stays,
-/// as where an indication of an establishment is told (`front`). And all of it has gone, once the line was only pulled, as often as the configuration says, on a link in state 7
-/// whose terminal is not busy, with fewer than k I-frames outstanding, by what was heard and what began; and the number that goes
-/// next is then behind all of it, though REJ and the end of a recovery set it back to their N(R); each I-frame that begins sets
-/// it behind its own (`again`). And each has that number, so that they go again in order, from there on, and none is passed over
-/// (`next`; Q.921 clauses 3.5.2.1 to 3.5.2.6, 5.5.1.2, 5.6.1, 5.6.4, 5.6.5, 5.6.7 and 5.7).
+/// as where an indication of an establishment is told (`front`). And all of it has gone, once the line was only pulled, as
+/// often as the configuration says, on a link in state 7 whose terminal is not busy, with fewer than k I-frames outstanding,
+/// by what was heard and what began; and the number that goes next is then behind all of it, though REJ and the end of a
+/// recovery set it back to their N(R); each I-frame that begins sets it behind its own (`again`). And each has that number,
+/// so that they go again in order, from there on, and none is passed over (`next`; Q.921 clauses 3.5.2.1 to 3.5.2.6, 5.5.1.2,
+/// 5.6.1, 5.6.4, 5.6.5, 5.6.7 and 5.7).
 pub fn data_goes_out()
     ensures front { Always DataGoesOut }
     ensures again { Always AllGoesAgain }
@@ -156,9 +157,9 @@ pub fn all_are_acknowledged()
     ensures { Always AllAreAcknowledged }
 {}
 
-/// Nothing is lost in vain. Behind a moment that tells a frame as lost, all but four of the messages that are owed have begun, or as
-/// many control frames of one link as the configuration says would begin, were the line only pulled: so a part of the line had no
-/// room; which, is not said (profile).
+/// Nothing is lost in vain. Behind a moment that tells a frame as lost, all but four of the messages that are owed have
+/// begun, or as many control frames of one link as the configuration says would begin, were the line only pulled: so a part
+/// of the line had no room; which, is not said (profile).
 pub fn nothing_is_lost_in_vain()
     ensures { Always NoLossInVain }
 {}
@@ -184,17 +185,17 @@ pub fn messages_are_owed()
     ensures given { Always TeisAreGiven }
 {}
 
-/// Timers are timely. At a caller's that obeys the orders T200 of a link runs exactly where an answer is awaited: in states 5, 6
-/// and 8, and in state 7 where an I-frame that went is not acknowledged, or the terminal is busy. T203 runs exactly where none is,
-/// in state 7; and neither in state 4, nor where the TEI is not on the line (`run`). An answer orders that one is started exactly
-/// where it runs then, and it did not run, or had just expired, or is started anew: because the link moves to another state, or, in
-/// state 7, because of a frame. For T200 this is RNR, and RR, or I while the terminal is not busy, whose N(R) acknowledges an
-/// I-frame; for T203 it is RR, REJ, I or SABME (`started`). So T200 runs on from an earlier I-frame or enquiry when further I-frames
-/// go (clause 5.6.1), when a frame acknowledges nothing, and in state 8 until the enquiry is answered (clause 5.6.7); and no UI,
-/// XID, UA, request for data or pull starts a timer anew that runs. T201 runs exactly while a TEI is checked (`checks`). It is
-/// started only where it does not run, or has just expired: so as a check begins, and as its second period does; and each timer is
-/// stopped only where it ran before the event (`ordered`; Q.921 clauses 5.3.3.2, 5.3.5, 5.5.1, 5.5.3, 5.6.1 to 5.6.7, 5.9.1, 5.9.8
-/// and 5.10.3).
+/// Timers are timely. At a caller's that obeys the orders T200 of a link runs exactly where an answer is awaited: in states
+/// 5, 6 and 8, and in state 7 where an I-frame that went is not acknowledged, or the terminal is busy. T203 runs exactly
+/// where none is, in state 7; and neither in state 4, nor where the TEI is not on the line (`run`). An answer orders that one
+/// is started exactly where it runs then, and it did not run, or had just expired, or is started anew: because the link moves
+/// to another state, or, in state 7, because of a frame. For T200 this is RNR, and RR, or I while the terminal is not busy,
+/// whose N(R) acknowledges an I-frame; for T203 it is RR, REJ, I or SABME (`started`). So T200 runs on from an earlier
+/// I-frame or enquiry when further I-frames go (clause 5.6.1), when a frame acknowledges nothing, and in state 8 until the
+/// enquiry is answered (clause 5.6.7); and no UI, XID, UA, request for data or pull starts a timer anew that runs. T201 runs
+/// exactly while a TEI is checked (`checks`). It is started only where it does not run, or has just expired: so as a check
+/// begins, and as its second period does; and each timer is stopped only where it ran before the event (`ordered`; Q.921
+/// clauses 5.3.3.2, 5.3.5, 5.5.1, 5.5.3, 5.6.1 to 5.6.7, 5.9.1, 5.9.8 and 5.10.3).
 pub fn timers_are_timely()
     ensures run { Always TimersRun }
     ensures started { Always TimersAreStarted }
@@ -214,12 +215,13 @@ pub fn links_move()
     ensures { Always LinksMove }
 {}
 
-/// News of links is told. Where the TEI of a link is on the line before and after an event, the answer notes of its establishment
-/// and its release exactly what is due: an establish indication where it comes from state 4 to state 7; from state 5 a confirm,
-/// where layer 3 asked for that establishment, and if this side began it, or the terminal establishes a link anew by SABME, an
-/// indication exactly where an I-frame that went is not acknowledged, in state 5 as it was where the link came there; a release confirm where it comes from state 6 to state 4, or is released in state 4; and a release
-/// indication where it comes to state 4 from another state. So no confirm is told that layer 3 did not ask for, none twice, and no
-/// end of a link goes untold (Q.921 clauses 4.1.1.1, 4.1.1.2, 5.5.1, 5.5.3 and 5.7).
+/// News of links is told. Where the TEI of a link is on the line before an event, the answer notes of its establishment and
+/// its release exactly what is due; a link whose TEI leaves comes to state 4: an establish indication where it comes from
+/// state 4 to state 7; from state 5 a confirm, where layer 3 asked for that establishment, and if this side began it, or the
+/// terminal establishes a link anew by SABME, an indication exactly where an I-frame that went is not acknowledged, in state
+/// 5 as it was where the link came there; a release confirm where it comes from state 6 to state 4, or is released in state
+/// 4; and a release indication where it comes to state 4 from another state. So no confirm is told that layer 3 did not ask
+/// for, none twice, and no end of a link goes untold (Q.921 clauses 4.1.1.1, 4.1.1.2, 5.5.1, 5.5.3 and 5.7).
 pub fn news_is_told()
     ensures { Always NewsIsTold }
 {}

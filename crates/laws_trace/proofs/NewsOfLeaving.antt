@@ -1,0 +1,245 @@
+-- Where the TEI of a link leaves its line, what is told of the link is what the end of the TEI tells.
+use Rattle.std.proofs.Common.{◌≡◌, ◌≢◌, ℕ, ◌==◌, ◌&&◌, ◌||◌, not, Bool, true, false, cond, List, [], ◌∷◌, ◌++◌, get_or, set, Option, Some, None, refl, sym, ap, ◌∙◌, subst, arith, eqb-true, eq-eqb, true≢false, append-nil}
+use Rattle.std.specs.Prelude.{All, filter}
+use Rattle.std.specs.Option.{option_map_or}
+use Rattle.std.proofs.lemmas.List.{get_or-set_other}
+use Rattle.std.proofs.lemmas.List.Elements.{filter-append}
+use Rattle.model_bits.specs.Stream as stream
+use Rattle.lapd_frame.specs.declared.notes.Note.{Note}
+use Rattle.lapd_frame.specs.declared.refusals.Refusal.{Refusal}
+use Rattle.lapd_frame.specs.declared.services.Service.{Service}
+use Rattle.lapd_frame.specs.declared.services.Service.TheVariants.{Call, Packet}
+use Rattle.lapd_frame.specs.declared.timers.Timer.{Timer}
+use Rattle.lapd_frame.specs.declared.timers.Timer.TheVariants.{T200, T203, T201}
+use Rattle.lapd_frame.specs.Services.{same_service}
+use Rattle.lapd_tei.specs.Events as teis
+use Rattle.lapd_tei.specs.Laws as tei_laws
+use Rattle.lapd_tei.specs.Machine.{Management}
+use Rattle.lapd_tei.specs.Table.{is_on}
+use Rattle.lapd_tei.specs.declared.outcome.Change.{Change}
+use Rattle.lapd_tei.specs.declared.outcome.Change.TheVariants.{Gained, Left}
+use Rattle.lapd_tei.proofs.LawLemmas as tei_lemmas
+use Rattle.lapd_tei.proofs.Tables.{place_of-is, is_on-at}
+use Rattle.laws_link.proofs.Follows.{event-follows}
+use Rattle.laws_link.specs.Telling.{told_cleared}
+use Rattle.model_link.specs.declared.states.State.{State}
+use Rattle.model_link.specs.declared.states.State.TheVariants.{TeiAssigned, AwaitingEstablishment, AwaitingRelease, Established, TimerRecovery}
+use Rattle.model_link.specs.declared.terms.Terms.{Terms}
+use Rattle.model_link.specs.declared.timers.LinkTimer.{LinkTimer}
+use Rattle.model_link.specs.declared.timers.LinkTimer.TheVariants as link_timer
+use Rattle.model_link.specs.Events as link
+use Rattle.model_link.specs.Link.{Link, fresh, state_number}
+use Rattle.model_link.specs.Machine as links
+use Rattle.model_line.specs.declared.config.Config.{Config}
+use Rattle.model_line.specs.Effect.{Aim, at_none, at_link, at_management, of_aim, of_change, of_link, told_of_management}
+use Rattle.model_line.specs.Event.{Answer, Event, octet, expiry, request, pull, nothing, dropped}
+use Rattle.model_line.specs.Expiry.{at_timer, aim_of_expiry}
+use Rattle.model_line.specs.Line.{Line, has_tei, link_in, link_of, link_number, place_in, terms}
+use Rattle.model_line.specs.Machine.{aim_of, after, answer, unless_refused, unless_refused_told}
+use Rattle.model_line.specs.Octet.{gained, aim_of_heard}
+use Rattle.model_line.specs.Refusal.{refusal}
+use Rattle.model_line.specs.Request.{Request, Establish, Release, Data, Assign, Remove, Check, SetBusy, ClearBusy}
+use Rattle.model_line.specs.Requested.{at_requested, aim_of_request}
+use Rattle.model_line.specs.Sides.{group_told}
+use Rattle.model_line.specs.Sound.{IsSound}
+use Rattle.model_line.proofs.AimsSound.{IsProper}
+use Rattle.model_line.proofs.ProperAims.{heard_aims, request_proper}
+use Rattle.laws_line.specs.Heard.{notes_of}
+use Rattle.laws_line.proofs.Obeyed.{service-same}
+use Rattle.laws_line.proofs.Places.{has-place}
+use Rattle.laws_line.proofs.TeiNotes.{ByChange, noted}
+use Rattle.laws_trace.specs.News.{is_news, releases, due}
+use Rattle.laws_trace.proofs.AllAreAnswered.{pull-keeps}
+use Rattle.laws_trace.proofs.LinkLed.{own-is}
+use Rattle.laws_trace.proofs.ManagingTables.{on-coming, on-leaving}
+use Rattle.laws_trace.proofs.NewsOfOthers.{none-filtered, tei-note, other-link}
+use Rattle.laws_trace.proofs.OneLink.{is_at_link}
+
+-- What the end of a TEI tells of its link is due as the link would come to state 4.
+cleared-due : (t : Terms) (l : Link) (was outstanding : Bool)
+    → filter (is_news t.service t.tei) (links.told t link.cleared l).notes ≡ due t.service t.tei was false false outstanding (state_number l.state) 4
+cleared-due t l was outstanding = ap (filter (is_news t.service t.tei)) (event-follows t link.cleared l).leaves.tells ∙ by-state l.state
+  where
+    by-state : (here : State) → filter (is_news t.service t.tei) (told_cleared here t) ≡ due t.service t.tei was false false outstanding (state_number here) 4
+    by-state TeiAssigned = refl
+    by-state AwaitingEstablishment = rw (own-is t.service t.tei) refl
+    by-state AwaitingRelease = rw (own-is t.service t.tei) refl
+    by-state Established = rw (own-is t.service t.tei) refl
+    by-state TimerRecovery = rw (own-is t.service t.tei) refl
+
+module _ (service : Service) (tei : ℕ) (c : Config) (l : Line) (s : IsSound c l) (place : ℕ) (on : place_in l tei ≡ Some place) (received : List ℕ) where
+  abbrev now : Line
+  now = record l { received = received }
+
+  abbrev own : Link
+  own = link_of service tei l
+
+  abbrev news : List Note → List Note
+  news ns = filter (is_news service tei) ns
+
+  abbrev Leaves : List Note → Type 0
+  Leaves ns = news ns ≡ news (links.told (terms c service tei) link.cleared own).notes
+
+  abbrev Gone : Aim → Type 0
+  Gone aim = has_tei tei (of_aim c aim now).line ≡ false → Leaves (of_aim c aim now).told.notes
+
+  there : has_tei tei l ≡ true
+  there = is_on-at l.management.places place tei (place_of-is l.management.places tei place on).1
+
+  stays : (aim : Aim) → has_tei tei (of_aim c aim now).line ≡ has_tei tei l → Gone aim
+  stays aim same = λ off. absurd (true≢false (sym (same ∙ there) ∙ off))
+
+  -- An event of TEI management.
+  module _ (me : teis.Event) (fits : tei_laws.IsInRange me) where
+    abbrev m : Management
+    m = teis.after me l.management
+
+    abbrev at : Line
+    at = record l { received = received; management = m }
+
+    abbrev ns : List Note
+    ns = (teis.told me l.management).notes
+
+    three : (xs ys zs : List Note) → news ((xs ++ ys) ++ zs) ≡ (news xs ++ news ys) ++ news zs
+    three xs ys zs = filter-append (is_news service tei) (xs ++ ys) zs ∙ ap (λ us. us ++ news zs) (filter-append (is_news service tei) xs ys)
+
+    none-news : (o : Option Change) → ByChange me o ns → news ns ≡ []
+    none-news o is = none-filtered service tei ns (tei-note service tei me o ns is)
+
+    -- its own TEI leaves
+    its-own : (place' : ℕ) → tei_laws.HasLeft l.management.places m.places tei place' → ByChange me (Some (Left tei place')) ns
+        → Leaves (of_change c (Some (Left tei place')) (told_of_management (teis.told me l.management)) at).told.notes
+    its-own place' gone is = by-service service refl
+      where
+        placed : place_in l tei ≡ Some place'
+        placed = has-place l.management.places tei place' s.management.table gone.was_there
+
+        call : List Note
+        call = (of_link c Call tei place' link.cleared at).told.notes
+
+        packet : List Note
+        packet = (of_link c Packet tei place' link.cleared (of_link c Call tei place' link.cleared at).line).told.notes
+
+        second : link_in (of_link c Call tei place' link.cleared at).line Packet place' ≡ link_in l Packet place'
+        second = get_or-set_other l.links (link_number place' Call) (link_number place' Packet) fresh fresh (λ e. omega (arith, e))
+
+        first-only : (xs ys zs : List Note) → xs ≡ [] → zs ≡ [] → (xs ++ ys) ++ zs ≡ ys
+        first-only xs ys zs none after = ap (λ xs. (xs ++ ys) ++ zs) none ∙ ap (λ zs. ys ++ zs) after ∙ append-nil ys
+
+        last-only : (xs ys zs : List Note) → xs ≡ [] → ys ≡ [] → (xs ++ ys) ++ zs ≡ zs
+        last-only xs ys zs none after = ap (λ xs. (xs ++ ys) ++ zs) none ∙ ap (λ ys. ys ++ zs) after
+
+        by-service : (z : Service) → service ≡ z → Leaves ((ns ++ call) ++ packet)
+        by-service Call same =
+            three ns call packet
+            ∙ first-only (news ns) (news call) (news packet) (none-news (Some (Left tei place')) is)
+            (none-filtered service tei packet (other-link service tei (terms c Packet tei) (ap (λ z. same_service Packet z && tei == tei) same) link.cleared (link_in (of_link c Call tei place' link.cleared at).line Packet place')))
+            ∙ ap (λ z. news (links.told (terms c z tei) link.cleared (link_in l z place')).notes) (sym same)
+            ∙ ap (λ o. news (links.told (terms c service tei) link.cleared (option_map_or (link_in l service) o fresh)).notes) (sym placed)
+        by-service Packet same =
+            three ns call packet
+            ∙ last-only (news ns) (news call) (news packet) (none-news (Some (Left tei place')) is)
+            (none-filtered service tei call (other-link service tei (terms c Call tei) (ap (λ z. same_service Call z && tei == tei) same) link.cleared (link_in at Call place')))
+            ∙ ap (λ x. news (links.told (terms c Packet tei) link.cleared x).notes) second
+            ∙ ap (λ z. news (links.told (terms c z tei) link.cleared (link_in l z place')).notes) (sym same)
+            ∙ ap (λ o. news (links.told (terms c service tei) link.cleared (option_map_or (link_in l service) o fresh)).notes) (sym placed)
+
+    changed : (o : Option Change) → tei_laws.Moves l.management.places o m.places → ByChange me o ns → has_tei tei (of_change c o (told_of_management (teis.told me l.management)) at).line ≡ false
+        → Leaves (of_change c o (told_of_management (teis.told me l.management)) at).told.notes
+    changed None same is off = absurd (true≢false (sym (ap (is_on tei) same ∙ there) ∙ off))
+    changed (Some (Gained by place')) joined is off =
+        absurd (true≢false (sym (ap (is_on tei) joined.is_there ∙ on-coming l.management.places place' by tei joined.lowest ∙ ap (λ b. (by == tei) || b) there ∙ or-true (by == tei)) ∙ off))
+      where
+        or-true : (b : Bool) → (b || true) ≡ true
+        or-true true = refl
+        or-true false = refl
+    changed (Some (Left by place')) gone is off = go (by == tei) refl
+      where
+        go : (b : Bool) → (by == tei) ≡ b → Leaves (of_change c (Some (Left by place')) (told_of_management (teis.told me l.management)) at).told.notes
+        go true same =
+            let it = eqb-true by tei same in
+            subst (λ n. tei_laws.HasLeft l.management.places m.places n place' → ByChange me (Some (Left n place')) ns
+            → Leaves (of_change c (Some (Left n place')) (told_of_management (teis.told me l.management)) at).told.notes) (sym it) (its-own place') gone is
+        go false other =
+            let apart : (tei == by) ≡ false = not-same (tei == by) refl other in
+            absurd (true≢false (sym (ap (is_on tei) gone.is_free ∙ ap (λ o. is_on tei (Rattle.lapd_tei.specs.Words.freed l.management.places o)) (sym (has-place l.management.places by place' s.management.table gone.was_there))
+            ∙ on-leaving l.management.places by tei s.management.table ∙ ap (λ b. not b && is_on tei l.management.places) apart ∙ there) ∙ off))
+          where
+            not-same : (b : Bool) → (tei == by) ≡ b → (by == tei) ≡ false → b ≡ false
+            not-same true is apart = absurd (true≢false (sym (eq-eqb by tei (sym (eqb-true tei by is))) ∙ apart))
+            not-same false is apart = refl
+
+    managed : Gone (at_management me)
+    managed off = changed (teis.told me l.management).change (tei_lemmas.changes_are_told me l.management fits s.management) (noted me l.management s.management) off
+
+  timer-gone : (its : Service) (by : ℕ) (timer : LinkTimer) (o : Option ℕ) → Gone (at_timer its by timer o)
+  timer-gone its by timer None = stays (at_timer its by timer None) refl
+  timer-gone its by timer (Some place') = stays (at_timer its by timer (Some place')) refl
+
+  asked-gone : (its : Service) (by : ℕ) (what : link.Request) (o : Option ℕ) → Gone (at_requested its by what o)
+  asked-gone its by what None = stays (at_requested its by what None) refl
+  asked-gone its by what (Some place') = stays (at_requested its by what (Some place')) refl
+
+  pub heard-gone : (o : Option stream.Event) → Gone (option_map_or (aim_of_heard c l) o (at_none nothing))
+  heard-gone None = stays (at_none nothing) refl
+  heard-gone (Some e) =
+      heard_aims c l Gone (λ cause. stays (at_none (dropped cause)) refl) (λ its by place' what at. stays (at_link its by place' (link.received what)) refl) (λ info. managed (teis.message info) tt)
+      (λ parts its to. stays (at_none (group_told its parts.info)) refl) e
+
+  pub expiry-gone : (timer : Timer) → Gone (aim_of_expiry timer l)
+  expiry-gone (T200 its by) = timer-gone its by link_timer.T200 (place_in l by)
+  expiry-gone (T203 its by) = timer-gone its by link_timer.T203 (place_in l by)
+  expiry-gone T201 = managed teis.expiry tt
+
+  pub request-gone : (r : Request) → IsProper c l (aim_of_request r l) → Gone (aim_of_request r l)
+  request-gone (Establish its by) proper = asked-gone its by link.Establish (place_in l by)
+  request-gone (Release its by) proper = asked-gone its by link.Release (place_in l by)
+  request-gone (Data its by contents) proper = asked-gone its by (link.Data contents) (place_in l by)
+  request-gone (Request.Unit its by contents) proper = stays (aim_of_request (Request.Unit its by contents) l) refl
+  request-gone (Assign by) proper = managed (teis.assign by) proper
+  request-gone (Remove by) proper = managed (teis.remove by) proper
+  request-gone (Check by) proper = managed (teis.check by) proper
+  request-gone (SetBusy its by) proper = asked-gone its by link.SetBusy (place_in l by)
+  request-gone (ClearBusy its by) proper = asked-gone its by link.ClearBusy (place_in l by)
+
+-- Any event of a line.
+leaves : (service : Service) (tei : ℕ) (c : Config) (e : Event) (l : Line) → IsSound c l → (place : ℕ) → place_in l tei ≡ Some place → has_tei tei (after c e l) ≡ false
+    → filter (is_news service tei) (notes_of (answer c e l)) ≡ filter (is_news service tei) (links.told (terms c service tei) link.cleared (link_of service tei l)).notes
+unfolding after answer
+leaves service tei c (octet value) l s place on off = heard-gone service tei c l s place on (l.received ++ value ∷ []) (gained c.n201 l.received value) off
+leaves service tei c (expiry timer) l s place on off = expiry-gone service tei c l s place on l.received timer off
+leaves service tei c (request r) l s place on off = go (refusal c false r l) (request_proper c l r) off
+  where
+    go : (o : Option Refusal) → IsProper c l (unless_refused o (aim_of_request r l)) → has_tei tei (of_aim c (unless_refused o (aim_of_request r l)) l).line ≡ false
+        → filter (is_news service tei) (notes_of (unless_refused_told o (of_aim c (unless_refused o (aim_of_request r l)) l)))
+        ≡ filter (is_news service tei) (links.told (terms c service tei) link.cleared (link_of service tei l)).notes
+    go None proper off = request-gone service tei c l s place on l.received r proper off
+    go (Some why) proper off = absurd (true≢false (sym (is_on-at l.management.places place tei (place_of-is l.management.places tei place on).1) ∙ off))
+leaves service tei c pull l s place on off =
+    absurd (true≢false (sym (pull-keeps service tei c l s (is_on-at l.management.places place tei (place_of-is l.management.places tei place on).1)) ∙ off))
+
+pub leaving-due : (service : Service) (tei : ℕ) (c : Config) (e : Event) (l : Line) → IsSound c l → (place : ℕ) → place_in l tei ≡ Some place → has_tei tei (after c e l) ≡ false
+    → (was outstanding : Bool) → filter (is_news service tei) (notes_of (answer c e l)) ≡ due service tei was false false outstanding (state_number (link_of service tei l).state) 4
+leaving-due service tei c e l s place on off was outstanding =
+    leaves service tei c e l s place on off ∙ cleared-due (terms c service tei) (link_of service tei l) was outstanding
+
+-- No request to release a link takes its TEI off the line.
+pub none-released : (service : Service) (tei : ℕ) (c : Config) (e : Event) (l : Line) → has_tei tei l ≡ true → has_tei tei (after c e l) ≡ false → (a : Answer) → releases service tei e a ≡ false
+unfolding after
+none-released service tei c (octet value) l on off a = refl
+none-released service tei c (expiry timer) l on off a = refl
+none-released service tei c pull l on off a = refl
+none-released service tei c (request (Establish its by)) l on off a = refl
+none-released service tei c (request (Data its by contents)) l on off a = refl
+none-released service tei c (request (Request.Unit its by contents)) l on off a = refl
+none-released service tei c (request (Assign by)) l on off a = refl
+none-released service tei c (request (Remove by)) l on off a = refl
+none-released service tei c (request (Check by)) l on off a = refl
+none-released service tei c (request (SetBusy its by)) l on off a = refl
+none-released service tei c (request (ClearBusy its by)) l on off a = refl
+none-released service tei c (request (Release its by)) l on off a = go (refusal c false (Release its by) l) (place_in l by) off
+  where
+    go : (why : Option Refusal) (o : Option ℕ) → has_tei tei (of_aim c (unless_refused why (at_requested its by link.Release o)) l).line ≡ false → releases service tei (request (Release its by)) a ≡ false
+    go (Some why) o off = absurd (true≢false (sym on ∙ off))
+    go None None off = absurd (true≢false (sym on ∙ off))
+    go None (Some place) off = absurd (true≢false (sym on ∙ off))

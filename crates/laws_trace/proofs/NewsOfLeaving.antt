@@ -49,7 +49,7 @@ use Rattle.laws_line.proofs.Obeyed.{service-same}
 use Rattle.laws_line.proofs.Places.{has-place}
 use Rattle.laws_line.proofs.TeiNotes.{ByChange, noted}
 use Rattle.laws_trace.specs.News.{is_news, releases, due}
-use Rattle.laws_trace.proofs.AllAreAnswered.{pull-keeps}
+use Rattle.laws_trace.proofs.StaysOn.{pull-keeps}
 use Rattle.laws_trace.proofs.LinkLed.{own-is}
 use Rattle.laws_trace.proofs.ManagingTables.{on-coming, on-leaving}
 use Rattle.laws_trace.proofs.NewsOfOthers.{none-filtered, tei-note, other-link}
@@ -216,7 +216,7 @@ leaves service tei c (request r) l s place on off = go (refusal c false r l) (re
     go None proper off = request-gone service tei c l s place on l.received r proper off
     go (Some why) proper off = absurd (true≢false (sym (is_on-at l.management.places place tei (place_of-is l.management.places tei place on).1) ∙ off))
 leaves service tei c pull l s place on off =
-    absurd (true≢false (sym (pull-keeps service tei c l s (is_on-at l.management.places place tei (place_of-is l.management.places tei place on).1)) ∙ off))
+    absurd (true≢false (sym (pull-keeps tei c l s (is_on-at l.management.places place tei (place_of-is l.management.places tei place on).1)) ∙ off))
 
 pub leaving-due : (service : Service) (tei : ℕ) (c : Config) (e : Event) (l : Line) → IsSound c l → (place : ℕ) → place_in l tei ≡ Some place → has_tei tei (after c e l) ≡ false
     → (was outstanding : Bool) → filter (is_news service tei) (notes_of (answer c e l)) ≡ due service tei was false false outstanding (state_number (link_of service tei l).state) 4

@@ -11,8 +11,8 @@
 //! That of two control frames alike both begin, except answers and commands; when messages of TEI management and unit
 //! data go, where other events come between the pulls; that links in states 4 to 6 put no RR, RNR or REJ with F=0;
 //! turns, where the place of the first link changes; that each RR, RNR or REJ that is due goes, except answers and
-//! enquiries; which contents stay where numbers begin and no indication is told; errors that lead to no SABME, and XID;
-//! which part of a line is full where a frame is lost.
+//! enquiries; which contents stay where numbers begin and no indication is told; errors that lead to no SABME; which
+//! part of a line is full where a frame is lost.
 #![tactic(auto)]
 
 mod laws;

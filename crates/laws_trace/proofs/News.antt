@@ -26,8 +26,8 @@ use Rattle.laws_card.specs.Timers.{AllHaveTheirTimers}
 use Rattle.laws_card.proofs.TimersRun.{timely-after, begins-timely-card}
 use Rattle.laws_line.specs.Heard.{notes_of}
 use Rattle.laws_line.proofs.TimersFollow.{nowhere}
-use Rattle.laws_trace.specs.News.{is_news, is_sabme, is_xid, establishes, releases, brings, asked, Owing, none_owed, owing, due, NewsIsTold}
-use Rattle.laws_trace.specs.TimersAreTimely.{Known, watch, is_state, differ}
+use Rattle.laws_trace.specs.News.{is_news, is_sabme, is_xid, establishes, releases, asked, Owing, none_owed, owing, due, NewsIsTold}
+use Rattle.laws_trace.specs.TimersAreTimely.{brings, Known, watch, is_state, differ}
 use Rattle.laws_trace.specs.Trace.{seen, Always}
 use Rattle.laws_trace.proofs.LinksMove.{differ-self}
 use Rattle.laws_trace.proofs.NewsOfLink.{Asks}

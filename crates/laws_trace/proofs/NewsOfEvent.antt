@@ -21,8 +21,8 @@ use Rattle.model_line.specs.Sound.{IsSound}
 use Rattle.laws_line.specs.Heard.{notes_of}
 use Rattle.laws_line.proofs.Places.{is-off}
 use Rattle.laws_link.specs.States.{moves}
-use Rattle.laws_trace.specs.News.{is_news, is_sabme, is_xid, establishes, releases, brings, due}
-use Rattle.laws_trace.specs.TimersAreTimely.{is_state, differ}
+use Rattle.laws_trace.specs.News.{is_news, is_sabme, is_xid, establishes, releases, due}
+use Rattle.laws_trace.specs.TimersAreTimely.{brings, is_state, differ}
 use Rattle.laws_trace.specs.Trace.{seen}
 use Rattle.laws_trace.proofs.LinkLed.{on-line}
 use Rattle.laws_trace.proofs.LinksMove.{differs, no-event}

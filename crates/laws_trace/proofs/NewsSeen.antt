@@ -25,8 +25,8 @@ use Rattle.laws_link.specs.Flags.{asks_establishment}
 use Rattle.laws_trace.specs.CommandsHaveCauses.{is_own}
 use Rattle.lapd_frame.specs.Grammar.{Parts}
 use Rattle.laws_trace.specs.Deliveries.{is_for, frame_of as frame_heard}
-use Rattle.laws_trace.specs.News.{establishes, releases, brings}
-use Rattle.laws_trace.specs.TimersAreTimely.{nothing_yet, control_in}
+use Rattle.laws_trace.specs.News.{establishes, releases}
+use Rattle.laws_trace.specs.TimersAreTimely.{nothing_yet, control_in, brings}
 use Rattle.laws_trace.specs.Trace as traces
 use Rattle.laws_trace.specs.Trace.{seen, seen_told, seen_granted}
 use Rattle.laws_trace.proofs.Deliveries.{frame_by, brings-frame, brings-none}
@@ -34,51 +34,16 @@ use Rattle.laws_trace.proofs.DeliveriesRun.{event-aims}
 use Rattle.laws_trace.proofs.LinkLed.{own-is, none-refused, elsewhere}
 use Rattle.laws_trace.proofs.NewsRows.{heard_of, released_of}
 use Rattle.laws_trace.proofs.OneLink.{is_at_link}
+use Rattle.laws_trace.proofs.TimersOfLine.{seen-brings}
 
 module _ (c : Config) (service : Service) (tei : ℕ) (which : Control → Bool) where
-  told-begins : (a : Answer) → list_any (brings which c service tei) (seen_told a) ≡ false
-  told-begins (told t) = refl
-  told-begins (refused why) = refl
-  told-begins (pulled value is_begun orders) = refl
-
-  or-false : (b : Bool) → (b || false) ≡ b
-  or-false true = refl
-  or-false false = refl
-
-  octet-begins : (o : Option stream.Event) (a : Answer)
-      → list_any (brings which c service tei) (map traces.heard (option_to_list o) ++ seen_told a) ≡ option_map_or which (control_in service tei (option_map_or (frame_heard c) o None)) false
-  octet-begins None a = told-begins a
-  octet-begins (Some e) a =
-      ap (λ b. option_map_or which (control_in service tei (frame_heard c e)) false || b) (told-begins a)
-      ∙ or-false (option_map_or which (control_in service tei (frame_heard c e)) false)
-
-  asked-begins : (r : Request) (a : Answer) → list_any (brings which c service tei) (seen_granted r a ++ seen_told a) ≡ false
-  asked-begins r (told t) = refl
-  asked-begins r (refused why) = refl
-  asked-begins r (pulled value is_begun orders) = refl
-
-  pull-begins : (o : Option Taken) (a : Answer)
-      → list_any (brings which c service tei) (map traces.begun (option_to_list (option_map frame_taken o)) ++ map traces.put (octet_in a)) ≡ false
-  pull-begins None (told t) = refl
-  pull-begins None (refused why) = refl
-  pull-begins None (pulled value is_begun orders) = refl
-  pull-begins (Some t) (told u) = refl
-  pull-begins (Some t) (refused why) = refl
-  pull-begins (Some t) (pulled value is_begun orders) = refl
-
-  seen-begins : (e : line_event.Event) (l : Line) (a : Answer) → list_any (brings which c service tei) (seen c e l a) ≡ option_map_or which (control_in service tei (frame_by c e l)) false
-  seen-begins (octet value) l a = octet-begins (gained c.n201 l.received value) a
-  seen-begins (expiry timer) l a = told-begins a
-  seen-begins (request r) l a = asked-begins r a
-  seen-begins pull l a = pull-begins (pulls.begun c l) a
-
   module _ (e : line_event.Event) (l : Line) (a : Answer) where
     none-brought : frame_by c e l ≡ None → option_map_or which (control_in service tei (frame_by c e l)) false ≡ false
     none-brought none = ap (λ o. option_map_or which (control_in service tei o) false) none
 
     -- one event of the link
     pub one-begins : (event : link.Event) → IsBy c l e a service tei event → list_any (brings which c service tei) (seen c e l a) ≡ heard_of which event
-    one-begins event by = seen-begins e l a ∙ go event by
+    one-begins event by = seen-brings c service tei which e l a ∙ go event by
       where
         go : (event : link.Event) → IsBy c l e a service tei event → option_map_or which (control_in service tei (frame_by c e l)) false ≡ heard_of which event
         go (link.received (link.frame f)) by =
@@ -125,7 +90,7 @@ module _ (c : Config) (service : Service) (tei : ℕ) (which : Control → Bool)
   -- and none
   module _ (l : Line) (place : ℕ) (on : place_in l tei ≡ Some place) where
     pub none-begins : (e : line_event.Event) → is_at_link service tei (lines.aim_of c e l) ≡ false → (a : Answer) → list_any (brings which c service tei) (seen c e l a) ≡ false
-    none-begins e aims a = seen-begins e l a ∙ go (frame_by c e l) refl
+    none-begins e aims a = seen-brings c service tei which e l a ∙ go (frame_by c e l) refl
       where
         by-whom : (f : Parts) → frame_by c e l ≡ Some f → (b : Bool) → is_for service tei f.address ≡ b → option_map_or which (cond b (Some f.control) None) false ≡ false
         by-whom f is true for = absurd (true≢false (sym (event-aims c l service tei place on e f is for) ∙ aims))

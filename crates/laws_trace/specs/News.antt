@@ -20,7 +20,7 @@ use Rattle.model_card.specs.Machine.{answer}
 use Rattle.model_card.specs.Run.{Moment, moments, after_all}
 use Rattle.laws_trace.specs.CommandsHaveCauses.{is_own}
 use Rattle.laws_trace.specs.Deliveries.{frame_of}
-use Rattle.laws_trace.specs.TimersAreTimely.{Known, nothing_yet, watch, control_in, is_state, state_before, state_after, differ}
+use Rattle.laws_trace.specs.TimersAreTimely.{Known, nothing_yet, watch, brings, is_state, state_before, state_after, differ}
 use Rattle.laws_trace.specs.Trace.{Seen, heard, seen_in}
 
 -- The notes that say that a link is up, or down, or that XID came (Q.921 clauses 4.1.1.1 and 4.1.1.2).
@@ -48,10 +48,6 @@ is_sabme other = false
 abbrev pub is_xid : Control → Bool
 is_xid (control.Xid pf) = true
 is_xid other = false
-
-abbrev pub brings : (Control → Bool) → Config → Service → ℕ → Seen → Bool
-brings is c service tei (heard e) = option_map_or is (control_in service tei (frame_of c e)) false
-brings is c service tei other = false
 
 -- Whether it was layer 3 that asked for the establishment that a link in state 5 awaits, or this side began it (clauses 5.5.1.1
 -- and 5.7.2).

@@ -19,7 +19,8 @@ use Rattle.model_card.specs.Event.{at}
 use Rattle.model_card.specs.Machine.{answer}
 use Rattle.model_card.specs.Run.{Moment, moments, after_all}
 use Rattle.laws_card.specs.Worked.{usual, on_0, hears}
-use Rattle.laws_trace.specs.News.{is_news, is_sabme, is_xid, releases, brings, asked, none_owed, owing, due}
+use Rattle.laws_trace.specs.News.{is_news, is_sabme, is_xid, releases, asked, none_owed, owing, due}
+use Rattle.laws_trace.specs.TimersAreTimely.{brings}
 use Rattle.laws_trace.specs.Trace.{seen_in}
 use Rattle.laws_trace.specs.WorkedMoves.{sabme_comes}
 use Rattle.laws_trace.specs.WorkedUnits.{pulls}

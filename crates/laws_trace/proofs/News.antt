@@ -26,8 +26,8 @@ use Rattle.laws_card.specs.Timers.{AllHaveTheirTimers}
 use Rattle.laws_card.proofs.TimersRun.{timely-after, begins-timely-card}
 use Rattle.laws_line.specs.Heard.{notes_of}
 use Rattle.laws_line.proofs.TimersFollow.{nowhere}
-use Rattle.laws_trace.specs.News.{is_news, establishes, releases, begins, asked, Owing, none_owed, owing, due, NewsIsTold}
-use Rattle.laws_trace.specs.TimersAreTimely.{Known, watch, is_state, differ}
+use Rattle.laws_trace.specs.News.{is_news, is_sabme, is_xid, establishes, releases, asked, Owing, none_owed, owing, due, NewsIsTold}
+use Rattle.laws_trace.specs.TimersAreTimely.{brings, Known, watch, is_state, differ}
 use Rattle.laws_trace.specs.Trace.{seen, Always}
 use Rattle.laws_trace.proofs.LinksMove.{differ-self}
 use Rattle.laws_trace.proofs.NewsOfLink.{Asks}
@@ -72,15 +72,15 @@ module _ (service : Service) (tei number : ℕ) where
     IsDue x b =
         (from : ℕ) → state_of service tei l ≡ Some from →
         filter (is_news service tei) (notes_of b)
-        ≡ due service tei was (list_any (begins card.config service tei) (seen card.config e.what l b)) (releases service tei e.what b) outstanding from (unwrap_or (state_of service tei x) 4)
+        ≡ due service tei was (list_any (brings is_xid card.config service tei) (seen card.config e.what l b)) (list_any (brings is_sabme card.config service tei) (seen card.config e.what l b)) (releases service tei e.what b) outstanding from (unwrap_or (state_of service tei x) 4)
 
     refused-due : (what : line_event.Event) → lines.takes_slot card.config what l ≡ true → (from to : ℕ) → from ≡ to
-        → [] ≡ due service tei was (list_any (begins card.config service tei) (seen card.config what l (refused PoolFull))) (releases service tei what (refused PoolFull)) outstanding from to
+        → [] ≡ due service tei was (list_any (brings is_xid card.config service tei) (seen card.config what l (refused PoolFull))) (list_any (brings is_sabme card.config service tei) (seen card.config what l (refused PoolFull))) (releases service tei what (refused PoolFull)) outstanding from to
     unfolding lines.takes_slot
     refused-due (octet value) takes from to same = absurd (true≢false (sym takes))
     refused-due (expiry timer) takes from to same = absurd (true≢false (sym takes))
     refused-due (request r) takes from to same =
-        sym (ap (λ b. due service tei was false b outstanding from to) (no-release r) ∙ ap (λ n. due service tei was false false outstanding n to) same ∙ nothing-due to)
+        sym (ap (λ b. due service tei was false false b outstanding from to) (no-release r) ∙ ap (λ n. due service tei was false false false outstanding n to) same ∙ nothing-due to)
       where
         no-release : (r : Request) → releases service tei (request r) (refused PoolFull) ≡ false
         no-release (Establish its by) = refl
@@ -93,12 +93,12 @@ module _ (service : Service) (tei number : ℕ) where
         no-release (SetBusy its by) = refl
         no-release (ClearBusy its by) = refl
 
-        nothing-due : (n : ℕ) → due service tei was false false outstanding n n ≡ []
+        nothing-due : (n : ℕ) → due service tei was false false false outstanding n n ≡ []
         nothing-due n = go (n == 7) refl (n == 4) refl
           where
-            go : (x : Bool) → (n == 7) ≡ x → (y : Bool) → (n == 4) ≡ y → due service tei was false false outstanding n n ≡ []
-            go true is y other = subst (λ n. due service tei was false false outstanding n n ≡ []) (sym (eqb-true n 7 is)) refl
-            go false is true other = subst (λ n. due service tei was false false outstanding n n ≡ []) (sym (eqb-true n 4 other)) refl
+            go : (x : Bool) → (n == 7) ≡ x → (y : Bool) → (n == 4) ≡ y → due service tei was false false false outstanding n n ≡ []
+            go true is y other = subst (λ n. due service tei was false false false outstanding n n ≡ []) (sym (eqb-true n 7 is)) refl
+            go false is true other = subst (λ n. due service tei was false false false outstanding n n ≡ []) (sym (eqb-true n 4 other)) refl
             go false is false other = rw (is, other) refl
     refused-due pull takes from to same = absurd (true≢false (sym takes))
 
@@ -201,8 +201,10 @@ news-is-told c events number ranged all within service tei before what behind is
     (subst (λ (y : Link). Asks y.state false y.asked) (sym off) tt, begins-true c before number ranged front within service tei, sym (ap (λ (y : Link). not (y.s == y.a)) off)) in
     let h = run-stands service tei number (fresh c) before (fresh_is_sound c ranged) (begins-timely-card c) front within false none_owed begun in
     subst (λ b. filter (is_news service tei) (notes_of (answer e card))
-    ≡ due service tei was (list_any (begins c service tei) (cond b (seen card.config what (line_at number card) (answer e card)) [])) (releases service tei what (answer e card)) w.outstanding from (unwrap_or (state_of service tei (line_at number (after e card))) 4))
+    ≡ due service tei was (list_any (brings is_xid c service tei) (cond b (seen card.config what (line_at number card) (answer e card)) []))
+    (list_any (brings is_sabme c service tei) (cond b (seen card.config what (line_at number card) (answer e card)) [])) (releases service tei what (answer e card)) w.outstanding from (unwrap_or (state_of service tei (line_at number (after e card))) 4))
     (sym (itself number))
     (subst (λ (d : Config). filter (is_news service tei) (notes_of (answer e card))
-    ≡ due service tei was (list_any (begins d service tei) (seen card.config what (line_at number card) (answer e card))) (releases service tei what (answer e card)) w.outstanding from (unwrap_or (state_of service tei (line_at number (after e card))) 4)) kept
+    ≡ due service tei was (list_any (brings is_xid d service tei) (seen card.config what (line_at number card) (answer e card)))
+    (list_any (brings is_sabme d service tei) (seen card.config what (line_at number card) (answer e card))) (releases service tei what (answer e card)) w.outstanding from (unwrap_or (state_of service tei (line_at number (after e card))) 4)) kept
     (own-due service tei number card (sound-now c before number ranged front within service tei) e here was h.0 w.outstanding h.2 from was_in))

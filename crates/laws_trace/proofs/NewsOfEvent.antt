@@ -1,9 +1,10 @@
 -- What layer 3 is told of the establishment and release of a link: one event of its line.
-use Rattle.std.proofs.Common.{◌≡◌, ℕ, ◌==◌, ◌&&◌, Bool, true, false, cond, [], Option, Some, None, refl, sym, ap, ◌∙◌, subst, ◌⊎◌, inl, inr}
+use Rattle.std.proofs.Common.{◌≡◌, ℕ, ◌==◌, ◌&&◌, Bool, true, false, cond, [], Option, Some, None, refl, sym, ap, ◌∙◌, subst, true≢false, ◌⊎◌, inl, inr}
 use Rattle.std.specs.Prelude.{filter}
 use Rattle.std.specs.List.{list_any}
 use Rattle.std.specs.Option.{unwrap_or}
 use Rattle.std.proofs.lemmas.Option.{none-some}
+use Rattle.lapd_frame.specs.declared.controls.Control.{Control}
 use Rattle.lapd_frame.specs.declared.services.Service.{Service}
 use Rattle.model_link.specs.declared.states.State.{State}
 use Rattle.model_link.specs.declared.states.State.TheVariants.{TeiAssigned, AwaitingEstablishment, AwaitingRelease, Established, TimerRecovery}
@@ -20,14 +21,14 @@ use Rattle.model_line.specs.Sound.{IsSound}
 use Rattle.laws_line.specs.Heard.{notes_of}
 use Rattle.laws_line.proofs.Places.{is-off}
 use Rattle.laws_link.specs.States.{moves}
-use Rattle.laws_trace.specs.News.{is_news, establishes, releases, begins, due}
-use Rattle.laws_trace.specs.TimersAreTimely.{is_state, differ}
+use Rattle.laws_trace.specs.News.{is_news, is_sabme, is_xid, establishes, releases, due}
+use Rattle.laws_trace.specs.TimersAreTimely.{brings, is_state, differ}
 use Rattle.laws_trace.specs.Trace.{seen}
 use Rattle.laws_trace.proofs.LinkLed.{on-line}
 use Rattle.laws_trace.proofs.LinksMove.{differs, no-event}
-use Rattle.laws_trace.proofs.NewsOfLeaving.{leaving-due, none-released}
+use Rattle.laws_trace.proofs.NewsOfLeaving.{leaving-due, none-released, one-stays}
 use Rattle.laws_trace.proofs.NewsOfOthers.{none-filtered, others-silent}
-use Rattle.laws_trace.proofs.NewsRows.{sabme_of, released_of}
+use Rattle.laws_trace.proofs.NewsRows.{sabme_of, xid_of, released_of}
 use Rattle.laws_trace.proofs.NewsOfLink.{event-news, Asks, event-asking}
 use Rattle.laws_trace.proofs.OwedOfEvent.{IsOwed}
 use Rattle.laws_trace.proofs.OneLink.{HasOne, HasNone, Goes, event-goes}
@@ -58,7 +59,7 @@ module _ (c : Config) (l : Line) (s : IsSound c l) (service : Service) (tei : �
   no-bit false = refl
 
   -- nothing is due where the link stays in its state
-  unmoved : (state : State) (outstanding : Bool) → due service tei was false false outstanding (state_number state) (state_number state) ≡ []
+  unmoved : (state : State) (outstanding : Bool) → due service tei was false false false outstanding (state_number state) (state_number state) ≡ []
   unmoved TeiAssigned outstanding = refl
   unmoved AwaitingEstablishment outstanding = refl
   unmoved AwaitingRelease outstanding = refl
@@ -78,10 +79,13 @@ module _ (c : Config) (l : Line) (s : IsSound c l) (service : Service) (tei : �
   asked-in : (from to : State) → then_asked (told_state from) (told_state to) ≡ cond ((state_number to == 5) && moves from to) (establishes service tei e a) was
   asked-in from to = ap (λ b. cond ((state_number to == 5) && b) (establishes service tei e a) was) (differs from to)
 
+  abbrev heard : (Control → Bool) → Bool
+  heard which = list_any (brings which c service tei) (seen c e l a)
+
   abbrev Due : ℕ → ℕ → Type 0
   Due from to =
       filter (is_news service tei) (notes_of a)
-      ≡ due service tei was (list_any (begins c service tei) (seen c e l a)) (releases service tei e a) outstanding from to
+      ≡ due service tei was (heard is_xid) (heard is_sabme) (releases service tei e a) outstanding from to
 
   module _ (place there : ℕ) (on : place_in l tei ≡ Some place) (still : place_in (lines.after c e l) tei ≡ Some there) where
     -- no event of the link
@@ -89,18 +93,19 @@ module _ (c : Config) (l : Line) (s : IsSound c l) (service : Service) (tei : �
       same : next ≡ own
       same = x.stays (on-line l tei place on) (on-line (lines.after c e l) tei there still)
 
-      no-sabme : list_any (begins c service tei) (seen c e l a) ≡ false
-      no-sabme = none-begins c service tei l place on e x.aims a
+      none-heard : (which : Control → Bool) → heard which ≡ false
+      none-heard which = none-begins c service tei which l place on e x.aims a
 
       no-release : releases service tei e a ≡ false
-      no-release = none-releases c service tei l place on e x.aims
+      no-release = none-releases c service tei is_sabme l place on e x.aims
 
       none-due : Due (state_number own.state) (state_number next.state)
       none-due =
           none-filtered service tei (notes_of a) (others-silent service tei c e l s x.aims (on-line (lines.after c e l) tei there still))
-          ∙ sym (ap (λ (y : Link). due service tei was (list_any (begins c service tei) (seen c e l a)) (releases service tei e a) outstanding (state_number own.state) (state_number y.state)) same
-          ∙ ap (λ b. due service tei was b (releases service tei e a) outstanding (state_number own.state) (state_number own.state)) no-sabme
-          ∙ ap (λ b. due service tei was false b outstanding (state_number own.state) (state_number own.state)) no-release
+          ∙ sym (ap (λ (y : Link). due service tei was (heard is_xid) (heard is_sabme) (releases service tei e a) outstanding (state_number own.state) (state_number y.state)) same
+          ∙ ap (λ b. due service tei was b (heard is_sabme) (releases service tei e a) outstanding (state_number own.state) (state_number own.state)) (none-heard is_xid)
+          ∙ ap (λ b. due service tei was false b (releases service tei e a) outstanding (state_number own.state) (state_number own.state)) (none-heard is_sabme)
+          ∙ ap (λ b. due service tei was false false b outstanding (state_number own.state) (state_number own.state)) no-release
           ∙ unmoved own.state outstanding)
 
       none-asked : Asks next.state (then_asked (told_state own.state) (told_state next.state)) next.asked
@@ -118,31 +123,32 @@ module _ (c : Config) (l : Line) (s : IsSound c l) (service : Service) (tei : �
       some : x.event ≡ link.cleared → ⊥
       some = no-event x.event c l e a service tei x.by
 
-      asked-now : (state : State) → Asks state was own.asked → (sabme released outstanding : Bool) (to : ℕ)
-          → due service tei own.asked sabme released outstanding (state_number state) to ≡ due service tei was sabme released outstanding (state_number state) to
-      asked-now AwaitingEstablishment is sabme released outstanding to = ap (λ b. due service tei b sabme released outstanding 5 to) (sym is)
-      asked-now TeiAssigned is sabme released outstanding to = refl
-      asked-now AwaitingRelease is sabme released outstanding to = refl
-      asked-now Established is sabme released outstanding to = refl
-      asked-now TimerRecovery is sabme released outstanding to = refl
+      asked-now : (state : State) → Asks state was own.asked → (xid sabme released outstanding : Bool) (to : ℕ)
+          → due service tei own.asked xid sabme released outstanding (state_number state) to ≡ due service tei was xid sabme released outstanding (state_number state) to
+      asked-now AwaitingEstablishment is xid sabme released outstanding to = ap (λ b. due service tei b xid sabme released outstanding 5 to) (sym is)
+      asked-now TeiAssigned is xid sabme released outstanding to = refl
+      asked-now AwaitingRelease is xid sabme released outstanding to = refl
+      asked-now Established is xid sabme released outstanding to = refl
+      asked-now TimerRecovery is xid sabme released outstanding to = refl
 
       one-due : Due (state_number own.state) (state_number next.state)
       one-due =
           let ns = (links.told t x.event own).notes in
           let later = links.after t x.event own in
           ap (filter (is_news service tei)) x.notes ∙ event-news t own x.event some
-          ∙ ap (λ b. due service tei own.asked (sabme_of x.event) (released_of x.event) b (state_number own.state) (state_number later.state)) (sym owes)
-          ∙ asked-now own.state asks (sabme_of x.event) (released_of x.event) outstanding (state_number later.state)
-          ∙ ap (λ b. due service tei was b (released_of x.event) outstanding (state_number own.state) (state_number later.state)) (sym (one-begins c service tei e l a x.event x.by))
-          ∙ ap (λ b. due service tei was (list_any (begins c service tei) (seen c e l a)) b outstanding (state_number own.state) (state_number later.state)) (sym (one-releases c service tei e l a x.event x.by))
-          ∙ ap (λ (y : Link). due service tei was (list_any (begins c service tei) (seen c e l a)) (releases service tei e a) outstanding (state_number own.state) (state_number y.state)) (sym x.is)
+          ∙ ap (λ b. due service tei own.asked (xid_of x.event) (sabme_of x.event) (released_of x.event) b (state_number own.state) (state_number later.state)) (sym owes)
+          ∙ asked-now own.state asks (xid_of x.event) (sabme_of x.event) (released_of x.event) outstanding (state_number later.state)
+          ∙ ap (λ b. due service tei was b (sabme_of x.event) (released_of x.event) outstanding (state_number own.state) (state_number later.state)) (sym (one-begins c service tei is_xid e l a x.event x.by))
+          ∙ ap (λ b. due service tei was (heard is_xid) b (released_of x.event) outstanding (state_number own.state) (state_number later.state)) (sym (one-begins c service tei is_sabme e l a x.event x.by))
+          ∙ ap (λ b. due service tei was (heard is_xid) (heard is_sabme) b outstanding (state_number own.state) (state_number later.state)) (sym (one-releases c service tei is_sabme e l a x.event x.by))
+          ∙ ap (λ (y : Link). due service tei was (heard is_xid) (heard is_sabme) (releases service tei e a) outstanding (state_number own.state) (state_number y.state)) (sym x.is)
 
       one-asked : Asks next.state (then_asked (told_state own.state) (told_state next.state)) next.asked
       one-asked =
           let y = links.after t x.event own in
           subst (λ (y : Link). Asks y.state (then_asked (told_state own.state) (told_state y.state)) y.asked) (sym x.is)
           (subst (λ b. Asks y.state b y.asked)
-          (sym (asked-in own.state y.state ∙ ap (λ b. cond ((state_number y.state == 5) && moves own.state y.state) b was) (one-establishes c service tei e l a x.event x.by)))
+          (sym (asked-in own.state y.state ∙ ap (λ b. cond ((state_number y.state == 5) && moves own.state y.state) b was) (one-establishes c service tei is_sabme e l a x.event x.by)))
           (event-asking t own was x.event some asks))
 
     stays-due : Due (state_number own.state) (state_number next.state)
@@ -207,7 +213,12 @@ module _ (c : Config) (l : Line) (s : IsSound c l) (service : Service) (tei : �
   gone-due place on gone =
       let off : has_tei tei (lines.after c e l) ≡ false = is-off (lines.after c e l).management.places tei gone in
       leaving-due service tei c e l s place on off was outstanding
-      ∙ ap (λ b. due service tei was false b outstanding (state_number own.state) 4) (sym (none-released service tei c e l (on-line l tei place on) off a))
+      ∙ ap (λ b. due service tei was b (heard is_sabme) false outstanding (state_number own.state) 4) (sym (none-brought off (event-goes c e l service tei s)))
+      ∙ ap (λ b. due service tei was (heard is_xid) (heard is_sabme) b outstanding (state_number own.state) 4) (sym (none-released service tei c e l (on-line l tei place on) off a))
+    where
+      none-brought : has_tei tei (lines.after c e l) ≡ false → Goes c service tei e l (lines.after c e l) a → heard is_xid ≡ false
+      none-brought off (inl x) = none-begins c service tei is_xid l place on e x.aims a
+      none-brought off (inr x) = absurd (true≢false (sym (one-stays service tei c e l s (on-line l tei place on) x.place x.event x.aimed) ∙ off))
 
   pub event-due : (from : ℕ) → state_of service tei l ≡ Some from → Due from (unwrap_or (state_of service tei (lines.after c e l)) 4)
   event-due from was-in = go (state_of service tei (lines.after c e l)) refl

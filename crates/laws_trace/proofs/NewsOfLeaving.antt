@@ -1,5 +1,5 @@
 -- Where the TEI of a link leaves its line, what is told of the link is what the end of the TEI tells.
-use Rattle.std.proofs.Common.{◌≡◌, ◌≢◌, ℕ, ◌==◌, ◌&&◌, ◌||◌, not, Bool, true, false, cond, List, [], ◌∷◌, ◌++◌, get_or, set, Option, Some, None, refl, sym, ap, ◌∙◌, subst, arith, eqb-true, eq-eqb, true≢false, append-nil}
+use Rattle.std.proofs.Common.{◌≡◌, ◌≢◌, ℕ, ◌==◌, ◌&&◌, ◌||◌, not, Bool, true, false, cond, List, [], ◌∷◌, ◌++◌, get_or, set, Option, Some, None, refl, sym, ap, ◌∙◌, subst, arith, eqb-true, eq-eqb, true≢false, ◌⊎◌, inl, inr, append-nil}
 use Rattle.std.specs.Prelude.{All, filter}
 use Rattle.std.specs.Option.{option_map_or}
 use Rattle.std.proofs.lemmas.List.{get_or-set_other}
@@ -36,7 +36,7 @@ use Rattle.model_line.specs.Event.{Answer, Event, octet, expiry, request, pull, 
 use Rattle.model_line.specs.Expiry.{at_timer, aim_of_expiry}
 use Rattle.model_line.specs.Line.{Line, has_tei, link_in, link_of, link_number, place_in, terms}
 use Rattle.model_line.specs.Machine.{aim_of, after, answer, unless_refused, unless_refused_told}
-use Rattle.model_line.specs.Octet.{gained, aim_of_heard}
+use Rattle.model_line.specs.Octet.{gained, aim_of_heard, with_received}
 use Rattle.model_line.specs.Refusal.{refusal}
 use Rattle.model_line.specs.Request.{Request, Establish, Release, Data, Assign, Remove, Check, SetBusy, ClearBusy}
 use Rattle.model_line.specs.Requested.{at_requested, aim_of_request}
@@ -57,10 +57,10 @@ use Rattle.laws_trace.proofs.OneLink.{is_at_link}
 
 -- What the end of a TEI tells of its link is due as the link would come to state 4.
 cleared-due : (t : Terms) (l : Link) (was outstanding : Bool)
-    → filter (is_news t.service t.tei) (links.told t link.cleared l).notes ≡ due t.service t.tei was false false outstanding (state_number l.state) 4
+    → filter (is_news t.service t.tei) (links.told t link.cleared l).notes ≡ due t.service t.tei was false false false outstanding (state_number l.state) 4
 cleared-due t l was outstanding = ap (filter (is_news t.service t.tei)) (event-follows t link.cleared l).leaves.tells ∙ by-state l.state
   where
-    by-state : (here : State) → filter (is_news t.service t.tei) (told_cleared here t) ≡ due t.service t.tei was false false outstanding (state_number here) 4
+    by-state : (here : State) → filter (is_news t.service t.tei) (told_cleared here t) ≡ due t.service t.tei was false false false outstanding (state_number here) 4
     by-state TeiAssigned = refl
     by-state AwaitingEstablishment = rw (own-is t.service t.tei) refl
     by-state AwaitingRelease = rw (own-is t.service t.tei) refl
@@ -219,7 +219,7 @@ leaves service tei c pull l s place on off =
     absurd (true≢false (sym (pull-keeps tei c l s (is_on-at l.management.places place tei (place_of-is l.management.places tei place on).1)) ∙ off))
 
 pub leaving-due : (service : Service) (tei : ℕ) (c : Config) (e : Event) (l : Line) → IsSound c l → (place : ℕ) → place_in l tei ≡ Some place → has_tei tei (after c e l) ≡ false
-    → (was outstanding : Bool) → filter (is_news service tei) (notes_of (answer c e l)) ≡ due service tei was false false outstanding (state_number (link_of service tei l).state) 4
+    → (was outstanding : Bool) → filter (is_news service tei) (notes_of (answer c e l)) ≡ due service tei was false false false outstanding (state_number (link_of service tei l).state) 4
 leaving-due service tei c e l s place on off was outstanding =
     leaves service tei c e l s place on off ∙ cleared-due (terms c service tei) (link_of service tei l) was outstanding
 
@@ -243,3 +243,16 @@ none-released service tei c (request (Release its by)) l on off a = go (refusal 
     go (Some why) o off = absurd (true≢false (sym on ∙ off))
     go None None off = absurd (true≢false (sym on ∙ off))
     go None (Some place) off = absurd (true≢false (sym on ∙ off))
+
+-- An event of a link keeps its TEI on the line.
+pub one-stays : (service : Service) (tei : ℕ) (c : Config) (e : Event) (l : Line) → IsSound c l → has_tei tei l ≡ true → (place : ℕ) (event : link.Event)
+    → (e ≡ pull) ⊎ (aim_of c e l ≡ at_link service tei place event) → has_tei tei (after c e l) ≡ true
+unfolding after
+one-stays service tei c e l s on place event (inl is) = subst (λ e. has_tei tei (after c e l) ≡ true) (sym is) (pull-keeps tei c l s on)
+one-stays service tei c e l s on place event (inr aimed) = by-event e aimed
+  where
+    by-event : (e : Event) → aim_of c e l ≡ at_link service tei place event → has_tei tei (after c e l) ≡ true
+    by-event (octet value) aimed = ap (λ aim. has_tei tei (of_aim c aim (with_received value l)).line) aimed ∙ on
+    by-event (expiry timer) aimed = ap (λ aim. has_tei tei (of_aim c aim l).line) aimed ∙ on
+    by-event (request r) aimed = ap (λ aim. has_tei tei (of_aim c aim l).line) aimed ∙ on
+    by-event pull aimed = pull-keeps service tei c l s on

@@ -18,7 +18,7 @@ use Rattle.laws_link.specs.States.{as_heard, state_after, moves, by_expiry}
 use Rattle.laws_link.specs.Telling.{told_by, told_expired}
 use Rattle.laws_link.proofs.Follows.{event-follows}
 use Rattle.laws_trace.specs.News.{is_news, due}
-use Rattle.laws_trace.proofs.NewsRows.{all-news, sabme_of, released_of, Fits, Told, nothing-fits, by-control}
+use Rattle.laws_trace.proofs.NewsRows.{all-news, xid_of, sabme_of, released_of, Fits, Told, nothing-fits, by-control}
 
 module _ (t : Terms) (l : Link) where
   malformed : (here : State) (what : Received) → ((f : Parts) → what ≡ frame f → ⊥) → Told t l here (received what)
@@ -40,7 +40,7 @@ module _ (t : Terms) (l : Link) where
   malformed TimerRecovery overlong none = refl
 
   abbrev Expires : State → LinkTimer → Bool → Bool → Type 0
-  Expires here timer runs again = let to = cond runs (by_expiry here timer again) here in Fits t l false false here to (told_expired here t to)
+  Expires here timer runs again = let to = cond runs (by_expiry here timer again) here in Fits t l false false false here to (told_expired here t to)
 
   expires : (here : State) (timer : LinkTimer) (runs again : Bool) → Expires here timer runs again
   expires TeiAssigned T200 true true = refl
@@ -112,7 +112,7 @@ module _ (t : Terms) (l : Link) where
   asks TimerRecovery ClearBusy full = refl
 
   told : (e : Event) → (e ≡ cleared → ⊥) → let to = state_after t (as_heard t e) l in
-      Fits t l (sabme_of e) (released_of e) l.state to (told_by t (as_heard t e) l to)
+      Fits t l (xid_of e) (sabme_of e) (released_of e) l.state to (told_by t (as_heard t e) l to)
   told (received (frame f)) some = by-control t l l.state f.address f.control f.info
   told (received undefined) some = malformed l.state undefined (λ f same. cc same)
   told (received wrong_size) some = malformed l.state wrong_size (λ f same. cc same)
@@ -125,13 +125,13 @@ module _ (t : Terms) (l : Link) where
   -- The notes of an event of a link.
   pub event-news : (e : Event) → (e ≡ cleared → ⊥) → let ns = (links.told t e l).notes in
       filter (is_news t.service t.tei) ns
-      ≡ due t.service t.tei l.asked (sabme_of e) (released_of e) (not (l.s == l.a)) (state_number l.state) (state_number (links.after t e l).state)
+      ≡ due t.service t.tei l.asked (xid_of e) (sabme_of e) (released_of e) (not (l.s == l.a)) (state_number l.state) (state_number (links.after t e l).state)
   event-news e some =
       let leaves = (event-follows t e l).leaves in
       let ns = (links.told t e l).notes in
-      let fits : Fits t l (sabme_of e) (released_of e) l.state (links.after t e l).state ns =
-      subst (λ ns. Fits t l (sabme_of e) (released_of e) l.state (links.after t e l).state ns) (sym leaves.tells)
-      (subst (λ to. Fits t l (sabme_of e) (released_of e) l.state to (told_by t (as_heard t e) l to)) (sym leaves.state) (told e some)) in
+      let fits : Fits t l (xid_of e) (sabme_of e) (released_of e) l.state (links.after t e l).state ns =
+      subst (λ ns. Fits t l (xid_of e) (sabme_of e) (released_of e) l.state (links.after t e l).state ns) (sym leaves.tells)
+      (subst (λ to. Fits t l (xid_of e) (sabme_of e) (released_of e) l.state to (told_by t (as_heard t e) l to)) (sym leaves.state) (told e some)) in
       all-news t ns (notes-own t e l) ∙ fits
 
 -- Who asked for the establishment that is awaited.

@@ -71,7 +71,7 @@ module _ (service : Service) (tei : ℕ) where
   other-note t other (notes.Assigned n) own = refl
   other-note t other (notes.Removed n) own = refl
   other-note t other (notes.Doubled n) own = refl
-  other-note t other (notes.Xid s n) own = refl
+  other-note t other (notes.Xid s n) own = away t other s n own
 
   pub other-link : (t : Terms) → is_own service tei t.service t.tei ≡ false → (what : link.Event) (x : Link) → All No (links.told t what x).notes
   other-link t other what x = All-weaker (IsOwn t) No (other-note t other) (links.told t what x).notes (notes-own t what x)

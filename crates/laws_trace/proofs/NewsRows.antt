@@ -22,7 +22,7 @@ use Rattle.laws_link.specs.Flags.{takes_contents}
 use Rattle.laws_link.specs.States.{as_heard, state_after, by_frame}
 use Rattle.laws_link.specs.Telling.{told_by, numbered_as, final_as}
 use Rattle.laws_trace.specs.Trace.{is_own}
-use Rattle.laws_trace.specs.News.{is_news, is_sabme, due}
+use Rattle.laws_trace.specs.News.{is_news, is_sabme, due, is_xid}
 use Rattle.laws_trace.proofs.LinkLed.{own-is}
 use Rattle.laws_trace.proofs.TimerRows.{in_state}
 
@@ -32,6 +32,7 @@ is_kind (notes.EstablishIndication s n) = true
 is_kind (notes.EstablishConfirm s n) = true
 is_kind (notes.ReleaseIndication s n) = true
 is_kind (notes.ReleaseConfirm s n) = true
+is_kind (notes.Xid s n) = true
 is_kind other = false
 
 its : (t : Terms) (s : Service) (n : ℕ) → (s ≡ t.service) × (n ≡ t.tei) → is_own t.service t.tei s n ≡ true
@@ -48,7 +49,7 @@ own-news t (notes.Error s n k) own = refl
 own-news t (notes.Assigned n) own = refl
 own-news t (notes.Removed n) own = refl
 own-news t (notes.Doubled n) own = refl
-own-news t (notes.Xid s n) own = refl
+own-news t (notes.Xid s n) own = its t s n own
 
 pub all-news : (t : Terms) (ns : List Note) → All (IsOwn t) ns → filter (is_news t.service t.tei) ns ≡ filter is_kind ns
 all-news t [] all = refl
@@ -56,9 +57,15 @@ all-news t (n ∷ ns) all =
     ap (λ b. cond b (n ∷ filter (is_news t.service t.tei) ns) (filter (is_news t.service t.tei) ns)) (own-news t n (All-head (IsOwn t) n ns all))
     ∙ ap (λ ms. cond (is_kind n) (n ∷ ms) ms) (all-news t ns (All-tail (IsOwn t) n ns all))
 
+abbrev pub heard_of : (Control → Bool) → Event → Bool
+heard_of is (received (frame f)) = is f.control
+heard_of is other = false
+
 abbrev pub sabme_of : Event → Bool
-sabme_of (received (frame f)) = is_sabme f.control
-sabme_of other = false
+sabme_of e = heard_of is_sabme e
+
+abbrev pub xid_of : Event → Bool
+xid_of e = heard_of is_xid e
 
 abbrev pub released_of : Event → Bool
 released_of (requested Release full) = true
@@ -66,63 +73,63 @@ released_of other = false
 
 module _ (t : Terms) (l : Link) where
   -- What is told, and what is due.
-  abbrev pub Fits : Bool → Bool → State → State → List Note → Type 0
-  Fits sabme released from to ns = filter is_kind ns ≡ due t.service t.tei l.asked sabme released (not (l.s == l.a)) (state_number from) (state_number to)
+  abbrev pub Fits : Bool → Bool → Bool → State → State → List Note → Type 0
+  Fits xid sabme released from to ns = filter is_kind ns ≡ due t.service t.tei l.asked xid sabme released (not (l.s == l.a)) (state_number from) (state_number to)
 
-  stays : (here : State) (outstanding : Bool) → due t.service t.tei l.asked false false outstanding (state_number here) (state_number here) ≡ []
+  stays : (here : State) (outstanding : Bool) → due t.service t.tei l.asked false false false outstanding (state_number here) (state_number here) ≡ []
   stays TeiAssigned outstanding = refl
   stays AwaitingEstablishment outstanding = refl
   stays AwaitingRelease outstanding = refl
   stays Established outstanding = refl
   stays TimerRecovery outstanding = refl
 
-  pub nothing-fits : (here : State) (ns : List Note) → filter is_kind ns ≡ [] → Fits false false here here ns
+  pub nothing-fits : (here : State) (ns : List Note) → filter is_kind ns ≡ [] → Fits false false false here here ns
   nothing-fits here ns none = none ∙ sym (stays here (not (l.s == l.a)))
 
-  unit-fits : (here : State) (long : Bool) → Fits false false here here (cond long [] (notes.Unit t.service t.tei ∷ []))
+  unit-fits : (here : State) (long : Bool) → Fits false false false here here (cond long [] (notes.Unit t.service t.tei ∷ []))
   unit-fits here true = nothing-fits here [] refl
   unit-fits here false = nothing-fits here (notes.Unit t.service t.tei ∷ []) refl
 
   -- An N(R) in state 7 or 8, behind what else is told.
   information-7 : (invalid taken : Bool) → let to = cond invalid AwaitingEstablishment Established in
-      Fits false false Established to (cond taken (notes.Data t.service t.tei ∷ []) [] ++ numbered_as t to)
+      Fits false false false Established to (cond taken (notes.Data t.service t.tei ∷ []) [] ++ numbered_as t to)
   information-7 true true = refl
   information-7 true false = refl
   information-7 false true = refl
   information-7 false false = refl
 
   information-8 : (invalid taken : Bool) → let to = cond invalid AwaitingEstablishment TimerRecovery in
-      Fits false false TimerRecovery to (cond taken (notes.Data t.service t.tei ∷ []) [] ++ numbered_as t to)
+      Fits false false false TimerRecovery to (cond taken (notes.Data t.service t.tei ∷ []) [] ++ numbered_as t to)
   information-8 true true = refl
   information-8 true false = refl
   information-8 false true = refl
   information-8 false false = refl
 
   final-7 : (invalid final : Bool) → let to = cond invalid AwaitingEstablishment Established in
-      Fits false false Established to (final_as t false final ++ numbered_as t to)
+      Fits false false false Established to (final_as t false final ++ numbered_as t to)
   final-7 true true = refl
   final-7 true false = refl
   final-7 false true = refl
   final-7 false false = refl
 
   final-8 : (invalid ends : Bool) → let to = cond invalid AwaitingEstablishment (cond ends Established TimerRecovery) in
-      Fits false false TimerRecovery to (numbered_as t to)
+      Fits false false false TimerRecovery to (numbered_as t to)
   final-8 true true = refl
   final-8 true false = refl
   final-8 false true = refl
   final-8 false false = refl
 
   -- SABME in states 7 and 8, and UA with F=1 in state 5, by whether contents are outstanding.
-  anew-7 : (none : Bool) → filter is_kind (notes.Error t.service t.tei code.F ∷ cond none [] (notes.EstablishIndication t.service t.tei ∷ [])) ≡ due t.service t.tei l.asked true false (not none) 7 7
+  anew-7 : (none : Bool) → filter is_kind (notes.Error t.service t.tei code.F ∷ cond none [] (notes.EstablishIndication t.service t.tei ∷ [])) ≡ due t.service t.tei l.asked false true false (not none) 7 7
   anew-7 true = refl
   anew-7 false = refl
 
-  anew-8 : (none : Bool) → filter is_kind (notes.Error t.service t.tei code.F ∷ cond none [] (notes.EstablishIndication t.service t.tei ∷ [])) ≡ due t.service t.tei l.asked true false (not none) 8 7
+  anew-8 : (none : Bool) → filter is_kind (notes.Error t.service t.tei code.F ∷ cond none [] (notes.EstablishIndication t.service t.tei ∷ [])) ≡ due t.service t.tei l.asked false true false (not none) 8 7
   anew-8 true = refl
   anew-8 false = refl
 
   agreed : (asked none : Bool) → let ns = cond asked (notes.EstablishConfirm t.service t.tei ∷ []) (cond none [] (notes.EstablishIndication t.service t.tei ∷ [])) in
-      filter is_kind ns ≡ due t.service t.tei asked false false (not none) 5 7
+      filter is_kind ns ≡ due t.service t.tei asked false false false (not none) 5 7
   agreed true true = refl
   agreed true false = refl
   agreed false true = refl
@@ -131,7 +138,7 @@ module _ (t : Terms) (l : Link) where
   abbrev pub Told : State → Event → Type 0
   Told here e =
       let to = state_after t (as_heard t e) (in_state here l) in
-      Fits (sabme_of e) (released_of e) here to (told_by t (as_heard t e) (in_state here l) to)
+      Fits (xid_of e) (sabme_of e) (released_of e) here to (told_by t (as_heard t e) (in_state here l) to)
 
   abbrev part : Address → Control → List ℕ → Event
   part address control info = received (frame (record { address = address; control = control; info = info }))
@@ -139,7 +146,7 @@ module _ (t : Terms) (l : Link) where
   abbrev Informed : State → Bool → Address → Seq → Seq → Bool → List ℕ → Type 0
   Informed here too_long address ns nr p info =
       let e : Event = received (cond too_long overlong (frame (record { address = address; control = Information ns nr p; info = info }))) in
-      let to = state_after t e (in_state here l) in Fits false false here to (told_by t e (in_state here l) to)
+      let to = state_after t e (in_state here l) in Fits false false false here to (told_by t e (in_state here l) to)
 
   information : (here : State) (too_long : Bool) (address : Address) (ns nr : Seq) (p : Bool) (info : List ℕ) → Informed here too_long address ns nr p info
   information TeiAssigned true address ns nr p info = refl
@@ -156,21 +163,21 @@ module _ (t : Terms) (l : Link) where
       information-8 (not (is_some (named l.a l.s nr))) (takes_contents (part address (Information ns nr p) info) (in_state TimerRecovery l))
 
   by-ReceiveReady : (command f : Bool) (nr : Seq) → let to = cond (not (is_some (named l.a l.s nr))) AwaitingEstablishment (by_frame TimerRecovery command (ReceiveReady nr f)) in
-      Fits false false TimerRecovery to (final_as t true (not command && f) ++ numbered_as t to)
+      Fits false false false TimerRecovery to (final_as t true (not command && f) ++ numbered_as t to)
   by-ReceiveReady true true nr = final-8 (not (is_some (named l.a l.s nr))) false
   by-ReceiveReady true false nr = final-8 (not (is_some (named l.a l.s nr))) false
   by-ReceiveReady false true nr = final-8 (not (is_some (named l.a l.s nr))) true
   by-ReceiveReady false false nr = final-8 (not (is_some (named l.a l.s nr))) false
 
   by-ReceiveNotReady : (command f : Bool) (nr : Seq) → let to = cond (not (is_some (named l.a l.s nr))) AwaitingEstablishment (by_frame TimerRecovery command (ReceiveNotReady nr f)) in
-      Fits false false TimerRecovery to (final_as t true (not command && f) ++ numbered_as t to)
+      Fits false false false TimerRecovery to (final_as t true (not command && f) ++ numbered_as t to)
   by-ReceiveNotReady true true nr = final-8 (not (is_some (named l.a l.s nr))) false
   by-ReceiveNotReady true false nr = final-8 (not (is_some (named l.a l.s nr))) false
   by-ReceiveNotReady false true nr = final-8 (not (is_some (named l.a l.s nr))) true
   by-ReceiveNotReady false false nr = final-8 (not (is_some (named l.a l.s nr))) false
 
   by-Reject : (command f : Bool) (nr : Seq) → let to = cond (not (is_some (named l.a l.s nr))) AwaitingEstablishment (by_frame TimerRecovery command (Reject nr f)) in
-      Fits false false TimerRecovery to (final_as t true (not command && f) ++ numbered_as t to)
+      Fits false false false TimerRecovery to (final_as t true (not command && f) ++ numbered_as t to)
   by-Reject true true nr = final-8 (not (is_some (named l.a l.s nr))) false
   by-Reject true false nr = final-8 (not (is_some (named l.a l.s nr))) false
   by-Reject false true nr = final-8 (not (is_some (named l.a l.s nr))) true

@@ -4,6 +4,7 @@ use Rattle.std.specs.Prelude.{option_to_list}
 use Rattle.std.specs.List.{list_any}
 use Rattle.std.specs.Option.{option_map_or}
 use Rattle.model_bits.specs.Stream as stream
+use Rattle.lapd_frame.specs.declared.controls.Control.{Control}
 use Rattle.lapd_frame.specs.declared.services.Service.{Service}
 use Rattle.model_link.specs.declared.timers.LinkTimer.TheVariants.{T200, T203}
 use Rattle.model_link.specs.Events as link
@@ -23,71 +24,36 @@ use Rattle.laws_line.specs.Steady.{IsBy}
 use Rattle.laws_link.specs.Flags.{asks_establishment}
 use Rattle.lapd_frame.specs.Grammar.{Parts}
 use Rattle.laws_trace.specs.Deliveries.{is_for, frame_of as frame_heard}
-use Rattle.laws_trace.specs.News.{establishes, releases, is_sabme, begins}
-use Rattle.laws_trace.specs.TimersAreTimely.{nothing_yet, control_in}
+use Rattle.laws_trace.specs.News.{establishes, releases}
+use Rattle.laws_trace.specs.TimersAreTimely.{nothing_yet, control_in, brings}
 use Rattle.laws_trace.specs.Trace as traces
 use Rattle.laws_trace.specs.Trace.{is_own, seen, seen_told, seen_granted}
 use Rattle.laws_trace.proofs.Deliveries.{frame_by, brings-frame, brings-none}
 use Rattle.laws_trace.proofs.DeliveriesRun.{event-aims}
 use Rattle.laws_trace.proofs.LinkLed.{own-is, none-refused, elsewhere}
-use Rattle.laws_trace.proofs.NewsRows.{sabme_of, released_of}
+use Rattle.laws_trace.proofs.NewsRows.{heard_of, released_of}
 use Rattle.laws_trace.proofs.OneLink.{is_at_link}
+use Rattle.laws_trace.proofs.TimersOfLine.{seen-brings}
 
-module _ (c : Config) (service : Service) (tei : ℕ) where
-  told-begins : (a : Answer) → list_any (begins c service tei) (seen_told a) ≡ false
-  told-begins (told t) = refl
-  told-begins (refused why) = refl
-  told-begins (pulled value is_begun orders) = refl
-
-  or-false : (b : Bool) → (b || false) ≡ b
-  or-false true = refl
-  or-false false = refl
-
-  octet-begins : (o : Option stream.Event) (a : Answer)
-      → list_any (begins c service tei) (map traces.heard (option_to_list o) ++ seen_told a) ≡ option_map_or is_sabme (control_in service tei (option_map_or (frame_heard c) o None)) false
-  octet-begins None a = told-begins a
-  octet-begins (Some e) a =
-      ap (λ b. option_map_or is_sabme (control_in service tei (frame_heard c e)) false || b) (told-begins a)
-      ∙ or-false (option_map_or is_sabme (control_in service tei (frame_heard c e)) false)
-
-  asked-begins : (r : Request) (a : Answer) → list_any (begins c service tei) (seen_granted r a ++ seen_told a) ≡ false
-  asked-begins r (told t) = refl
-  asked-begins r (refused why) = refl
-  asked-begins r (pulled value is_begun orders) = refl
-
-  pull-begins : (o : Option Taken) (a : Answer)
-      → list_any (begins c service tei) (map traces.begun (option_to_list (option_map frame_taken o)) ++ map traces.put (octet_in a)) ≡ false
-  pull-begins None (told t) = refl
-  pull-begins None (refused why) = refl
-  pull-begins None (pulled value is_begun orders) = refl
-  pull-begins (Some t) (told u) = refl
-  pull-begins (Some t) (refused why) = refl
-  pull-begins (Some t) (pulled value is_begun orders) = refl
-
-  seen-begins : (e : line_event.Event) (l : Line) (a : Answer) → list_any (begins c service tei) (seen c e l a) ≡ option_map_or is_sabme (control_in service tei (frame_by c e l)) false
-  seen-begins (octet value) l a = octet-begins (gained c.n201 l.received value) a
-  seen-begins (expiry timer) l a = told-begins a
-  seen-begins (request r) l a = asked-begins r a
-  seen-begins pull l a = pull-begins (pulls.begun c l) a
-
+module _ (c : Config) (service : Service) (tei : ℕ) (which : Control → Bool) where
   module _ (e : line_event.Event) (l : Line) (a : Answer) where
-    sabme-none : frame_by c e l ≡ None → option_map_or is_sabme (control_in service tei (frame_by c e l)) false ≡ false
-    sabme-none none = ap (λ o. option_map_or is_sabme (control_in service tei o) false) none
+    none-brought : frame_by c e l ≡ None → option_map_or which (control_in service tei (frame_by c e l)) false ≡ false
+    none-brought none = ap (λ o. option_map_or which (control_in service tei o) false) none
 
     -- one event of the link
-    pub one-begins : (event : link.Event) → IsBy c l e a service tei event → list_any (begins c service tei) (seen c e l a) ≡ sabme_of event
-    one-begins event by = seen-begins e l a ∙ go event by
+    pub one-begins : (event : link.Event) → IsBy c l e a service tei event → list_any (brings which c service tei) (seen c e l a) ≡ heard_of which event
+    one-begins event by = seen-brings c service tei which e l a ∙ go event by
       where
-        go : (event : link.Event) → IsBy c l e a service tei event → option_map_or is_sabme (control_in service tei (frame_by c e l)) false ≡ sabme_of event
+        go : (event : link.Event) → IsBy c l e a service tei event → option_map_or which (control_in service tei (frame_by c e l)) false ≡ heard_of which event
         go (link.received (link.frame f)) by =
             let x = brings-frame c l e a service tei f by in
-            ap (λ o. option_map_or is_sabme (control_in service tei o) false) x.0 ∙ ap (λ b. option_map_or is_sabme (cond b (Some f.control) None) false) x.1
-        go (link.received link.undefined) by = sabme-none (brings-none c l e a service tei link.undefined by)
-        go (link.received link.wrong_size) by = sabme-none (brings-none c l e a service tei link.wrong_size by)
-        go (link.received link.overlong) by = sabme-none (brings-none c l e a service tei link.overlong by)
-        go (link.expired timer) by = sabme-none (ap (λ e. frame_by c e l) by)
-        go (link.requested what full) by = sabme-none (ap (λ e. frame_by c e l) by.0)
-        go link.offer by = sabme-none (ap (λ e. frame_by c e l) by)
+            ap (λ o. option_map_or which (control_in service tei o) false) x.0 ∙ ap (λ b. option_map_or which (cond b (Some f.control) None) false) x.1
+        go (link.received link.undefined) by = none-brought (brings-none c l e a service tei link.undefined by)
+        go (link.received link.wrong_size) by = none-brought (brings-none c l e a service tei link.wrong_size by)
+        go (link.received link.overlong) by = none-brought (brings-none c l e a service tei link.overlong by)
+        go (link.expired timer) by = none-brought (ap (λ e. frame_by c e l) by)
+        go (link.requested what full) by = none-brought (ap (λ e. frame_by c e l) by.0)
+        go link.offer by = none-brought (ap (λ e. frame_by c e l) by)
         go link.cleared by = absurd by
 
     pub one-releases : (event : link.Event) → IsBy c l e a service tei event → releases service tei e a ≡ released_of event
@@ -122,14 +88,14 @@ module _ (c : Config) (service : Service) (tei : ℕ) where
 
   -- and none
   module _ (l : Line) (place : ℕ) (on : place_in l tei ≡ Some place) where
-    pub none-begins : (e : line_event.Event) → is_at_link service tei (lines.aim_of c e l) ≡ false → (a : Answer) → list_any (begins c service tei) (seen c e l a) ≡ false
-    none-begins e aims a = seen-begins e l a ∙ go (frame_by c e l) refl
+    pub none-begins : (e : line_event.Event) → is_at_link service tei (lines.aim_of c e l) ≡ false → (a : Answer) → list_any (brings which c service tei) (seen c e l a) ≡ false
+    none-begins e aims a = seen-brings c service tei which e l a ∙ go (frame_by c e l) refl
       where
-        by-whom : (f : Parts) → frame_by c e l ≡ Some f → (b : Bool) → is_for service tei f.address ≡ b → option_map_or is_sabme (cond b (Some f.control) None) false ≡ false
+        by-whom : (f : Parts) → frame_by c e l ≡ Some f → (b : Bool) → is_for service tei f.address ≡ b → option_map_or which (cond b (Some f.control) None) false ≡ false
         by-whom f is true for = absurd (true≢false (sym (event-aims c l service tei place on e f is for) ∙ aims))
         by-whom f is false for = refl
 
-        go : (o : Option Parts) → frame_by c e l ≡ o → option_map_or is_sabme (control_in service tei o) false ≡ false
+        go : (o : Option Parts) → frame_by c e l ≡ o → option_map_or which (control_in service tei o) false ≡ false
         go None is = refl
         go (Some f) is = by-whom f is (is_for service tei f.address) refl
 

@@ -1,4 +1,4 @@
--- What is known of a link, and when its timers are started: one event of a line.
+-- What is known of a link, and what is heard of it: one event of a line.
 use Rattle.std.proofs.Common.{◌≡◌, ℕ, ◌||◌, Bool, true, false, ◌++◌, map, Option, Some, None, option_map, refl, ap, ◌∙◌}
 use Rattle.std.specs.Prelude.{fold, option_to_list}
 use Rattle.std.specs.List.{list_any}
@@ -16,7 +16,7 @@ use Rattle.model_line.specs.Request.{Request}
 use Rattle.model_card.specs.Pulled.{frame_taken, octet_in}
 use Rattle.laws_trace.specs.DataGoesOut.{Sent}
 use Rattle.laws_trace.specs.Deliveries.{frame_of as frame_heard}
-use Rattle.laws_trace.specs.TimersAreTimely.{Known, hears, sends, control_in, learns, renews, renews_by}
+use Rattle.laws_trace.specs.TimersAreTimely.{Known, hears, sends, control_in, learns, brings}
 use Rattle.laws_trace.specs.Trace as traces
 use Rattle.laws_trace.specs.Trace.{Seen, seen, seen_told, seen_granted}
 use Rattle.laws_trace.proofs.DataGoesOut.{sent_of, sent_with}
@@ -52,37 +52,6 @@ module _ (c : Config) (service : Service) (tei : ℕ) (k : Known) where
   pull-learns r i None a = put-learns r i k a
   pull-learns r i (Some t) a = put-learns r i (option_map_or (sends k) (sent_of c service tei (frame_taken t)) k) a
 
-  -- and whether a timer is started anew
-  or-false : (b : Bool) → (b || false) ≡ b
-  or-false true = refl
-  or-false false = refl
-
-  told-renews : (timer : LinkTimer) (a : Answer) → list_any (renews_by c service tei timer k) (seen_told a) ≡ false
-  told-renews timer (told t) = refl
-  told-renews timer (refused why) = refl
-  told-renews timer (pulled value is_begun orders) = refl
-
-  octet-renews : (timer : LinkTimer) (o : Option stream.Event) (a : Answer) → list_any (renews_by c service tei timer k) (map traces.heard (option_to_list o) ++ seen_told a)
-      ≡ option_map_or (renews timer k) (control_in service tei (option_map_or (frame_heard c) o None)) false
-  octet-renews timer None a = told-renews timer a
-  octet-renews timer (Some e) a =
-      ap (λ b. option_map_or (renews timer k) (control_in service tei (frame_heard c e)) false || b) (told-renews timer a)
-      ∙ or-false (option_map_or (renews timer k) (control_in service tei (frame_heard c e)) false)
-
-  asked-renews : (timer : LinkTimer) (asked : Request) (a : Answer) → list_any (renews_by c service tei timer k) (seen_granted asked a ++ seen_told a) ≡ false
-  asked-renews timer asked (told t) = refl
-  asked-renews timer asked (refused why) = refl
-  asked-renews timer asked (pulled value is_begun orders) = refl
-
-  pull-renews : (timer : LinkTimer) (o : Option Taken) (a : Answer)
-      → list_any (renews_by c service tei timer k) (map traces.begun (option_to_list (option_map frame_taken o)) ++ map traces.put (octet_in a)) ≡ false
-  pull-renews timer None (told t) = refl
-  pull-renews timer None (refused why) = refl
-  pull-renews timer None (pulled value is_begun orders) = refl
-  pull-renews timer (Some t) (told u) = refl
-  pull-renews timer (Some t) (refused why) = refl
-  pull-renews timer (Some t) (pulled value is_begun orders) = refl
-
   abbrev pub sent_at : Event → Line → Option Sent
   sent_at pull l = sent_with c service tei (begun c l)
   sent_at (octet value) l = None
@@ -97,9 +66,40 @@ module _ (c : Config) (service : Service) (tei : ℕ) (k : Known) where
   seen-learns (request asked) l a r i = asked-learns r i asked a
   seen-learns pull l a r i = pull-learns r i (begun c l) a
 
-  pub seen-renews : (e : Event) (l : Line) (a : Answer) (timer : LinkTimer)
-      → list_any (renews_by c service tei timer k) (seen c e l a) ≡ option_map_or (renews timer k) (control_in service tei (frame_by c e l)) false
-  seen-renews (octet value) l a timer = octet-renews timer (gained c.n201 l.received value) a
-  seen-renews (expiry other) l a timer = told-renews timer a
-  seen-renews (request asked) l a timer = asked-renews timer asked a
-  seen-renews pull l a timer = pull-renews timer (begun c l) a
+-- Whether a frame of the link is heard whose control field is so.
+module _ (c : Config) (service : Service) (tei : ℕ) (which : Control → Bool) where
+  told-brings : (a : Answer) → list_any (brings which c service tei) (seen_told a) ≡ false
+  told-brings (told t) = refl
+  told-brings (refused why) = refl
+  told-brings (pulled value is_begun orders) = refl
+
+  or-false : (b : Bool) → (b || false) ≡ b
+  or-false true = refl
+  or-false false = refl
+
+  octet-brings : (o : Option stream.Event) (a : Answer)
+      → list_any (brings which c service tei) (map traces.heard (option_to_list o) ++ seen_told a) ≡ option_map_or which (control_in service tei (option_map_or (frame_heard c) o None)) false
+  octet-brings None a = told-brings a
+  octet-brings (Some e) a =
+      ap (λ b. option_map_or which (control_in service tei (frame_heard c e)) false || b) (told-brings a)
+      ∙ or-false (option_map_or which (control_in service tei (frame_heard c e)) false)
+
+  asked-brings : (asked : Request) (a : Answer) → list_any (brings which c service tei) (seen_granted asked a ++ seen_told a) ≡ false
+  asked-brings asked (told t) = refl
+  asked-brings asked (refused why) = refl
+  asked-brings asked (pulled value is_begun orders) = refl
+
+  pull-brings : (o : Option Taken) (a : Answer)
+      → list_any (brings which c service tei) (map traces.begun (option_to_list (option_map frame_taken o)) ++ map traces.put (octet_in a)) ≡ false
+  pull-brings None (told t) = refl
+  pull-brings None (refused why) = refl
+  pull-brings None (pulled value is_begun orders) = refl
+  pull-brings (Some t) (told u) = refl
+  pull-brings (Some t) (refused why) = refl
+  pull-brings (Some t) (pulled value is_begun orders) = refl
+
+  pub seen-brings : (e : Event) (l : Line) (a : Answer) → list_any (brings which c service tei) (seen c e l a) ≡ option_map_or which (control_in service tei (frame_by c e l)) false
+  seen-brings (octet value) l a = octet-brings (gained c.n201 l.received value) a
+  seen-brings (expiry timer) l a = told-brings a
+  seen-brings (request asked) l a = asked-brings asked a
+  seen-brings pull l a = pull-brings (begun c l) a

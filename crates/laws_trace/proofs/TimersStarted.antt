@@ -34,7 +34,7 @@ use Rattle.laws_trace.proofs.TimerActs.{timing}
 use Rattle.laws_trace.proofs.TimerClaims.{told_state, anew_by}
 use Rattle.laws_trace.proofs.TimerEvents.{control_of, event-good}
 use Rattle.laws_trace.proofs.TimerOffers.{Offered, given_sent, told-starts}
-use Rattle.laws_trace.proofs.TimersOfLine.{seen-renews}
+use Rattle.laws_trace.proofs.TimersOfLine.{seen-brings}
 use Rattle.laws_trace.proofs.TimersOfEvent as events
 use Rattle.laws_trace.proofs.TimersOfEvent.{IsTrueOf, state-on, off-fresh, needed-is}
 
@@ -122,7 +122,7 @@ module _ (c : Config) (ranged : IsInRange c) (l : Line) (s : IsSound c l) (timed
     due-so place there on stays to is o control =
         ap (λ p. is_anew c service tei timer k p (state_of service tei (after c e l)) (seen c e l a)) (state-on service tei l place on)
         ∙ ap (λ p. is_anew c service tei timer k (told_state own.state) p (seen c e l a)) (state-on service tei (after c e l) there stays ∙ ap told_state is)
-        ∙ ap (λ b. differ (told_state own.state) (told_state to) || (is_state 7 (told_state own.state) && b)) (seen-renews c service tei k e l a timer ∙ ap (λ o. option_map_or (renews timer k) o false) control)
+        ∙ ap (λ b. differ (told_state own.state) (told_state to) || (is_state 7 (told_state own.state) && b)) (seen-brings c service tei (renews timer k) e l a ∙ ap (λ o. option_map_or (renews timer k) o false) control)
 
     none-due : (place there : ℕ) → place_in l tei ≡ Some place → place_in (after c e l) tei ≡ Some there → next.state ≡ own.state
         → control_in service tei (frame_by c e l) ≡ None → is_due ≡ false

@@ -3,9 +3,10 @@ use Rattle.std.specs.Prelude.{◌≡◌, ℕ, ◌==◌, ◌&&◌, ◌||◌, not,
 use Rattle.std.specs.List.{list_any}
 use Rattle.std.specs.Option.{option_map_or, unwrap_or}
 use Rattle.lapd_frame.specs.declared.controls.Control.{Control}
+use Rattle.lapd_frame.specs.declared.controls.Control.TheVariants as control
 use Rattle.lapd_frame.specs.declared.controls.Control.TheVariants.{Sabme}
 use Rattle.lapd_frame.specs.declared.notes.Note.{Note}
-use Rattle.lapd_frame.specs.declared.notes.Note.TheVariants.{EstablishIndication, EstablishConfirm, ReleaseIndication, ReleaseConfirm}
+use Rattle.lapd_frame.specs.declared.notes.Note.TheVariants.{EstablishIndication, EstablishConfirm, ReleaseIndication, ReleaseConfirm, Xid}
 use Rattle.lapd_frame.specs.declared.services.Service.{Service}
 use Rattle.model_line.specs.declared.config.Config.{Config}
 use Rattle.model_line.specs.Event as line_event
@@ -18,18 +19,19 @@ use Rattle.model_card.specs.Event.{Event, at}
 use Rattle.model_card.specs.Machine.{answer}
 use Rattle.model_card.specs.Run.{Moment, moments, after_all}
 use Rattle.laws_trace.specs.Deliveries.{frame_of}
-use Rattle.laws_trace.specs.TimersAreTimely.{control_in, is_state, state_before, state_after, differ, Known, nothing_yet, watch}
+use Rattle.laws_trace.specs.TimersAreTimely.{is_state, state_before, state_after, differ, Known, nothing_yet, watch, brings}
 use Rattle.laws_trace.specs.Trace.{is_own, Seen, heard, seen_in}
 
--- The notes that say that a link is up, or down (Q.921 clauses 4.1.1.1 and 4.1.1.2).
+-- The notes that say that a link is up, or down, or that XID came (Q.921 clauses 4.1.1.1 and 4.1.1.2).
 abbrev pub is_news : Service → ℕ → Note → Bool
 is_news service tei (EstablishIndication of by) = is_own service tei of by
 is_news service tei (EstablishConfirm of by) = is_own service tei of by
 is_news service tei (ReleaseIndication of by) = is_own service tei of by
 is_news service tei (ReleaseConfirm of by) = is_own service tei of by
+is_news service tei (Xid of by) = is_own service tei of by
 is_news service tei other = false
 
--- Layer 3 asks for the establishment of a link, or for its release; and the terminal begins to establish it.
+-- Layer 3 asks for the establishment of a link, or for its release; and the terminal begins to establish it, or sends XID.
 abbrev pub establishes : Service → ℕ → line_event.Event → Answer → Bool
 establishes service tei (request (Establish of by)) a = is_granted a && is_own service tei of by
 establishes service tei other a = false
@@ -42,9 +44,9 @@ abbrev pub is_sabme : Control → Bool
 is_sabme (Sabme p) = true
 is_sabme other = false
 
-abbrev pub begins : Config → Service → ℕ → Seen → Bool
-begins c service tei (heard e) = option_map_or is_sabme (control_in service tei (frame_of c e)) false
-begins c service tei other = false
+abbrev pub is_xid : Control → Bool
+is_xid (control.Xid pf) = true
+is_xid other = false
 
 -- Whether it was layer 3 that asked for the establishment that a link in state 5 awaits, or this side began it (clauses 5.5.1.1
 -- and 5.7.2).
@@ -70,10 +72,11 @@ owing c service tei number w m =
 -- established it, which is an indication; from state 5 a confirm, if layer 3 asked for it; and if not, or if the terminal
 -- establishes a link anew by SABME, an indication where I-frames are outstanding, or nothing (clauses 5.5.1.2 and 5.7). Where it comes to
 -- state 4 from state 6, and where layer 3 releases a link in state 4, that is a confirm, and from other states an indication
--- (clauses 5.5.1.2, 5.5.1.3, 5.5.3.2 and 5.5.3.3).
-abbrev pub due : Service → ℕ → Bool → Bool → Bool → Bool → ℕ → ℕ → List Note
-due service tei was_asked sabme released outstanding from to =
-    if to == 7 then
+-- (clauses 5.5.1.2, 5.5.1.3, 5.5.3.2 and 5.5.3.3). XID is told, and moves nothing (profile).
+abbrev pub due : Service → ℕ → Bool → Bool → Bool → Bool → Bool → ℕ → ℕ → List Note
+due service tei was_asked xid sabme released outstanding from to =
+    if xid then Xid service tei ∷ []
+    else if to == 7 then
     (if from == 4 then EstablishIndication service tei ∷ [] else if from == 5 && was_asked then EstablishConfirm service tei ∷ []
     else if (from == 5 || sabme) && outstanding then EstablishIndication service tei ∷ [] else [])
     else if to == 4 then
@@ -91,5 +94,7 @@ NewsIsTold c events number =
     let was_asked = fold (asked service tei number) false (moments (fresh c) before) in
     let w = fold (owing c service tei number) none_owed (moments (fresh c) before) in
     (from : ℕ) → state_before service tei number m ≡ Some from →
+    let now = seen_in number m in
     filter (is_news service tei) (notes_of m.answer)
-    ≡ due service tei was_asked (list_any (begins c service tei) (seen_in number m)) (releases service tei what m.answer) w.outstanding from (unwrap_or (state_after service tei number m) 4)
+    ≡ due service tei was_asked (list_any (brings is_xid c service tei) now) (list_any (brings is_sabme c service tei) now) (releases service tei what m.answer)
+    w.outstanding from (unwrap_or (state_after service tei number m) 4)

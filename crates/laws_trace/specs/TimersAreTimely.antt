@@ -112,9 +112,9 @@ renews T203 k (Information ns nr p) = true
 renews T203 k (Sabme p) = true
 renews timer k other = false
 
-abbrev pub renews_by : Config → Service → ℕ → LinkTimer → Known → Seen → Bool
-renews_by c service tei timer k (heard e) = option_map_or (renews timer k) (control_in service tei (frame_of c e)) false
-renews_by c service tei timer k other = false
+abbrev pub brings : (Control → Bool) → Config → Service → ℕ → Seen → Bool
+brings is c service tei (heard e) = option_map_or is (control_in service tei (frame_of c e)) false
+brings is c service tei other = false
 
 -- And each timer where the link moves to another state: to await another answer.
 abbrev pub differ : Option ℕ → Option ℕ → Bool
@@ -122,7 +122,7 @@ differ None after = is_some after
 differ (Some state) after = not (is_state state after)
 
 abbrev pub is_anew : Config → Service → ℕ → LinkTimer → Known → Option ℕ → Option ℕ → List Seen → Bool
-is_anew c service tei timer k before after now = differ before after || (is_state 7 before && list_any (renews_by c service tei timer k) now)
+is_anew c service tei timer k before after now = differ before after || (is_state 7 before && list_any (brings (renews timer k) c service tei) now)
 
 -- So the answer to an event at the line orders that a timer of a link is started exactly where the timer runs afterwards, and
 -- either did not run, or had just expired, or is started anew by one of these causes.

@@ -220,8 +220,9 @@ pub fn links_move()
 /// state 4 to state 7; from state 5 a confirm, where layer 3 asked for that establishment, and if this side began it, or the
 /// terminal establishes a link anew by SABME, an indication exactly where an I-frame that went is not acknowledged, in state
 /// 5 as it was where the link came there; a release confirm where it comes from state 6 to state 4, or is released in state
-/// 4; and a release indication where it comes to state 4 from another state. So no confirm is told that layer 3 did not ask
-/// for, none twice, and no end of a link goes untold (Q.921 clauses 4.1.1.1, 4.1.1.2, 5.5.1, 5.5.3 and 5.7).
+/// 4; and a release indication where it comes to state 4 from another state. And XID that is heard of it is told. So no
+/// confirm is told that layer 3 did not ask for, none twice, and no end of a link goes untold (Q.921 clauses 4.1.1.1,
+/// 4.1.1.2, 5.5.1, 5.5.3 and 5.7).
 pub fn news_is_told()
     ensures { Always NewsIsTold }
 {}

@@ -10,8 +10,8 @@
 //!
 //! When messages of TEI management, unit data and control frames go, where other events come between the pulls; turns,
 //! where the place of the first link changes; whether the RR that goes by itself is needed; which contents stay where
-//! numbers begin and no indication is told; errors that lead to no SABME, and notes of XID; which part of a line is full
-//! where a frame is lost.
+//! numbers begin and no indication is told; errors that lead to no SABME; which part of a line is full where a frame is
+//! lost.
 #![tactic(auto)]
 
 mod laws;

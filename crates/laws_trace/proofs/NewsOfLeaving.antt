@@ -255,4 +255,4 @@ one-stays service tei c e l s on place event (inr aimed) = by-event e aimed
     by-event (octet value) aimed = ap (λ aim. has_tei tei (of_aim c aim (with_received value l)).line) aimed ∙ on
     by-event (expiry timer) aimed = ap (λ aim. has_tei tei (of_aim c aim l).line) aimed ∙ on
     by-event (request r) aimed = ap (λ aim. has_tei tei (of_aim c aim l).line) aimed ∙ on
-    by-event pull aimed = pull-keeps service tei c l s on
+    by-event pull aimed = pull-keeps tei c l s on

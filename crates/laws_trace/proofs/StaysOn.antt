@@ -30,7 +30,7 @@ module _ (tei : ℕ) where
   first-on number m (e ∷ events) h = h.0
 
   -- Pulls keep a TEI on the line.
-  pull-keeps : (c : Config) (l : Line) → IsSound c l → has_tei tei l ≡ true → has_tei tei (after c pull l) ≡ true
+  pub pull-keeps : (c : Config) (l : Line) → IsSound c l → has_tei tei l ≡ true → has_tei tei (after c pull l) ≡ true
   unfolding after
   pull-keeps c l s on = go (is_due l) (taken c l) (taken-one c l s)
     where

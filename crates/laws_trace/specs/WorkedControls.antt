@@ -15,7 +15,7 @@ use Rattle.laws_link.specs.Waiting.{as_response, as_command}
 use Rattle.model_link.specs.declared.frames.ControlFrame.{ControlFrame}
 use Rattle.model_line.specs.Event.{expiry}
 use Rattle.model_line.specs.Machine as lines
-use Rattle.model_line.specs.Request.{Assign, Establish, Release, SetBusy, ClearBusy}
+use Rattle.model_line.specs.Request.{Assign, Remove, Establish, Release, SetBusy, ClearBusy}
 use Rattle.model_card.specs.Card.{fresh}
 use Rattle.model_card.specs.Event.{Event, at}
 use Rattle.model_card.specs.Run.{moments}
@@ -47,6 +47,11 @@ ua_begins = refl
 none_of_another : flat_map (controls_at usual Packet 64) (trace_of usual (up ++ pulls 2) 0) ≡ []
 unfolding moments lines.after lines.answer lines.takes_slot teis.course teis.refusal low_bits reading header_of control_of unnumbered_of
 none_of_another = refl
+
+-- Where the TEI leaves the line before a pull, and comes again, the UA that waited does not begin.
+gone_with_its_tei : gone (up ++ (on_0 (Remove 64) ∷ on_0 (Assign 64) ∷ pulls 40)) ≡ []
+unfolding moments lines.after lines.answer lines.takes_slot teis.course teis.refusal low_bits reading header_of control_of unnumbered_of
+gone_with_its_tei = refl
 
 -- In state 6 SABME is answered by DM, and in state 4 DISC; XID by nothing.
 by_dm : answer_to at_first at_first 6 true (Sabme true) ++ answer_to at_first at_first 4 true (Disc false) ≡ as_response (Dm true) ++ as_response (Dm false)

@@ -17,9 +17,9 @@
 mod laws;
 
 pub use laws::{
-    all_are_acknowledged, all_frames_go_out, control_frames_go,
-    data_goes_out, errors_are_noted, frames_are_read, frames_go_out, links_move, links_take_turns,
-    links_take_turns_meanwhile, messages_are_owed, messages_come_first, news_is_told,
-    nothing_is_lost_in_vain, ranges_are_served, the_other_side_is_heard, timers_are_timely,
-    units_are_heard, units_go_out, what_is_told_was_heard,
+    all_are_acknowledged, all_frames_go_out, control_frames_go, data_goes_out, errors_are_noted,
+    frames_are_read, frames_go_out, links_move, links_take_turns, links_take_turns_meanwhile,
+    messages_are_owed, messages_come_first, news_is_told, nothing_is_lost_in_vain,
+    ranges_are_served, the_other_side_is_heard, timers_are_timely, units_are_heard, units_go_out,
+    what_is_told_was_heard,
 };

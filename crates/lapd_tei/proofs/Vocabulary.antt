@@ -3,7 +3,7 @@ pub use Rattle.std.proofs.Common.{Bool, IfSome, IsSome, List, None, Option, Some
 pub use Rattle.std.proofs.lemmas.List.Sums.{count_by-le-length, fails_before_first, length-filter, passes_at_first}
 pub use Rattle.std.proofs.lemmas.List.FromFn.{get_or-range_with_len, length-range_with_len}
 pub use Rattle.std.proofs.lemmas.List.Folds.{Any-from_list_any, find_at, list_any_at}
-pub use Rattle.std.proofs.lemmas.Bool.{cases_order, false≢true}
+pub use Rattle.std.proofs.lemmas.Bool.{cases_eq, cases_order, false≢true}
 pub use Rattle.std.proofs.lemmas.Bool.Decides.{nat_tests}
 pub use Rattle.std.proofs.lemmas.List.{get_or-set_other, get_or-set_same, get_or_default, take-replicate}
 pub use Rattle.std.proofs.lemmas.List.Elements.{All-append, All-cons, All-drop, All-from_recursion, All-get_or, All-nil, recursion_from_All}

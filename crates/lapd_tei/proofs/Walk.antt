@@ -1,7 +1,7 @@
 -- Every event ends in one of a few ways: the rows of the table are walked once, for any claim.
-use Rattle.lapd_tei.proofs.Vocabulary.{◌≡◌, ℕ, ◌==◌, ◌&&◌, nat_le, Bool, true, false, not, cond, is_some, Option, Some, None, refl, sym, arith, nat_tests, none-some, Refusal, NoLink, TeiTaken, Heard, IdentityAssigned, IdentityDenied, IdentityRemove, IdentityRequest, IdentityVerify, IdentityCheckResponse, heard_in, is_on, free_place, free_tei, Management, Check, Period, First, Second, Course, Step, begun, no_room, leave, check_is, begin_check, end_check, lose_one, send, unserved, assign, assign_new, remembered_in, may_be_checked, counted, responses, doubled, count, respond, serve, expire, expire_period, expire_check, is_unanswered, removed, join_at, put_on, is_checked, take_off, nothing_happens, Event, message, expiry, remove, check, refusal_if, refusal, unless_refused, step, course}
+use Rattle.lapd_tei.proofs.Vocabulary.{◌≡◌, ℕ, ◌==◌, ◌&&◌, nat_le, Bool, true, false, not, cond, is_some, Option, Some, None, refl, sym, none-some, Refusal, NoLink, TeiTaken, Heard, IdentityAssigned, IdentityDenied, IdentityRemove, IdentityRequest, IdentityVerify, IdentityCheckResponse, heard_in, is_on, free_place, free_tei, Management, Check, Period, First, Second, Course, Step, begun, no_room, leave, check_is, begin_check, end_check, lose_one, send, unserved, assign, assign_new, remembered_in, may_be_checked, counted, responses, doubled, count, respond, serve, expire, expire_period, expire_check, is_unanswered, removed, join_at, put_on, is_checked, take_off, nothing_happens, Event, message, expiry, remove, check, refusal_if, refusal, unless_refused, step, course}
 use Rattle.lapd_tei.specs.Events.{assign as assigning}
-use Rattle.lapd_tei.proofs.Tables.{not_not}
+use Rattle.lapd_tei.proofs.Tables.{same_number, not_not}
 
 -- What a claim has to say of each way in which a message of a terminal ends,
 pub record OfMessages (m : Management) (E : Course → Type 0) : Type 0 where
@@ -31,10 +31,7 @@ pub record OfEvents (e : Event) (m : Management) (E : Course → Type 0) : Type 
   pub leaves_checked : (tei : ℕ) → is_on tei m.places ≡ true → E (leave tei (end_check (send (IdentityRemove tei) (begun m))))
   pub leaves : (tei : ℕ) → is_on tei m.places ≡ true → is_checked tei m.check ≡ false → E (leave tei (send (IdentityRemove tei) (begun m)))
 
--- tests that hold
-same_number : (a b : ℕ) → (a == b) ≡ true → a ≡ b
-same_number a b e = grind (arith, nat_tests)
-
+-- two tests that hold
 first_true : (a b : Bool) → (a && b) ≡ true → a ≡ true
 first_true true b e = refl
 first_true false b e = e

@@ -1,22 +1,19 @@
 -- What the calls of a clock do to the set that its lines stand for.
-use Rattle.lapd_clock.proofs.Vocabulary.{◌≡◌, ℕ, zero, suc, ◌+◌, ◌<◌, ◌≤◌, Bool, true, false, cond, not, ◌==◌, nat_le, List, [], ◌∷◌, length, drop, get_or, set, Some, None, All, Contains, refl, sym, ap, ◌∙◌, subst, arith, length-set, AllByRecursion, nat_tests, All-from_recursion, length-filter, count_by-le-length, put_in_order, IsInOrder, Timer, Lengths, Start, Stop, duration, is_same, Expiry, Timers, is_before, without, finds_place, with_order, after_first_due, first_due, IsSound, IsLeastDue, Held, Line, held_before, all_but, from_line, in_order, timers_in, IsLineKept, IsKept, Order, vec_len, vec_capacity, due_at, after_due, first_moment, next_moment, expiry_on, IsFirst, IsFirstLine}
+use Rattle.lapd_clock.proofs.Vocabulary.{recursion_from_All, ◌≡◌, ℕ, ◌+◌, ◌<◌, ◌≤◌, Bool, true, false, cond, not, ◌==◌, nat_le, List, [], ◌∷◌, length, drop, get_or, set, Some, None, All, Contains, refl, sym, ap, ◌∙◌, subst, arith, length-set, AllByRecursion, nat_tests, All-from_recursion, length-filter, count_by-le-length, put_in_order, IsInOrder, Timer, Lengths, Start, Stop, duration, is_same, Expiry, Timers, is_before, without, finds_place, with_order, after_first_due, first_due, IsSound, IsLeastDue, Held, Line, held_before, all_but, from_line, in_order, timers_in, IsLineKept, IsKept, Order, vec_len, vec_capacity, due_at, after_due, first_moment, next_moment, expiry_on, IsFirst, IsFirstLine}
+use Rattle.std.proofs.lemmas.List.Elements as lists
 use Rattle.lapd_clock.proofs.Ordered.{IsInOrder-put_in_order, IsInOrder-filter}
 use Rattle.lapd_clock.proofs.TimerOrder.{held_order}
 use Rattle.lapd_clock.proofs.StandsFor.{in_order-stopped, in_order-restarted, count_on-stopped}
 use Rattle.lapd_clock.proofs.Running.{finds_place-without, without-no_place, with_order_sound, after_due_sound}
-use Rattle.lapd_clock.proofs.First.{Leads, found_leads, none_found, from_line-none, before_itself, no_earlier}
+use Rattle.lapd_clock.proofs.First.{Leads, first_leads, none_found, from_line-none, before_itself, no_earlier}
 
 -- ---- lines one by one
 
 pub All-at : (P : Line → Type 0) (lines : List Line) (k : ℕ) (u : Line) → k < length lines → u ≡ get_or lines k u → AllByRecursion P lines → P u
-All-at P [] k u within at h = absurd (omega arith)
-All-at P (l ∷ ls) zero u within at h = subst P (sym at) h.0
-All-at P (l ∷ ls) (suc k) u within at h = All-at P ls k u (omega arith) at h.1
+All-at P lines k u within at h = subst P (sym at) (lists.All-get_or P lines k u within (All-from_recursion P lines h))
 
 All-set : (P : Line → Type 0) (lines : List Line) (k : ℕ) (v : Line) → P v → AllByRecursion P lines → AllByRecursion P (set lines k v)
-All-set P [] k v p h = tt
-All-set P (l ∷ ls) zero v p h = (p, h.1)
-All-set P (l ∷ ls) (suc k) v p h = (h.0, All-set P ls k v p h.1)
+All-set P lines k v p h = recursion_from_All P _ (lists.All-set P lines k v p (All-from_recursion P lines h))
 
 pub length-all_but : (t : Timer) (hs : List Held) → length (all_but t hs) ≤ length hs
 length-all_but t hs =
@@ -43,6 +40,7 @@ pub record Obeys (ls : Lengths) (places k : ℕ) (lines : List Line) (v : Line) 
   pub after : timers_in ls places (set lines k v) ≡ with_order t k order now
 
 module _ (ls : Lengths) (places k : ℕ) (lines : List Line) (t : Timers) (view : timers_in ls places lines ≡ t) (kept : IsKept ls places lines) (u : Line) (there : k < t.lines) (at : u ≡ get_or lines k u) where
+  -- the line is there, and is kept
   within : k < length lines
   within = omega (arith, ap (λ (c : Timers). c.lines) view, there)
 
@@ -57,6 +55,7 @@ module _ (ls : Lengths) (places k : ℕ) (lines : List Line) (t : Timers) (view 
   finds_place_is timer = ap (λ c. finds_place c k (Start timer)) (sym view) ∙ found timer
 
   module _ (v : Line) where
+    -- v after the order
     obeys : (order : Order) (now : ℕ) → timers_in ls places (set lines k v) ≡ with_order (timers_in ls places lines) k order now → IsLineKept places v → Obeys ls places k lines v t order now
     obeys order now is one = record {
       kept = record { each = All-set (IsLineKept places) lines k v one kept.each; sound = subst IsSound (sym is) (with_order_sound (timers_in ls places lines) k order now within kept.sound) };
@@ -133,7 +132,7 @@ module _ (ls : Lengths) (places : ℕ) (lines : List Line) (t : Timers) (view : 
 
   module _ (line : ℕ) (held : Held) (first : IsFirstLine (length seen) seen line held) where
     leads : Leads line held lines
-    leads = found_leads places line held lines seen kept.each same first
+    leads = first_leads places line held lines kept.each (subst (λ ls. IsFirstLine (length ls) ls line held) same first)
 
     abbrev e : Expiry
     e = expiry_on line held

@@ -37,6 +37,7 @@ no_earlier a b =
 -- ---- the first of the lines so far, and of one more
 
 module _ (lines : List Line) (n : ℕ) (v : Line) (within : n < length lines) (at : v ≡ get_or lines n v) where
+  -- its first timer, by the list and by the line
   at_front : (g : Held) → slice_get v.items 0 ≡ Some g → IsAtFront lines n g
   at_front g front d = subst (λ w. slice_get w.items 0 ≡ Some g) (at ∙ get_or_default lines n v d within) front
 
@@ -70,6 +71,7 @@ module _ (lines : List Line) (n : ℕ) (v : Line) (within : n < length lines) (a
     least = one_more (λ j g. is_before (expiry_on j g) (expiry_on n h) ≡ false) before (λ g there. subst (λ x. is_before (expiry_on n x) (expiry_on n h) ≡ false) (same_Some h g (sym front ∙ there)) (before_itself (expiry_on n h)));
   }
 
+  -- by what it has
   more : (hs : List Held) (first : Option (ℕ × Held)) → v.items ≡ hs → IsFirst n lines first → IsFirst (n + 1) lines (earlier_of first n hs)
   more [] None e none = λ k d lt.
       elim (cases_lt k n) as (λ _. (get_or lines k d).items ≡ []) [
@@ -145,11 +147,6 @@ first_leads places line held (l ∷ ls) each first =
       taken = λ v w there new. ap in_order (at_line.with_line w ∙ ap (λ hs. at_line.before ++ (on_line line hs ++ at_line.behind))
           (new ∙ ap (λ (x : Line). drop 1 x.items) (there ∙ get_or_default lines line v l first.in_range)));
     }
-
--- the same of what was found in the lines as they were seen
-pub found_leads : (places line : ℕ) (held : Held) (lines seen : List Line) → AllByRecursion (IsLineKept places) lines → seen ≡ lines → IsFirstLine (length seen) seen line held → Leads line held lines
-found_leads places line held lines seen each same first =
-    first_leads places line held lines each (subst (λ ls. IsFirstLine (length ls) ls line held) same first)
 
 -- lines without a timer stand for the empty set
 pub from_line-none : (i : ℕ) (lines : List Line) → AllByRecursion (λ v. v.items ≡ []) lines → from_line i lines ≡ []

@@ -58,6 +58,7 @@ on_line-all_but k t (x ∷ xs) =
 abbrev Apart : ℕ → List Expiry → Type 0
 Apart k es = AllByRecursion (λ e. (e.line == k) ≡ false) es
 
+-- other lines are apart; without a timer of the line these stay, and none counts for it
 apart-on_line : (k i : ℕ) (hs : List Held) → i ≢ k → Apart k (on_line i hs)
 unfolding on_line
 apart-on_line k i [] ne = tt

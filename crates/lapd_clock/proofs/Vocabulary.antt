@@ -1,12 +1,12 @@
 -- The words with which the proofs of this crate speak, from where they are defined.
-pub use Rattle.std.proofs.Common.{All, Bool, Contains, inl, inr, List, None, Option, Some, [], ap, arith, cond, count_by, drop, false, filter, get_or, is_ok, length, length-append, length-set, length-take, ltb, nat_le, nat_lt, not, refl, rules, set, slice_get, subst, suc, sym, take, true, unwrap_or, vec_len, vec_capacity, zero, ℕ, ◌&&◌, ◌*◌, ◌++◌, ◌+◌, ◌-◌, ◌<◌, ◌==◌, ◌||◌, ◌∙◌, ◌∷◌, ◌≡◌, ◌≢◌, ◌≤◌}
+pub use Rattle.std.proofs.Common.{All, Bool, Contains, inl, inr, List, None, Option, Some, [], ap, arith, cond, count_by, drop, false, filter, get_or, is_ok, length, length-set, ltb, nat_le, nat_lt, not, refl, rules, set, slice_get, subst, suc, sym, true, unwrap_or, vec_len, vec_capacity, zero, ℕ, ◌&&◌, ◌*◌, ◌++◌, ◌+◌, ◌-◌, ◌<◌, ◌==◌, ◌||◌, ◌∙◌, ◌∷◌, ◌≡◌, ◌≢◌, ◌≤◌}
 pub use Rattle.std.proofs.lemmas.Bool.{cases_lt, false≢true}
 pub use Rattle.std.proofs.lemmas.Bool.Decides.{nat_tests}
 pub use Rattle.std.proofs.lemmas.Cmp.{eq_by_cmp_equiv, nat_cmp_total, nat_eq_equiv, on_total, then_total, tied_itself}
 pub use Rattle.std.proofs.lemmas.Fn.{filter_same}
 pub use Rattle.std.proofs.lemmas.Iterator.{YieldsList-from_slice}
 pub use Rattle.std.proofs.lemmas.Iterator.Search.{position_from_yields_List}
-pub use Rattle.std.proofs.lemmas.List.{append_assoc, get_or_default, set-get_or, take_more}
+pub use Rattle.std.proofs.lemmas.List.{append_assoc, get_or_default, set-get_or}
 pub use Rattle.std.proofs.lemmas.List.Edits.{length-insert}
 pub use Rattle.std.proofs.lemmas.List.Elements.{All-from_recursion, All-nil, All-weaker, filter-append, filter_passes, recursion_from_All}
 pub use Rattle.std.proofs.lemmas.Option.{none-some, same_Some}
@@ -15,7 +15,7 @@ pub use Rattle.std.proofs.lemmas.List.Sorted.{ranks_by}
 pub use Rattle.std.proofs.lemmas.List.Sums.{count_by-le-length, length-filter, prefix_len-le-length, sum_by-append, sum_by-cons, sum_by-insert}
 pub use Rattle.std.proofs.lemmas.Map.Lookups.{exact_unsigned}
 pub use Rattle.std.specs.Cmp.{IsStrictWeakOrder, IsTotalOrder}
-pub use Rattle.std.specs.List.{AllByRecursion, HoldsAt, insert, position_or_len, prefix_len, sum_by}
+pub use Rattle.std.specs.List.{AllByRecursion, insert, position_or_len, prefix_len, sum_by}
 pub use Rattle.std.specs.Option.{IfNone}
 pub use Rattle.std.specs.Ordering.{is_lt, nat_cmp, ordering_reverse, ordering_then}
 pub use Rattle.std.specs.declared.cmp.Ordering.{Ordering}

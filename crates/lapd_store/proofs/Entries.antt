@@ -1,5 +1,5 @@
 -- The entries of a finite map whose keys are numbers, as a list in any order.
-use Rattle.lapd_store.proofs.Vocabulary.{zero, suc, ◌+◌, option_map, entries_from, ◌≡◌, ◌≢◌, ℕ, ◌<◌, Bool, true, false, cond, T, Option, Some, None, List, [], ◌∷◌, map, refl, sym, ap, subst, ◌∙◌, ◌⊎◌, inl, inr, arith, eqb, get_or, eqb-false, ne_eqb, eq-eqb, cases_eq, and_parts, cond-true, cond-false, nat_tests, nil_from_length, All-nil, All-cons, All-head, All-tail, All-contains, All-map, recursion_from_All, Contains-append_right, IsPermutation-refl, IsPermutation-sym, IsPermutation-cons, IsPermutation-trans, IsPermutation-middle, IsPermutation-map, All-permutation, IsDistinct-head, IsDistinct-tail, IsDistinct-cons, IsDistinct-from_apart, IsDistinct-IsPermutation, none-some, same_Some, nat_cmp_total, unsigned_tied, ranked, Ordering, Less, Equal, Greater, by_order, below_all, find, put, is_sorted, All, AllByRecursion, Contains, IsDistinct, IsPermutation, nat_cmp, is_lt, is_eq, eq_by_cmp}
+use Rattle.lapd_store.proofs.Vocabulary.{zero, suc, ◌+◌, option_map, entries_from, ◌≡◌, ◌≢◌, ℕ, ◌<◌, Bool, true, false, cond, T, Option, Some, None, List, [], ◌∷◌, map, refl, sym, ap, subst, ◌∙◌, ◌⊎◌, inl, inr, arith, eqb, get_or, eqb-false, ne_eqb, eq-eqb, cases_eq, and_parts, cond-true, cond-false, nat_tests, nil_from_length, All-nil, All-cons, All-head, All-tail, All-contains, All-map, recursion_from_All, Contains-append_right, IsPermutation-refl, IsPermutation-sym, IsPermutation-cons, IsPermutation-trans, IsPermutation-middle, IsPermutation-map, All-permutation, IsDistinct-head, IsDistinct-tail, IsDistinct-cons, IsDistinct-from_apart, IsDistinct-IsPermutation, none-some, same_Some, nat_cmp_total, unsigned_tied, Less, Equal, Greater, by_order, below_all, find, put, is_sorted, All, AllByRecursion, Contains, IsDistinct, IsPermutation, nat_cmp, is_lt, is_eq, eq_by_cmp}
 use Rattle.std.specs.FinMap as finmap
 
 holds : (b : Bool) → T b → b ≡ true
@@ -12,10 +12,8 @@ tied x y e = unsigned_tied x y ∙ eq-eqb x y e
 untied : (x y : ℕ) → x ≢ y → eq_by_cmp nat_cmp x y ≡ false
 untied x y ne = unsigned_tied x y ∙ ne_eqb x y ne
 
-less : (o : Ordering) → is_lt o ≡ true → o ≡ Less
-less Less is = refl
-less Equal is = cc
-less Greater is = cc
+lower : (x y : ℕ) → is_lt (nat_cmp x y) ≡ true → x < y
+lower x y is = grind (arith, nat_tests)
 
 eqb-flips : (x y : ℕ) → eqb x y ≡ eqb y x
 eqb-flips x y = grind (arith, nat_tests)
@@ -89,7 +87,7 @@ module _ {X : Type 0} where
   above x [] b = All-nil _
   above x (e ∷ es) b =
       let parts = and_parts (is_lt (nat_cmp x e.0)) (below_all nat_cmp x es) b in
-      All-cons (λ p. x < p.0) e es (ranked x e.0 Less (sym (less _ parts.0))) (above x es parts.1)
+      All-cons (λ p. x < p.0) e es (lower x e.0 parts.0) (above x es parts.1)
 
   -- each entry of a list in order is found under its key
   each_found : (es : List (ℕ × X)) → is_sorted nat_cmp es ≡ true → All (λ p. find nat_cmp p.0 es ≡ Some p.1) es

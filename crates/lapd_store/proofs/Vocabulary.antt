@@ -19,7 +19,7 @@ pub use Rattle.std.proofs.lemmas.Option.{get_or_from_slice_get, none-some, same_
 pub use Rattle.std.proofs.lemmas.Slice.Zip.{get_or-zip, length-zip, seconds-zip}
 pub use Rattle.std.proofs.raw_atomic.Walks.{leaves, proved_at}
 pub use Rattle.std.specs.Borrow.{full_share, u8}
-pub use Rattle.std.specs.Cmp.{nat_cmp_total, ranked, unsigned_tied}
+pub use Rattle.std.specs.Cmp.{nat_cmp_total, unsigned_tied}
 pub use Rattle.std.specs.FinMap.{get-empty}
 pub use Rattle.std.specs.FinMap.Entries.{below_all, by_order, find, is_sorted, put}
 pub use Rattle.std.specs.List.{All, AllByRecursion, Contains, IsDistinct, count_by, filter_map, flat_map, fold, remove, sum_by, zip}
@@ -28,7 +28,6 @@ pub use Rattle.std.specs.Option.{is_some, option_map}
 pub use Rattle.std.specs.Ordering.{eq_by_cmp, is_eq, is_lt, nat_cmp}
 pub use Rattle.std.specs.Prelude.{Err, Ok}
 pub use Rattle.std.specs.Vec.{with_item}
-pub use Rattle.std.specs.declared.cmp.Ordering.{Ordering}
 pub use Rattle.std.specs.declared.cmp.Ordering.TheVariants.{Equal, Greater, Less}
 pub use Rattle.arrayvec.specs.ArrayVec.{ArrayVec}
 pub use Rattle.lapd_store.specs.Memory.{block_of, lent, octet, octet_lent, octets, octets_lent, octets_own}

@@ -48,6 +48,7 @@ quiet m c waits lost served notes orders follows = record {
   follows = follows;
 }
 
+-- each way in which an event ends
 ways : (e : Event) (m : Management) → OfEvents e m (Counts m)
 ways e m = record {
   messages = record {

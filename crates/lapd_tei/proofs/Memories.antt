@@ -1,7 +1,7 @@
 -- The assignments that are remembered: after one more, and after a TEI left.
 use Rattle.lapd_tei.proofs.Vocabulary.{◌≡◌, ℕ, ◌-◌, ◌≤◌, ◌==◌, true, false, List, [], ◌∷◌, ◌++◌, length, drop, set, Option, Some, None, subst, ◌∙◌, refl, sym, ap, arith, length-drop, AllByRecursion, filter, find, option_map, false≢true, All-nil, All-cons, All-append, All-drop, recursion_from_All, none-some, same_Some, Places, is_on, place_of, free_place, Remembered, latest, freed, is_of_other, is_for, tei_in, remembered_in, IsSoundTable, IsSoundMemory, same_ri, same_tei, length-filter, count_by-le-length, All-get_or}
 use Rattle.lapd_tei.proofs.Lists.{All-filter_by, IsDistinct-push, IsDistinct-drop, IsDistinct-filter, none-found, found}
-use Rattle.lapd_tei.proofs.Tables.{on-put, on-freed, on-range}
+use Rattle.lapd_tei.proofs.Tables.{same_number, on-put, on-freed, on-range}
 
 pub memory-put : (places : Places) (remembered : List Remembered) (place tei : ℕ) → free_place places ≡ Some place → IsSoundMemory places remembered → IsSoundMemory (set places place (Some tei)) remembered
 memory-put places remembered place tei at sound = record {
@@ -23,12 +23,9 @@ other_ri ri tei remembered e = none-found (is_for ri) remembered (not_found (fin
 not_same : (places : Places) (own tei : ℕ) → is_on tei places ≡ false → is_on own places ≡ true → (own == tei) ≡ false
 not_same places own tei off on =
     elim (own == tei) as (λ b. (own == tei) ≡ b → (own == tei) ≡ false) [
-      | true ↦ λ e. absurd (false≢true (sym off ∙ ap (λ n. is_on n places) (sym (equal own tei e)) ∙ on))
+      | true ↦ λ e. absurd (false≢true (sym off ∙ ap (λ n. is_on n places) (sym (same_number own tei e)) ∙ on))
       | false ↦ λ e. e
     ] refl
-  where
-    equal : (a b : ℕ) → (a == b) ≡ true → a ≡ b
-    equal a b e = grind arith
 
 other_tei : (places : Places) (ri tei : ℕ) (remembered : List Remembered) → is_on tei places ≡ false → IsSoundMemory places remembered → AllByRecursion (λ r. same_tei r (record { ri = ri; tei = tei }) ≡ false) remembered
 other_tei places ri tei remembered off sound = recursion_from_All (λ r. same_tei r (record { ri = ri; tei = tei }) ≡ false) remembered (λ k d l. not_same places _ tei off (sound.on_line k d l))

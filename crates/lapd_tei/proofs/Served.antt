@@ -51,6 +51,7 @@ module _ (m : Management) (sound : IsSound m) where
     moves = subst (λ o. Moves m.places o (freed m.places (place_of tei m.places))) (sym change) (moved_out m.places tei);
   }
 
+  -- what the words keep, and so each way in which an event ends
   sent : (message : Message) → action_of message ≤ 127 → IsSoundQueue (with_message message m.waiting)
   sent message low = queue-sent message m.waiting sound.queue low
 

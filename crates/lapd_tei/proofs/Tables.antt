@@ -1,8 +1,8 @@
 -- The table of the TEIs: what stands where, after a TEI came and after one left.
-use Rattle.lapd_tei.proofs.Vocabulary.{◌≡◌, ℕ, zero, suc, ◌<◌, ◌≤◌, ◌⊎◌, inl, inr, ◌==◌, Bool, true, false, not, [], ◌∷◌, length, set, get_or, Option, Some, None, subst, ◌∙◌, refl, sym, ap, arith, false≢true, cases_order, nat_tests, get_or-set_same, get_or-set_other, position-Some, none-some, same_Some, Places, is_free, has, is_on, is_off, place_of, free_place, free_tei, automatic, freed, IsAt, IsSoundTable, IsLowestFree, ◌+◌, ◌-◌, list_any_at, Any-from_list_any, get_or_default, length-range_with_len, get_or-range_with_len}
+use Rattle.lapd_tei.proofs.Vocabulary.{cases_eq, ◌≡◌, ℕ, zero, suc, ◌<◌, ◌≤◌, ◌⊎◌, inl, inr, ◌==◌, Bool, true, false, not, [], ◌∷◌, length, set, get_or, Option, Some, None, subst, ◌∙◌, refl, sym, ap, arith, false≢true, nat_tests, get_or-set_same, get_or-set_other, position-Some, none-some, same_Some, Places, is_free, has, is_on, is_off, place_of, free_place, free_tei, automatic, freed, IsAt, IsSoundTable, IsLowestFree, ◌+◌, ◌-◌, list_any_at, Any-from_list_any, get_or_default, length-range_with_len, get_or-range_with_len}
 use Rattle.lapd_tei.proofs.Lists.{found}
 
-same_number : (a b : ℕ) → (a == b) ≡ true → a ≡ b
+pub same_number : (a b : ℕ) → (a == b) ≡ true → a ≡ b
 same_number a b e = grind (arith, nat_tests)
 
 is_same : (a b : ℕ) → a ≡ b → (a == b) ≡ true
@@ -49,11 +49,9 @@ place_of-is places tei place e =
 -- At a place is what was put there, and at each other place what was there before.
 at_put : (places : Places) (place i tei : ℕ) (o : Option ℕ) → place < length places → IsAt (set places place o) i tei → ((i ≡ place) × (o ≡ Some tei)) ⊎ ((i ≡ place → ⊥) × IsAt places i tei)
 at_put places place i tei o within e =
-    elim (cases_order i place) as (λ _. ((i ≡ place) × (o ≡ Some tei)) ⊎ ((i ≡ place → ⊥) × IsAt places i tei)) [
+    elim (cases_eq i place) as (λ _. ((i ≡ place) × (o ≡ Some tei)) ⊎ ((i ≡ place → ⊥) × IsAt places i tei)) [
       | inl same ↦ inl (same, sym (get_or-set_same places place o None within) ∙ subst (λ k. IsAt (set places place o) k tei) same e)
-      | inr other ↦
-          let apart : i ≡ place → ⊥ = elim other as (λ _. i ≡ place → ⊥) [ inl less ↦ λ same. absurd (omega arith) | inr more ↦ λ same. absurd (omega arith) ] in
-          inr (apart, sym (get_or-set_other places place i o None apart) ∙ e)
+      | inr apart ↦ inr (apart, sym (get_or-set_other places place i o None apart) ∙ e)
     ]
 
 table_set : (places : Places) (place : ℕ) (o : Option ℕ) → IsSoundTable places → place < length places → ((tei : ℕ) → o ≡ Some tei → (is_on tei places ≡ false) × (tei ≤ 126)) → IsSoundTable (set places place o)

@@ -3,7 +3,7 @@ pub use Rattle.std.proofs.Common.{Bool, IfSome, IsSome, List, None, Option, Some
 pub use Rattle.std.proofs.lemmas.List.Sums.{count_by-le-length, fails_before_first, length-filter, passes_at_first}
 pub use Rattle.std.proofs.lemmas.List.FromFn.{get_or-range_with_len, length-range_with_len}
 pub use Rattle.std.proofs.lemmas.List.Folds.{Any-from_list_any, find_at, list_any_at}
-pub use Rattle.std.proofs.lemmas.Bool.{cases_order, false≢true}
+pub use Rattle.std.proofs.lemmas.Bool.{cases_eq, false≢true}
 pub use Rattle.std.proofs.lemmas.Bool.Decides.{nat_tests}
 pub use Rattle.std.proofs.lemmas.List.{get_or-set_other, get_or-set_same, get_or_default, take-replicate}
 pub use Rattle.std.proofs.lemmas.List.Elements.{All-append, All-cons, All-drop, All-from_recursion, All-get_or, All-nil, recursion_from_All}
@@ -17,9 +17,9 @@ pub use Rattle.lapd_frame.specs.declared.refusals.Refusal.TheVariants.{NoLink, T
 pub use Rattle.lapd_tei.specs.Events.{Event, after, after_offer, check, expiry, message, refusal_if, remove, step, told, unless_refused}
 unfoldable pub use Rattle.lapd_tei.specs.Events.{course, refusal}
 pub use Rattle.lapd_tei.specs.Laws.{Act, AreInRange, AssignsLowest, ChangesAreTold, ExpiredT201Follows, Follows, IsInRange, IsLowestFree, IsSoundThroughout, LowestIsAssigned, Moves, NewIsAssigned, OneIsLost, OneMoreWaits, T201Follows, UnservedChangesNothing, after_acts, event, pull}
-pub use Rattle.lapd_tei.specs.Machine.{Check, First, Gained, Management, Period, Remembered, Second, TeiTold, empty, messages_limit, nothing}
+pub use Rattle.lapd_tei.specs.Machine.{Check, First, Gained, Management, Period, Remembered, Second, TeiTold, empty, messages_limit}
 pub use Rattle.lapd_tei.specs.Messages.{Heard, IdentityAssigned, IdentityCheckRequest, IdentityCheckResponse, IdentityDenied, IdentityRemove, IdentityRequest, IdentityVerify, Message, action_of, heard_in}
-pub use Rattle.lapd_tei.specs.Rows.{assign, assign_new, count, counted, doubled, expire, expire_check, expire_period, is_checked, is_for, is_unanswered, join_at, may_be_checked, nothing_happens, put_on, remembered_in, removed, request, respond, responses, serve, take_off, tei_in, verify}
+pub use Rattle.lapd_tei.specs.Rows.{assign, assign_new, count, counted, doubled, expire, expire_check, expire_period, is_checked, is_for, is_unanswered, join_at, may_be_checked, nothing_happens, put_on, remembered_in, removed, request, respond, responses, serve, take_off, tei_in}
 pub use Rattle.lapd_tei.specs.Sound.{IsAt, IsSound, IsSoundCheck, IsSoundMemory, IsSoundQueue, IsSoundTable, same_ri, same_tei}
 pub use Rattle.lapd_tei.specs.Table.{Places, automatic, free_place, free_tei, has, is_free, is_off, is_on, place_of}
 pub use Rattle.lapd_tei.specs.Words.{Course, Step, begin_check, begun, check_is, end_check, freed, is_of_other, latest, leave, left, lose_one, lost_after, no_room, send, unserved, with_message}

@@ -1,7 +1,7 @@
 -- Every event ends in one of a few ways: the rows of the table are walked once, for any claim.
-use Rattle.lapd_tei.proofs.Vocabulary.{◌≡◌, ℕ, ◌==◌, ◌&&◌, nat_le, Bool, true, false, not, cond, is_some, Option, Some, None, refl, sym, arith, nat_tests, none-some, Refusal, NoLink, TeiTaken, Heard, IdentityAssigned, IdentityDenied, IdentityRemove, IdentityRequest, IdentityVerify, IdentityCheckResponse, heard_in, is_on, free_place, free_tei, Management, Check, Period, First, Second, Course, Step, begun, no_room, leave, check_is, begin_check, end_check, lose_one, send, unserved, assign, assign_new, remembered_in, may_be_checked, counted, responses, doubled, count, respond, serve, expire, expire_period, expire_check, is_unanswered, removed, join_at, put_on, is_checked, take_off, nothing_happens, Event, message, expiry, remove, check, refusal_if, refusal, unless_refused, step, course}
+use Rattle.lapd_tei.proofs.Vocabulary.{◌≡◌, ℕ, ◌==◌, ◌&&◌, nat_le, Bool, true, false, not, cond, is_some, Option, Some, None, refl, sym, none-some, Refusal, NoLink, TeiTaken, Heard, IdentityAssigned, IdentityDenied, IdentityRemove, IdentityRequest, IdentityVerify, IdentityCheckResponse, heard_in, is_on, free_place, free_tei, Management, Check, Period, First, Second, Course, Step, begun, no_room, leave, check_is, begin_check, end_check, lose_one, send, unserved, assign, assign_new, remembered_in, may_be_checked, counted, responses, doubled, count, respond, serve, expire, expire_period, expire_check, is_unanswered, removed, join_at, put_on, is_checked, take_off, nothing_happens, Event, message, expiry, remove, check, refusal_if, refusal, unless_refused, step, course}
 use Rattle.lapd_tei.specs.Events.{assign as assigning}
-use Rattle.lapd_tei.proofs.Tables.{not_not}
+use Rattle.lapd_tei.proofs.Tables.{same_number, not_not}
 
 -- What a claim has to say of each way in which a message of a terminal ends,
 pub record OfMessages (m : Management) (E : Course → Type 0) : Type 0 where
@@ -31,9 +31,7 @@ pub record OfEvents (e : Event) (m : Management) (E : Course → Type 0) : Type 
   pub leaves_checked : (tei : ℕ) → is_on tei m.places ≡ true → E (leave tei (end_check (send (IdentityRemove tei) (begun m))))
   pub leaves : (tei : ℕ) → is_on tei m.places ≡ true → is_checked tei m.check ≡ false → E (leave tei (send (IdentityRemove tei) (begun m)))
 
-same_number : (a b : ℕ) → (a == b) ≡ true → a ≡ b
-same_number a b e = grind (arith, nat_tests)
-
+-- two tests that hold
 first_true : (a b : Bool) → (a && b) ≡ true → a ≡ true
 first_true true b e = refl
 first_true false b e = e
@@ -44,6 +42,7 @@ not_refused true why others e = absurd (none-some why (sym e))
 not_refused false why others e = refl
 
 module _ (m : Management) (E : Course → Type 0) where
+  -- one of two steps, and an event that is refused or not
   either : (b : Bool) (f g : Step) (c : Course) → (b ≡ true → E (f c)) → (b ≡ false → E (g c)) → E ((cond b f g) c)
   either true f g c x y = x refl
   either false f g c x y = y refl
@@ -52,6 +51,7 @@ module _ (m : Management) (E : Course → Type 0) where
   unless None does x y = y refl
   unless (Some why) does x y = x
 
+  -- an identity request, from its last case on
   of_new : OfMessages m E → (ri : ℕ) (place tei : Option ℕ) → remembered_in ri m.remembered ≡ None → free_place m.places ≡ place → free_tei m.places ≡ tei → E (assign_new ri place tei (begun m))
   of_new w ri (Some place) (Some tei) new at free = w.is_new ri place tei new at free
   of_new w ri (Some place) None new at free = w.is_denied ri
@@ -61,6 +61,7 @@ module _ (m : Management) (E : Course → Type 0) where
   of_assign w ri (Some tei) is = w.comes_again ri tei is
   of_assign w ri None is = of_new w ri (free_place m.places) (free_tei m.places) is refl refl
 
+  -- a check response, and what else a terminal says
   of_respond : OfMessages m E → (tei : ℕ) (o : Option Check) → m.check ≡ o → E (respond tei o (begun m))
   of_respond w tei None is = w.is_unserved
   of_respond w tei (Some own) is =
@@ -76,6 +77,7 @@ module _ (m : Management) (E : Course → Type 0) where
       either (may_be_checked tei m) (begin_check tei) unserved (begun m) (λ may. w.begins tei (first_true (is_on tei m.places) (not (is_some m.check)) may)) (λ _. w.is_unserved)
   of_serve w (Some (IdentityCheckResponse tei)) = of_respond w tei m.check refl
 
+  -- an expiry of T201
   of_period : OfExpiries m E → (own : Check) (period : Period) → m.check ≡ Some own → E (expire_period own period (begun m))
   of_period w own First is = w.asks_again own is
   of_period w own Second is = either (is_unanswered own) (removed own.tei) end_check (begun m) (λ _. w.is_removed own is) (λ _. w.ends own is)
@@ -87,6 +89,7 @@ module _ (m : Management) (E : Course → Type 0) where
   pub of_expire : OfExpiries m E → E (expire (begun m))
   of_expire w = of_expire_check w m.check refl
 
+  -- requests of layer management
   of_join_at : (tei : ℕ) → OfEvents (assigning tei) m E → (o : Option ℕ) → is_on tei m.places ≡ false → free_place m.places ≡ o → E (join_at tei o (begun m))
   of_join_at tei w None off at = w.is_refused
   of_join_at tei w (Some place) off at = w.joins tei place refl off at

@@ -116,6 +116,7 @@ impl Entity {
     }
 
     // T200 is started unless it runs.
+    #[tactic(auto, using(crate::proofs::Steps::where_no))]
     fn await_acknowledgement(&mut self, told: &mut Told)
         ensures { (terms : Terms) (info : List ℕ) → Does terms info awaiting self.old told.old self.new told.new }
     {

@@ -22,6 +22,7 @@ pub fn is_the(timer: LinkTimer, other: Option<LinkTimer>) -> bool
 
 impl Entity {
     /// A timer expires. One that does not run changes nothing.
+    #[tactic(auto, using(crate::proofs::Steps::where_yes))]
     pub fn expire(&mut self, terms: Terms, told: &mut Told, timer: LinkTimer)
         requires { HasRoom 2 2 told.old }
         ensures tells { Tells 2 2 told.old told.new }

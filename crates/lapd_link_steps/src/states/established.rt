@@ -97,6 +97,7 @@ impl Entity {
 
 impl Told {
     // A final response that no command asked for.
+    #[tactic(auto, using(crate::proofs::Steps::bit_yes, crate::proofs::Steps::bit_no))]
     pub(crate) fn unsolicited(&mut self, terms: Terms, last: bool)
         requires { HasRoom 1 0 self.old }
         ensures tells { Tells 1 0 self.old self.new }

@@ -14,6 +14,7 @@ use model_link::{LinkTimer, State, Terms};
 
 impl Told {
     // UA, which no command asked for.
+    #[tactic(auto, using(crate::proofs::Steps::bit_yes, crate::proofs::Steps::bit_no))]
     pub(crate) fn ua_in_7_8(&mut self, terms: Terms, pf: bool)
         requires { HasRoom 1 0 self.old }
         ensures tells { Tells 1 0 self.old self.new }
@@ -247,6 +248,7 @@ impl Entity {
     }
 
     // A command with P=1 is answered.
+    #[tactic(auto, using(crate::proofs::Steps::bit_yes, crate::proofs::Steps::bit_no))]
     pub(crate) fn answered(&mut self, terms: Terms, told: &mut Told, command: bool, pf: bool)
         requires { HasRoom 0 1 told.old }
         ensures tells { Tells 0 1 told.old told.new }
@@ -273,6 +275,7 @@ impl Entity {
     }
 
     // P=1 is answered.
+    #[tactic(auto, using(crate::proofs::Steps::bit_yes, crate::proofs::Steps::bit_no))]
     fn answer_if(&mut self, terms: Terms, told: &mut Told, pf: bool)
         requires { HasRoom 0 1 told.old }
         ensures tells { Tells 0 1 told.old told.new }

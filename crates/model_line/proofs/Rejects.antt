@@ -33,9 +33,7 @@ unfolding control_of
 field_of_three third fourth e =
     let odd : (third % 2 == 0) ≡ false = ne_eqb (third % 2) 0 (λ h. omega (arith, e, h)) in
     let not_supervisory : (third % 4 == 1) ≡ false = ne_eqb (third % 4) 1 (λ h. omega (arith, e, h)) in
-    ap (λ b. cond b (Some (control.Information (seq (third / 2)) (seq (fourth / 2)) (fourth % 2 == 1)))
-    (cond (third % 4 == 1) (supervisory_of third (seq (fourth / 2)) (fourth % 2 == 1)) (unnumbered_of third))) odd
-    ∙ ap (λ b. cond b (supervisory_of third (seq (fourth / 2)) (fourth % 2 == 1)) (unnumbered_of third)) not_supervisory
+    rw (odd, not_supervisory) refl
 
 sized_no_reject : (address : Address) (k : Control) (info : List ℕ) → reject_number k ≡ None → NoReject (sized address k info)
 sized_no_reject address k info h = go (takes (row k).info (length info))

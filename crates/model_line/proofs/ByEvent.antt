@@ -1,5 +1,5 @@
 -- What single events bring: frames by octets alone, and a pull.
-use Rattle.model_line.proofs.Vocabulary.{gained, ◌≡◌, ℕ, ◌+◌, Bool, true, false, Option, Some, None, option_to_list, refl, ap, ◌∙◌, cond, arith, option_map_or, false≢true, count_by, Config, Event, octet, expiry, request, pull, one, is_frame, frames_heard, IsHeardCounted, FallsByPull, Line, after, answer, takes_slot, IsInRange, IsSound}
+use Rattle.model_line.proofs.Vocabulary.{gained, ◌≡◌, ℕ, ◌+◌, Bool, true, false, Option, Some, None, option_to_list, refl, ap, ◌∙◌, cond, arith, option_map_or, false≢true, count_by, Config, Event, octet, one, is_frame, frames_heard, IsHeardCounted, FallsByPull, Line, after, answer, takes_slot, IsInRange, IsSound}
 use Rattle.model_bits.specs.Stream as stream
 use Rattle.model_line.specs.Counts.{hears}
 use Rattle.model_line.proofs.EventWalk.{meeting}

@@ -1,5 +1,5 @@
 -- A sound line holds at most so many octets, and at most N201 octets in each slot.
-use Rattle.model_line.proofs.Vocabulary.{◌≡◌, ℕ, zero, suc, ◌+◌, ◌*◌, ◌/◌, ◌≤◌, ◌<◌, Bool, true, false, List, [], ◌∷◌, length, reverse, nat_lt, Option, Some, None, refl, cond, arith, sum_by, All, range_with_len, option_map_or, ltb-false, All-head, All-tail, All-drop, All-nil, All-cons, sum_by-le, sum_by-cons, bits, unstuffed, kept_count, open_gap, runs_low, item_octets, last_octets, Item, room_for, Network, spelling, held, queue_of, IsWaitingFrame, ControlFrame, Terms, Config, Line, UnitData, link_count, service_at, terms, link_at, left_of, IsSound, IsUnitData, held_received, held_sent, held_by_link, held_in, sum_of_links, slots_by_link, slots_of, total_length, unit_length, octets_by_link, stored_in}
+use Rattle.model_line.proofs.Vocabulary.{◌≡◌, ℕ, zero, suc, ◌+◌, ◌*◌, ◌/◌, ◌≤◌, ◌<◌, Bool, true, false, List, [], ◌∷◌, length, reverse, nat_lt, Option, Some, None, refl, cond, arith, sum_by, All, range_with_len, option_map_or, ltb-false, All-head, All-tail, All-drop, sum_by-le, sum_by-cons, bits, unstuffed, kept_count, open_gap, runs_low, item_octets, last_octets, Item, room_for, Network, spelling, held, queue_of, IsWaitingFrame, ControlFrame, Terms, Config, Line, link_count, service_at, terms, link_at, left_of, IsSound, held_received, held_sent, held_by_link, held_in, sum_of_links, slots_by_link, slots_of, total_length, unit_length, octets_by_link, stored_in}
 use Rattle.model_link.specs.Link.{frame_of}
 use Rattle.model_link.specs.Rises as links
 use Rattle.model_line.specs.Stored.{octets_of}

@@ -72,10 +72,8 @@ alone number (e ∷ events) m h within =
           ∙ ap (λ l. with_line number (after_events m.config events l) next) there
           ∙ ap (λ ls. record m { lines = ls }) (set-set m.lines number l' (after_events m.config events l'));
       answers =
-          ap (λ a. a ∷ map answer_in (moments (after (at number e) m) (map (at number) events))) (bare_answer m number e bare)
-          ∙ ap (λ x. lines.answer m.config e (line_at number m) ∷ map answer_in (moments x (map (at number) events))) step
-          ∙ ap (λ l. lines.answer m.config e (line_at number m) ∷ l) more.answers
-          ∙ ap (λ l. lines.answer m.config e (line_at number m) ∷ answers_to m.config events l) there;
+          rw (bare_answer m number e bare, step)
+          (ap (λ l. lines.answer m.config e (line_at number m) ∷ l) (more.answers ∙ ap (answers_to m.config events) there));
     }
 
 bare_octets : (octets : List ℕ) → All IsBare (map line_event.octet octets)

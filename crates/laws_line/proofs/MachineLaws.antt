@@ -22,9 +22,7 @@ one_at_most c (octet value) l = go (hears c (octet value) l)
     go : (b : Bool) → one b ≤ 1
     go true = omega arith
     go false = omega arith
-one_at_most c (expiry timer) l = omega arith
-one_at_most c (request r) l = omega arith
-one_at_most c pull l = omega arith
+one_at_most c other l = omega arith
 
 pub hears_one : (c : Config) (e : Event) (l : Line) → IsInRange c → IsSound c l → HearsOne c e l
 hears_one c e l ranged s = omega (arith, heard_counted c e l ranged s, one_at_most c e l)

@@ -1,6 +1,7 @@
 -- Happenings at a card as its events.
-use Rattle.model_card.proofs.Vocabulary.{All-replicate, get_or-replicate, ◌≡◌, ℕ, zero, suc, ◌<◌, Bool, true, false, ◌&&◌, List, [], ◌∷◌, ◌++◌, length, replicate, get_or, set, is_some, if◌then◌else◌, refl, ap, sym, subst, ◌∙◌, ⊎_elim, All, map, cases_eq, set-get_or, set-set, get_or-set_same, get_or-set_other, length-replicate, All-nil, All-cons, All-head, All-tail, All-append, Config, Line, fresh_line, taken, Card, line_at, is_full, Event, at, after, answer, wants_room, moments, after_all, AreAtLines, IsAtLine, IsIdle, line_octets, came, fault_octets, cause_of, after_events, answers_to, pulls_to_begin, pulls_for, Happening, comes, failed, goes, expires, asks, line_of, events_at, events_of, spelled, IsWhole, HappensAt, HappenAt, AreIdle, answer_in, IsAtLineAlone, with_line, HappeningsAreEvents, LinesStayIdle, FramesAreOfLines, frames_are_heard, frames_come_whole, nothing_else_is_received}
+use Rattle.model_card.proofs.Vocabulary.{All-replicate, get_or-replicate, ◌≡◌, ℕ, zero, suc, ◌<◌, Bool, true, false, ◌&&◌, List, [], ◌∷◌, ◌++◌, length, replicate, get_or, set, is_some, if◌then◌else◌, refl, ap, sym, subst, ◌∙◌, ⊎_elim, All, map, cases_eq, set-get_or, set-set, get_or-set_same, get_or-set_other, length-replicate, All-nil, All-head, All-tail, All-append, Config, Line, fresh_line, taken, Card, line_at, is_full, Event, at, after, answer, wants_room, moments, after_all, AreAtLines, IsAtLine, IsIdle, line_octets, came, fault_octets, cause_of, after_events, answers_to, pulls_to_begin, pulls_for, Happening, comes, failed, goes, expires, asks, line_of, events_at, events_of, spelled, IsWhole, HappensAt, HappenAt, AreIdle, IsAtLineAlone, with_line, HappeningsAreEvents, LinesStayIdle, FramesAreOfLines, frames_are_heard, frames_come_whole, nothing_else_is_received}
 use Rattle.std.proofs.lemmas.List.{length-set}
+use Rattle.std.proofs.lemmas.List.Elements.{All-map}
 use Rattle.model_bits.specs.Stream as stream
 use Rattle.model_line.specs.Event as line_event
 use Rattle.model_line.specs.Machine as lines
@@ -10,8 +11,7 @@ use Rattle.model_line.specs.WholeLaws.{AreHeardAs}
 -- ---- events name lines, and leave the configuration
 
 pub all_at : (m : Card) (number : ℕ) (events : List line_event.Event) → number < m.config.lines → AreAtLines m (map (at number) events)
-all_at m number [] h = All-nil (IsAtLine m)
-all_at m number (e ∷ events) h = All-cons (IsAtLine m) (at number e) (map (at number) events) h (all_at m number events h)
+all_at m number events h = All-map (IsAtLine m) (at number) events (λ k d within. h)
 
 pub config_stays : (m : Card) (events : List Event) → (after_all m events).config ≡ m.config
 unfolding after_all
@@ -72,15 +72,12 @@ alone number (e ∷ events) m h within =
           ∙ ap (λ l. with_line number (after_events m.config events l) next) there
           ∙ ap (λ ls. record m { lines = ls }) (set-set m.lines number l' (after_events m.config events l'));
       answers =
-          ap (λ a. a ∷ map answer_in (moments (after (at number e) m) (map (at number) events))) (bare_answer m number e bare)
-          ∙ ap (λ x. lines.answer m.config e (line_at number m) ∷ map answer_in (moments x (map (at number) events))) step
-          ∙ ap (λ l. lines.answer m.config e (line_at number m) ∷ l) more.answers
-          ∙ ap (λ l. lines.answer m.config e (line_at number m) ∷ answers_to m.config events l) there;
+          rw (bare_answer m number e bare, step)
+          (ap (λ l. lines.answer m.config e (line_at number m) ∷ l) (more.answers ∙ ap (answers_to m.config events) there));
     }
 
 bare_octets : (octets : List ℕ) → All IsBare (map line_event.octet octets)
-bare_octets [] = All-nil IsBare
-bare_octets (o ∷ octets) = All-cons IsBare (line_event.octet o) (map line_event.octet octets) tt (bare_octets octets)
+bare_octets octets = All-map IsBare line_event.octet octets (λ k d within. tt)
 
 bare_pulls : (n : ℕ) → All IsBare (replicate n line_event.pull)
 bare_pulls n = All-replicate IsBare n line_event.pull tt

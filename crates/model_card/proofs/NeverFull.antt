@@ -1,7 +1,6 @@
 -- Where there is a slot for each place of each queue, the pool is never full.
-use Rattle.model_card.proofs.Vocabulary.{◌≡◌, ℕ, zero, suc, ◌+◌, ◌*◌, ◌≤◌, ◌<◌, false, List, [], ◌∷◌, length, get_or, subst, arith, sum_by, All, and_parts, leb-true, All-nil, All-cons, All-head, All-tail, sum_by-cons, sum_by-le, Config, is_pool_full, Line, fresh_line, slots_of, line_not_pool, places_of, slots_few, taker_finds, Card, fresh, line_at, used, is_full, Event, PoolNeverFull, after, answer, IsNotRefusedForPool, moments, IsAtLine, AreAtLines}
+use Rattle.model_card.proofs.Vocabulary.{◌≡◌, ℕ, zero, suc, ◌+◌, ◌*◌, ◌≤◌, ◌<◌, false, List, [], ◌∷◌, length, get_or, subst, arith, sum_by, All, and_parts, leb-true, All-nil, All-cons, All-head, All-tail, sum_by-cons, sum_by-le, is_pool_full, fresh_line, slots_of, line_not_pool, places_of, slots_few, taker_finds, Card, fresh, line_at, used, is_full, Event, PoolNeverFull, after, answer, IsNotRefusedForPool, moments, IsAtLine, AreAtLines}
 use Rattle.model_line.specs.Machine as lines
-use Rattle.model_line.specs.Sound as line
 use Rattle.model_card.proofs.Steps.{HasLines, by_room, line_sound, after_lines, fresh_lines}
 
 -- a sum of terms of at most m, by one of them
@@ -15,12 +14,6 @@ sum_but_one f m (x ∷ xs) (suc i) d few all =
     let head = All-head (λ x. f x ≤ m) x xs all in
     let rest = sum_but_one f m xs i d (omega (arith, few)) (All-tail (λ x. f x ≤ m) x xs all) in
     omega (arith, head, rest, sum_by-cons f x xs)
-
-lines_few : (c : Config) (ls : List Line) → All (line.IsSound c) ls → All (λ l. slots_of c l ≤ places_of c) ls
-lines_few c [] all = All-nil (λ l. slots_of c l ≤ places_of c)
-lines_few c (l ∷ ls) all =
-    All-cons (λ l. slots_of c l ≤ places_of c) l ls (slots_few c l (All-head (line.IsSound c) l ls all))
-    (lines_few c ls (All-tail (line.IsSound c) l ls all))
 
 -- fewer slots than there are, where one line finds a place
 below_all : (n most sum own slots count : ℕ) → n ≡ count → sum + most ≤ n * most + own → own + 1 ≤ most → count * most ≤ slots → slots ≤ sum → ⊥
@@ -37,7 +30,7 @@ event_not_refused card e h within enough =
     let l = line_at e.line card in
     let parts = and_parts (lines.takes_slot c e.what l) (is_full card) full in
     let less = taker_finds c e.what l (line_sound card e.line h within) parts.0 in
-    let sums = sum_but_one (slots_of c) (places_of c) card.lines e.line (fresh_line c) (omega (arith, h.count, within)) (lines_few c card.lines h.lines) in
+    let sums = sum_but_one (slots_of c) (places_of c) card.lines e.line (fresh_line c) (omega (arith, h.count, within)) (λ k d some. slots_few c _ (h.lines k d some)) in
     absurd (below_all (length card.lines) (places_of c) (used card) (slots_of c l) c.slots c.lines h.count sums less enough (leb-true c.slots (used card) parts.1)))
     (λ served. line_not_pool card.config e.what (line_at e.line card))
 

@@ -1,5 +1,5 @@
 -- What single events bring: frames by octets alone, and a pull.
-use Rattle.model_line.proofs.Vocabulary.{gained, ◌≡◌, ℕ, ◌+◌, Bool, true, false, Option, Some, None, option_to_list, refl, ap, ◌∙◌, cond, arith, option_map_or, false≢true, count_by, Config, Event, octet, expiry, request, pull, one, is_frame, frames_heard, IsHeardCounted, FallsByPull, Line, after, answer, takes_slot, IsInRange, IsSound}
+use Rattle.model_line.proofs.Vocabulary.{gained, ◌≡◌, ℕ, ◌+◌, Bool, true, false, Option, Some, None, option_to_list, refl, ap, ◌∙◌, cond, arith, option_map_or, false≢true, count_by, Config, Event, octet, one, is_frame, frames_heard, IsHeardCounted, FallsByPull, Line, after, answer, takes_slot, IsInRange, IsSound}
 use Rattle.model_bits.specs.Stream as stream
 use Rattle.model_line.specs.Counts.{hears}
 use Rattle.model_line.proofs.EventWalk.{meeting}
@@ -19,9 +19,7 @@ counted_one p (Some x) = go (p x)
 met_counted : (c : Config) (e : Event) (l : Line) → frames_heard c (meeting e l) ≡ frames_heard c l + one (hears c e l)
 met_counted c (octet value) l =
     omega (arith, counted_with is_frame c.n201 l.received value, counted_one is_frame (gained c.n201 l.received value))
-met_counted c (expiry timer) l = omega arith
-met_counted c (request r) l = omega arith
-met_counted c pull l = omega arith
+met_counted c other l = omega arith
 
 pub heard_counted : (c : Config) (e : Event) (l : Line) → IsInRange c → IsSound c l → IsHeardCounted c e l
 heard_counted c e l ranged s = ap (λ octets. count_by is_frame (stream.heard_in c.n201 octets)) (after_received c e l) ∙ met_counted c e l

@@ -27,7 +27,5 @@ event_rejects c e l ranged s =
 -- a request that takes a slot is no frame
 pub takes_no_reject : (c : Config) (e : Event) (l : Line) → takes_slot c e l ≡ true → rejects c e l ≡ false
 unfolding takes_slot
-takes_no_reject c (octet value) l takes = absurd (false≢true takes)
-takes_no_reject c (expiry timer) l takes = absurd (false≢true takes)
 takes_no_reject c (request r) l takes = request_none c l r
-takes_no_reject c pull l takes = refl
+takes_no_reject c other l takes = absurd (false≢true takes)

@@ -77,10 +77,9 @@ bring c l (o ∷ octets) e is = go (gained c.n201 l.received o) refl e is (λ m 
           before = suc more.before;
           behind = more.behind;
           answers =
-              ap (λ a. a ∷ answers_to c (map octet octets) (lines.after c (octet o) l)) here.answer
-              ∙ ap (λ m. told nothing ∷ answers_to c (map octet octets) m) here.line
-              ∙ ap (λ a. told nothing ∷ a) more.answers
-              ∙ ap (λ out. told nothing ∷ (replicate more.before (told nothing) ++ said out more.behind e)) same;
+              rw (here.answer, here.line)
+              (ap (λ a. told nothing ∷ a) more.answers
+              ∙ ap (λ out. told nothing ∷ (replicate more.before (told nothing) ++ said out more.behind e)) same);
           line =
               ap (after_events c (map octet octets)) here.line ∙ more.line
               ∙ ap (λ out. receiving (received ++ octets) out.line) same
@@ -93,10 +92,7 @@ bring c l (o ∷ octets) e is = go (gained c.n201 l.received o) refl e is (λ m 
         record {
           before = 0;
           behind = more.before;
-          answers =
-              ap (λ a. a ∷ answers_to c (map octet octets) (lines.after c (octet o) l)) here.answer
-              ∙ ap (λ m. told (of_heard c e l).told ∷ answers_to c (map octet octets) m) here.line
-              ∙ ap (λ a. told (of_heard c e l).told ∷ a) (more.answers ∙ append-nil (replicate more.before (told nothing)));
+          answers = rw (here.answer, here.line) (ap (λ a. told (of_heard c e l).told ∷ a) (more.answers ∙ append-nil (replicate more.before (told nothing))));
           line =
               ap (after_events c (map octet octets)) here.line ∙ more.line
               ∙ ap (λ r. receiving r (of_heard c e l).line) (append_assoc l.received (o ∷ []) octets);

@@ -82,10 +82,7 @@ goes_after c (suc n) l t is many =
     record {
       front = g.octet ∷ more.front;
       last = more.last;
-      answers =
-          ap (λ a. a ∷ answers_to c (replicate (suc n) pull) (lines.after c pull l)) g.answer
-          ∙ ap (λ m. octet_alone g.octet ∷ answers_to c (replicate (suc n) pull) m) g.line
-          ∙ ap (λ a. octet_alone g.octet ∷ a) more.answers;
+      answers = rw (g.answer, g.line) (ap (λ a. octet_alone g.octet ∷ a) more.answers);
       line =
           ap (after_events c (replicate (suc n) pull)) g.line
           ∙ more.line

@@ -105,9 +105,7 @@ begins_anew r r' a d z number none begins = inr (record { number = number; deliv
 -- No link delivers what is told where no part is concerned.
 abbrev pub HasNoContents : Aim → Type 0
 HasNoContents (at_none t) = (service : Service) (tei : ℕ) → delivered_in service tei (told t) ≡ None
-HasNoContents (at_link service tei place event) = Unit {0}
-HasNoContents (at_management event) = Unit {0}
-HasNoContents (at_units unit) = Unit {0}
+HasNoContents other = Unit {0}
 
 module _ (c : Config) (l : Line) (s : IsSound c l) (received : List ℕ) (number : ℕ) (few : number < link_count c) where
   abbrev pub now : Line

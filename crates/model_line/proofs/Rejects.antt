@@ -1,5 +1,5 @@
 -- An REJ is a frame of four octets, and frames take their octets of the stream.
-use Rattle.model_line.proofs.Vocabulary.{◌≡◌, ℕ, ◌%◌, ◌/◌, ◌==◌, Bool, true, false, not, List, [], ◌∷◌, length, drop, slice_index, Option, Some, None, Result, Ok, Err, refl, ap, sym, ◌∙◌, subst, cond, arith, ne_eqb, Address, Side, Control, ReadFault, BadExtension, Undefined, WrongSize, Short, has_bad_extension, Parts, allows, takes, row, reading, header_of, control_of, supervisory_of, unnumbered_of, address_of, completed, sized, start_of, checked, seq, reject_number}
+use Rattle.model_line.proofs.Vocabulary.{◌≡◌, ℕ, ◌%◌, ◌==◌, Bool, true, false, not, List, [], ◌∷◌, length, drop, slice_index, Option, Some, None, Result, Ok, Err, refl, sym, subst, cond, arith, ne_eqb, Address, Side, Control, ReadFault, BadExtension, Undefined, WrongSize, Short, has_bad_extension, Parts, allows, takes, row, reading, header_of, control_of, unnumbered_of, address_of, completed, sized, start_of, checked, reject_number}
 use Rattle.std.proofs.lemmas.Bool.{eqb-true}
 use Rattle.lapd_frame.specs.declared.controls.Control.TheVariants as control
 
@@ -33,9 +33,7 @@ unfolding control_of
 field_of_three third fourth e =
     let odd : (third % 2 == 0) ≡ false = ne_eqb (third % 2) 0 (λ h. omega (arith, e, h)) in
     let not_supervisory : (third % 4 == 1) ≡ false = ne_eqb (third % 4) 1 (λ h. omega (arith, e, h)) in
-    ap (λ b. cond b (Some (control.Information (seq (third / 2)) (seq (fourth / 2)) (fourth % 2 == 1)))
-    (cond (third % 4 == 1) (supervisory_of third (seq (fourth / 2)) (fourth % 2 == 1)) (unnumbered_of third))) odd
-    ∙ ap (λ b. cond b (supervisory_of third (seq (fourth / 2)) (fourth % 2 == 1)) (unnumbered_of third)) not_supervisory
+    rw (odd, not_supervisory) refl
 
 sized_no_reject : (address : Address) (k : Control) (info : List ℕ) → reject_number k ≡ None → NoReject (sized address k info)
 sized_no_reject address k info h = go (takes (row k).info (length info))

@@ -30,10 +30,6 @@ at_most_one false = omega arith
 
 link_takes : (c : Config) (service : Service) (tei : ℕ) (e : link.Event) (x : Link) → grows_of c service tei e x ≤ one (brings_data e)
 link_takes c service tei (link.requested (link.Data contents) full) x = at_most_one (is_some (requests.refusal (terms c service tei) x full (link.Data contents)))
-link_takes c service tei (link.requested link.Establish full) x = omega arith
-link_takes c service tei (link.requested link.Release full) x = omega arith
-link_takes c service tei (link.requested link.SetBusy full) x = omega arith
-link_takes c service tei (link.requested link.ClearBusy full) x = omega arith
 link_takes c service tei other x = omega arith
 
 event_takes : (c : Config) (l m : Line) (e : Event) → price_at (grows c) m (aim_of c e l) ≤ one (takes_slot c e l)

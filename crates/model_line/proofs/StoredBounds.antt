@@ -1,5 +1,5 @@
 -- A sound line holds at most so many octets, and at most N201 octets in each slot.
-use Rattle.model_line.proofs.Vocabulary.{◌≡◌, ℕ, zero, suc, ◌+◌, ◌*◌, ◌/◌, ◌≤◌, ◌<◌, Bool, true, false, List, [], ◌∷◌, length, reverse, nat_lt, Option, Some, None, refl, cond, arith, sum_by, All, range_with_len, option_map_or, ltb-false, All-head, All-tail, All-drop, All-nil, All-cons, sum_by-le, sum_by-cons, bits, unstuffed, kept_count, open_gap, runs_low, item_octets, last_octets, Item, room_for, Network, spelling, held, queue_of, IsWaitingFrame, ControlFrame, Terms, Config, Line, UnitData, link_count, service_at, terms, link_at, left_of, IsSound, IsUnitData, held_received, held_sent, held_by_link, held_in, sum_of_links, slots_by_link, slots_of, total_length, unit_length, octets_by_link, stored_in}
+use Rattle.model_line.proofs.Vocabulary.{◌≡◌, ℕ, zero, suc, ◌+◌, ◌*◌, ◌/◌, ◌≤◌, ◌<◌, Bool, true, false, List, [], ◌∷◌, length, reverse, nat_lt, Option, Some, None, refl, cond, arith, sum_by, All, range_with_len, option_map_or, ltb-false, All-head, All-tail, All-drop, sum_by-le, sum_by-cons, bits, unstuffed, kept_count, open_gap, runs_low, item_octets, last_octets, Item, room_for, Network, spelling, held, queue_of, IsWaitingFrame, ControlFrame, Terms, Config, Line, link_count, service_at, terms, link_at, left_of, IsSound, held_received, held_sent, held_by_link, held_in, sum_of_links, slots_by_link, slots_of, total_length, unit_length, octets_by_link, stored_in}
 use Rattle.model_link.specs.Link.{frame_of}
 use Rattle.model_link.specs.Rises as links
 use Rattle.model_line.specs.Stored.{octets_of}
@@ -38,14 +38,8 @@ sent_few c l s = go (runs_low (left_of l))
 ring_few : (t : Terms) (most : ℕ) (ws : List ControlFrame) → All (IsWaitingFrame t) ws → length ws ≤ most
     → sum_by (λ f. length (spelling Network (frame_of t f))) ws ≤ 4 * most
 ring_few t most ws frames few =
-    let octets = sum_by-le (λ f. length (spelling Network (frame_of t f))) 4 ws (short ws frames) in
+    let octets = sum_by-le (λ f. length (spelling Network (frame_of t f))) 4 ws (λ k d within. (frames k d within).octets) in
     omega (arith, octets, few)
-  where
-    short : (fs : List ControlFrame) → All (IsWaitingFrame t) fs → All (λ f. length (spelling Network (frame_of t f)) ≤ 4) fs
-    short [] all = All-nil (λ f. length (spelling Network (frame_of t f)) ≤ 4)
-    short (f ∷ fs) all =
-        All-cons (λ f. length (spelling Network (frame_of t f)) ≤ 4) f fs (All-head (IsWaitingFrame t) f fs all).octets
-        (short fs (All-tail (IsWaitingFrame t) f fs all))
 
 link_few : (c : Config) (l : Line) → IsSound c l → (n : ℕ) → n < link_count c → held_by_link c l n ≤ 4 * c.control
 link_few c l s n few =
@@ -79,17 +73,10 @@ queue_octets c l s n few =
     sum_by-le length c.n201 (queue_of (link_at n l))
     (All-drop (λ octets. length octets ≤ c.n201) (link_at n l).a (link_at n l).contents sound.sizes))
 
-unit_octets : (c : Config) (us : List UnitData) → All (IsUnitData c) us → sum_by unit_length us ≤ length us * c.n201
-unit_octets c us all = sum_by-le unit_length c.n201 us (short us all)
-  where
-    short : (vs : List UnitData) → All (IsUnitData c) vs → All (λ u. unit_length u ≤ c.n201) vs
-    short [] h = All-nil (λ u. unit_length u ≤ c.n201)
-    short (v ∷ vs) h = All-cons (λ u. unit_length u ≤ c.n201) v vs (All-head (IsUnitData c) v vs h).size (short vs (All-tail (IsUnitData c) v vs h))
-
 pub octets_few : (c : Config) (l : Line) → IsSound c l → octets_of c l ≤ slots_of c l * c.n201
 octets_few c l s =
     let queues = scaled (octets_by_link l) (slots_by_link l) c.n201 0 (link_count c) (λ n few. queue_octets c l s n (omega (arith, few))) in
-    omega (arith, unit_octets c l.units s.units, queues)
+    omega (arith, sum_by-le unit_length c.n201 l.units (λ k d within. (s.units k d within).size), queues)
 
 pub stored_few : (c : Config) (l : Line) → IsSound c l
     → stored_in c l ≤ (2 * c.n201 + 10 + 8 * c.control * c.terminals + 32 + 12) + slots_of c l * c.n201

@@ -1,6 +1,6 @@
 -- What a `frame` job has written where it ends.
-use Rattle.lapd_script.proofs.Vocabulary.{◌≡◌, ℕ, zero, suc, ◌≤◌, List, [], ◌∷◌, ◌++◌, length, take, Result, Ok, Err, refl, ap, sym, subst, arith, IsErr, IsErrAnd, false≢true, Side, Parts, Spells, octets, WriteFailed, shown_text, on_line_text, Taken, IsWritten, IsBroken, broken_more, writes_then, FrameFault, NoFrame, on_line, IsShown, IsUnshown, ShowsFrame}
-use Rattle.lapd_script.specs.declared.shown.FrameFault.TheVariants.{BadOctets, TooLong, Write, OutOfMemory}
+use Rattle.lapd_script.proofs.Vocabulary.{◌≡◌, ℕ, zero, suc, ◌≤◌, List, [], ◌∷◌, ◌++◌, length, take, Result, Ok, Err, refl, ap, sym, subst, arith, IsErr, IsErrAnd, false≢true, Side, Parts, Spells, octets, WriteFailed, shown_text, on_line_text, Taken, IsWritten, IsBroken, broken_more, writes_then, FrameFault, on_line, IsShown, IsUnshown, ShowsFrame}
+use Rattle.lapd_script.specs.declared.shown.FrameFault.TheVariants.{Write, OutOfMemory}
 
 -- the exit of a `?`
 pub exit_is : (r : Result Unit FrameFault) (fault : FrameFault) → IsErr r × IsErrAnd r (λ why. why ≡ fault) → r ≡ Err fault

@@ -45,9 +45,8 @@ pub use Rattle.lapd_script.specs.declared.kind.FaultKind.{FaultKind}
 pub use Rattle.lapd_script.specs.declared.kind.FaultKind.TheVariants.{BadNumberOfWords, BadOctets}
 pub use Rattle.lapd_script.specs.declared.lines.ScriptLines.{ScriptLines}
 pub use Rattle.lapd_script.specs.declared.shown.FrameFault.{FrameFault}
-pub use Rattle.lapd_script.specs.declared.shown.FrameFault.TheVariants.{NoFrame}
 pub use Rattle.lapd_script.specs.declared.word.Word.{Word}
-pub use Rattle.lapd_script.specs.declared.word.Word.TheVariants.{Ask, Card, Counters, Failed, In, Next, Pull, Rx, Stored, Timers, Wait}
+pub use Rattle.lapd_script.specs.declared.word.Word.TheVariants.{Ask}
 pub use Rattle.lapd_transcript.proofs.Known.{broken_more, writes_then}
 pub use Rattle.lapd_transcript.specs.OnLine.{on_line}
 pub use Rattle.lapd_transcript.specs.Shown.{on_line_text, shown_text}

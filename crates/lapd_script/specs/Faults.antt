@@ -42,8 +42,3 @@ reads_failed_by (Err fault) count = reads_failed fault count
 abbrev pub writes_failed_by : {A : Type 0} → Result A PlayFault → ℕ → ℕ
 writes_failed_by (Ok _) count = count
 writes_failed_by (Err fault) count = writes_failed fault count
-
--- a target's count after a line was obeyed
-abbrev pub line_writes_failed_by : {A : Type 0} → Result A LineFault → ℕ → ℕ
-line_writes_failed_by (Ok _) count = count
-line_writes_failed_by (Err fault) count = line_writes_failed fault count

@@ -107,7 +107,3 @@ none_is (Some t) out is = absurd is
 pub told_as : {E : Type 0} (result : Result Unit E) (a b : Output) (Q : Setup → Type 0) (s t : Scene) → s ≡ t → Puts result a b t.text → Q t.setup → Tells result a b Q s
 told_as (Ok x) a b Q s t e put q = subst (λ (z : Scene). IsPut a b z.text × Q z.setup) (sym e) (put, q)
 told_as (Err x) a b Q s t e put q = subst (λ (z : Scene). IsStuck a b z.text) (sym e) put
-
--- what a card for frames holds
-pub held_is : (count sent all : ℕ) → count + sent ≡ all → count ≡ all - sent
-held_is count sent all e = omega (arith, e)

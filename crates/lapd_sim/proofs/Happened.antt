@@ -1,5 +1,5 @@
 -- What is told of the next frame.
-use Rattle.lapd_sim.proofs.Vocabulary.{◌≡◌, ℕ, List, take, Option, None, Some, Result, subst, Output, Puts, frame_text, nothing_text, next_text, IsTaken}
+use Rattle.lapd_sim.proofs.Vocabulary.{ℕ, List, take, Option, None, Some, Result, subst, Output, Puts, frame_text, nothing_text, next_text, IsTaken}
 use Rattle.model_line.specs.Pull.{Taken}
 
 -- it is taken, or none waits

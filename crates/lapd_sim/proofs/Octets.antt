@@ -1,5 +1,5 @@
 -- Scripts and transcripts in memory.
-use Rattle.lapd_sim.proofs.Vocabulary.{◌≡◌, ℕ, ◌++◌, true, List, [], Option, Some, Result, Ok, Err, ◌∙◌, subst, arith, append-nil, Appends, Taken, PlayFault, Read, Write, Script, OutOfMemory, reads_failed_by, Plays, PlaysOctets}
+use Rattle.lapd_sim.proofs.Vocabulary.{◌≡◌, ℕ, ◌++◌, true, List, [], Option, Some, Result, Err, ◌∙◌, subst, arith, append-nil, Appends, Taken, PlayFault, Read, Write, OutOfMemory, reads_failed_by, Plays, PlaysOctets}
 
 -- what has been appended to a list that is known
 appended : (a b : Option (List ℕ)) (old new text : List ℕ) → a ≡ Some old → b ≡ Some new → Appends a b text → new ≡ old ++ text

@@ -1,9 +1,9 @@
 -- What a line says, event by event.
-use Rattle.lapd_sim.proofs.Vocabulary.{◌≡◌, ℕ, zero, suc, ◌<◌, ◌≤◌, nat_lt, List, [], ◌∷◌, length, Bool, true, false, cond, Option, None, Some, Result, Ok, Err, OnOk, refl, sym, ap, ◌∙◌, subst, lt-ltb, le-leb, CardKind, BadNumber, BadLine, BadFrame, Event, at, Config, Output, Puts, WriteFailed, Setup, LengthFault, due_at, FaultKind, Scene, with_event, with_events, at_line, expiries, expired, Pulls, pulls, one_pull, after_coming, can_come, for_octets, for_frames, with_card, LineFault, Faulty, Obeys, Tells, scene, written, Exchange, Holds, Stands, Each, Hears, Sends}
+use Rattle.lapd_sim.proofs.Vocabulary.{◌≡◌, ℕ, zero, suc, ◌<◌, ◌≤◌, nat_lt, List, [], ◌∷◌, length, Bool, true, cond, Option, None, Some, Result, Ok, Err, OnOk, refl, sym, ap, ◌∙◌, subst, lt-ltb, le-leb, CardKind, BadNumber, BadLine, BadFrame, Event, Config, Output, Puts, WriteFailed, Setup, LengthFault, due_at, FaultKind, Scene, with_event, with_events, at_line, expiries, expired, Pulls, pulls, one_pull, after_coming, can_come, for_octets, for_frames, with_card, LineFault, Faulty, Obeys, Tells, scene, written, Exchange, Holds, Stands, Each, Hears, Sends}
 use Rattle.lapd_script.specs.Meaning as meaning
 use Rattle.lapd_script.specs.declared.command.CardKind.TheVariants.{Octets, Frames}
 use Rattle.lapd_sim.specs.declared.setup.Setup as rust
-use Rattle.lapd_script.specs.declared.faults.LineFault.TheVariants.{Write, OutOfMemory}
+use Rattle.lapd_script.specs.declared.faults.LineFault.TheVariants.{Write}
 
 -- lengths of timers that are in range are obeyed, and leave all else as it was
 pub obeyed_by : (r : Result Unit LineFault) (before : Output) (P Q : Setup → Type 0) (o : Option LengthFault) (s : Scene) → (P s.setup → Q s.setup)

@@ -1,5 +1,5 @@
 -- The digits of octets.
-use Rattle.lapd_transcript.proofs.Vocabulary.{◌≡◌, ℕ, suc, zero, ◌<◌, ◌/◌, ◌%◌, List, [], ◌∷◌, refl, ap, ◌∙◌, arith, slice_index, flat_map, to_ascii_uppercase, encode_with, encode_upper, encode_lower, upper_digits, lower_digits}
+use Rattle.lapd_transcript.proofs.Vocabulary.{◌≡◌, ℕ, suc, ◌<◌, ◌/◌, ◌%◌, List, [], ◌∷◌, refl, ap, ◌∙◌, arith, slice_index, flat_map, to_ascii_uppercase, encode_with, encode_upper, encode_lower, upper_digits, lower_digits}
 
 -- one octet after the other
 pub encoded_singly : (octets : List ℕ) → flat_map (λ octet. encode_upper (octet ∷ [])) octets ≡ encode_upper octets

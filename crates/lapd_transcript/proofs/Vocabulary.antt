@@ -40,4 +40,4 @@ pub use Rattle.model_bits.specs.Stream.{heard_in}
 pub use Rattle.model_bits.specs.Stuffing.{stuffed}
 pub use Rattle.model_bits.specs.StuffingLaws.{AreOctets}
 pub use Rattle.model_bits.specs.declared.heard.Heard.{Heard}
-pub use Rattle.model_bits.specs.declared.heard.Heard.TheVariants.{Dropped, Frame, Nothing, Overlong}
+pub use Rattle.model_bits.specs.declared.heard.Heard.TheVariants.{Frame}

@@ -50,12 +50,12 @@ pub use Rattle.model_card.proofs.Starts.{expiry_starts}
 pub use Rattle.model_card.proofs.Stored.{stored_within_limit}
 pub use Rattle.model_card.specs.Card.{Card, fresh, line_at}
 pub use Rattle.model_card.specs.Event.{Event, at}
-pub use Rattle.model_card.specs.Happening.{AreIdle, Happening, HappensAt, answer_in, comes, events_at, events_of, failed, goes, line_of, spelled}
+pub use Rattle.model_card.specs.Happening.{AreIdle, Happening, HappensAt, answer_in, comes, events_at, events_of, failed, goes, line_of}
 pub use Rattle.model_card.specs.HappeningsCounted.{happening_counted}
 pub use Rattle.model_card.specs.Machine.{after, answer}
 pub use Rattle.model_card.specs.Run.{AreAtLines, IsAtLine}
 unfoldable pub use Rattle.model_card.specs.Run.{after_all, moments}
-pub use Rattle.model_card.specs.Said.{Means, Said, gives, next_of, said, says}
+pub use Rattle.model_card.specs.Said.{Means, Said, gives, said, says}
 pub use Rattle.model_card.specs.Stored.{stored}
 pub use Rattle.model_line.proofs.FramesCome.{frames_come_whole}
 pub use Rattle.model_line.proofs.FramesGo.{frames_go_whole}
@@ -66,7 +66,7 @@ pub use Rattle.model_line.specs.Laws.{orders_in}
 pub use Rattle.model_line.specs.Line.{Line}
 pub use Rattle.model_line.specs.Pull.{Taken, taken}
 pub use Rattle.model_line.specs.Sound.{IsInRange}
-pub use Rattle.model_line.specs.WholeAtLine.{answers_to, octet_alone, pulls_for, pulls_to_begin}
+pub use Rattle.model_line.specs.WholeAtLine.{answers_to, octet_alone, pulls_to_begin}
 pub use Rattle.model_line.specs.declared.config.Config.{Config}
 pub use Rattle.model_line.specs.declared.config.Field.{Field}
 pub use Rattle.model_line.specs.declared.config.Field.TheVariants.{Control, Lines, N201, Slots, Terminals}

@@ -34,17 +34,8 @@ addressee m address =
 
 -- Of the frames of layer 2 management, UI alone is served.
 abbrev pub is_ui : Control → Bool
-is_ui (control.Information ns nr p) = false
-is_ui (control.ReceiveReady nr pf) = false
-is_ui (control.ReceiveNotReady nr pf) = false
-is_ui (control.Reject nr pf) = false
-is_ui (control.Sabme p) = false
-is_ui (control.Disc p) = false
 is_ui (control.Ui p) = true
-is_ui (control.Ua f) = false
-is_ui (control.Dm f) = false
-is_ui (control.Frmr f) = false
-is_ui (control.Xid pf) = false
+is_ui other = false
 
 -- A frame of layer 2 management: UI alone is served, on the network's side.
 abbrev pub message_at : Side → Control → List ℕ → Aim

@@ -17,7 +17,7 @@ pub use Rattle.lapd_card.specs.FrameDrive.{MissesAt, MissesReply, Taken, after_h
 pub use Rattle.lapd_card.specs.Kept.{kept_of}
 pub use Rattle.lapd_card.specs.Lines.{AreFresh, IsFit, IsFresh, LineKind, Stand, of_frames, of_octets, owned, told_at, told_if_at, told_of}
 pub use Rattle.lapd_card.specs.Reply.{answer_of_result}
-pub use Rattle.lapd_card.specs.Stands.{HasPast, HasPastOf, LeadsOf, Stands, StandsOf}
+pub use Rattle.lapd_card.specs.Stands.{HasPastOf, LeadsOf, Stands, StandsOf}
 pub use Rattle.lapd_card.specs.Start.{fault_by, is_too_small, start_fault}
 pub use Rattle.lapd_card.specs.declared.fault.CardFault.TheVariants.{BadConfig, ShelfTooSmall}
 pub use Rattle.lapd_card.specs.declared.happenings.Happening.TheVariants.{Comes}
@@ -63,7 +63,6 @@ pub use Rattle.model_card.proofs.TextGoesOn.{text_goes_on}
 pub use Rattle.model_card.specs.ByEvent.{ArePriced, FallsByPull, RisesByExpiry, RisesByOctet, RisesByRequest}
 pub use Rattle.model_card.specs.Card.{Card, fresh, is_full, line_at, state, used}
 pub use Rattle.model_card.specs.Counted.{CountersAreNumbers, all_counted, all_shown, moment_counted, moment_of, shown_at}
-pub use Rattle.model_card.specs.Counts.{may_send}
 pub use Rattle.model_card.specs.Drops.{AreDropsWithoutCost, AreDropsWithoutEffect}
 pub use Rattle.model_card.specs.Event.{Event, at, event_of}
 pub use Rattle.model_card.specs.Happening.{AreIdle, Happening, comes, events_at, events_of, failed, goes, line_of, spelled, with_line}
@@ -83,7 +82,7 @@ pub use Rattle.model_line.proofs.StoredBounds.{octets_few, waiting_few}
 pub use Rattle.model_line.specs.Begun.{head_begun}
 pub use Rattle.model_line.specs.Config.{first_fault}
 pub use Rattle.model_line.specs.Counted.{heard_counted, shown, taken_shown, told_in_answer}
-pub use Rattle.model_line.specs.Event.{Answer, LineTold, expiry, nothing, octet, told}
+pub use Rattle.model_line.specs.Event.{Answer, nothing, told}
 pub use Rattle.model_line.specs.Laws.{cause_in, orders_in}
 pub use Rattle.model_line.specs.Line.{fresh_line}
 pub use Rattle.model_line.specs.Machine.{answer}

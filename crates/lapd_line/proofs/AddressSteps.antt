@@ -1,5 +1,5 @@
 -- What is heard, by whom it is for.
-use Rattle.lapd_line.proofs.Vocabulary.{◌≡◌, ℕ, Bool, true, false, not, ◌&&◌, nat_le, ◌==◌, ◌≤◌, List, [], ◌∷◌, Option, Some, None, Err, length, drop, refl, sym, ap, ◌∙◌, cond, subst, eqb-true, drop_of_length-le, Address, Side, User, Network, Note, Service, ShortList, Parts, service_of, listed, Tei, Unserved, Control, ReadFault, BadExtension, Undefined, WrongSize, Short, Management, place_of, false≢true, Owned, Store, Config, LineTold, nothing, dropped, Line, place_in, addressed, at_place, to_service, management_sapi, group_tei, drop_for, message_of, aim_of_long, aim_of_reading, Aim, at_none, at_management, of_aim, group_told, told_of_ui, told_of_group, told_at, managed_at, at_side, has_management, Addressee, LinkLayer, BareReport, addressee, of_service, aim_at, is_ui, message_at, group_service, Stands, Serves, always, told_in}
+use Rattle.lapd_line.proofs.Vocabulary.{Call, ◌≡◌, ℕ, Bool, true, false, not, ◌&&◌, nat_le, ◌==◌, ◌≤◌, List, [], ◌∷◌, Option, Some, None, Err, length, drop, refl, sym, ap, ◌∙◌, cond, subst, eqb-true, drop_of_length-le, Address, Side, User, Network, Note, Service, ShortList, Parts, service_of, listed, Tei, Unserved, Control, ReadFault, BadExtension, Undefined, WrongSize, Short, Management, place_of, false≢true, Owned, Store, Config, LineTold, nothing, dropped, Line, place_in, addressed, at_place, to_service, management_sapi, group_tei, drop_for, message_of, aim_of_long, aim_of_reading, Aim, at_none, at_management, of_aim, group_told, told_of_ui, told_of_group, told_at, managed_at, at_side, has_management, Addressee, LinkLayer, BareReport, addressee, of_service, aim_at, is_ui, message_at, group_service, Stands, Serves, always, told_in}
 use Rattle.lapd_frame.specs.declared.notes.Note.TheVariants as notes
 use Rattle.lapd_frame.specs.declared.controls.Control.TheVariants as control
 use Rattle.model_link.specs.Events as link
@@ -95,6 +95,22 @@ managed_sapi m address is = go (address.sapi == management_sapi) refl (address.t
     go true sapi group e = ap service_of (eqb-true address.sapi management_sapi sapi)
     go false sapi group e = sent (service_of address.sapi) e
 
+-- what a frame is, and what is told of one to the group, by whether it is a UI
+ui_rows : (c : Config) (service : Service) (k : Control) (info : List ℕ) (told : LineTold)
+    → (message_of k info ≡ cond (is_ui k) (at_management (teis.message info)) (drop_for Unserved))
+    × (told_of_ui c service k info told ≡ cond (is_ui k) (cond (nat_le (length info) c.n201) (group_told service info) told) told)
+ui_rows c service (control.Ui p) info told = (refl, refl)
+ui_rows c service (control.Information ns nr p) info told = (refl, refl)
+ui_rows c service (control.ReceiveReady nr pf) info told = (refl, refl)
+ui_rows c service (control.ReceiveNotReady nr pf) info told = (refl, refl)
+ui_rows c service (control.Reject nr pf) info told = (refl, refl)
+ui_rows c service (control.Sabme p) info told = (refl, refl)
+ui_rows c service (control.Disc p) info told = (refl, refl)
+ui_rows c service (control.Ua f) info told = (refl, refl)
+ui_rows c service (control.Dm f) info told = (refl, refl)
+ui_rows c service (control.Frmr f) info told = (refl, refl)
+ui_rows c service (control.Xid pf) info told = (refl, refl)
+
 -- so it is the same on each side, whatever is told
 module _ (c : Config) (parts : Parts) where
   no_group : (side : Side) (told : LineTold) → service_of parts.address.sapi ≡ None → told_at c side parts told ≡ told
@@ -102,23 +118,11 @@ module _ (c : Config) (parts : Parts) where
   no_group User told none = ap (λ o. told_of_group c parts o told) none
 
   pub message_sided : service_of parts.address.sapi ≡ None → at_side c parts (message_of parts.control parts.info) ≡ message_at c.side parts.control parts.info
-  message_sided none = by_control parts.control
+  message_sided none = ap (at_side c parts) (ui_rows c Call parts.control parts.info nothing).0 ∙ go (is_ui parts.control)
     where
-      dropped_so : at_none (told_at c c.side parts (dropped Unserved)) ≡ drop_for Unserved
-      dropped_so = ap at_none (no_group c.side (dropped Unserved) none)
-
-      by_control : (k : Control) → at_side c parts (message_of k parts.info) ≡ message_at c.side k parts.info
-      by_control (control.Ui p) = refl
-      by_control (control.Information ns nr p) = dropped_so
-      by_control (control.ReceiveReady nr pf) = dropped_so
-      by_control (control.ReceiveNotReady nr pf) = dropped_so
-      by_control (control.Reject nr pf) = dropped_so
-      by_control (control.Sabme p) = dropped_so
-      by_control (control.Disc p) = dropped_so
-      by_control (control.Ua f) = dropped_so
-      by_control (control.Dm f) = dropped_so
-      by_control (control.Frmr f) = dropped_so
-      by_control (control.Xid pf) = dropped_so
+      go : (b : Bool) → at_side c parts (cond b (at_management (teis.message parts.info)) (drop_for Unserved)) ≡ cond b (managed_at c.side (teis.message parts.info)) (drop_for Unserved)
+      go true = refl
+      go false = ap at_none (no_group c.side (dropped Unserved) none)
 
 -- What is told of a frame for nobody, by the service whose unit data it brings.
 abbrev pub told_by_service : Option Service → List ℕ → LineTold → LineTold
@@ -126,23 +130,14 @@ told_by_service None info told = told
 told_by_service (Some service) info told = group_told service info
 
 module _ (c : Config) (parts : Parts) (told : LineTold) where
-  by_size : (b : Bool) (service : Service) → cond b (group_told service parts.info) told ≡ told_by_service (cond b (Some service) None) parts.info told
-  by_size true service = refl
-  by_size false service = refl
-
   by_control : (k : Control) (service : Service)
       → told_of_ui c service k parts.info told ≡ told_by_service (cond (is_ui k && nat_le (length parts.info) c.n201) (Some service) None) parts.info told
-  by_control (control.Ui p) service = by_size (nat_le (length parts.info) c.n201) service
-  by_control (control.Information ns nr p) service = refl
-  by_control (control.ReceiveReady nr pf) service = refl
-  by_control (control.ReceiveNotReady nr pf) service = refl
-  by_control (control.Reject nr pf) service = refl
-  by_control (control.Sabme p) service = refl
-  by_control (control.Disc p) service = refl
-  by_control (control.Ua f) service = refl
-  by_control (control.Dm f) service = refl
-  by_control (control.Frmr f) service = refl
-  by_control (control.Xid pf) service = refl
+  by_control k service = (ui_rows c service k parts.info told).1 ∙ go (is_ui k) (nat_le (length parts.info) c.n201)
+    where
+      go : (b few : Bool) → cond b (cond few (group_told service parts.info) told) told ≡ told_by_service (cond (b && few) (Some service) None) parts.info told
+      go true true = refl
+      go true false = refl
+      go false few = refl
 
   abbrev is_served : Bool
   is_served = is_ui parts.control && nat_le (length parts.info) c.n201

@@ -1,5 +1,5 @@
 -- What happens at a line for whole frames leads it on as the events do that it means.
-use Rattle.lapd_line.proofs.Vocabulary.{◌≡◌, ℕ, ◌+◌, ◌/◌, ◌≤◌, Bool, List, [], ◌∷◌, ◌++◌, length, map, replicate, reverse, take, Option, Some, None, IfSome, is_some, if◌then◌else◌, refl, ap, sym, ◌∙◌, subst, arith, option_map_or, kept_count, octets_held, room_for, unstuffed, AreOctets, frame, listed, ShortList, Order, Timer, Owned, Store, Config, Event, after, unless_refused, Taken, taken, of_aim, aim_of_expiry, refusal, Request, aim_of_request, IsInRange, IsSound, after_sound, ranges_of, TakesSoundly, taken_sound, Fault, IsIdle, line_octets, came, fault_octets, after_events, of_heard, pulls_to_begin, pulls_for, frames_are_heard, frames_come_whole, frames_go_whole, nothing_else_is_received, FrameLine, LinkLayer, BareReport, Report, Leads, IsNext, Serves, aim_of_event, in_octets, Took, Takes, report_told, told_in}
+use Rattle.lapd_line.proofs.Vocabulary.{◌≡◌, ℕ, ◌+◌, ◌/◌, ◌≤◌, Bool, List, [], ◌∷◌, ◌++◌, length, map, replicate, reverse, take, Option, Some, None, IfSome, is_some, if◌then◌else◌, refl, ap, sym, ◌∙◌, subst, arith, option_map_or, kept_count, octets_held, room_for, unstuffed, AreOctets, frame, listed, ShortList, Order, Timer, Owned, Store, Config, Event, after, unless_refused, Taken, taken, of_aim, aim_of_expiry, refusal, Request, aim_of_request, IsInRange, IsSound, after_sound, ranges_of, TakesSoundly, taken_sound, Fault, IsIdle, line_octets, came, fault_octets, after_events, pulls_to_begin, pulls_for, frames_are_heard, frames_come_whole, frames_go_whole, nothing_else_is_received, FrameLine, LinkLayer, BareReport, Leads, IsNext, Serves, aim_of_event, in_octets, Took, Takes}
 use Rattle.model_bits.specs.Stream as stream
 use Rattle.model_line.specs.Event as line_event
 use Rattle.model_line.specs.Line as machine

@@ -1,5 +1,5 @@
 -- The words with which the proofs of this crate speak, from where they are defined.
-pub use Rattle.std.proofs.Common.{Bool, Err, IfErr, IfOk, IfSome, IsSome, List, None, Ok, OnErr, OnOk, Option, Result, Some, [], ap, append_assoc, arith, cond, drop, eqb-true, false, get_or, if◌then◌else◌, inl, inr, is_some, length, length-append, length-drop, map, nat_le, nat_lt, not, option_map, option_to_list, refl, replicate, reverse, set, slice_get, subst, suc, sym, take, true, vec_len, w32, zero, ℕ, ⊎_elim, ◌%◌, ◌&&◌, ◌*◌, ◌++◌, ◌+◌, ◌-◌, ◌/◌, ◌<◌, ◌==◌, ◌^◌, ◌||◌, ◌∙◌, ◌∷◌, ◌≡◌, ◌≢◌, ◌≤◌, ◌⊎◌}
+pub use Rattle.std.proofs.Common.{Bool, Err, IfErr, IfOk, IfSome, IsSome, List, None, Ok, OnOk, Option, Result, Some, [], ap, append_assoc, arith, cond, drop, eqb-true, false, get_or, if◌then◌else◌, inl, inr, is_some, length, length-append, length-drop, map, nat_le, nat_lt, not, option_map, option_to_list, refl, replicate, reverse, set, slice_get, subst, suc, sym, take, true, vec_len, w32, zero, ℕ, ⊎_elim, ◌%◌, ◌&&◌, ◌*◌, ◌++◌, ◌+◌, ◌-◌, ◌/◌, ◌<◌, ◌==◌, ◌^◌, ◌||◌, ◌∙◌, ◌∷◌, ◌≡◌, ◌≢◌, ◌≤◌, ◌⊎◌}
 pub use Rattle.std.proofs.Math.ListN.{drop_of_length-le}
 pub use Rattle.std.proofs.Math.Nat.{div-le_self}
 pub use Rattle.std.proofs.Math.Seq.{map-set_same}
@@ -90,7 +90,6 @@ pub use Rattle.model_bits.proofs.BitLemmas.{bits-push}
 pub use Rattle.model_bits.specs.Bits.{bits, low_bits, number_of}
 pub use Rattle.model_bits.specs.Framer.{Framing, last_octets, refilled, runs_low, still_held, with_idle}
 pub use Rattle.model_bits.specs.Heads.{head_of}
-pub use Rattle.model_bits.specs.Heard.{heard_of}
 pub use Rattle.model_bits.specs.OpenGap.{kept_count, octets_held, open_gap}
 pub use Rattle.model_bits.specs.Sent.{Item, frame, idle, line_text}
 pub use Rattle.model_bits.specs.Stream.{heard_in, room_for}
@@ -134,7 +133,7 @@ pub use Rattle.model_line.specs.Sides.{at_side, group_told, has_management, last
 pub use Rattle.model_line.specs.Sound.{IsInRange, IsSound, IsSoundAt, IsTextOf, IsUnitData}
 pub use Rattle.model_line.specs.Stored.{contents_of, held_by_link, held_received, held_sent, octets_by_link, octets_of, slots_by_link, slots_of, sum_of_links, total_length, unit_length}
 pub use Rattle.model_line.specs.Whole.{IsIdle, came, cause_of, fault_octets, line_octets}
-pub use Rattle.model_line.specs.WholeAtLine.{after_events, of_heard, pulls_for, pulls_to_begin}
+pub use Rattle.model_line.specs.WholeAtLine.{after_events, pulls_for, pulls_to_begin}
 pub use Rattle.model_line.specs.declared.config.Config.{Config}
 pub use Rattle.model_line.specs.declared.faults.Fault.{Fault}
 pub use Rattle.model_link.proofs.TellRows.{cleared-orders, cleared-tells}

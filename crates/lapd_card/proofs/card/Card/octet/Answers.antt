@@ -1,5 +1,5 @@
 -- Hand-written answers for `Card::octet`.
-use Rattle.lapd_card.proofs.Vocabulary.{◌<◌, IsSome, subst, sym, cause_in, drop_costs_nothing, reached-sound, refl, ap, ◌∙◌, told, report_told}
+use Rattle.lapd_card.proofs.Vocabulary.{◌<◌, IsSome, subst, sym, cause_in, drop_costs_nothing, reached-sound, refl, ap, ◌∙◌, told}
 use Rattle.lapd_card.proofs.card.Card.octet.Goals as goal
 
 pub returns : goal.returns

@@ -1,5 +1,5 @@
 -- An octet in which a flag ends: its first 1s go on the open gap, which the flag closes; the bits behind begin the next.
-use Rattle.lapd_bits.proofs.Vocabulary.{◌≡◌, ℕ, suc, ◌+◌, ◌-◌, ◌/◌, ◌^◌, ◌<◌, ◌≤◌, ◌⊎◌, inl, inr, Bool, true, false, not, ◌&&◌, List, [], ◌∷◌, ◌++◌, length, reverse, replicate, Option, Some, None, option_map, option_to_list, nat_eq, nat_lt, refl, ap, sym, ◌∙◌, subst, arith, append-nil, length-append, eqb-true, and_parts, ltb-true, lt-ltb, eq-eqb, false≢true, reverse-append, reverse-reverse, length-replicate, bits, low_bits, same_bits, unstuffed, Event, heard_until, heard_at, run_of, open_gap, closed_event, KeepsIn, Assembles, AssemblesIn, HoldsGap, HoldsPast, closing_event, with_bits, behind_zero, ends_nothing, IsFlagEnd, IsFlagBegun, Gap, length-low_bits, same_from_test, heard_at-flag, open_gap-flag, ones_after, unstuffed-counted, unstuffed_after, unstuffed_after-append, reverse_aux-append, reverse_aux-onto}
+use Rattle.lapd_bits.proofs.Vocabulary.{◌≡◌, ℕ, suc, ◌+◌, ◌-◌, ◌/◌, ◌^◌, ◌<◌, ◌≤◌, ◌⊎◌, inl, inr, Bool, true, false, not, ◌&&◌, List, [], ◌∷◌, ◌++◌, length, reverse, replicate, Option, Some, None, IfSome, option_map, option_to_list, nat_eq, nat_lt, refl, ap, sym, ◌∙◌, subst, arith, append-nil, length-append, eqb-true, and_parts, ltb-true, lt-ltb, eq-eqb, false≢true, reverse-append, reverse-reverse, length-replicate, bits, low_bits, same_bits, unstuffed, Event, heard_until, heard_at, run_of, open_gap, closed_event, KeepsIn, Assembles, AssemblesIn, HoldsGap, HoldsPast, closing_event, with_bits, behind_zero, ends_nothing, IsFlagEnd, IsFlagBegun, Gap, length-low_bits, same_from_test, heard_at-flag, open_gap-flag, ones_after, unstuffed-counted, unstuffed_after, unstuffed_after-append, reverse_aux-append, reverse_aux-onto}
 use Rattle.lapd_bits.proofs.BitSteps.{closed_told}
 use Rattle.lapd_bits.proofs.AtOnce.{Calm, Calm-ones, calm, onto, with_bits-onto, IsQuiet, ones_after-ones, unstuffed_after-ones}
 use Rattle.lapd_bits.proofs.Idle.{length-onto, onto-ones}
@@ -89,29 +89,20 @@ module _ (room before : ℕ) (past : List Bool) (six : run_of past + before ≡ 
   pub run_is_six : run_of (replicate before true ++ past) ≡ 6
   run_is_six = ap run_of (sym (onto-ones before past)) ∙ quiet_ones.run ∙ ones_after-ones (run_of past) before ∙ six
 
-  -- with no open gap it closes none
-  pub told-none : (octets : List ℕ) → HoldsGap octets None (open_gap past)
+  -- with no open gap it closes none, nor one that has too few bits
+  pub told-young : (octets : List ℕ) (gap : Option Gap) → IfSome gap (λ g. g.since + before < 8) → HoldsGap octets gap (open_gap past)
       → None ≡ closed_event room (open_gap (replicate before true ++ past))
-  told-none octets h = by_gap (open_gap past) h ∙ ap (closed_event room) (sym grown)
-    where
-      by_gap : (o : Option (List Bool)) → HoldsGap octets None o
-          → None ≡ closed_event room (option_map (onto (replicate before true)) o)
-      by_gap None held = refl
-      by_gap (Some g) held = absurd held
-
-  -- nor one that has too few bits
-  pub told-young : (octets : List ℕ) (gap : Gap) → gap.since + before < 8 → HoldsGap octets (Some gap) (open_gap past)
-      → None ≡ closed_event room (open_gap (replicate before true ++ past))
-  told-young octets gap few h = by_gap (open_gap past) h ∙ ap (closed_event room) (sym grown)
+  told-young octets gap few h = by_gap gap (open_gap past) few h ∙ ap (closed_event room) (sym grown)
     where
       too_few : (l : List Bool) → length l < 8 → None ≡ closed_event room (Some l)
       too_few l short = let e = lt-ltb (length l) 8 short in sym (rw e refl)
 
-      by_gap : (o : Option (List Bool)) → HoldsGap octets (Some gap) o
+      by_gap : (gap : Option Gap) (o : Option (List Bool)) → IfSome gap (λ g. g.since + before < 8) → HoldsGap octets gap o
           → None ≡ closed_event room (option_map (onto (replicate before true)) o)
-      by_gap None held = absurd held
-      by_gap (Some g) held =
-          too_few (onto (replicate before true) g) (omega (arith, held.counted, length-onto_ones before g))
+      by_gap None None few held = refl
+      by_gap (Some gap) (Some g) few held =
+          too_few (onto (replicate before true) g) (omega (arith, few, held.counted, length-onto_ones before g))
+      by_gap _ _ few held = absurd held
 
 -- and any other as what its octets are
 pub told-closed :

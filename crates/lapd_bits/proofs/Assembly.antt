@@ -161,6 +161,9 @@ module _
         (judged_is
         ∙ ap frame (ap (λ n. take (n - 2) whole) (sym all.1) ∙ ap (take (count - 2)) (sym all.0) ∙ take-take (count - 2) count octets (omega arith)))
 
+-- all that a closing flag tells
+pub ruleset told_rules = (over_by_count, over_by_value, closing-ragged, told-short, told-wrong, told-overlong, told-frame)
+
 -- ---- one bit more of a gap
 
 -- what holds of fields holds of fields that equal them

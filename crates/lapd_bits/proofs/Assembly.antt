@@ -1,5 +1,5 @@
 -- How a deframer's fields follow the bits of an open gap: octets are put together and kept.
-use Rattle.lapd_bits.proofs.Vocabulary.{◌≡◌, ◌≢◌, ℕ, ◌+◌, ◌-◌, ◌*◌, ◌/◌, ◌%◌, ◌^◌, ◌<◌, ◌≤◌, Bool, true, false, List, [], ◌∷◌, ◌++◌, length, take, Option, Some, None, is_some, nat_eq, nat_lt, refl, ap, sym, ◌∙◌, subst, arith, length-append, append_assoc, lt-ltb, le-ltb, ltb-true, ltb-false, ne_eqb, false_from_ne_true, take-append-le, take-take, All-nil, All-cons, All-append, pow_pos, pow_below, take-length, add-mul-mod_self_left, add-mul-div_left, mod-eq_of_lt, div-eq_of_lt, one-mul, zero-add, bits, low_bits, same_bits, is_good, HoldsDivision, overlong, dropped, is_short, judged, flag_front, closing_event, Keeps, Assembles, Ragged, Short, Fcs, low_bits-add, low_bits-mod, length-low_bits, bits-push, same_from_low_bits, same_from_test}
+use Rattle.lapd_bits.proofs.Vocabulary.{◌≡◌, ◌≢◌, ℕ, ◌+◌, ◌-◌, ◌*◌, ◌/◌, ◌%◌, ◌^◌, ◌<◌, ◌≤◌, Bool, true, false, List, [], ◌∷◌, ◌++◌, length, take, Option, Some, None, is_some, nat_eq, nat_lt, refl, ap, sym, ◌∙◌, subst, arith, length-append, append_assoc, lt-ltb, le-ltb, ltb-true, ltb-false, ne_eqb, false_from_ne_true, take-append-le, take-take, All-nil, All-cons, All-append, pow_pos, pow_below, take-length, add-mul-mod_self_left, add-mul-div_left, mod-eq_of_lt, div-eq_of_lt, one-mul, zero-add, bits, low_bits, same_bits, is_good, HoldsDivision, Event, overlong, dropped, is_short, judged, flag_front, closing_event, Keeps, Assembles, Ragged, Short, Fcs, low_bits-add, low_bits-mod, length-low_bits, bits-push, same_from_low_bits, same_from_test}
 use Rattle.std.proofs.Math.Nat.{mul-one}
 use Rattle.model_bits.specs.Stream.{frame}
 use Rattle.std.proofs.lemmas.List.{append-nil}
@@ -86,10 +86,6 @@ Keeps-full octets whole count beyond some k =
     let many : length octets < length whole = ltb-true (length octets) (length whole) (sym k.too_many ∙ some) in
     (omega arith, omega arith)
 
--- room by the length of a `Vec` is room by its elements
-pub room_of : (octets : List ℕ) (len : ℕ) → len ≡ length octets → 6 ≤ len → 6 ≤ length octets
-room_of octets len e h = omega arith
-
 -- ---- what a closing flag ends
 
 -- what is over is no flag's front where it is not seven bits, or not those
@@ -108,36 +104,15 @@ over_by_value filled partial below seven h =
     let small : partial < 2 ^ 7 = subst (λ n. partial < 2 ^ n) seven below in
     h (same_from_low_bits 7 partial 126 small (omega arith) bits_are))
 
--- and it is where it is the seven bits of 7E
-pub over_flag_front : (filled partial : ℕ) → filled ≡ 7 → partial ≡ 126 → same_bits (low_bits filled partial) flag_front ≡ true
-unfolding low_bits
-over_flag_front filled partial seven value = rw (seven, value) refl
-
 pub closing-ragged : (room : ℕ) (whole : List ℕ) (over : List Bool) → same_bits over flag_front ≡ false → closing_event room whole over ≡ dropped Ragged
 closing-ragged room whole over h = rw h refl
-
-pub closing-judged : (room : ℕ) (whole : List ℕ) (over : List Bool) → same_bits over flag_front ≡ true → closing_event room whole over ≡ judged room whole
-closing-judged room whole over h = rw h refl
 
 -- a frame of seven octets or more is not short
 long_enough : (whole : List ℕ) → 5 < length whole → is_short whole ≡ false
 long_enough whole h = rw (le-ltb (length whole) 5 (omega arith), ne_eqb (length whole) 5 (omega arith)) refl
 
--- the judgement in the order of its tests
-pub judged-short : (room : ℕ) (whole : List ℕ) → is_short whole ≡ true → judged room whole ≡ dropped Short
-judged-short room whole h = rw h refl
-
-pub judged-wrong : (room : ℕ) (whole : List ℕ) → is_short whole ≡ false → is_good (bits whole) ≡ false → judged room whole ≡ dropped Fcs
-judged-wrong room whole h g = rw (h, g) refl
-
-pub judged-overlong : (room : ℕ) (whole : List ℕ) → is_short whole ≡ false → is_good (bits whole) ≡ true → nat_lt room (length whole) ≡ true → judged room whole ≡ overlong (take 4 whole)
-judged-overlong room whole h g l = rw (h, g, l) refl
-
-pub judged-frame : (room : ℕ) (whole : List ℕ) → is_short whole ≡ false → is_good (bits whole) ≡ true → nat_lt room (length whole) ≡ false → judged room whole ≡ frame (take (length whole - 2) whole)
-judged-frame room whole h g l = rw (h, g, l) refl
-
 -- what is kept is short where the whole is: neither is, once there are too many
-pub short_is : (octets whole : List ℕ) (count : ℕ) (beyond : Option ℕ) → 6 ≤ length octets → Keeps octets count beyond whole → is_short (take count octets) ≡ is_short whole
+short_is : (octets whole : List ℕ) (count : ℕ) (beyond : Option ℕ) → 6 ≤ length octets → Keeps octets count beyond whole → is_short (take count octets) ≡ is_short whole
 short_is octets whole count beyond room k = go (is_some beyond) refl
   where
     go : (some : Bool) → is_some beyond ≡ some → is_short (take count octets) ≡ is_short whole
@@ -147,18 +122,47 @@ short_is octets whole count beyond room k = go (is_some beyond) refl
         let size : length (take count octets) ≡ length octets = ap (λ n. length (take n octets)) full.0 ∙ ap length (take-length octets) in
         long_enough (take count octets) (omega arith) ∙ sym (long_enough whole (omega arith))
 
--- what is told of a gap's octets that are not short and have a good check
-pub told-overlong : (octets whole : List ℕ) (count : ℕ) (beyond : Option ℕ) → is_some beyond ≡ true → 6 ≤ length octets → Keeps octets count beyond whole → is_short whole ≡ false → is_good (bits whole) ≡ true → judged (length octets) whole ≡ overlong (take 4 octets)
-told-overlong octets whole count beyond some room k h g =
-    let full = Keeps-full octets whole count beyond some k in
-    judged-overlong (length octets) whole h g (sym k.too_many ∙ some)
-    ∙ ap overlong (sym (take-take 4 count whole (omega arith)) ∙ ap (take 4) (sym k.kept) ∙ take-take 4 count octets (omega arith))
+-- what is told of a gap's octets before a flag, in the order of the tests
+module _
+    (octets whole : List ℕ) (count filled partial : ℕ) (beyond : Option ℕ) (room : 6 ≤ length octets)
+    (k : Keeps octets count beyond whole) (seven : filled ≡ 7) (value : partial ≡ 126) where
+  closing : (e : Event) → judged (length octets) whole ≡ e → Some e ≡ Some (closing_event (length octets) whole (low_bits filled partial))
+  unfolding low_bits
+  closing e is =
+      let flag : closing_event (length octets) whole (low_bits filled partial) ≡ judged (length octets) whole = rw (seven, value) refl in
+      ap Some (sym (flag ∙ is))
 
-pub told-frame : (octets whole : List ℕ) (count : ℕ) (beyond : Option ℕ) → is_some beyond ≡ false → Keeps octets count beyond whole → is_short whole ≡ false → is_good (bits whole) ≡ true → judged (length octets) whole ≡ frame (take (count - 2) octets)
-told-frame octets whole count beyond none k h g =
-    let all = Keeps-all octets whole count beyond none k in
-    judged-frame (length octets) whole h g (sym k.too_many ∙ none)
-    ∙ ap frame (ap (λ n. take (n - 2) whole) (sym all.1) ∙ ap (take (count - 2)) (sym all.0) ∙ take-take (count - 2) count octets (omega arith))
+  pub told-short : is_short (take count octets) ≡ true → Some (dropped Short) ≡ Some (closing_event (length octets) whole (low_bits filled partial))
+  told-short h = closing (dropped Short) (rw (sym (short_is octets whole count beyond room k) ∙ h) refl)
+
+  module _ (long : is_short (take count octets) ≡ false) where
+    long_whole : is_short whole ≡ false
+    long_whole = sym (short_is octets whole count beyond room k) ∙ long
+
+    pub told-wrong : is_good (bits whole) ≡ false → Some (dropped Fcs) ≡ Some (closing_event (length octets) whole (low_bits filled partial))
+    told-wrong g = closing (dropped Fcs) (rw (long_whole, g) refl)
+
+    pub told-overlong : is_good (bits whole) ≡ true → is_some beyond ≡ true
+        → Some (overlong (take 4 octets)) ≡ Some (closing_event (length octets) whole (low_bits filled partial))
+    told-overlong g some =
+        let full = Keeps-full octets whole count beyond some k in
+        let more : nat_lt (length octets) (length whole) ≡ true = sym k.too_many ∙ some in
+        let judged_is : judged (length octets) whole ≡ overlong (take 4 whole) = rw (long_whole, g, more) refl in
+        closing (overlong (take 4 octets))
+        (judged_is ∙ ap overlong (sym (take-take 4 count whole (omega arith)) ∙ ap (take 4) (sym k.kept) ∙ take-take 4 count octets (omega arith)))
+
+    pub told-frame : is_good (bits whole) ≡ true → is_some beyond ≡ false
+        → Some (frame (take (count - 2) octets)) ≡ Some (closing_event (length octets) whole (low_bits filled partial))
+    told-frame g none =
+        let all = Keeps-all octets whole count beyond none k in
+        let fits : nat_lt (length octets) (length whole) ≡ false = sym k.too_many ∙ none in
+        let judged_is : judged (length octets) whole ≡ frame (take (length whole - 2) whole) = rw (long_whole, g, fits) refl in
+        closing (frame (take (count - 2) octets))
+        (judged_is
+        ∙ ap frame (ap (λ n. take (n - 2) whole) (sym all.1) ∙ ap (take (count - 2)) (sym all.0) ∙ take-take (count - 2) count octets (omega arith)))
+
+-- all that a closing flag tells
+pub ruleset told_rules = (over_by_count, over_by_value, closing-ragged, told-short, told-wrong, told-overlong, told-frame)
 
 -- ---- one bit more of a gap
 

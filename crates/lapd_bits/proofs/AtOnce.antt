@@ -1,26 +1,15 @@
 -- Bits in which no flag and no abort ends go on the open gap all at once.
-use Rattle.lapd_bits.proofs.Vocabulary.{◌≡◌, ◌≢◌, ℕ, suc, zero, ◌+◌, ◌-◌, ◌<◌, ◌≤◌, Bool, true, false, List, [], ◌∷◌, ◌++◌, ◌||◌, reverse, replicate, Option, Some, None, option_map, option_to_list, refl, ap, sym, ◌∙◌, subst, arith, append_assoc, append-nil, false≢true, ⊎_elim, cases_lt, reverse-append, append_cancel_left, reverse-reverse, low_bits, unstuffed, heard_until, heard_at, run_of, open_gap, one_more, HoldsGap, HoldsPast, with_bits, has_six, IsContent, IsJoined, Gap, reverse-cons, ones_after-reverse, heard_at-one, heard_at-zero, open_gap-one, open_gap-zero, ones_after, unstuffed_after, unstuffed-counted, unstuffed_after-append}
+use Rattle.lapd_bits.proofs.Vocabulary.{◌≡◌, ◌≢◌, ℕ, suc, zero, ◌+◌, ◌-◌, ◌<◌, ◌≤◌, Bool, true, false, List, [], ◌∷◌, ◌++◌, ◌||◌, reverse, replicate, Option, Some, None, option_map, option_to_list, refl, ap, sym, ◌∙◌, subst, arith, append-nil, false≢true, ⊎_elim, cases_lt, reverse-append, append_cancel_left, reverse-reverse, low_bits, unstuffed, heard_until, heard_at, run_of, open_gap, one_more, HoldsGap, HoldsPast, with_bits, has_six, IsContent, IsJoined, Gap, ones_after-reverse, heard_at-one, heard_at-zero, open_gap-one, open_gap-zero, ones_after, unstuffed_after, unstuffed-counted, unstuffed_after-append, reverse_aux-onto, one_further}
+use mathlib.Core.List.{reverse_aux}
 use Rattle.lapd_bits.proofs.BitSteps.{open_run, for_open}
 
 -- a place after more bits, in order of time
 abbrev pub onto : List Bool → List Bool → List Bool
-onto [] past = past
-onto (b ∷ text) past = onto text (b ∷ past)
-
-pub onto-reverse : (text past : List Bool) → onto text past ≡ reverse text ++ past
-onto-reverse [] past = refl
-onto-reverse (b ∷ text) past =
-    onto-reverse text (b ∷ past)
-    ∙ sym (append_assoc (reverse text) (b ∷ []) past)
-    ∙ ap (λ l. l ++ past) (sym (reverse-cons b text))
-
-pub onto-append : (s t past : List Bool) → onto (s ++ t) past ≡ onto t (onto s past)
-onto-append [] t past = refl
-onto-append (b ∷ s) t past = onto-append s t (b ∷ past)
+onto = reverse_aux
 
 -- the bits of an octet, one after the other
 pub with_bits-onto : (octet : ℕ) (past : List Bool) → with_bits 8 octet past ≡ onto (low_bits 8 octet) past
-with_bits-onto octet past = sym (onto-reverse (low_bits 8 octet) past)
+with_bits-onto octet past = sym (reverse_aux-onto (low_bits 8 octet) [] past)
 
 -- ---- the test for six 1s
 
@@ -47,10 +36,6 @@ none_behind : (n : ℕ) (text : List Bool) → has_six (replicate n true ++ fals
 none_behind zero text h = h
 none_behind (suc n) text h = none_behind n text (or_false _ _ h)
 
-pub ones_push : (n : ℕ) (text : List Bool) → replicate n true ++ true ∷ text ≡ true ∷ (replicate n true ++ text)
-ones_push zero text = refl
-ones_push (suc n) text = ap (λ t. true ∷ t) (ones_push n text)
-
 -- ---- bits that end nothing: up to six 1s, and no 0 after six
 
 abbrev pub Calm : ℕ → List Bool → Type 0
@@ -66,7 +51,7 @@ Calm-ones n (suc k) h = (omega arith, Calm-ones (suc n) k (omega arith))
 pub Calm-by_six : (n : ℕ) (text : List Bool) → has_six (replicate n true ++ text) ≡ false → Calm n text
 Calm-by_six n [] h = tt
 Calm-by_six n (true ∷ text) h =
-    (omega (arith, few_before n (true ∷ text) h), Calm-by_six (suc n) text (sym (ap has_six (ones_push n text)) ∙ h))
+    (omega (arith, few_before n (true ∷ text) h), Calm-by_six (suc n) text (ap has_six (one_further n text) ∙ h))
 Calm-by_six n (false ∷ text) h =
     let few = few_before n (false ∷ text) h in
     (λ six. absurd (omega (arith, six, few)), Calm-by_six 0 text (none_behind n text h))

@@ -29,6 +29,11 @@ open_run past g e =
     let below = latest_ones-below g s.1 in
     (omega arith, below)
 
+-- a field that matches no gap has none
+pub no_some : (o : Option Gap) → ((g : Gap) → o ≡ Some g → ⊥) → o ≡ None
+no_some None f = refl
+no_some (Some g) f = absurd (f g refl)
+
 -- what holds of any open gap there is
 pub for_open : (past : List Bool) (P : List Bool → Type 0) → ((g : List Bool) → open_gap past ≡ Some g → P g) → IfSome (open_gap past) P
 for_open past P h = go (open_gap past) h

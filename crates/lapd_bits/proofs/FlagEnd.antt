@@ -1,7 +1,7 @@
 -- An octet in which a flag ends: its first 1s go on the open gap, which the flag closes; the bits behind begin the next.
-use Rattle.lapd_bits.proofs.Vocabulary.{◌≡◌, ℕ, suc, ◌+◌, ◌-◌, ◌/◌, ◌^◌, ◌<◌, ◌≤◌, ◌⊎◌, inl, inr, Bool, true, false, not, ◌&&◌, List, [], ◌∷◌, ◌++◌, length, reverse, replicate, Option, Some, None, option_map, option_to_list, nat_eq, nat_lt, refl, ap, sym, ◌∙◌, subst, arith, append-nil, length-append, eqb-true, and_parts, ltb-true, lt-ltb, eq-eqb, false≢true, reverse-append, reverse-reverse, length-replicate, bits, low_bits, same_bits, unstuffed, Event, heard_until, heard_at, run_of, open_gap, closed_event, KeepsIn, Assembles, AssemblesIn, HoldsGap, HoldsPast, closing_event, with_bits, behind_zero, ends_nothing, IsFlagEnd, IsFlagBegun, Gap, length-low_bits, same_from_test, heard_at-flag, open_gap-flag, ones_after, unstuffed-counted, unstuffed_after, unstuffed_after-append}
+use Rattle.lapd_bits.proofs.Vocabulary.{◌≡◌, ℕ, suc, ◌+◌, ◌-◌, ◌/◌, ◌^◌, ◌<◌, ◌≤◌, ◌⊎◌, inl, inr, Bool, true, false, not, ◌&&◌, List, [], ◌∷◌, ◌++◌, length, reverse, replicate, Option, Some, None, IfSome, option_map, option_to_list, nat_eq, nat_lt, refl, ap, sym, ◌∙◌, subst, arith, append-nil, length-append, eqb-true, and_parts, ltb-true, lt-ltb, eq-eqb, false≢true, reverse-append, reverse-reverse, length-replicate, bits, low_bits, same_bits, unstuffed, Event, heard_until, heard_at, run_of, open_gap, closed_event, KeepsIn, Assembles, AssemblesIn, HoldsGap, HoldsPast, closing_event, with_bits, behind_zero, ends_nothing, IsFlagEnd, IsFlagBegun, Gap, length-low_bits, same_from_test, heard_at-flag, open_gap-flag, ones_after, unstuffed-counted, unstuffed_after, unstuffed_after-append, reverse_aux-append, reverse_aux-onto}
 use Rattle.lapd_bits.proofs.BitSteps.{closed_told}
-use Rattle.lapd_bits.proofs.AtOnce.{Calm, Calm-ones, calm, onto, onto-reverse, onto-append, with_bits-onto, IsQuiet, ones_after-ones, unstuffed_after-ones}
+use Rattle.lapd_bits.proofs.AtOnce.{Calm, Calm-ones, calm, onto, with_bits-onto, IsQuiet, ones_after-ones, unstuffed_after-ones}
 use Rattle.lapd_bits.proofs.Idle.{length-onto, onto-ones}
 use Rattle.lapd_bits.proofs.Tested.{all_pass}
 
@@ -34,7 +34,7 @@ ones_kept : (n : ℕ) (g : List Bool)
     → unstuffed (reverse (onto (replicate n true) g)) ≡ unstuffed (reverse g) ++ replicate n true
 ones_kept n g =
     let text = replicate n true in
-    ap (λ l. unstuffed (reverse l)) (onto-reverse text g)
+    ap (λ l. unstuffed (reverse l)) (reverse_aux-onto text [] g)
     ∙ ap unstuffed (reverse-append (reverse text) g ∙ ap (λ l. reverse g ++ l) (reverse-reverse text))
     ∙ unstuffed-counted (reverse g ++ text)
     ∙ unstuffed_after-append 0 (reverse g) text
@@ -89,29 +89,20 @@ module _ (room before : ℕ) (past : List Bool) (six : run_of past + before ≡ 
   pub run_is_six : run_of (replicate before true ++ past) ≡ 6
   run_is_six = ap run_of (sym (onto-ones before past)) ∙ quiet_ones.run ∙ ones_after-ones (run_of past) before ∙ six
 
-  -- with no open gap it closes none
-  pub told-none : (octets : List ℕ) → HoldsGap octets None (open_gap past)
+  -- with no open gap it closes none, nor one that has too few bits
+  pub told-young : (octets : List ℕ) (gap : Option Gap) → IfSome gap (λ g. g.since + before < 8) → HoldsGap octets gap (open_gap past)
       → None ≡ closed_event room (open_gap (replicate before true ++ past))
-  told-none octets h = by_gap (open_gap past) h ∙ ap (closed_event room) (sym grown)
-    where
-      by_gap : (o : Option (List Bool)) → HoldsGap octets None o
-          → None ≡ closed_event room (option_map (onto (replicate before true)) o)
-      by_gap None held = refl
-      by_gap (Some g) held = absurd held
-
-  -- nor one that has too few bits
-  pub told-young : (octets : List ℕ) (gap : Gap) → gap.since + before < 8 → HoldsGap octets (Some gap) (open_gap past)
-      → None ≡ closed_event room (open_gap (replicate before true ++ past))
-  told-young octets gap few h = by_gap (open_gap past) h ∙ ap (closed_event room) (sym grown)
+  told-young octets gap few h = by_gap gap (open_gap past) few h ∙ ap (closed_event room) (sym grown)
     where
       too_few : (l : List Bool) → length l < 8 → None ≡ closed_event room (Some l)
       too_few l short = let e = lt-ltb (length l) 8 short in sym (rw e refl)
 
-      by_gap : (o : Option (List Bool)) → HoldsGap octets (Some gap) o
+      by_gap : (gap : Option Gap) (o : Option (List Bool)) → IfSome gap (λ g. g.since + before < 8) → HoldsGap octets gap o
           → None ≡ closed_event room (option_map (onto (replicate before true)) o)
-      by_gap None held = absurd held
-      by_gap (Some g) held =
-          too_few (onto (replicate before true) g) (omega (arith, held.counted, length-onto_ones before g))
+      by_gap None None few held = refl
+      by_gap (Some gap) (Some g) few held =
+          too_few (onto (replicate before true) g) (omega (arith, few, held.counted, length-onto_ones before g))
+      by_gap _ _ few held = absurd held
 
 -- and any other as what its octets are
 pub told-closed :
@@ -149,7 +140,7 @@ module _
   parted : with_bits 8 octet past ≡ onto behind (false ∷ (replicate before true ++ past))
   parted =
       with_bits-onto octet past ∙ ap (λ l. onto l past) flag.begins
-      ∙ onto-append (replicate before true) (false ∷ behind) past
+      ∙ reverse_aux-append (replicate before true) (false ∷ behind) past
       ∙ ap (λ p. onto behind (false ∷ p)) (onto-ones before past)
 
   quiet_behind : (room : ℕ) (front : List Bool) → IsQuiet room behind (false ∷ front)
@@ -191,11 +182,11 @@ module _
       ap open_gap parted ∙ after.gap
       ∙ ap (option_map (onto behind)) (open_gap-flag there (run_is_six 0 before past flag_six)) in
       let text : unstuffed (reverse (onto behind [])) ≡ low_bits count content =
-      ap (λ l. unstuffed (reverse l)) (onto-reverse behind [] ∙ append-nil (reverse behind))
+      ap (λ l. unstuffed (reverse l)) (reverse_aux-onto behind [] [] ∙ append-nil (reverse behind))
       ∙ ap unstuffed (reverse-reverse behind) ∙ flag.stays in
       record {
         run =
-            e ∙ flag.run_is ∙ ap run_of (sym (onto-reverse behind (false ∷ []))) ∙ alone.run
+            e ∙ flag.run_is ∙ ap run_of (sym (reverse_aux-onto behind [] (false ∷ []))) ∙ alone.run
             ∙ sym after.run ∙ ap run_of (sym parted);
         open_is = subst (HoldsGap octets' (Some gap')) (sym new_gap) (record {
           counted = omega (arith, since, length-behind, length-onto behind []);

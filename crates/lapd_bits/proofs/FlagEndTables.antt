@@ -17,9 +17,9 @@ unfolding low_bits
 before_is = refl
 
 -- an entry gives six 1s exactly where a flag ends and nothing else
-pub mark-at : (ones octet : ℕ) → octet < 256
+pub mark_at : (ones octet : ℕ) → octet < 256
     → nat_eq (ones + get_or ONES_BEFORE octet 0) 6 ≡ only_flag_ends ones (low_bits 8 octet)
-mark-at ones octet small =
+mark_at ones octet small =
     ap (λ t. nat_eq (ones + get_or t octet 0) 6) before_is
     ∙ ap (λ n. nat_eq (ones + n) 6) (get_or-map-range_with_len entry_before 0 256 octet octet 0 small (omega arith))
     ∙ by_test (ones_before (low_bits 8 octet)) (ends_nothing 0 (behind octet))

@@ -1,6 +1,6 @@
 -- An octet of a line of flags brings nothing, and leaves the open gap as it was.
-use Rattle.lapd_bits.proofs.Vocabulary.{◌≡◌, ℕ, suc, zero, ◌+◌, ◌-◌, ◌<◌, ◌≤◌, Bool, true, false, List, [], ◌∷◌, ◌++◌, length, replicate, get_or, same_bits, same_from_test, Option, Some, None, option_map, option_to_list, nat_lt, refl, ap, sym, ◌∙◌, subst, arith, append-nil, lt-ltb, low_bits, heard_until, heard_at, run_of, open_gap, closed_event, given_up_event, HoldsGap, HoldsPast, with_bits, StaysIdle, Gap, IDLE, length-replicate, heard_at-abort, heard_at-flag, open_gap-abort, open_gap-flag, latest_ones, ones_after}
-use Rattle.lapd_bits.proofs.AtOnce.{Calm, Calm-ones, calm, onto, onto-append, with_bits-onto, ones_push, ones_after-ones}
+use Rattle.lapd_bits.proofs.Vocabulary.{◌≡◌, ℕ, suc, zero, ◌+◌, ◌-◌, ◌<◌, ◌≤◌, Bool, true, false, List, [], ◌∷◌, ◌++◌, length, replicate, get_or, same_bits, same_from_test, Option, Some, None, option_map, option_to_list, nat_lt, refl, ap, sym, ◌∙◌, subst, arith, append-nil, lt-ltb, low_bits, heard_until, heard_at, run_of, open_gap, closed_event, given_up_event, HoldsGap, HoldsPast, with_bits, StaysIdle, Gap, IDLE, length-replicate, heard_at-abort, heard_at-flag, open_gap-abort, open_gap-flag, latest_ones, ones_after, reverse_aux-append, one_further}
+use Rattle.lapd_bits.proofs.AtOnce.{Calm, Calm-ones, calm, onto, with_bits-onto, ones_after-ones}
 use Rattle.lapd_bits.proofs.BitSteps.{open_run}
 use Rattle.lapd_bits.proofs.Tested.{all_pass}
 
@@ -82,7 +82,7 @@ begun_is _ _ size ones = absurd (omega arith)
 
 pub onto-ones : (n : ℕ) (past : List Bool) → onto (replicate n true) past ≡ replicate n true ++ past
 onto-ones zero past = refl
-onto-ones (suc n) past = onto-ones n (true ∷ past) ∙ ones_push n past
+onto-ones (suc n) past = onto-ones n (true ∷ past) ∙ sym (one_further n past)
 
 -- the octet by the number of bits that have come, after the first one's 0 and `n` 1s
 idle_bits : (n : ℕ) → n < 7 → low_bits 8 (get_or IDLE (suc n) 0) ≡ replicate (6 - n) true ++ (false ∷ (false ∷ replicate n true))
@@ -103,7 +103,7 @@ stays_by :
     → StaysIdle octets ones gap octet past
 stays_by octets ones gap octet first second past g bits_are h open_here same run next =
     let at : with_bits 8 octet past ≡ onto second (false ∷ onto first past) =
-    with_bits-onto octet past ∙ ap (λ l. onto l past) bits_are ∙ onto-append first (false ∷ second) past in
+    with_bits-onto octet past ∙ ap (λ l. onto l past) bits_are ∙ reverse_aux-append first (false ∷ second) past in
     record {
       holds = subst (HoldsPast octets ones gap) (sym at) (record {
         run = sym run ∙ sym (next 0).run;

@@ -51,6 +51,6 @@ pub last_ones_few : (x : ℕ) → last_ones x ≤ 4
 unfolding low_bits
 last_ones_few x = four_few _ _ _ _
 
-pub last_ones-none : last_ones 0 ≡ 0
+pub last_ones_none : last_ones 0 ≡ 0
 unfolding low_bits
-last_ones-none = refl
+last_ones_none = refl

@@ -46,7 +46,8 @@ pub use Rattle.model_bits.proofs.Places.{NoFlag, NoSix-reverse, front_of_flag, g
 pub use Rattle.model_bits.proofs.StuffingCounted.{NoSix, ones_after, ones_after-append, ones_after-unstuffed_after, ones_left, stuffed-counted, stuffed_after, stuffed_alike, stuffed_after_fifth, stuffed_zero, unstuffed-counted, unstuffed_after, unstuffed_after-append}
 pub use Rattle.model_bits.proofs.StuffingLengths.{ones_sent, stuffed_after-at_least, stuffed_after-pays}
 pub use Rattle.model_bits.proofs.StuffingOctets.{none_where_none_sent, octets_are_those_sent}
-pub use Rattle.model_bits.proofs.StuffingShape.{ones_after-stuffed, stuffed-unstuffed, unstuffed-stuffed}
+pub use Rattle.model_bits.proofs.RoundTripPlaces.{reverse_aux-append, reverse_aux-onto}
+pub use Rattle.model_bits.proofs.StuffingShape.{one_further, ones_after-stuffed, stuffed-unstuffed, unstuffed-stuffed}
 pub use Rattle.model_bits.specs.Bits.{bits, flag, number_of, same_bits}
 unfoldable pub use Rattle.model_bits.specs.Bits.{low_bits}
 pub use Rattle.model_bits.specs.Check.{brought_down, check, dividend, is_good, plus, remainder, residue}

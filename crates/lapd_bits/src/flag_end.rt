@@ -92,6 +92,7 @@ pub(crate) struct FlagEnd {
 }
 
 /// What an octet brings after so many contiguous 1s; none where no flag ends in it, or more than that ends.
+#[tactic(auto, using(crate::proofs::FlagEndTables::mark_at))]
 pub(crate) fn flag_end(ones: u8, octet: u8) -> Option<FlagEnd>
     requires counted { ones ≤ 7 }
     ensures none { IsNone result ↔ IsFalse (only_flag_ends ones (low_bits 8 octet)) }

@@ -128,6 +128,7 @@ impl Framer {
     /// `n201` of the start, and both together at least 3.
     // Apart, so that a loop over the octets of a bare framer keeps its registers.
     #[inline(never)]
+    #[tactic(auto, using(crate::proofs::StuffingAtOnce::last_ones_none))]
     pub fn load(&mut self, head: &[u8], info: &[u8])
         requires not_busy { length self.old.left < 8 }
         requires head { length head.now ≤ 4 }
@@ -155,6 +156,7 @@ impl Framer {
     /// The next octet of the line, low bit first. Where fewer than eight bits are left, an idle flag goes on
     /// after them first, and else nothing.
     #[inline(always)]
+    #[tactic(auto, using(crate::proofs::FramerGiven::length_to_give))]
     pub fn octet(&mut self) -> u8
         ensures octet { result ≡ number_of (take 8 (refilled self.old.left)) }
         ensures bits { low_bits 8 result ++ self.new.left ≡ refilled self.old.left }

@@ -201,6 +201,7 @@ impl Gap {
     }
 
     /// What a flag ends that closes this gap, its first seven bits among the gap's.
+    #[tactic(auto, using(crate::proofs::Assembly::told_rules))]
     pub(crate) fn closed(&self, octets: &Vec<u8>) -> Ended
         requires room { 6 ≤ vec_len octets.now }
         requires fits { self.now.count ≤ vec_len octets.now }

@@ -141,12 +141,9 @@ same_bits_self (false ∷ a) = same_bits_self a
 -- and of no others
 pub same_from_test : (a b : List Bool) → same_bits a b ≡ true → a ≡ b
 same_from_test [] [] same = refl
-same_from_test [] (y ∷ b) same = cc
-same_from_test (x ∷ a) [] same = cc
 same_from_test (true ∷ a) (true ∷ b) same = ap (λ l. true ∷ l) (same_from_test a b same)
 same_from_test (false ∷ a) (false ∷ b) same = ap (λ l. false ∷ l) (same_from_test a b same)
-same_from_test (true ∷ a) (false ∷ b) same = cc
-same_from_test (false ∷ a) (true ∷ b) same = cc
+same_from_test _ _ same = cc
 
 -- numbers below 2 ^ n have the same n low bits where they are one
 pub same_bits-low_bits :

@@ -30,46 +30,42 @@ not_closed room (Some g) y =
     let few : nat_lt (length g) 8 ≡ true = lt-ltb (length g) 8 (omega arith) in
     rw few refl
 
-quiet : (room : ℕ) (b : Bool) (past : List Bool) → IsShorter 7 (open_gap past) → heard_at room (b ∷ past) ≡ None
-quiet room true past y =
+-- what a bit brings, and the gap behind it: it goes on the open gap, or gives it up, or closes it
+by_bit :
+    {P : Type 0} (room : ℕ) (b : Bool) (past : List Bool)
+    → (heard_at room (b ∷ past) ≡ None → open_gap (b ∷ past) ≡ one_more b (open_gap past) → P)
+    → (heard_at room (b ∷ past) ≡ given_up_event (open_gap past) → open_gap (b ∷ past) ≡ None → P)
+    → (heard_at room (b ∷ past) ≡ closed_event room (open_gap past) → open_gap (b ∷ past) ≡ Some [] → P) → P
+by_bit room true past on up closed =
     ⊎_elim
-    (λ few. heard_at-one room past few)
-    (λ many. heard_at-abort room past many ∙ not_given_up (open_gap past) y)
+    (λ few. on (heard_at-one room past few) (open_gap-one past few))
+    (λ many. up (heard_at-abort room past many) (open_gap-abort past many))
     (cases_lt (run_of past) 6)
-quiet room false past y =
+by_bit room false past on up closed =
     ⊎_elim
-    (λ six. heard_at-flag room past six ∙ not_closed room (open_gap past) y)
-    (λ other. heard_at-zero room past other)
+    (λ six. closed (heard_at-flag room past six) (open_gap-flag past six))
+    (λ other. on (heard_at-zero room past other) (open_gap-zero past other))
     (cases_eq (run_of past) 6)
+
+quiet : (room : ℕ) (b : Bool) (past : List Bool) → IsShorter 7 (open_gap past) → heard_at room (b ∷ past) ≡ None
+quiet room b past y =
+    by_bit room b past (λ none gap. none)
+    (λ told gap. told ∙ not_given_up (open_gap past) y) (λ told gap. told ∙ not_closed room (open_gap past) y)
 
 -- ---- a gap grows by a bit at a time, and begins anew after an event
 
 grows : (n : ℕ) (b : Bool) (past : List Bool) → IsShorter n (open_gap past) → IsShorter (suc n) (open_gap (b ∷ past))
-grows n true past y =
-    ⊎_elim
-    (λ few. subst (IsShorter (suc n)) (sym (open_gap-one past few)) (IsShorter-more n true (open_gap past) y))
-    (λ many. subst (IsShorter (suc n)) (sym (open_gap-abort past many)) tt)
-    (cases_lt (run_of past) 6)
-grows n false past y =
-    ⊎_elim
-    (λ six. subst (IsShorter (suc n)) (sym (open_gap-flag past six)) (omega arith))
-    (λ other. subst (IsShorter (suc n)) (sym (open_gap-zero past other)) (IsShorter-more n false (open_gap past) y))
-    (cases_eq (run_of past) 6)
+grows n b past y =
+    by_bit 0 b past (λ none gap. subst (IsShorter (suc n)) (sym gap) (IsShorter-more n b (open_gap past) y))
+    (λ told gap. subst (IsShorter (suc n)) (sym gap) tt) (λ told gap. subst (IsShorter (suc n)) (sym gap) (omega arith))
 
 some_is_not_none : (e : Event) (o : Option Event) → o ≡ Some e → o ≡ None → ⊥
 some_is_not_none e o some none = cc
 
 anew : (room : ℕ) (b : Bool) (past : List Bool) (e : Event) → heard_at room (b ∷ past) ≡ Some e → IsShorter 1 (open_gap (b ∷ past))
-anew room true past e heard =
-    ⊎_elim
-    (λ few. absurd (some_is_not_none e _ heard (heard_at-one room past few)))
-    (λ many. subst (IsShorter 1) (sym (open_gap-abort past many)) tt)
-    (cases_lt (run_of past) 6)
-anew room false past e heard =
-    ⊎_elim
-    (λ six. subst (IsShorter 1) (sym (open_gap-flag past six)) (omega arith))
-    (λ other. absurd (some_is_not_none e _ heard (heard_at-zero room past other)))
-    (cases_eq (run_of past) 6)
+anew room b past e heard =
+    by_bit room b past (λ none gap. absurd (some_is_not_none e _ heard none))
+    (λ told gap. subst (IsShorter 1) (sym gap) tt) (λ told gap. subst (IsShorter 1) (sym gap) (omega arith))
 
 -- ---- bits that follow a past, the latest first
 

@@ -108,7 +108,7 @@ hears_cut_flag room past (suc (suc (suc (suc (suc (suc (suc (suc more)))))))) h 
 hears_cut_flag room past _ h = refl
 
 -- the place after a text, where a place is before it
-reverse_aux-onto : (text g past : List Bool) → reverse_aux text (g ++ past) ≡ reverse_aux text g ++ past
+pub reverse_aux-onto : (text g past : List Bool) → reverse_aux text (g ++ past) ≡ reverse_aux text g ++ past
 reverse_aux-onto [] g past = refl
 reverse_aux-onto (b ∷ text) g past = reverse_aux-onto text (b ∷ g) past
 

@@ -119,30 +119,17 @@ NoSix_back ones [] t p = p
 NoSix_back ones (false ∷ s) t p = NoSix_back 0 s t p
 NoSix_back ones (true ∷ s) t p = NoSix_back (suc ones) s t p.1
 
--- a stuffed text holds no six contiguous 1s
-pub NoSix-stuffed_after : (ones : ℕ) (b : List Bool) → ones ≤ 5 → NoSix ones (stuffed_after ones b)
-NoSix-stuffed_after ones [] h =
-    ⊎_elim (λ below. simp (lt-ltb ones 5 below) tt) (λ at. simp (le-ltb ones 5 at) tt) (cases_lt ones 5)
-NoSix-stuffed_after ones (false ∷ b) h =
-    let again = NoSix-stuffed_after 0 b (omega arith) in
+-- a stuffed text holds no six contiguous 1s, and does not end in five
+pub stuffed_after-shape : (ones : ℕ) (b : List Bool) → ones ≤ 5 → NoSix ones (stuffed_after ones b) × (ones_after ones (stuffed_after ones b) < 5)
+stuffed_after-shape ones [] h =
+    ⊎_elim (λ below. simp (lt-ltb ones 5 below) (tt, below)) (λ at. simp (le-ltb ones 5 at) (tt, omega arith)) (cases_lt ones 5)
+stuffed_after-shape ones (false ∷ b) h =
+    let again = stuffed_after-shape 0 b (omega arith) in
     ⊎_elim (λ below. simp (lt-ltb ones 5 below) again) (λ at. simp (le-ltb ones 5 at) again) (cases_lt ones 5)
-NoSix-stuffed_after ones (true ∷ b) h =
+stuffed_after-shape ones (true ∷ b) h =
     ⊎_elim
-    (λ below. simp (lt-ltb ones 5 below) (below, NoSix-stuffed_after (suc ones) b (omega arith)))
-    (λ at. simp (le-ltb ones 5 at) (omega arith, NoSix-stuffed_after 1 b (omega arith)))
-    (cases_lt ones 5)
-
--- and does not end in five
-pub ones_after-stuffed_after : (ones : ℕ) (b : List Bool) → ones ≤ 5 → ones_after ones (stuffed_after ones b) < 5
-ones_after-stuffed_after ones [] h =
-    ⊎_elim (λ below. simp (lt-ltb ones 5 below) below) (λ at. simp (le-ltb ones 5 at) (omega arith)) (cases_lt ones 5)
-ones_after-stuffed_after ones (false ∷ b) h =
-    let again = ones_after-stuffed_after 0 b (omega arith) in
-    ⊎_elim (λ below. simp (lt-ltb ones 5 below) again) (λ at. simp (le-ltb ones 5 at) again) (cases_lt ones 5)
-ones_after-stuffed_after ones (true ∷ b) h =
-    ⊎_elim
-    (λ below. simp (lt-ltb ones 5 below) (ones_after-stuffed_after (suc ones) b (omega arith)))
-    (λ at. simp (le-ltb ones 5 at) (ones_after-stuffed_after 1 b (omega arith)))
+    (λ below. let again = stuffed_after-shape (suc ones) b (omega arith) in simp (lt-ltb ones 5 below) ((below, again.0), again.1))
+    (λ at. let again = stuffed_after-shape 1 b (omega arith) in simp (le-ltb ones 5 at) ((omega arith, again.0), again.1))
     (cases_lt ones 5)
 
 -- a text of which both hold is what a sender makes of its unstuffed bits

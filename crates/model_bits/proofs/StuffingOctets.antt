@@ -56,3 +56,6 @@ none_where_none_sent text = (
       none_chosen (same_bits (stuffed (bits found)) text) found
       (λ e. h found (AreOctets-octets_of (unstuffed text)) (sym (same_from_test (stuffed (bits found)) text e))),
 )
+
+-- both laws
+pub ruleset octets_of_texts = (octets_are_those_sent, none_where_none_sent)

@@ -1,7 +1,7 @@
 -- The texts that a sender makes: no six contiguous 1s, and no five at the end.
 use Rattle.model_bits.proofs.Vocabulary.{◌≡◌, ℕ, zero, suc, ◌+◌, ◌-◌, ◌<◌, ◌≤◌, ◌⊎◌, Bool, true, false, List, [], ◌∷◌, ◌++◌, replicate, refl, ap, sym, ◌∙◌, subst, arith, inl, inr, ⊎_elim, append_assoc, cases_lt, replicate-append-replicate, stuffed, unstuffed, HasSixOnes, EndsInFiveOnes, StuffedBitsComeBack, OneTextEach, StuffedTexts}
 use Rattle.std.proofs.lemmas.List.{append-nil}
-use Rattle.model_bits.proofs.StuffingCounted.{ones_after, unstuffed_after, NoSix, NoSix_back, stuffed-counted, unstuffed-counted, ones_after-append, unstuffed_after-stuffed_after, NoSix-stuffed_after, ones_after-stuffed_after, stuffed_after-unstuffed_after}
+use Rattle.model_bits.proofs.StuffingCounted.{ones_after, unstuffed_after, NoSix, NoSix_back, stuffed-counted, unstuffed-counted, ones_after-append, unstuffed_after-stuffed_after, stuffed_after-shape, stuffed_after-unstuffed_after}
 
 pub unstuffed-stuffed : StuffedBitsComeBack
 unstuffed-stuffed b =
@@ -12,11 +12,11 @@ stuffed_once a b e = sym (unstuffed-stuffed a) ∙ ap unstuffed e ∙ unstuffed-
 
 -- a stuffed text by the count
 pub NoSix-stuffed : (b : List Bool) → NoSix 0 (stuffed b)
-NoSix-stuffed b = subst (NoSix 0) (sym (stuffed-counted b)) (NoSix-stuffed_after 0 b (omega arith))
+NoSix-stuffed b = subst (NoSix 0) (sym (stuffed-counted b)) (stuffed_after-shape 0 b (omega arith)).0
 
 pub ones_after-stuffed : (b : List Bool) → ones_after 0 (stuffed b) < 5
 ones_after-stuffed b =
-    subst (λ t. ones_after 0 t < 5) (sym (stuffed-counted b)) (ones_after-stuffed_after 0 b (omega arith))
+    subst (λ t. ones_after 0 t < 5) (sym (stuffed-counted b)) (stuffed_after-shape 0 b (omega arith)).1
 
 pub stuffed-unstuffed : (text : List Bool) → NoSix 0 text → ones_after 0 text < 5 → stuffed (unstuffed text) ≡ text
 stuffed-unstuffed text p q =
@@ -24,9 +24,9 @@ stuffed-unstuffed text p q =
     ∙ stuffed_after-unstuffed_after 0 text (omega arith) p q
 
 -- a 1 at the end of a run of them or before its other bits
-one_more : (n : ℕ) (text : List Bool) → replicate (suc n) true ++ text ≡ replicate n true ++ true ∷ text
-one_more zero text = refl
-one_more (suc n) text = ap (λ t. true ∷ t) (one_more n text)
+pub one_further : (n : ℕ) (text : List Bool) → replicate (suc n) true ++ text ≡ replicate n true ++ true ∷ text
+one_further zero text = refl
+one_further (suc n) text = ap (λ t. true ∷ t) (one_further n text)
 
 -- six 1s are among those before a text and its own, or there are none
 six_or_none : (ones : ℕ) (text : List Bool) → ones ≤ 5 → NoSix ones text ⊎ HasSixOnes (replicate ones true ++ text)
@@ -41,7 +41,7 @@ six_or_none ones (true ∷ text) h =
     (λ below.
     ⊎_elim
     (λ p. inl (below, p))
-    (λ w. inr (w.0, w.1, sym (one_more ones text) ∙ w.2))
+    (λ w. inr (w.0, w.1, sym (one_further ones text) ∙ w.2))
     (six_or_none (suc ones) text (omega arith)))
     (λ at. let e : ones ≡ 5 = omega arith in inr ([], text, ap (λ n. replicate n true ++ true ∷ text) e))
     (cases_lt ones 5)
@@ -62,7 +62,7 @@ ends_in_count ones (false ∷ text) =
     (replicate ones true ++ false ∷ w.0, ap (λ t. replicate ones true ++ false ∷ t) w.1 ∙ sym (append_assoc (replicate ones true) (false ∷ w.0) _))
 ends_in_count ones (true ∷ text) =
     let w = ends_in_count (suc ones) text in
-    (w.0, sym (one_more ones text) ∙ w.1)
+    (w.0, sym (one_further ones text) ∙ w.1)
 
 pub EndsInFiveOnes-from_count : (text : List Bool) → 5 ≤ ones_after 0 text → EndsInFiveOnes text
 EndsInFiveOnes-from_count text h =

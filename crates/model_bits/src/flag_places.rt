@@ -4,6 +4,7 @@ ghost use Rattle.model_bits.specs.FlagLaws.{GapBetweenFlags, FlagsThatShare, Fir
 
 /// A law: where a flag ends at two places of a stream and at none between, the second brings what the gap between
 /// them makes of itself, whatever came before; and nothing where the two share their 0 (Q.921 clauses 2.2 and 2.9).
+#[tactic(auto, using(crate::proofs::FlagPlaces::gap_between_flags))]
 pub fn flag_after_flag()
     ensures gap { GapBetweenFlags }
     ensures shared { FlagsThatShare }

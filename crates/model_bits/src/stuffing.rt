@@ -17,6 +17,7 @@ pub fn stuffed_texts()
 
 /// A law: the octets that are found for a text between two flags are those of which a sender makes that text,
 /// and none are found exactly where there are none (Q.921 clauses 2.6 and 2.9).
+#[tactic(auto, using(crate::proofs::StuffingOctets::octets_of_texts))]
 pub fn octets_of_a_text()
     ensures octets { OctetsAreThoseSent }
     ensures none { NoneWhereNoneSent }

@@ -1,16 +1,10 @@
 -- The entries in the tables, or none where they give no six 1s.
-use Rattle.lapd_bits.proofs.Vocabulary.{◌≡◌, ◌+◌, get_or, refl, sym, ◌∙◌, arith, false≢true, eq-eqb, ne_eqb, ONES_BEFORE}
-use Rattle.lapd_bits.proofs.FlagEndTables.{mark-at, fits, entry}
+use Rattle.lapd_bits.proofs.Vocabulary.{◌≡◌, ◌+◌, get_or, arith, ONES_BEFORE}
+use Rattle.lapd_bits.proofs.FlagEndTables.{fits, entry}
 use Rattle.lapd_bits.proofs.flag_end.flag_end.Goals as goal
 
 pub overflow_add-ones : goal.overflow_add-ones
 overflow_add-ones c = omega (arith, (fits c.args.octet (omega arith)).0)
-
-pub returns-then-ones-before-ne-FLAG_ONES-clause-none : goal.returns-then-ones-before-ne-FLAG_ONES-clause-none
-returns-then-ones-before-ne-FLAG_ONES-clause-none c =
-    let mark = mark-at c.args.ones c.args.octet (omega arith) in
-    let other = ne_eqb (c.args.ones + get_or ONES_BEFORE c.args.octet 0) 6 c.if-ones-before-ne-FLAG_ONES.true in
-    (λ _. sym mark ∙ other, λ _. refl)
 
 pub invariant_of-result : goal.invariant_of-result
 invariant_of-result c =
@@ -22,12 +16,6 @@ invariant_of-result c =
       within = (entry c.args.octet (omega arith) c.args.ones six).1;
       few = small.2;
     }
-
-pub returns-clause-none : goal.returns-clause-none
-returns-clause-none c =
-    let mark = mark-at c.args.ones c.args.octet (omega arith) in
-    let six = eq-eqb (c.args.ones + get_or ONES_BEFORE c.args.octet 0) 6 c.if-ones-before-ne-FLAG_ONES.false in
-    (λ e. absurd (false≢true (sym e)), λ none. absurd (false≢true (sym none ∙ sym mark ∙ six)))
 
 pub returns-clause-some : goal.returns-clause-some
 returns-clause-some c = (entry c.args.octet (omega arith) c.args.ones c.if-ones-before-ne-FLAG_ONES.false).0

@@ -1,22 +1,19 @@
 -- No gap is open, or one of too few bits; or the 1s go on it, and it is closed.
-use Rattle.lapd_bits.proofs.Vocabulary.{◌≡◌, Option, Some, None, length, refl, ap, sym, subst, ◌∙◌, arith, HoldsGap, open_gap, ended_of, event_in, Gap}
-use Rattle.lapd_bits.proofs.FlagEnd.{told-none, told-young, told-closed}
+use Rattle.lapd_bits.proofs.Vocabulary.{◌≡◌, ◌+◌, ◌<◌, IfSome, Some, length, ap, sym, subst, ◌∙◌, arith, HoldsGap, open_gap, ended_of, event_in}
+use Rattle.lapd_bits.proofs.FlagEnd.{told-young, told-closed}
+use Rattle.lapd_bits.proofs.BitSteps.{no_some}
 use Rattle.lapd_bits.proofs.deframer.Deframer.close_after.Goals as goal
-
-no_some : (o : Option Gap) → ((g : Gap) → o ≡ Some g → ⊥) → o ≡ None
-no_some None f = refl
-no_some (Some g) f = absurd (f g refl)
 
 pub returns-in_default-clause-told : goal.returns-in_default-clause-told
 returns-in_default-clause-told c past six h =
     let s = c.args.self.now in
-    told-none (length s.octets.items) c.args.before past six s.octets.items
-    (subst (λ g. HoldsGap s.octets.items g (open_gap past)) (no_some s.gap c.in_default.not-Some) h)
+    told-young (length s.octets.items) c.args.before past six s.octets.items s.gap
+    (subst (λ g. IfSome g (λ gap. gap.since + c.args.before < 8)) (sym (no_some s.gap c.in_default.not-Some)) tt) h
 
 pub returns-then-since-before-lt8-clause-told : goal.returns-then-since-before-lt8-clause-told
 returns-then-since-before-lt8-clause-told c past six h =
     let s = c.args.self.now in
-    told-young (length s.octets.items) c.args.before past six s.octets.items c.in-Some.gap
+    told-young (length s.octets.items) c.args.before past six s.octets.items (Some c.in-Some.gap)
     (omega (arith, c.since.ensures, c.if-since-before-lt8.true))
     (subst (λ g. HoldsGap s.octets.items g (open_gap past)) c.in-Some.is h)
 

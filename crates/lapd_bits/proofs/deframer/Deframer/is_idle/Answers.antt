@@ -1,11 +1,8 @@
 -- The open gap is the beginning of a flag, and the octet goes on with it; or 1s have given a gap up, and go on.
-use Rattle.lapd_bits.proofs.Vocabulary.{◌≡◌, ◌-◌, ◌<◌, Option, Some, None, get_or, refl, sym, ap, subst, ◌∙◌, arith, eqb-true, HoldsPast, StaysIdle, IDLE, Gap}
+use Rattle.lapd_bits.proofs.Vocabulary.{◌≡◌, ◌-◌, ◌<◌, get_or, sym, ap, subst, ◌∙◌, arith, eqb-true, HoldsPast, StaysIdle, IDLE}
 use Rattle.lapd_bits.proofs.Idle.{stays_idle, stays_given_up}
+use Rattle.lapd_bits.proofs.BitSteps.{no_some}
 use Rattle.lapd_bits.proofs.deframer.Deframer.is_idle.Goals as goal
-
-no_some : (o : Option Gap) → ((g : Gap) → o ≡ Some g → ⊥) → o ≡ None
-no_some None f = refl
-no_some (Some g) f = absurd (f g refl)
 
 pub returns-in_default : goal.returns-in_default
 returns-in_default c =

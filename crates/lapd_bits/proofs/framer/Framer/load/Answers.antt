@@ -3,16 +3,8 @@ use Rattle.lapd_bits.proofs.Vocabulary.{◌≡◌, ◌+◌, ◌≤◌, ◌++◌,
 use Rattle.lapd_bits.proofs.FramerGiven.{length_to_give, to_give-none}
 use Rattle.lapd_bits.proofs.FramerLoad.{frame_made, written_back}
 use Rattle.lapd_bits.proofs.FramerStands.{Stands-load, begun_by}
-use Rattle.lapd_bits.proofs.StuffingAtOnce.{last_ones-none}
+use Rattle.lapd_bits.proofs.StuffingAtOnce.{last_ones_none}
 use Rattle.lapd_bits.proofs.framer.Framer.load.Goals as goal
-
-pub stuff-requires-clause-room : goal.stuff-requires-clause-room
-stuff-requires-clause-room c =
-    omega (arith, ap last_ones c.after-text.ensures.latest, last_ones-none, ap (λ w. w.count) c.after-text.ensures.waiting)
-
-pub end_with-requires-clause-room : goal.end_with-requires-clause-room
-end_with-requires-clause-room c =
-    omega (arith, ap last_ones c.after-text.ensures.latest, last_ones-none, ap (λ w. w.count) c.after-text.ensures.waiting, ap (λ f. f.room) c.self.view_is)
 
 pub returns-clause-left : goal.returns-clause-left
 returns-clause-left c =
@@ -31,7 +23,7 @@ returns-clause-left c =
     ∙ sym (to_give-none a.octets.items a.next a.end a.after none within)
     ∙ ap (λ f. f.left) c.self.view_is in
     let goes = subst (λ o. Goes (made begun o) (last_ones begun.latest) (bits head) middle (last_ones one.latest)) c.as_mut_slice-octets.ensures.value c.stuff.ensures.goes in
-    let from_none = subst (λ n. Goes start n (bits head) middle (last_ones one.latest)) (ap last_ones c.after-text.ensures.latest ∙ last_ones-none) goes in
+    let from_none = subst (λ n. Goes start n (bits head) middle (last_ones one.latest)) (ap last_ones c.after-text.ensures.latest ∙ last_ones_none) goes in
     let size_stays : length c.end_with.new.buffer ≡ length a.octets.items = omega (arith, c.end_with.ensures.room, c.stuff.ensures.room, ap length c.as_mut_slice-octets.ensures.value) in
     ap (λ o. to_give o 0 c.end-self-inside.result c.waiting-self-inside.result) (written_back a.octets.len c.end_with.new.buffer a.octets.items a.octets.ok.0 size_stays)
     ∙ (λ i. bits (take (c.end-self-inside.ensures i) c.end_with.new.buffer) ++ waits (c.waiting-self-inside.ensures i))

@@ -6,22 +6,11 @@ use Rattle.lapd_bits.proofs.framer.Framer.octet.Goals as goal
 
 -- ---- octets are left
 
-pub index-octet-requires : goal.index-octet-requires
-index-octet-requires c =
-    let a = c.self.inside in
-    let size = ap (λ f. length f.left) c.self.view_is in
-    omega (arith, size, c.busy.ensures.0 c.if-busy.true, length_to_give a.octets.items a.next a.end a.after (omega (arith, a.octets.ok.0, c.self.invariant.end)), c.self.invariant.end, c.self.invariant.after)
-
 more : (c : goal.After-self-1) → c.self.inside.next < c.self.inside.end
 more c =
     let a = c.self.inside in
     let size = ap (λ f. length f.left) c.self.view_is in
     omega (arith, size, c.busy.ensures.0 c.if-busy.true, length_to_give a.octets.items a.next a.end a.after (omega (arith, a.octets.ok.0, c.self.invariant.end)), c.self.invariant.after)
-
-pub invariant_of-self : goal.invariant_of-self
-invariant_of-self c =
-    let i = c.self.invariant in
-    record { room = i.room; space = i.space; end = i.end; next = omega (arith, more c); latest = i.latest; after = i.after }
 
 given : (c : goal.After-self-1) → low_bits 8 c.index-octet.result.now ++ to_give c.self.inside.octets.items (c.self.inside.next + 1) c.self.inside.end c.self.inside.after ≡ refilled (to_give c.self.inside.octets.items c.self.inside.next c.self.inside.end c.self.inside.after)
 given c =

@@ -1,4 +1,4 @@
--- Each frame that begins on a line is one that the grammar has, as that of the card's side, of a service or of TEI management: the law.
+-- Each frame that begins on a line is one that the grammar has, of a service or of TEI management: the law.
 use Rattle.std.proofs.Common.{◌≡◌, ◌<◌, ◌≤◌, Bool, true, false, cond, List, [], ◌∷◌, ◌++◌, slice_get, Option, Some, None, IfSome, option_map, refl, sym, subst, arith}
 use Rattle.std.specs.Prelude.{All, option_to_list}
 use Rattle.std.specs.Option.{option_or, unwrap_or}

@@ -43,8 +43,8 @@ abbrev pub controls_at : Config → Service → ℕ → Seen → List ControlFra
 controls_at c service tei (begun octets) = of_link service tei control_in (reading c.side octets)
 controls_at c service tei other = []
 
--- A receipt is RNR while layer 3 is busy, and RR while it is not; its N(R) is the number of contents told of the link since its
--- numbers began, modulo 128 (Q.921 clauses 3.5.2.6, 3.6.6, 3.6.8 and 5.6.6).
+-- A receipt is RNR while layer 3 is busy, and RR while it is not; its N(R) is the number of contents told of the link
+-- since its numbers began, modulo 128 (Q.921 clauses 3.5.2.6, 3.6.6, 3.6.8 and 5.6.6).
 abbrev pub receipt : Standing → Bool → Control
 receipt now pf = if now.busy then ReceiveNotReady (seq now.told.count) pf else ReceiveReady (seq now.told.count) pf
 
@@ -80,9 +80,9 @@ answers_at c service tei was now state (heard (stream.frame octets)) = of_link s
 answers_at c service tei was now state (granted r) = while_up state (changed was now)
 answers_at c service tei was now state other = []
 
--- A state that awaits the answer to a command puts it, with P=1: SABME state 5, DISC state 6, and state 8 an enquiry (clauses
--- 5.5.1.1, 5.5.3.2 and 5.6.7); where the link comes to the state, and again where T200 expires and leaves it there (clauses
--- 5.5.1.3, 5.5.3.3, 5.6.7 and 5.10.3).
+-- A state that awaits the answer to a command puts it, with P=1: SABME state 5, DISC state 6, and state 8 an enquiry
+-- (clauses 5.5.1.1, 5.5.3.2 and 5.6.7); where the link comes to the state, and again where T200 expires and leaves it
+-- there (clauses 5.5.1.3, 5.5.3.3, 5.6.7 and 5.10.3).
 abbrev pub command_of : Standing → Option ℕ → List ControlFrame
 command_of now state =
     if is_state 5 state then as_command (Sabme true)
@@ -105,8 +105,8 @@ abbrev pub due_in : Config → Service → ℕ → ℕ → Standing → Standing
 due_in c service tei number was now m =
     let frames = put_in c service tei number was now m in take (length frames - lost_in m.answer) frames
 
--- An acknowledgement that goes by itself in states 7 and 8 is due as it begins: RR with F=0, while layer 3 is not busy (clause
--- 5.6.3.1).
+-- An acknowledgement that goes by itself in states 7 and 8 is due as it begins: RR with F=0, while layer 3 is not busy
+-- (clause 5.6.3.1).
 abbrev pub acknowledged_by : Standing → Bool → Control → List ControlFrame
 acknowledged_by now command (ReceiveReady nr pf) = if now.busy || (command || pf) then [] else as_response (receipt now false)
 acknowledged_by now command other = []
@@ -132,8 +132,8 @@ pub data IsPart {X : Type 0} : List X → List X → Type 0 where
   left_out : (x : X) (some all : List X) → IsPart some all → IsPart some (x ∷ all)
   taken : (x : X) (some all : List X) → IsPart some all → IsPart (x ∷ some) (x ∷ all)
 
--- From whenever the TEI of a link is not on the line, the control frames of the link that begin are those that may go since then, in
--- their order, and none twice: so what waits where it leaves the line does not go (clause 5.3.4).
+-- From whenever the TEI of a link is not on the line, the control frames of the link that begin are those that may go
+-- since then, in their order, and none twice: so what waits where it leaves the line does not go (clause 5.3.4).
 abbrev pub OnlyDueGo : Config → List Event → ℕ → Type 0
 OnlyDueGo c events number =
     (service : Service) (tei : ℕ) (before since : List Event) → events ≡ before ++ since →
@@ -148,8 +148,8 @@ unfoldable pub StaysOn : ℕ → ℕ → Card → List Event → Type 0
 StaysOn number tei card [] = has_tei tei (line_at number card) ≡ true
 StaysOn number tei card (e ∷ events) = (has_tei tei (line_at number card) ≡ true) × StaysOn number tei (after e card) events
 
--- While it stays, after whatever happened before, each that is due goes: it has begun once the line was only pulled, as often as the
--- configuration says, in their order.
+-- While it stays, after whatever happened before, each that is due goes: it has begun once the line was only pulled, as
+-- often as the configuration says, in their order.
 abbrev pub AllDueGo : Config → List Event → ℕ → Type 0
 AllDueGo c events number =
     (service : Service) (tei : ℕ) (before meanwhile pulls : List Event) → events ≡ before ++ (meanwhile ++ pulls) →

@@ -18,8 +18,8 @@ abbrev pub is_error : Service → ℕ → Note → Bool
 is_error service tei (notes.Error of by code) = is_own service tei of by
 is_error service tei other = false
 
--- So it is wherever a link comes to state 5, in which SABME is due, by what is heard (Q.921 clauses 5.6.7, 5.7.1, 5.8.2 and 5.8.5 to
--- 5.8.7); else a request or the expiry of T200 leads it there.
+-- So it is wherever a link comes to state 5, in which SABME is due, by what is heard (Q.921 clauses 5.6.7, 5.7.1, 5.8.2
+-- and 5.8.5 to 5.8.7); else a request or the expiry of T200 leads it there.
 abbrev pub ErrorsAreNoted : Config → List Event → ℕ → Type 0
 ErrorsAreNoted c events number =
     (service : Service) (tei : ℕ) (before : List Event) (value : ℕ) (behind : List Event) → events ≡ before ++ at number (octet value) ∷ behind →

@@ -10,7 +10,8 @@ use Rattle.model_card.specs.Event.{Event}
 use Rattle.laws_trace.specs.Trace.{Seen, granted, trace_of, frames_begun, octets_put}
 use Rattle.laws_trace.specs.FramesGoOut.{GoOut}
 
--- Each is one that the grammar has, as that of the card's side, of a service or of TEI management (Q.921 clauses 2, 3 and 3.3.3).
+-- Each is one that the grammar has, as that of the card's side, of a service or of TEI management (Q.921 clauses 2, 3
+-- and 3.3.3).
 abbrev pub is_of_use : ℕ → Bool
 is_of_use sapi = sapi == 63 || is_some (service_of sapi)
 

@@ -87,7 +87,8 @@ changes_due : due changes ≡ of_changes
 unfolding moments along lines.after lines.answer lines.takes_slot teis.course teis.refusal low_bits seq distance_of named reading header_of control_of unnumbered_of supervisory_of
 changes_due = refl
 
--- SABME is due as layer 3 asks for it, and again as T200 expires; and an enquiry as T203 does, and DISC as the link is released.
+-- SABME is due as layer 3 asks for it, and again as T200 expires; and an enquiry as T203 does, and DISC as the link is
+-- released.
 two_due : due (on_0 (Assign 64) ∷ on_0 (Establish Call 64) ∷ at 0 (expiry (T200 Call 64)) ∷ []) ≡ as_command (Sabme true) ++ as_command (Sabme true)
 unfolding moments along lines.after lines.answer lines.takes_slot teis.course teis.refusal low_bits
 two_due = refl
@@ -97,8 +98,8 @@ an_enquiry : due (up ++ at 0 (expiry (T203 Call 64)) ∷ on_0 (Release Call 64) 
 unfolding moments along lines.after lines.answer lines.takes_slot teis.course teis.refusal low_bits seq reading header_of control_of unnumbered_of supervisory_of
 an_enquiry = refl
 
--- An I-frame with N(S)=1 and P=0, of which nothing is told, is answered by REJ with N(R)=0 in state 7, and by nothing in state 5; a
--- second one by nothing.
+-- An I-frame with N(S)=1 and P=0, of which nothing is told, is answered by REJ with N(R)=0 in state 7, and by nothing
+-- in state 5; a second one by nothing.
 abbrev out_of_sequence : List Seen
 out_of_sequence = heard (stream.frame (0x00 ∷ 0x81 ∷ 0x02 ∷ 0x00 ∷ 0x41 ∷ [])) ∷ noted [] None ∷ lost 0 ∷ []
 

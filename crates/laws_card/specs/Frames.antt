@@ -14,7 +14,7 @@ use Rattle.laws_line.specs.Heard.{IsFor}
 use Rattle.laws_line.specs.Drains.{frames_before, most_frames_before, control_text}
 use Rattle.model_card.specs.Card.{Card, line_at}
 use Rattle.model_card.specs.Counts.{may_send, octets_received, window, sent, heard, accepted, expired, rejected}
-use Rattle.model_card.specs.Happening.{Happening, comes, goes, events_of, spelled, HappensAt}
+use Rattle.model_card.specs.Happening.{Happening, comes, failed, goes, expires, asks, events_of, spelled, HappensAt}
 use Rattle.model_card.specs.Run.{moments, after_all}
 use Rattle.model_card.specs.Said.{Next, said, gives}
 use Rattle.laws_card.specs.PromisesOfPulls.{IsWaiting}

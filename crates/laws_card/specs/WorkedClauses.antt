@@ -1,5 +1,5 @@
 -- Worked values: cards, and moments with other answers, that would break the clauses of `Card::drive`.
-use Rattle.std.specs.Prelude.{◌≡◌, ℕ, ◌+◌, ◌*◌, ◌≤◌, true, false, List, [], ◌∷◌, ◌++◌, map, Some, None, refl}
+use Rattle.std.specs.Prelude.{◌≡◌, ◌+◌, ◌*◌, ◌≤◌, true, List, [], ◌∷◌, map, Some, None, refl}
 use Rattle.std.proofs.Common.{ap, arith}
 use Rattle.model_bits.specs.Bits.{low_bits}
 use Rattle.model_bits.specs.declared.heard.Cause.TheVariants.{Fcs}

@@ -1,5 +1,5 @@
 -- The control frames that wait on a link begin, where a line is only pulled; and where a line is full, as a trace shows it.
-use Rattle.std.proofs.Common.{◌≡◌, ℕ, zero, suc, ◌+◌, ◌≤◌, ◌<◌, ◌==◌, ◌&&◌, Bool, true, false, cond, List, [], ◌∷◌, ◌++◌, length, get_or, map, Option, Some, None, IfSome, option_map, refl, sym, ap, ◌∙◌, subst, ◌⊎◌, inl, inr, arith, true≢false, eq-eqb, append-nil, length-append}
+use Rattle.std.proofs.Common.{◌≡◌, ℕ, zero, suc, ◌+◌, ◌≤◌, ◌<◌, ◌==◌, ◌&&◌, true, false, cond, List, [], ◌∷◌, ◌++◌, length, get_or, map, Option, Some, None, IfSome, option_map, refl, sym, ap, ◌∙◌, subst, ◌⊎◌, inl, inr, arith, true≢false, eq-eqb, append-nil, length-append}
 use Rattle.std.specs.Prelude.{All, flat_map, option_to_list, replicate}
 use Rattle.std.specs.Option.{option_map_or}
 use Rattle.std.proofs.lemmas.Bool.{and_parts}

@@ -1,6 +1,6 @@
 -- Where the TEI of a link leaves its line, what is told of the link is what the end of the TEI tells.
-use Rattle.std.proofs.Common.{◌≡◌, ◌≢◌, ℕ, ◌==◌, ◌&&◌, ◌||◌, not, Bool, true, false, cond, List, [], ◌∷◌, ◌++◌, get_or, set, Option, Some, None, refl, sym, ap, ◌∙◌, subst, arith, eqb-true, eq-eqb, true≢false, ◌⊎◌, inl, inr, append-nil}
-use Rattle.std.specs.Prelude.{All, filter}
+use Rattle.std.proofs.Common.{◌≡◌, ℕ, ◌==◌, ◌&&◌, ◌||◌, not, Bool, true, false, List, [], ◌∷◌, ◌++◌, Option, Some, None, refl, sym, ap, ◌∙◌, subst, arith, eqb-true, eq-eqb, true≢false, ◌⊎◌, inl, inr, append-nil}
+use Rattle.std.specs.Prelude.{filter}
 use Rattle.std.specs.Option.{option_map_or}
 use Rattle.std.proofs.lemmas.List.{get_or-set_other}
 use Rattle.std.proofs.lemmas.List.Elements.{filter-append}
@@ -45,7 +45,6 @@ use Rattle.model_line.specs.Sound.{IsSound}
 use Rattle.model_line.proofs.AimsSound.{IsProper}
 use Rattle.model_line.proofs.ProperAims.{heard_aims, request_proper}
 use Rattle.laws_line.specs.Heard.{notes_of}
-use Rattle.laws_line.proofs.Obeyed.{service-same}
 use Rattle.laws_line.proofs.Places.{has-place}
 use Rattle.laws_line.proofs.TeiNotes.{ByChange, noted}
 use Rattle.laws_trace.specs.News.{is_news, releases, due}
@@ -53,7 +52,6 @@ use Rattle.laws_trace.proofs.StaysOn.{pull-keeps}
 use Rattle.laws_trace.proofs.LinkLed.{own-is}
 use Rattle.laws_trace.proofs.ManagingTables.{on-coming, on-leaving}
 use Rattle.laws_trace.proofs.NewsOfOthers.{none-filtered, tei-note, other-link}
-use Rattle.laws_trace.proofs.OneLink.{is_at_link}
 
 -- What the end of a TEI tells of its link is due as the link would come to state 4.
 cleared-due : (t : Terms) (l : Link) (was outstanding : Bool)

@@ -1,9 +1,7 @@
 -- What is seen of a link: SABME, and requests that are granted.
-use Rattle.std.proofs.Common.{◌≡◌, ℕ, ◌&&◌, ◌||◌, Bool, true, false, cond, ◌++◌, map, Option, Some, None, option_map, refl, sym, ap, ◌∙◌, true≢false}
-use Rattle.std.specs.Prelude.{option_to_list}
+use Rattle.std.proofs.Common.{◌≡◌, ℕ, ◌&&◌, Bool, true, false, cond, Option, Some, None, refl, sym, ap, ◌∙◌, true≢false}
 use Rattle.std.specs.List.{list_any}
 use Rattle.std.specs.Option.{option_map_or}
-use Rattle.model_bits.specs.Stream as stream
 use Rattle.lapd_frame.specs.declared.controls.Control.{Control}
 use Rattle.lapd_frame.specs.declared.services.Service.{Service}
 use Rattle.model_link.specs.declared.timers.LinkTimer.TheVariants.{T200, T203}
@@ -13,21 +11,16 @@ use Rattle.model_line.specs.Event as line_event
 use Rattle.model_line.specs.Event.{octet, expiry, request, pull, Answer, told, refused, pulled}
 use Rattle.model_line.specs.Line.{Line, place_in}
 use Rattle.model_line.specs.Machine as lines
-use Rattle.model_line.specs.Octet.{gained}
-use Rattle.model_line.specs.Pull.{Taken}
-use Rattle.model_line.specs.Pull as pulls
 use Rattle.model_line.specs.Request.{Request, Establish, Release, Data, Assign, Remove, Check, SetBusy, ClearBusy}
 use Rattle.model_line.specs.Requested.{at_requested, aim_of_request}
-use Rattle.model_card.specs.Pulled.{frame_taken, octet_in}
 use Rattle.laws_line.specs.Share.{is_granted}
 use Rattle.laws_line.specs.Steady.{IsBy}
 use Rattle.laws_link.specs.Flags.{asks_establishment}
 use Rattle.lapd_frame.specs.Grammar.{Parts}
-use Rattle.laws_trace.specs.Deliveries.{is_for, frame_of as frame_heard}
+use Rattle.laws_trace.specs.Deliveries.{is_for}
 use Rattle.laws_trace.specs.News.{establishes, releases}
 use Rattle.laws_trace.specs.TimersAreTimely.{nothing_yet, control_in, brings}
-use Rattle.laws_trace.specs.Trace as traces
-use Rattle.laws_trace.specs.Trace.{is_own, seen, seen_told, seen_granted}
+use Rattle.laws_trace.specs.Trace.{is_own, seen}
 use Rattle.laws_trace.proofs.Deliveries.{frame_by, brings-frame, brings-none}
 use Rattle.laws_trace.proofs.DeliveriesRun.{event-aims}
 use Rattle.laws_trace.proofs.LinkLed.{own-is, none-refused, elsewhere}

@@ -60,7 +60,7 @@ use Rattle.laws_trace.proofs.ManagingNotes as managing
 use Rattle.laws_trace.proofs.OneLink.{Goes, is_at_link, event-goes}
 use Rattle.laws_trace.proofs.Runs.{nothing-seen}
 use Rattle.laws_trace.proofs.LossesOfParts.{management-kept, link-full}
-use Rattle.laws_trace.proofs.Crowded.{HasFullLink, IsFull, by-trace}
+use Rattle.laws_trace.proofs.Crowded.{IsFull, by-trace}
 use Rattle.laws_trace.proofs.UnitsGoOut.{after-both}
 
 -- One event of a line.

@@ -1,7 +1,7 @@
 -- What layer 3 is told of establishments and releases.
 use Rattle.std.specs.Prelude.{◌≡◌, ℕ, ◌==◌, ◌&&◌, ◌||◌, not, Bool, true, false, List, [], ◌∷◌, ◌++◌, fold, filter, Some, if◌then◌else◌}
 use Rattle.std.specs.List.{list_any}
-use Rattle.std.specs.Option.{option_map_or, unwrap_or}
+use Rattle.std.specs.Option.{unwrap_or}
 use Rattle.lapd_frame.specs.declared.controls.Control.{Control}
 use Rattle.lapd_frame.specs.declared.controls.Control.TheVariants as control
 use Rattle.lapd_frame.specs.declared.controls.Control.TheVariants.{Sabme}
@@ -18,9 +18,8 @@ use Rattle.model_card.specs.Card.{fresh}
 use Rattle.model_card.specs.Event.{Event, at}
 use Rattle.model_card.specs.Machine.{answer}
 use Rattle.model_card.specs.Run.{Moment, moments, after_all}
-use Rattle.laws_trace.specs.Deliveries.{frame_of}
-use Rattle.laws_trace.specs.TimersAreTimely.{is_state, state_before, state_after, differ, Known, nothing_yet, watch, brings}
-use Rattle.laws_trace.specs.Trace.{is_own, Seen, heard, seen_in}
+use Rattle.laws_trace.specs.TimersAreTimely.{Known, nothing_yet, watch, brings, is_state, state_before, state_after, differ}
+use Rattle.laws_trace.specs.Trace.{is_own, seen_in}
 
 -- The notes that say that a link is up, or down, or that XID came (Q.921 clauses 4.1.1.1 and 4.1.1.2).
 abbrev pub is_news : Service → ℕ → Note → Bool

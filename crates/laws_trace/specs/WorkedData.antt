@@ -1,5 +1,5 @@
 -- Worked values: I-frames that go out, and traces that break the law.
-use Rattle.std.specs.Prelude.{◌≡◌, ◌≤◌, ℕ, ◌%◌, false, List, [], ◌∷◌, ◌++◌, drop, length, slice_get, Some, None, flat_map, option_to_list, refl}
+use Rattle.std.specs.Prelude.{◌≡◌, ◌≤◌, ℕ, ◌%◌, false, List, [], ◌∷◌, ◌++◌, drop, slice_get, Some, None, flat_map, option_to_list, refl}
 use Rattle.std.proofs.Common.{zero, suc, arith, ◌⊎◌, inl, inr}
 use Rattle.model_bits.specs.Bits.{low_bits}
 use Rattle.lapd_seq.specs.Circle.{named, distance_of}

@@ -1,6 +1,6 @@
 -- Worked values: a message that finds no room, and a line that breaks the law.
 use Rattle.std.specs.Prelude.{◌≡◌, ◌≤◌, ◌+◌, List, [], ◌∷◌, ◌++◌, length, flat_map, None, refl}
-use Rattle.std.proofs.Common.{inl, inr, arith}
+use Rattle.std.proofs.Common.{inl, arith}
 use Rattle.model_bits.specs.Bits.{low_bits}
 use Rattle.model_bits.specs.Stream as stream
 use Rattle.lapd_frame.specs.declared.services.Service.TheVariants.{Call}

@@ -10,13 +10,16 @@ module _ (t : Terms) (l : Link) (Q : ℕ → Option (List ℕ) → Course → Ty
     (owes : (r : ℕ) (d : Option (List ℕ)) → Leads (Q r d) (Words.pending_is true) (Q r d))
     (rejects : (r : ℕ) (d : Option (List ℕ)) (f : Bool) → Leads (Q r d) (Words.rejecting_is true then Words.reject t f) (Q r d))
     (begins : Q l.r None (begun l)) where
+  -- with own busy on, only P is answered
   dropped : (p : Bool) → Leads (Q l.r None) (MultipleFrame.dropped t p) (Q l.r None)
   dropped p = bit_leads p (answers l.r None) nothing_leads
 
+  -- either branch
   branch : (b : Bool) (r r' : ℕ) (d d' : Option (List ℕ)) (u v : Course) → Q r d u → Q r' d' v → Q (cond b r r') (cond b d d') (cond b u v)
   branch true r r' d d' u v x y = x
   branch false r r' d d' u v x y = y
 
+  -- the contents are the next in sequence, or they are not
   pub contents : (ns : Seq) (p : Bool) (octets : List ℕ)
       → Q (l.r + 1) (Some octets) ((Words.count_received then Words.rejecting_is false then Words.deliver t octets) (begun l))
       → Q (cond l.own_busy l.r (cond (MultipleFrame.is_next ns l) (l.r + 1) l.r)) (cond l.own_busy None (cond (MultipleFrame.is_next ns l) (Some octets) None))

@@ -298,6 +298,7 @@ module _ {t : Terms} {Units Anew Taken Window Queued Offered : Type 0} {In : Sta
       (record { leads = λ c h. k.recovered one one i timer _ (omega arith) h.known.to h.known.state_is (k.acknowledge one one i TimerRecovery c h.known.from h.known.to h.known.state_is refl h.holds) })
       (ends (acknowledge i refl))
 
+  -- a final response that no command asked for
   unsolicited : {X : Claim} (final : Bool) → Leads (At X (P one two)) (Established.unsolicited t final) (At X (P one one))
   unsolicited final = bit_leads final (error code.A) untold
 

@@ -23,11 +23,7 @@ Owes t total extra p c = Owing t total extra p c.sent c.link.contents c.link.a c
 pub record Within (t : Terms) (total : ℕ) (c : Course) : Type 0 where
   pub within : owed t c ≤ total
 
--- an acknowledgement that was owed is no longer; one that is owed from now on is a frame; a frame that waits is one
-bit-high : (b : Bool) → cond {A = ℕ} b 1 0 ≤ 1
-bit-high true = omega arith
-bit-high false = omega arith
-
+-- a frame that waits is one more at most
 one-more : (b : Bool) (ws : List ControlFrame) (f : ControlFrame) → length (cond b (ws ++ f ∷ []) ws) ≤ 1 + length ws
 one-more true ws f = simp length-append (omega arith)
 one-more false ws f = omega arith
@@ -51,6 +47,7 @@ module _ (t : Terms) (r : IsInRange t) (total extra : ℕ) (Window : Type 0) (pa
   unfolding how_many
   saves p c h = spends (another p) p c c h.stands (omega arith) h
 
+  -- the words that change what is owed
   sends : (p : Purse) (f : ControlFrame) (c : Course) → Waits t f → Owes t total extra (another p) c → Owes t total extra p (Words.send t f c)
   unfolding how_many
   sends p f c w h = spends (another p) p c (Words.send t f c) (sound.send p p f c w h.stands) (let more = one-more (Words.has_room t c.link) c.link.waiting f in omega (arith, more)) h

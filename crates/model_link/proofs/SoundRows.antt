@@ -111,6 +111,7 @@ module _ {t : Terms} {q : ℕ} {contents : List (List ℕ)} {a s : ℕ} {state :
       → settled a' (length contents') state asked → All (λ octets. length octets ≤ t.n201) contents' → Standing t q contents' a' s' state asked ws own pending
   numbered contents' a' s' ordered accepted within queue settles sizes = search
 
+  -- what an N(R) acknowledges, and what is to be sent again
   acknowledging : (i : ℕ) (here : State) → a ≤ i → i ≤ s → state ≡ here → IsTrue (is_multiple_frame here) → Standing t q contents i s state asked ws own pending
   acknowledging i here from to e m =
       let within : s ≤ a + t.k = h.within in
@@ -123,6 +124,7 @@ module _ {t : Terms} {q : ℕ} {contents : List (List ℕ)} {a s : ℕ} {state :
       let all : s ≤ length contents = h.accepted in
       numbered contents a i from (omega arith) (omega arith) h.queue h.settles h.sizes
 
+  -- all contents are released
   discarding : Standing t q (take a contents) a a state asked ws own pending
   discarding =
       let low : a ≤ s = h.ordered in
@@ -179,6 +181,7 @@ not-first true o w e = absurd (cc)
 not-first false o w e = (refl, e)
 
 module _ (t : Terms) (r : t.tei ≤ 126) (q : ℕ) (Queued : Type 0) (room : Queued → q ≡ t.queue) where
+  -- words that are put together
   transfers : Queued → (octets : List ℕ) (full : Bool) (c : Course) → Requests.refusal t c.link full (Events.Data octets) ≡ None
       → Stands t q c → Stands t q (data_in_7_8 octets c)
   transfers may octets full c e h =

@@ -13,10 +13,12 @@ with_bits-onto octet past = sym (reverse_aux-onto (low_bits 8 octet) [] past)
 
 -- ---- the test for six 1s
 
+-- neither of two holds
 or_false : (a b : Bool) → (a || b) ≡ false → b ≡ false
 or_false false b h = h
 or_false true b h = absurd (false≢true (sym h))
 
+-- six 1s and more begin with six
 six_begin : (m : ℕ) (text : List Bool)
     → has_six (replicate (suc (suc (suc (suc (suc (suc m)))))) true ++ text) ≡ true
 six_begin m text = refl

@@ -89,6 +89,7 @@ going n b = (stuffed_after n b, ones_sent n b)
 abbrev pub behind : List Bool → List Bool × ℕ → List Bool × ℕ
 behind front p = (front ++ p.0, p.1)
 
+-- one front behind another
 pub behind_both : (a b : List Bool) (p : List Bool × ℕ) → behind a (behind b p) ≡ behind (a ++ b) p
 behind_both a b p i = (sym (append_assoc a b p.0) i, p.1)
 

@@ -40,9 +40,9 @@ pub record IsLast (n : ℕ) (ns : List ℕ) : Type 0 where
   pub earlier : List ℕ
   pub is : ns ≡ earlier ++ n ∷ []
 
--- Once the line was only pulled, as often as the configuration says, the last N(R) of a link in state 7 or 8 that began is the
--- number of contents told of it since its numbers began, modulo 128, if any was told, and no frame was told as lost since (clauses
--- 5.6.2 and 5.6.3).
+-- Once the line was only pulled, as often as the configuration says, the last N(R) of a link in state 7 or 8 that began
+-- is the number of contents told of it since its numbers began, modulo 128, if any was told, and no frame was told as
+-- lost since (clauses 5.6.2 and 5.6.3).
 abbrev pub AllAreAcknowledged : Config → List Event → ℕ → Type 0
 AllAreAcknowledged c events number =
     (service : Service) (tei : ℕ) (before pulls : List Event) → events ≡ before ++ pulls → ArePullsAt number pulls → most_pulls c ≤ pulls_at number pulls →

@@ -15,16 +15,16 @@ use Rattle.laws_trace.specs.DataGoesOut.{Going, Sent, sent_in, none_yet, Reaches
 use Rattle.laws_trace.specs.TimersAreTimely.{Known, nothing_yet, watch}
 use Rattle.laws_trace.specs.Trace.{trace_of}
 
--- I-frames may go, by what was heard and what began: in state 7, as `Card::state` tells it, the terminal is not busy, and fewer
--- than k are outstanding (Q.921 clauses 5.6.1 and 5.6.5).
+-- I-frames may go, by what was heard and what began: in state 7, as `Card::state` tells it, the terminal is not busy,
+-- and fewer than k are outstanding (Q.921 clauses 5.6.1 and 5.6.5).
 pub record MayGo (c : Config) (service : Service) (k : Known) (state : Option ℕ) : Type 0 where
   pub up : state ≡ Some 7
   pub free : k.busy ≡ false
   pub few : (k.next + 128 - k.acknowledged) % 128 < window c service
 
--- Then, once the line was only pulled, as often as the configuration says, all data that was granted has gone, and none of it is
--- to go again: the I-frame that goes next, which REJ and the end of a recovery set back to their N(R), is the one behind it all
--- (clauses 5.6.4 and 5.6.7).
+-- Then, once the line was only pulled, as often as the configuration says, all data that was granted has gone, and none
+-- of it is to go again: the I-frame that goes next, which REJ and the end of a recovery set back to their N(R), is the
+-- one behind it all (clauses 5.6.4 and 5.6.7).
 abbrev pub AllGoesAgain : Config → List Event → ℕ → Type 0
 AllGoesAgain c events number =
     (service : Service) (tei : ℕ) (before pulls : List Event) → events ≡ before ++ pulls → ArePullsAt number pulls → most_pulls c ≤ pulls_at number pulls →

@@ -16,15 +16,15 @@ use Rattle.laws_card.specs.Timers.{runs_at_callers}
 use Rattle.laws_trace.specs.Managing.{none_on}
 use Rattle.laws_trace.specs.MessagesAreOwed.{led}
 
--- At a caller's that obeys the orders T201 runs exactly while a TEI is checked: from the request or the verify that begins the
--- check on, through its two periods, until it ends, or its TEI leaves (Q.921 clauses 5.3.3.2 and 5.3.5).
+-- At a caller's that obeys the orders T201 runs exactly while a TEI is checked: from the request or the verify that
+-- begins the check on, through its two periods, until it ends, or its TEI leaves (Q.921 clauses 5.3.3.2 and 5.3.5).
 abbrev pub ChecksAreTimed : Config → List Event → ℕ → Type 0
 ChecksAreTimed c events number =
     let ms = moments (fresh c) events in
     runs_at_callers number T201 false ms ≡ is_some (fold (led c number) none_on ms).check
 
--- A timer is ordered to stop only where it ran before the event; and T201 is started only where it does not run, or has just
--- expired: so exactly as a check begins, and as it goes into its second period, and never anew while it runs.
+-- A timer is ordered to stop only where it ran before the event; and T201 is started only where it does not run, or has
+-- just expired: so exactly as a check begins, and as it goes into its second period, and never anew while it runs.
 abbrev pub HasReason : (Timer → Bool) → line_event.Event → Order → Type 0
 HasReason ran what (Stop timer) = ran timer ≡ true
 HasReason ran what (Start T201) = left_by what T201 (ran T201) ≡ false

@@ -17,8 +17,8 @@ use Rattle.model_card.specs.Event.{Event}
 use Rattle.laws_trace.specs.Deliveries.{Watched, nothing_yet, is_for, begins, watch}
 use Rattle.laws_trace.specs.Trace.{is_own, Seen, begun, noted, granted, trace_of}
 
--- Whoever watches the link of a service with a TEI keeps in mind what was told of it, the contents that have numbers 0, 1, ..
--- since its numbers began, and how many of these have gone.
+-- Whoever watches the link of a service with a TEI keeps in mind what was told of it, the contents that have numbers 0,
+-- 1, .. since its numbers began, and how many of these have gone.
 pub record Going : Type 0 where
   pub told : Watched
   pub contents : List (List ℕ)
@@ -41,8 +41,9 @@ abbrev pub sent_in : Service → ℕ → Result Parts ReadFault → Option Sent
 sent_in service tei (Ok frame) = if is_for service tei frame.address then sent_by frame.control frame.info else None
 sent_in service tei (Err fault) = None
 
--- Its contents are those with a number, which N(S) is modulo 128: the next that has not gone, or again one of the last 127. N(R)
--- is the number of contents told of the link since its numbers began (Q.921 clauses 3.5.2.1 to 3.5.2.6, 5.6.1 and 5.6.4).
+-- Its contents are those with a number, which N(S) is modulo 128: the next that has not gone, or again one of the last
+-- 127. N(R) is the number of contents told of the link since its numbers began (Q.921 clauses 3.5.2.1 to 3.5.2.6, 5.6.1
+-- and 5.6.4).
 pub record HasNumber (g : Going) (sent : Sent) : Type 0 where
   pub number : ℕ
   pub is : slice_get g.contents number ≡ Some sent.contents
@@ -75,8 +76,8 @@ goes_on c service tei n g (noted ns contents) =
     record { told = watch c service tei g.told (noted ns contents); contents = if anew then drop n g.contents else g.contents; gone = if anew then 0 else g.gone }
 goes_on c service tei n g other = record g { told = watch c service tei g.told other }
 
--- From one thing seen to the next, up to what is kept in mind at the end. Contents that leave where the numbers begin had gone,
--- and no indication of an establishment is told; or none stays (clauses 5.5.1.2 and 5.7).
+-- From one thing seen to the next, up to what is kept in mind at the end. Contents that leave where the numbers begin
+-- had gone, and no indication of an establishment is told; or none stays (clauses 5.5.1.2 and 5.7).
 abbrev pub is_indicated : Service → ℕ → Note → Bool
 is_indicated service tei (EstablishIndication of by) = is_own service tei of by
 is_indicated service tei other = false

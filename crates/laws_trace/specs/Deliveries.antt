@@ -74,9 +74,9 @@ watch c service tei w (heard e) = record w { frame = frame_of c e }
 watch c service tei w (noted ns contents) = record { frame = None; count = counted service tei w ns }
 watch c service tei w other = record w { frame = None }
 
--- And how the card's side of the link stands. Layer 3 is busy from SetBusy that is granted to ClearBusy that is, and is not where
--- the numbers begin (clauses 5.5.1.2, 5.6.6 and 5.7). An I-frame of which nothing is told, while layer 3 is not busy, is rejected,
--- until data is told, or the numbers begin (clause 5.8.1).
+-- And how the card's side of the link stands. Layer 3 is busy from SetBusy that is granted to ClearBusy that is, and is
+-- not where the numbers begin (clauses 5.5.1.2, 5.6.6 and 5.7). An I-frame of which nothing is told, while layer 3 is
+-- not busy, is rejected, until data is told, or the numbers begin (clause 5.8.1).
 pub record Standing : Type 0 where
   pub told : Watched
   pub busy : Bool
@@ -126,16 +126,16 @@ pub record IsOfFrame (service : Service) (tei : ℕ) (w : Watched) (Is : Control
   pub control : Is frame.control
   pub told : contents ≡ Some frame.info
 
--- data of an I-frame, whose N(S) is the number of contents told of the link since its numbers began, modulo 128 (clauses
--- 3.5.2.4 to 3.5.2.6 and 5.6.2); unit data of a UI (clause 5.2.3); and contents that are told are noted as one or the other,
--- once.
+-- data of an I-frame, whose N(S) is the number of contents told of the link since its numbers began, modulo 128
+-- (clauses 3.5.2.4 to 3.5.2.6 and 5.6.2); unit data of a UI (clause 5.2.3); and contents that are told are noted as one
+-- or the other, once.
 pub record IsHeard (service : Service) (tei : ℕ) (w : Watched) (ns : List Note) (contents : Option (List ℕ)) : Type 0 where
   pub data_is : list_any (is_data_of service tei) ns ≡ true → IsOfFrame service tei w (λ control. number_in control ≡ Some (w.count % 128)) contents
   pub unit_is : list_any (is_unit_of service tei) ns ≡ true → IsOfFrame service tei w (λ control. is_ui control ≡ true) contents
   pub once : count_by tells_contents ns ≡ length (option_to_list contents)
 
--- So it is of every link, from the start of the card on, wherever notes are told; and none of data while layer 3 is busy (clause
--- 5.6.6).
+-- So it is of every link, from the start of the card on, wherever notes are told; and none of data while layer 3 is
+-- busy (clause 5.6.6).
 abbrev pub Deliveries : Config → List Event → ℕ → Type 0
 Deliveries c events number =
     (service : Service) (tei : ℕ) (before : List Seen) (ns : List Note) (contents : Option (List ℕ)) (behind : List Seen) →
@@ -143,8 +143,9 @@ Deliveries c events number =
     let w = fold (stand c service tei) at_first before in
     IsHeard service tei w.told ns contents × (list_any (is_data_of service tei) ns ≡ true → w.busy ≡ false)
 
--- And contents that may be told are told, in the moment of their frame: an I-frame for a link in state 7 or 8, while layer 3 is
--- not busy, of at most N201 octets, whose N(S) is the number of contents told, modulo 128 (clauses 5.6.2 and 5.6.6).
+-- And contents that may be told are told, in the moment of their frame: an I-frame for a link in state 7 or 8, while
+-- layer 3 is not busy, of at most N201 octets, whose N(S) is the number of contents told, modulo 128 (clauses 5.6.2 and
+-- 5.6.6).
 pub record MayBeTold (c : Config) (state : Option ℕ) (w : Standing) (frame : Parts) : Type 0 where
   pub up : option_map_or is_up state false ≡ true
   pub free : w.busy ≡ false

@@ -35,13 +35,13 @@ steps from to = (128 + to - from) % 128
 abbrev pub is_invalid : Known → Seq → Bool
 is_invalid k nr = nat_lt (steps k.acknowledged k.next) (steps k.acknowledged nr.value)
 
--- RR, RNR and REJ lead to a new establishment by an invalid N(R), and else, as a response with F=1, to the end of a recovery
--- (clauses 5.6.7 and 5.8.2).
+-- RR, RNR and REJ lead to a new establishment by an invalid N(R), and else, as a response with F=1, to the end of a
+-- recovery (clauses 5.6.7 and 5.8.2).
 abbrev pub by_receipt : Known → ℕ → Bool → Seq → ℕ
 by_receipt k state final nr = if is_up state && is_invalid k nr then 5 else if state == 8 && final then 7 else state
 
--- The state that a frame leads to from this one. The first bit says that it is a command, the second that its information is
--- longer than N201.
+-- The state that a frame leads to from this one. The first bit says that it is a command, the second that its
+-- information is longer than N201.
 abbrev pub by_frame : Known → ℕ → Bool → Bool → Control → ℕ
 -- clauses 5.5.1.2, 5.5.5 and 5.7
 by_frame k state command too_long (Sabme p) = if state == 4 || is_up state then 7 else state
@@ -63,8 +63,8 @@ by_frame k state command too_long (Reject nr f) = by_receipt k state (not comman
 -- clause 5.2.3, and XID (profile)
 by_frame k state command too_long other = state
 
--- In states 7 and 8 a frame that the grammar does not have, one of wrong size, and an I-frame that was too long to keep, leads to
--- a new establishment (clause 5.8.5).
+-- In states 7 and 8 a frame that the grammar does not have, one of wrong size, and an I-frame that was too long to
+-- keep, leads to a new establishment (clause 5.8.5).
 abbrev pub fault_is_for : Service → ℕ → ReadFault → Bool
 fault_is_for service tei (Undefined address) = is_for service tei address
 fault_is_for service tei (WrongSize address) = is_for service tei address
@@ -89,7 +89,8 @@ by_parts c service tei k state None = state
 by_parts c service tei k state (Some f) =
     if is_for service tei f.address then by_frame k state f.address.command (nat_lt c.n201 (length f.info)) f.control else state
 
--- Layer 3 asks for the establishment of a link that is down, or for the release of one that is up (clauses 5.5.1.1 and 5.5.3.2).
+-- Layer 3 asks for the establishment of a link that is down, or for the release of one that is up (clauses 5.5.1.1 and
+-- 5.5.3.2).
 abbrev pub by_request : Service → ℕ → ℕ → Request → ℕ
 by_request service tei state (Establish of by) = if is_own service tei of by && state == 4 then 5 else state
 by_request service tei state (Release of by) = if is_own service tei of by && is_up state then 6 else state
@@ -101,9 +102,9 @@ by_seen c service tei k state (heard e) =
 by_seen c service tei k state (granted r) = by_request service tei state r
 by_seen c service tei k state other = state
 
--- In state 7 the expiry of the timer that runs leads to an enquiry, in state 8 (clauses 5.6.7 and 5.10.3). In states 5, 6 and 8
--- T200 leads to another state where SABME, DISC or the enquiry was repeated N200 times: n says how often (clauses 5.5.1.3,
--- 5.5.3.3, 5.6.7 and 5.9.2).
+-- In state 7 the expiry of the timer that runs leads to an enquiry, in state 8 (clauses 5.6.7 and 5.10.3). In states 5,
+-- 6 and 8 T200 leads to another state where SABME, DISC or the enquiry was repeated N200 times: n says how often
+-- (clauses 5.5.1.3, 5.5.3.3, 5.6.7 and 5.9.2).
 abbrev pub by_expiry : ℕ → Known → ℕ → ℕ → LinkTimer → ℕ
 by_expiry n200 k n state T200 =
     if state == 7 then (if awaits k (Some 7) then 8 else 7) else if nat_lt n n200 then state else if state == 8 then 5 else 4
@@ -130,8 +131,8 @@ abbrev pub led : Config → Service → ℕ → Known → ℕ → line_event.Eve
 led c service tei k n what now state =
     fold (by_seen c service tei k) (option_map_or (by_expiry c.n200 k n state) (expired_of service tei what) state) now
 
--- After an event at the line a link whose TEI is on it is in that state; or in state 4, where its TEI was not on it before (clause
--- 5.3).
+-- After an event at the line a link whose TEI is on it is in that state; or in state 4, where its TEI was not on it
+-- before (clause 5.3).
 abbrev pub LinksMove : Config → List Event → ℕ → Type 0
 LinksMove c events number =
     (service : Service) (tei : ℕ) (before : List Event) (what : line_event.Event) (behind : List Event) →

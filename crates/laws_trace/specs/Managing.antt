@@ -20,9 +20,10 @@ use Rattle.model_line.specs.Sides.{has_management}
 use Rattle.laws_trace.specs.Trace.{Seen, heard, noted, granted}
 use Rattle.laws_trace.specs.Units.{is_ui}
 
--- The messages of terminals: one asks for any TEI by an Ri, answers that it has a TEI, or asks for a check of one (Q.921 clauses
--- 5.3.2, 5.3.3.2 and 5.3.5). In octets a message is 0F, Ri with its high octet first, the type, and Ai with 1 as its extension
--- bit (figure and table 8 of clause 5.3.1). Ai 127 asks for any TEI; others ask for none (profile).
+-- The messages of terminals: one asks for any TEI by an Ri, answers that it has a TEI, or asks for a check of one
+-- (Q.921 clauses 5.3.2, 5.3.3.2 and 5.3.5). In octets a message is 0F, Ri with its high octet first, the type, and Ai
+-- with 1 as its extension bit (figure and table 8 of clause 5.3.1). Ai 127 asks for any TEI; others ask for none
+-- (profile).
 pub data Said : Type 0 where
   asks : ℕ → Said
   responds : ℕ → Said
@@ -40,9 +41,9 @@ said_of (entity ∷ high ∷ low ∷ type ∷ last ∷ []) =
     if entity == 0x0F && last % 2 == 1 then said_of_type type (256 * high + low) (last / 2) else []
 said_of other = []
 
--- The message of a terminal that was heard right before; the TEIs on the line; the latest four assignments that hold (profile);
--- the TEI that is checked, whether its terminals were asked for the second time, how many answered since, and whether one did
--- before; and the check that T201 ended right before (clauses 5.3.2 to 5.3.4).
+-- The message of a terminal that was heard right before; the TEIs on the line; the latest four assignments that hold
+-- (profile); the TEI that is checked, whether its terminals were asked for the second time, how many answered since,
+-- and whether one did before; and the check that T201 ended right before (clauses 5.3.2 to 5.3.4).
 pub record Checked : Type 0 where
   pub tei : ℕ
   pub again : Bool
@@ -96,8 +97,8 @@ abbrev pub answered_with : ℕ → Option Checked → Option Checked
 answered_with tei None = None
 answered_with tei (Some check) = if check.tei == tei then Some (record check { answers = check.answers + 1 }) else Some check
 
--- By what is heard: a verify of a TEI begins its check, where the TEI is on the line and none runs, and a response to a check
--- is counted (clauses 5.3.3.2 and 5.3.5);
+-- By what is heard: a verify of a TEI begins its check, where the TEI is on the line and none runs, and a response to a
+-- check is counted (clauses 5.3.3.2 and 5.3.5);
 abbrev pub heard_with : Managed → Said → Managed
 heard_with w (verifies tei) = if may_check tei w then with_check tei w else w
 heard_with w (responds tei) = record w { check = answered_with tei w.check }
@@ -152,8 +153,8 @@ is_for ri r = r.ri == ri
 abbrev pub answer : List Remembered → ℕ → Message
 answer held ri = elim (find (is_for ri) held) [ None ↦ IdentityDenied ri | Some r ↦ IdentityAssigned ri r.tei ]
 
--- A check is owed a request, as it begins and once more; and a TEI that leaves by a request, or since two have it, a removal
--- (clauses 5.3.3.2 and 5.3.4). One that leaves since none answered is owed nothing (profile).
+-- A check is owed a request, as it begins and once more; and a TEI that leaves by a request, or since two have it, a
+-- removal (clauses 5.3.3.2 and 5.3.4). One that leaves since none answered is owed nothing (profile).
 abbrev pub verified : Managed → Said → List Message
 verified w (verifies tei) = if may_check tei w then IdentityCheckRequest tei ∷ [] else []
 verified w other = []

@@ -33,7 +33,8 @@ unfoldable pub owed : Config → ℕ → Managed → List Moment → List Messag
 owed c number w [] = []
 owed c number w (m ∷ ms) = owed_in c number w m ++ owed c number (led c number w m) ms
 
--- The frames that begin with SAPI 63 are the first of these, in their order, whole, each once (Q.921 clauses 5.3.1 to 5.3.5);
+-- The frames that begin with SAPI 63 are the first of these, in their order, whole, each once (Q.921 clauses 5.3.1 to
+-- 5.3.5);
 abbrev pub of_management : Result Parts ReadFault → Bool
 of_management (Ok frame) = frame.address.sapi == management_sapi
 of_management (Err fault) = false

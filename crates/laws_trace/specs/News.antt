@@ -47,8 +47,8 @@ abbrev pub is_xid : Control → Bool
 is_xid (control.Xid pf) = true
 is_xid other = false
 
--- Whether it was layer 3 that asked for the establishment that a link in state 5 awaits, or this side began it (clauses 5.5.1.1
--- and 5.7.2).
+-- Whether it was layer 3 that asked for the establishment that a link in state 5 awaits, or this side began it (clauses
+-- 5.5.1.1 and 5.7.2).
 abbrev pub asked : Service → ℕ → ℕ → Bool → Moment → Bool
 asked service tei number was m =
     let after = state_after service tei number m in
@@ -67,11 +67,12 @@ owing c service tei number w m =
     let k = watch c service tei number w.known m in
     record { known = k; outstanding = if is_state 5 (state_after service tei number m) then w.outstanding else not (k.next == k.acknowledged) }
 
--- What is due as a link comes from one state to another, or stays in it. Where it comes to state 7 from state 4, the terminal
--- established it, which is an indication; from state 5 a confirm, if layer 3 asked for it; and if not, or if the terminal
--- establishes a link anew by SABME, an indication where I-frames are outstanding, or nothing (clauses 5.5.1.2 and 5.7). Where it comes to
--- state 4 from state 6, and where layer 3 releases a link in state 4, that is a confirm, and from other states an indication
--- (clauses 5.5.1.2, 5.5.1.3, 5.5.3.2 and 5.5.3.3). XID is told, and moves nothing (profile).
+-- What is due as a link comes from one state to another, or stays in it. Where it comes to state 7 from state 4, the
+-- terminal established it, which is an indication; from state 5 a confirm, if layer 3 asked for it; and if not, or if
+-- the terminal establishes a link anew by SABME, an indication where I-frames are outstanding, or nothing (clauses
+-- 5.5.1.2 and 5.7). Where it comes to state 4 from state 6, and where layer 3 releases a link in state 4, that is a
+-- confirm, and from other states an indication (clauses 5.5.1.2, 5.5.1.3, 5.5.3.2 and 5.5.3.3). XID is told, and moves
+-- nothing (profile).
 abbrev pub due : Service → ℕ → Bool → Bool → Bool → Bool → Bool → ℕ → ℕ → List Note
 due service tei was_asked xid sabme released outstanding from to =
     if xid then Xid service tei ∷ []
@@ -82,8 +83,8 @@ due service tei was_asked xid sabme released outstanding from to =
     (if from == 6 || (from == 4 && released) then ReleaseConfirm service tei ∷ [] else if from == 4 then [] else ReleaseIndication service tei ∷ [])
     else []
 
--- So the notes of a link, of these kinds, in the answer to an event at the line are exactly what is due, where its TEI is on the line
--- before it. A link whose TEI leaves comes to state 4 (clause 5.3.4).
+-- So the notes of a link, of these kinds, in the answer to an event at the line are exactly what is due, where its TEI
+-- is on the line before it. A link whose TEI leaves comes to state 4 (clause 5.3.4).
 abbrev pub NewsIsTold : Config → List Event → ℕ → Type 0
 NewsIsTold c events number =
     (service : Service) (tei : ℕ) (before : List Event) (what : line_event.Event) (behind : List Event) →

@@ -23,15 +23,16 @@ abbrev pub control_at : Config → Service → ℕ → Seen → List Control
 control_at c service tei (begun octets) = of_link service tei control_by (reading c.side octets)
 control_at c service tei other = []
 
--- As many control frames of one link as the configuration says would begin, were the line only pulled from there on (profile).
+-- As many control frames of one link as the configuration says would begin, were the line only pulled from there on
+-- (profile).
 pub record IsCrowded (card : Card) (number : ℕ) : Type 0 where
   pub service : Service
   pub tei : ℕ
   pub pulls : ℕ
   pub as_many : card.config.control ≤ length (flat_map (control_at card.config service tei) (trace number (moments card (replicate pulls (at number pull)))))
 
--- After these events there is no room for a message of TEI management: of those that are owed all but four have begun (profile);
--- or none for a control frame of one link.
+-- After these events there is no room for a message of TEI management: of those that are owed all but four have begun
+-- (profile); or none for a control frame of one link.
 abbrev pub IsFull : Config → List Event → ℕ → Type 0
 IsFull c events number =
     (length (all_owed c events number) ≡ length (messages_begun c (trace_of c events number)) + 4) ⊎ IsCrowded (after_all (fresh c) events) number

@@ -13,8 +13,8 @@ use Rattle.laws_trace.specs.Managing.{Said, asks, Checked, Managed, none_on, is_
 use Rattle.laws_trace.specs.MessagesAreOwed.{known, led}
 use Rattle.laws_trace.specs.Trace.{Seen, noted, granted, seen_in}
 
--- A TEI that is noted as assigned was asked for right before, and it is the lowest from 64 on that was not on the line (clause
--- 5.3.2).
+-- A TEI that is noted as assigned was asked for right before, and it is the lowest from 64 on that was not on the line
+-- (clause 5.3.2).
 abbrev pub is_request : Said → Bool
 is_request (asks ri) = true
 is_request other = false
@@ -25,9 +25,9 @@ pub record IsNew (w : Managed) (tei : ℕ) : Type 0 where
   pub off : is_on tei w ≡ false
   pub lower : (other : ℕ) → 64 ≤ other → other < tei → is_on other w ≡ true
 
--- One is noted as removed, or as one that two have, where it was on the line, and T201 ended its check right before, which no
--- terminal had answered, or a second one of the period answered it right before (clauses 5.3.3.2 and 5.3.4); and where such a
--- check ended so, it is noted.
+-- One is noted as removed, or as one that two have, where it was on the line, and T201 ended its check right before,
+-- which no terminal had answered, or a second one of the period answered it right before (clauses 5.3.3.2 and 5.3.4);
+-- and where such a check ended so, it is noted.
 abbrev pub is_unanswered : Checked → Bool
 is_unanswered check = check.answers == 0 && not check.answered
 

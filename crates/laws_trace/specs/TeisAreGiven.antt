@@ -23,8 +23,9 @@ pub record IsGiven (now : List Seen) : Type 0 where
   pub noted_is : IsAmong (noted notes contents) now
   pub assigned : list_any is_assigned notes ≡ true
 
--- So it is in the moment in which a terminal asks for one by an Ri, where none is held for this Ri, fewer are on the line than the
--- configuration has terminals, and nothing is told as lost (Q.921 clause 5.3.2). So it is denied only where it must be.
+-- So it is in the moment in which a terminal asks for one by an Ri, where none is held for this Ri, fewer are on the
+-- line than the configuration has terminals, and nothing is told as lost (Q.921 clause 5.3.2). So it is denied only
+-- where it must be.
 abbrev pub TeisAreGiven : Config → List Event → ℕ → Type 0
 TeisAreGiven c events number =
     (before : List Event) (e : Event) (behind : List Event) → events ≡ before ++ e ∷ behind →

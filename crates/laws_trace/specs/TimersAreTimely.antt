@@ -26,9 +26,9 @@ use Rattle.laws_trace.specs.DataGoesOut.{Sent, sent_in}
 use Rattle.laws_trace.specs.Deliveries.{is_for, frame_of}
 use Rattle.laws_trace.specs.Trace.{Seen, heard, begun, seen_in}
 
--- Whoever watches a link while it is in state 7 or 8 keeps in mind the N(R) that was heard of it last, to which V(A) is set; the
--- N(S) of the I-frame that goes next, V(S); and whether the terminal said last that it is busy (Q.921 clauses 3.5.2.2, 3.5.2.3
--- and 5.6.5).
+-- Whoever watches a link while it is in state 7 or 8 keeps in mind the N(R) that was heard of it last, to which V(A) is
+-- set; the N(S) of the I-frame that goes next, V(S); and whether the terminal said last that it is busy (Q.921 clauses
+-- 3.5.2.2, 3.5.2.3 and 5.6.5).
 pub record Known : Type 0 where
   pub acknowledged : ℕ
   pub next : ℕ
@@ -40,9 +40,9 @@ nothing_yet = record { acknowledged = 0; next = 0; busy = false }
 abbrev pub number_heard : ℕ → Bool → Bool → Known → Known
 number_heard nr again busy k = record { acknowledged = nr; next = if again then nr else k.next; busy = busy }
 
--- By what is heard: with SABME all begins anew; RR, RNR and REJ say whether the terminal is busy. I-frames go again from N(R) on
--- after REJ that leaves the link in state 7, and after the frame that takes it there from state 8 (clauses 5.5.1.2, 5.6.3 to
--- 5.6.5 and 5.6.7).
+-- By what is heard: with SABME all begins anew; RR, RNR and REJ say whether the terminal is busy. I-frames go again
+-- from N(R) on after REJ that leaves the link in state 7, and after the frame that takes it there from state 8 (clauses
+-- 5.5.1.2, 5.6.3 to 5.6.5 and 5.6.7).
 abbrev pub hears : Bool → Bool → Known → Control → Known
 hears recovered in_7 k (Sabme p) = nothing_yet
 hears recovered in_7 k (Information ns nr p) = number_heard nr.value false k.busy k
@@ -83,14 +83,14 @@ state_after service tei number m = state_of service tei (line_at number (after m
 abbrev pub watch : Config → Service → ℕ → ℕ → Known → Moment → Known
 watch c service tei number k m = learned c service tei (state_before service tei number m) (state_after service tei number m) k (seen_in number m)
 
--- An answer is awaited of a link in states 5, 6 and 8, and in state 7 where an I-frame that went is not acknowledged, or the
--- terminal is busy (clauses 5.5.1.3, 5.5.3.3, 5.6.1, 5.6.5 and 5.6.7).
+-- An answer is awaited of a link in states 5, 6 and 8, and in state 7 where an I-frame that went is not acknowledged,
+-- or the terminal is busy (clauses 5.5.1.3, 5.5.3.3, 5.6.1, 5.6.5 and 5.6.7).
 abbrev pub awaits : Known → Option ℕ → Bool
 awaits k None = false
 awaits k (Some state) = state == 5 || state == 6 || state == 8 || (state == 7 && (k.busy || not (k.next == k.acknowledged)))
 
--- At a caller's that obeys the orders T200 of a link runs where an answer is awaited, and T203 where none is, in state 7 (clauses
--- 5.9.1, 5.9.8 and 5.10.3); after every list of events.
+-- At a caller's that obeys the orders T200 of a link runs where an answer is awaited, and T203 where none is, in state
+-- 7 (clauses 5.9.1, 5.9.8 and 5.10.3); after every list of events.
 abbrev pub TimersRun : Config → List Event → ℕ → Type 0
 TimersRun c events number =
     (service : Service) (tei : ℕ) →
@@ -100,8 +100,9 @@ TimersRun c events number =
     (runs_at_callers number (timers.T200 service tei) false ms ≡ awaits k state)
     × (runs_at_callers number (timers.T203 service tei) false ms ≡ (is_state 7 state && not (awaits k state)))
 
--- In state 7 T200 is started anew by RNR, and by RR, or I while the terminal is not busy, with an N(R) that acknowledges an I-frame:
--- it is not the N(R) heard last; and T203 by RR, REJ, I and SABME (clauses 5.5.1.2, 5.6.3.2, 5.6.4, 5.6.5 and 5.9.8).
+-- In state 7 T200 is started anew by RNR, and by RR, or I while the terminal is not busy, with an N(R) that
+-- acknowledges an I-frame: it is not the N(R) heard last; and T203 by RR, REJ, I and SABME (clauses 5.5.1.2, 5.6.3.2,
+-- 5.6.4, 5.6.5 and 5.9.8).
 abbrev pub renews : LinkTimer → Known → Control → Bool
 renews T200 k (ReceiveNotReady nr p) = true
 renews T200 k (ReceiveReady nr p) = not (nr.value == k.acknowledged)
@@ -124,8 +125,8 @@ differ (Some state) after = not (is_state state after)
 abbrev pub is_anew : Config → Service → ℕ → LinkTimer → Known → Option ℕ → Option ℕ → List Seen → Bool
 is_anew c service tei timer k before after now = differ before after || (is_state 7 before && list_any (brings (renews timer k) c service tei) now)
 
--- So the answer to an event at the line orders that a timer of a link is started exactly where the timer runs afterwards, and
--- either did not run, or had just expired, or is started anew by one of these causes.
+-- So the answer to an event at the line orders that a timer of a link is started exactly where the timer runs
+-- afterwards, and either did not run, or had just expired, or is started anew by one of these causes.
 abbrev pub TimersAreStarted : Config → List Event → ℕ → Type 0
 TimersAreStarted c events number =
     (service : Service) (tei : ℕ) (timer : LinkTimer) (before : List Event) (what : line_event.Event) (behind : List Event) →

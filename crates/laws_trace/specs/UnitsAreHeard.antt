@@ -20,8 +20,9 @@ frames_heard n201 octets = flat_map frame_heard (stream.heard_in n201 octets)
 abbrev pub units_heard : Config → List ℕ → List (List ℕ)
 units_heard c octets = filter (is_unit c.side) (frames_heard c.n201 octets)
 
--- The UI frames that a receiver hears in the octets that a line puts, except those of TEI management, are the first of the unit
--- data that is granted: in order, whole, each once, with its service and its TEI, of each number the eight low bits.
+-- The UI frames that a receiver hears in the octets that a line puts, except those of TEI management, are the first of
+-- the unit data that is granted: in order, whole, each once, with its service and its TEI, of each number the eight low
+-- bits.
 abbrev pub UnitsAreHeard : Config → List Event → ℕ → Type 0
 UnitsAreHeard c events number =
     let t = trace_of c events number in IsFront (units_heard c (octets_put t)) (map as_octets (units_granted c t))

@@ -51,8 +51,8 @@ is_checked : is_some (fold (led usual 0) none_on (moments (fresh usual) again)).
 unfolding moments lines.after lines.answer lines.takes_slot teis.course teis.refusal
 is_checked = refl
 
--- Where no answer ordered T201 though a TEI is checked, the law is broken; so it is where T201 is started anew while it runs, and
--- where a timer is stopped that does not run.
+-- Where no answer ordered T201 though a TEI is checked, the law is broken; so it is where T201 is started anew while it
+-- runs, and where a timer is stopped that does not run.
 never_started : runs_at_callers 0 T201 false [] ≡ is_some (with_check 64 none_on).check → ⊥
 never_started e = cc e
 

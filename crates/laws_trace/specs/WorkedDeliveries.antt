@@ -56,8 +56,8 @@ gap h =
     let apart : Some 1 ≡ Some 0 = ap (λ o. option_map_or (λ (f : Parts). number_in f.control) o None) x.heard ∙ x.control in
     cc apart
 
--- An I-frame with N(S)=0 that is heard on a link that was just established is told, in its moment; where it is not, the law is
--- broken.
+-- An I-frame with N(S)=0 that is heard on a link that was just established is told, in its moment; where it is not, the
+-- law is broken.
 abbrev pub i_frame : List Event
 i_frame = hears 0x00 ∷ hears 0x02 ∷ hears 0x01 ∷ hears 0x00 ∷ hears 0x82 ∷ hears 0x5E ∷ hears 0x5A ∷ hears 0xFD ∷ []
 

@@ -66,8 +66,8 @@ never_put all = cc all
 unasked : AgreeThrough usual none_on (noted (Assigned 64 ∷ []) None ∷ []) → ⊥
 unasked h = cc (All-head (IsTrue none_on) (Assigned 64) [] h.0.are).asked
 
--- So it is where it is noted that a TEI was removed, or that two terminals have it, and no check says so; and where T201 ended a
--- check that none had answered, or two answered one, and it is not noted.
+-- So it is where it is noted that a TEI was removed, or that two terminals have it, and no check says so; and where
+-- T201 ended a check that none had answered, or two answered one, and it is not noted.
 unchecked : AgreeThrough usual none_on (noted (Removed 64 ∷ []) None ∷ []) → ⊥
 unchecked h = cc (All-head (IsTrue none_on) (Removed 64) [] h.0.are).checked
 

@@ -57,8 +57,8 @@ started_anew : obeyed (timers.T200 Call 64) false (orders_in (answer (hears 0xFE
 unfolding after_all lines.after lines.answer lines.takes_slot teis.course teis.refusal low_bits seq distance_of named reading header_of control_of unnumbered_of supervisory_of
 started_anew = refl
 
--- Where RR acknowledges a part, and T200 runs on from before, the law is broken; so it is where T203 is started anew by unit data,
--- or T200 by RR that acknowledges nothing.
+-- Where RR acknowledges a part, and T200 runs on from before, the law is broken; so it is where T203 is started anew by
+-- unit data, or T200 by RR that acknowledges nothing.
 abbrev two_out : Known
 two_out = record { acknowledged = 0; next = 2; busy = false }
 
@@ -80,7 +80,8 @@ by_nothing_new : true ≡ (true && (not true || is_anew usual Call 64 T200 two_o
 unfolding seq reading header_of control_of unnumbered_of supervisory_of
 by_nothing_new e = cc e
 
--- Where no answer ordered T200, though two I-frames are not acknowledged, or T203 runs beside it, that the timers run is broken.
+-- Where no answer ordered T200, though two I-frames are not acknowledged, or T203 runs beside it, that the timers run
+-- is broken.
 never_started : runs_at_callers 0 (timers.T200 Call 64) false [] ≡ awaits two_out (Some 7) → ⊥
 never_started e = cc e
 

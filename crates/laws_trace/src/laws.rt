@@ -25,31 +25,31 @@ ghost use Rattle.laws_trace.specs.TurnsMeanwhile.{LinksTakeTurnsMeanwhile};
 ghost use Rattle.laws_trace.specs.UnitsAreHeard.{UnitsAreHeard, AllUnitsAreHeard};
 ghost use Rattle.laws_trace.specs.UnitsGoOut.{UnitsGoOut, AllUnitsGoOut};
 
-/// Each configuration within the ranges is served: no fault is found in it, so `Card::start` starts a card with it, as far as
-/// its shelf and memory allow, and every law here speaks of it. With any other no card starts (profile).
+/// Each configuration within the ranges is served: no fault is found in it, so `Card::start` starts a card with it, as
+/// far as its shelf and memory allow, and every law here speaks of it. With any other no card starts (profile).
 pub fn ranges_are_served()
     ensures { RangesAreServed }
 {}
 
-/// The other side is heard. A card of the network's side hears frames as commands whose C/R bit is 0, and one of the user's side
-/// those whose C/R bit is 1; and what begins on its lines is read the other way round (Q.921 clause 3.3.2).
+/// The other side is heard. A card of the network's side hears frames as commands whose C/R bit is 0, and one of the
+/// user's side those whose C/R bit is 1; and what begins on its lines is read the other way round (Q.921 clause 3.3.2).
 pub fn the_other_side_is_heard()
     ensures { TheOtherSideIsHeard }
 {}
 
-/// Unit data goes out. The UI frames that begin on a line, except those of TEI management, are the first of the unit data that
-/// was granted: in order, whole, each once, with its service and its TEI (`front`). And they are all of it, once the line was
-/// only pulled, as often as the configuration says, 64,346 times with eight terminals, N201 of 260, windows of 7, 4 unit data
-/// and 4 control frames (`all`; Q.921 clauses 3.6.5 and 5.2.2).
+/// Unit data goes out. The UI frames that begin on a line, except those of TEI management, are the first of the unit
+/// data that was granted: in order, whole, each once, with its service and its TEI (`front`). And they are all of it,
+/// once the line was only pulled, as often as the configuration says, 64,346 times with eight terminals, N201 of 260,
+/// windows of 7, 4 unit data and 4 control frames (`all`; Q.921 clauses 3.6.5 and 5.2.2).
 pub fn units_go_out()
     ensures front { Always UnitsGoOut }
     ensures all { Always AllUnitsGoOut }
 {}
 
-/// What goes out is what began. The frames that a receiver hears in the octets that a line puts are those that began on it, in
-/// order, whole, each once, and no other; the last may be on its way. So no frame is heard of a line before one begins on
-/// it. Of each number of a frame its eight low bits are heard, so an octet, 0 to 255, as it is (Q.921 clauses 2.2 to 2.7 and
-/// 2.9).
+/// What goes out is what began. The frames that a receiver hears in the octets that a line puts are those that began on
+/// it, in order, whole, each once, and no other; the last may be on its way. So no frame is heard of a line before one
+/// begins on it. Of each number of a frame its eight low bits are heard, so an octet, 0 to 255, as it is (Q.921 clauses
+/// 2.2 to 2.7 and 2.9).
 pub fn frames_go_out()
     ensures { Always FramesGoOut }
 {}
@@ -63,18 +63,19 @@ pub fn frames_are_read()
     ensures heard { Always FramesGoOutAsTheyAre }
 {}
 
-/// In the end all frames go out. Once a line was only pulled, as often as the configuration says, a receiver has heard each
-/// frame that began, and none is on its way (`all`); and each control frame that waited on a link before has begun (`waited`; two
-/// alike may be one; Q.921 clauses 2.2 to 2.7 and 5.5 to 5.8).
+/// In the end all frames go out. Once a line was only pulled, as often as the configuration says, a receiver has heard
+/// each frame that began, and none is on its way (`all`); and each control frame that waited on a link before has begun
+/// (`waited`; two alike may be one; Q.921 clauses 2.2 to 2.7 and 5.5 to 5.8).
 pub fn all_frames_go_out()
     ensures all { Always AllFramesGoOut }
     ensures waited { Always AllThatWaitedBegins }
 {}
 
-/// Unit data is heard at the other end. The UI frames that a receiver hears in the octets that a line puts, except those of TEI
-/// management, are the first of the unit data that was granted: in order, whole, each once, with its service and its TEI
-/// (`front`). And they are all of it, once the line was only pulled, as often as the configuration says (`all`). Of each number of
-/// the contents its eight low bits are heard, so an octet, 0 to 255, as it is (Q.921 clauses 2.2 to 2.7, 3.6.5 and 5.2.2).
+/// Unit data is heard at the other end. The UI frames that a receiver hears in the octets that a line puts, except
+/// those of TEI management, are the first of the unit data that was granted: in order, whole, each once, with its
+/// service and its TEI (`front`). And they are all of it, once the line was only pulled, as often as the configuration
+/// says (`all`). Of each number of the contents its eight low bits are heard, so an octet, 0 to 255, as it is (Q.921
+/// clauses 2.2 to 2.7, 3.6.5 and 5.2.2).
 pub fn units_are_heard()
     ensures front { Always UnitsAreHeard }
     ensures all { Always AllUnitsAreHeard }
@@ -86,8 +87,9 @@ pub fn links_take_turns()
     ensures { Always LinksTakeTurns }
 {}
 
-/// Links take turns, whatever else happens at the line meanwhile. Between two frames that begin for one link, which keeps its
-/// place on the line, begins one of every other link that would begin one all the while, were the line only pulled (profile).
+/// Links take turns, whatever else happens at the line meanwhile. Between two frames that begin for one link, which
+/// keeps its place on the line, begins one of every other link that would begin one all the while, were the line only
+/// pulled (profile).
 pub fn links_take_turns_meanwhile()
     ensures { Always LinksTakeTurnsMeanwhile }
 {}
@@ -98,28 +100,29 @@ pub fn messages_come_first()
     ensures { Always MessagesComeFirst }
 {}
 
-/// What layer 3 is told was heard. Data of a link is the information of an I-frame for it that was heard right before, and the
-/// N(S) of these count them, modulo 128, from the establishment of the link on, without gap; none is told while layer 3 is busy;
-/// unit data is that of a UI; and contents that are told are noted as one or the other, once (`heard`). The numbers of a link
-/// begin with SABME that is told, and with UA with F=1 unless it is told as error C, or as the end of the link. Layer 3 is busy
-/// from SetBusy that is granted to ClearBusy that is, or to where the numbers begin. And the information of each I-frame that a
-/// link in state 7 or 8 may take is told, in the moment of the frame: while layer 3 is not busy, of at most N201 octets, and with
-/// the N(S) that is the next (`told`; Q.921 clauses 3.5.2.4 to 3.5.2.6, 5.2.3, 5.5.1.2, 5.6.2, 5.6.6 and 5.7).
+/// What layer 3 is told was heard. Data of a link is the information of an I-frame for it that was heard right before,
+/// and the N(S) of these count them, modulo 128, from the establishment of the link on, without gap; none is told while
+/// layer 3 is busy; unit data is that of a UI; and contents that are told are noted as one or the other, once
+/// (`heard`). The numbers of a link begin with SABME that is told, and with UA with F=1 unless it is told as error C,
+/// or as the end of the link. Layer 3 is busy from SetBusy that is granted to ClearBusy that is, or to where the
+/// numbers begin. And the information of each I-frame that a link in state 7 or 8 may take is told, in the moment of
+/// the frame: while layer 3 is not busy, of at most N201 octets, and with the N(S) that is the next (`told`; Q.921
+/// clauses 3.5.2.4 to 3.5.2.6, 5.2.3, 5.5.1.2, 5.6.2, 5.6.6 and 5.7).
 pub fn what_is_told_was_heard()
     ensures heard { Always Deliveries }
     ensures told { Always AllAreTold }
 {}
 
-/// Data goes out. Of each link, since its numbers began: the contents of new I-frames that begin are the first of the data
-/// that was granted, in order, each once; N(S) counts them from 0 on, modulo 128; and an I-frame that goes again, which is
-/// one of the last 127, has the contents that its number had. N(R) of each I-frame is the number of contents told of the link
-/// since then, modulo 128. Where numbers begin, contents that had not gone stay, and take the first numbers, or none stays,
-/// as where an indication of an establishment is told (`front`). And all of it has gone, once the line was only pulled, as
-/// often as the configuration says, on a link in state 7 whose terminal is not busy, with fewer than k I-frames outstanding,
-/// by what was heard and what began; and the number that goes next is then behind all of it, though REJ and the end of a
-/// recovery set it back to their N(R); each I-frame that begins sets it behind its own (`again`). And each has that number,
-/// so that they go again in order, from there on, and none is passed over (`next`; Q.921 clauses 3.5.2.1 to 3.5.2.6, 5.5.1.2,
-/// 5.6.1, 5.6.4, 5.6.5, 5.6.7 and 5.7).
+/// Data goes out. Of each link, since its numbers began: the contents of new I-frames that begin are the first of the
+/// data that was granted, in order, each once; N(S) counts them from 0 on, modulo 128; and an I-frame that goes again,
+/// which is one of the last 127, has the contents that its number had. N(R) of each I-frame is the number of contents
+/// told of the link since then, modulo 128. Where numbers begin, contents that had not gone stay, and take the first
+/// numbers, or none stays, as where an indication of an establishment is told (`front`). And all of it has gone, once
+/// the line was only pulled, as often as the configuration says, on a link in state 7 whose terminal is not busy, with
+/// fewer than k I-frames outstanding, by what was heard and what began; and the number that goes next is then behind
+/// all of it, though REJ and the end of a recovery set it back to their N(R); each I-frame that begins sets it behind
+/// its own (`again`). And each has that number, so that they go again in order, from there on, and none is passed over
+/// (`next`; Q.921 clauses 3.5.2.1 to 3.5.2.6, 5.5.1.2, 5.6.1, 5.6.4, 5.6.5, 5.6.7 and 5.7).
 pub fn data_goes_out()
     ensures front { Always DataGoesOut }
     ensures again { Always AllGoesAgain }
@@ -150,9 +153,10 @@ pub fn errors_are_noted()
     ensures { Always ErrorsAreNoted }
 {}
 
-/// All that is told is acknowledged. Of a link in state 7 or 8, once the line was only pulled, as often as the configuration
-/// says, the last N(R) that began, of an I-frame, RR, RNR or REJ, is the number of contents told of the link since its numbers
-/// began, modulo 128: if any was told, and no answer since the last was told, nor that one, has told a frame as lost (Q.921 clauses 3.5.2.6, 5.6.2 and 5.6.3).
+/// All that is told is acknowledged. Of a link in state 7 or 8, once the line was only pulled, as often as the
+/// configuration says, the last N(R) that began, of an I-frame, RR, RNR or REJ, is the number of contents told of the
+/// link since its numbers began, modulo 128: if any was told, and no answer since the last was told, nor that one, has
+/// told a frame as lost (Q.921 clauses 3.5.2.6, 5.6.2 and 5.6.3).
 pub fn all_are_acknowledged()
     ensures { Always AllAreAcknowledged }
 {}
@@ -164,18 +168,19 @@ pub fn nothing_is_lost_in_vain()
     ensures { Always NoLossInVain }
 {}
 
-/// Messages of TEI management are owed. The frames that begin with SAPI 63 are the first of the messages that are owed, in
-/// their order, whole, each once (`front`), and they are all of them, once the line was only pulled, as often as the
-/// configuration says (`all`). Owed are: to a terminal that asks for a TEI by an Ri, the one that is held for this Ri, or that
-/// there is none; a check of a TEI, once as it begins, by a granted request or a verify, and once more as T201 expires; and that
-/// a TEI is removed, by a granted request, or since two terminals have it; except those that the answer counts as lost. And what
-/// is noted of TEIs, and granted, agrees with what is heard (`notes`): a TEI that is noted as assigned was asked for right
-/// before, and is the lowest from 64 on that was not on the line; it is noted that two have one where a second terminal answers
-/// its check in one period, and that one was removed where T201 expires for the second time and none had answered, and nowhere
-/// else; and management is granted to put on the line what is not there, and to remove or check what is. So no TEI is held for
-/// two Ri at a time, no Ri has two, and each that is held is on the line (`held`). The user's side serves no message, and is
-/// granted neither a removal nor a check. And a terminal that asks for a TEI by an Ri for which none is held is assigned one, where
-/// fewer are on the line than the configuration has terminals, and the answer loses nothing: it is denied only where it must be
+/// Messages of TEI management are owed. The frames that begin with SAPI 63 are the first of the messages that are owed,
+/// in their order, whole, each once (`front`), and they are all of them, once the line was only pulled, as often as the
+/// configuration says (`all`). Owed are: to a terminal that asks for a TEI by an Ri, the one that is held for this Ri,
+/// or that there is none; a check of a TEI, once as it begins, by a granted request or a verify, and once more as T201
+/// expires; and that a TEI is removed, by a granted request, or since two terminals have it; except those that the
+/// answer counts as lost. And what is noted of TEIs, and granted, agrees with what is heard (`notes`): a TEI that is
+/// noted as assigned was asked for right before, and is the lowest from 64 on that was not on the line; it is noted
+/// that two have one where a second terminal answers its check in one period, and that one was removed where T201
+/// expires for the second time and none had answered, and nowhere else; and management is granted to put on the line
+/// what is not there, and to remove or check what is. So no TEI is held for two Ri at a time, no Ri has two, and each
+/// that is held is on the line (`held`). The user's side serves no message, and is granted neither a removal nor a
+/// check. And a terminal that asks for a TEI by an Ri for which none is held is assigned one, where fewer are on the
+/// line than the configuration has terminals, and the answer loses nothing: it is denied only where it must be
 /// (`given`; Q.921 clauses 4.1.1.5 and 5.3.1 to 5.3.5).
 pub fn messages_are_owed()
     ensures front { Always MessagesAreOwed }
@@ -185,17 +190,18 @@ pub fn messages_are_owed()
     ensures given { Always TeisAreGiven }
 {}
 
-/// Timers are timely. At a caller's that obeys the orders T200 of a link runs exactly where an answer is awaited: in states
-/// 5, 6 and 8, and in state 7 where an I-frame that went is not acknowledged, or the terminal is busy. T203 runs exactly
-/// where none is, in state 7; and neither in state 4, nor where the TEI is not on the line (`run`). An answer orders that one
-/// is started exactly where it runs then, and it did not run, or had just expired, or is started anew: because the link moves
-/// to another state, or, in state 7, because of a frame. For T200 this is RNR, and RR, or I while the terminal is not busy,
-/// whose N(R) acknowledges an I-frame; for T203 it is RR, REJ, I or SABME (`started`). So T200 runs on from an earlier
-/// I-frame or enquiry when further I-frames go (clause 5.6.1), when a frame acknowledges nothing, and in state 8 until the
-/// enquiry is answered (clause 5.6.7); and no UI, XID, UA, request for data or pull starts a timer anew that runs. T201 runs
-/// exactly while a TEI is checked (`checks`). It is started only where it does not run, or has just expired: so as a check
-/// begins, and as its second period does; and each timer is stopped only where it ran before the event (`ordered`; Q.921
-/// clauses 5.3.3.2, 5.3.5, 5.5.1, 5.5.3, 5.6.1 to 5.6.7, 5.9.1, 5.9.8 and 5.10.3).
+/// Timers are timely. At a caller's that obeys the orders T200 of a link runs exactly where an answer is awaited: in
+/// states 5, 6 and 8, and in state 7 where an I-frame that went is not acknowledged, or the terminal is busy. T203 runs
+/// exactly where none is, in state 7; and neither in state 4, nor where the TEI is not on the line (`run`). An answer
+/// orders that one is started exactly where it runs then, and it did not run, or had just expired, or is started anew:
+/// because the link moves to another state, or, in state 7, because of a frame. For T200 this is RNR, and RR, or I
+/// while the terminal is not busy, whose N(R) acknowledges an I-frame; for T203 it is RR, REJ, I or SABME (`started`).
+/// So T200 runs on from an earlier I-frame or enquiry when further I-frames go (clause 5.6.1), when a frame
+/// acknowledges nothing, and in state 8 until the enquiry is answered (clause 5.6.7); and no UI, XID, UA, request for
+/// data or pull starts a timer anew that runs. T201 runs exactly while a TEI is checked (`checks`). It is started only
+/// where it does not run, or has just expired: so as a check begins, and as its second period does; and each timer is
+/// stopped only where it ran before the event (`ordered`; Q.921 clauses 5.3.3.2, 5.3.5, 5.5.1, 5.5.3, 5.6.1 to 5.6.7,
+/// 5.9.1, 5.9.8 and 5.10.3).
 pub fn timers_are_timely()
     ensures run { Always TimersRun }
     ensures started { Always TimersAreStarted }
@@ -203,26 +209,27 @@ pub fn timers_are_timely()
     ensures ordered { Always OrdersHaveReasons }
 {}
 
-/// Links move as they are led. After an event at its line a link is in the state that this has for the state before: 7 by SABME in
-/// states 4, 7 and 8, by UA with F=1 in state 5, and, in state 8, by RR, RNR or REJ as a response with F=1 whose N(R) is valid; 4
-/// by DISC in states 7 and 8, by DM with F=1 in states 5 and 6, and by UA with F=1 in state 6; 5 by a request to establish it in
-/// state 4, by DM with F=0 in state 7, and in states 7 and 8 by FRMR, an invalid N(R), a malformed frame, and an I-frame that is
-/// too long, and by any DM in state 8; 6 by a request to release it in states 7 and 8; 8 by the expiry of the timer that runs in
-/// state 7. As T200 expires in states 5, 6 and 8, the link leaves them, for 4, 4 and 5, where it has expired N200 times before
-/// since the link came there. Nothing else moves a link. So a link awaits an answer through N200 expiries, and no more. And a link
-/// whose TEI comes to the line is in state 4 (Q.921 clauses 3.5.2.3, 5.3, 5.5.1 to 5.5.5, 5.6.7, 5.7, 5.8, 5.9.2 and 5.10.3).
+/// Links move as they are led. After an event at its line a link is in the state that this has for the state before: 7
+/// by SABME in states 4, 7 and 8, by UA with F=1 in state 5, and, in state 8, by RR, RNR or REJ as a response with F=1
+/// whose N(R) is valid; 4 by DISC in states 7 and 8, by DM with F=1 in states 5 and 6, and by UA with F=1 in state 6; 5
+/// by a request to establish it in state 4, by DM with F=0 in state 7, and in states 7 and 8 by FRMR, an invalid N(R),
+/// a malformed frame, and an I-frame that is too long, and by any DM in state 8; 6 by a request to release it in states
+/// 7 and 8; 8 by the expiry of the timer that runs in state 7. As T200 expires in states 5, 6 and 8, the link leaves
+/// them, for 4, 4 and 5, where it has expired N200 times before since the link came there. Nothing else moves a link.
+/// So a link awaits an answer through N200 expiries, and no more. And a link whose TEI comes to the line is in state 4
+/// (Q.921 clauses 3.5.2.3, 5.3, 5.5.1 to 5.5.5, 5.6.7, 5.7, 5.8, 5.9.2 and 5.10.3).
 pub fn links_move()
     ensures { Always LinksMove }
 {}
 
-/// News of links is told. Where the TEI of a link is on the line before an event, the answer notes of its establishment and
-/// its release exactly what is due; a link whose TEI leaves comes to state 4: an establish indication where it comes from
-/// state 4 to state 7; from state 5 a confirm, where layer 3 asked for that establishment, and if this side began it, or the
-/// terminal establishes a link anew by SABME, an indication exactly where an I-frame that went is not acknowledged, in state
-/// 5 as it was where the link came there; a release confirm where it comes from state 6 to state 4, or is released in state
-/// 4; and a release indication where it comes to state 4 from another state. And XID that is heard of it is told. So no
-/// confirm is told that layer 3 did not ask for, none twice, and no end of a link goes untold (Q.921 clauses 4.1.1.1,
-/// 4.1.1.2, 5.5.1, 5.5.3 and 5.7).
+/// News of links is told. Where the TEI of a link is on the line before an event, the answer notes of its establishment
+/// and its release exactly what is due; a link whose TEI leaves comes to state 4: an establish indication where it
+/// comes from state 4 to state 7; from state 5 a confirm, where layer 3 asked for that establishment, and if this side
+/// began it, or the terminal establishes a link anew by SABME, an indication exactly where an I-frame that went is not
+/// acknowledged, in state 5 as it was where the link came there; a release confirm where it comes from state 6 to state
+/// 4, or is released in state 4; and a release indication where it comes to state 4 from another state. And XID that is
+/// heard of it is told. So no confirm is told that layer 3 did not ask for, none twice, and no end of a link goes
+/// untold (Q.921 clauses 4.1.1.1, 4.1.1.2, 5.5.1, 5.5.3 and 5.7).
 pub fn news_is_told()
     ensures { Always NewsIsTold }
 {}

@@ -6,13 +6,14 @@ ghost use Rattle.laws_wire.specs.Facing.{CallsFace, CardsDeliver};
 ghost use Rattle.laws_wire.specs.Losing.{CallsAreToldInOrder};
 ghost use Rattle.laws_wire.specs.Recovering.{WhatIsLostArrives};
 
-/// A call comes through. Two cards have just begun, one of each side, with configurations in range and the same N201, and a
-/// line of one faces a line of the other; each has the same TEI assigned, 0 to 126, and layer 3 of one asks for the
-/// establishment of a link, of either service. Then data of octets is asked for on this link, at either end, as it is granted
-/// or refused, and turns come, in any order: an end gives its next frame, or takes the first that is on its way to it. Nothing
-/// is lost, and no timer expires. Whatever is done, in whatever order, layer 3 of each is told one establishment and then the
-/// data that the other was granted to send, in order, and nothing else: at any time a beginning of that, and all of it where
-/// no turn is left. And there are at most four turns, and four more for each request that was granted.
+/// A call comes through. Two cards have just begun, one of each side, with configurations in range and the same N201,
+/// and a line of one faces a line of the other; each has the same TEI assigned, 0 to 126, and layer 3 of one asks for
+/// the establishment of a link, of either service. Then data of octets is asked for on this link, at either end, as it
+/// is granted or refused, and turns come, in any order: an end gives its next frame, or takes the first that is on its
+/// way to it. Nothing is lost, and no timer expires. Whatever is done, in whatever order, layer 3 of each is told one
+/// establishment and then the data that the other was granted to send, in order, and nothing else: at any time a
+/// beginning of that, and all of it where no turn is left. And there are at most four turns, and four more for each
+/// request that was granted.
 pub fn a_call_comes_through()
     ensures { CallsComeThrough }
 {}
@@ -31,12 +32,12 @@ pub fn cards_deliver()
 {}
 
 /// What is told is in order, whatever is lost and whenever timers expire. Two cards have just begun as in
-/// [`a_call_comes_through`], and one is asked to establish. Then data is asked for as there, T200 and T203 of the link expire
-/// at either end, and frames are given, taken or lost, in any order and at any time. As long as neither end tells an error, of
-/// whatever link, the notes and contents that layer 3 of each was told are one establishment and then a beginning of the data
-/// that the other was granted to send, in order, each once, and nothing else. An error is needed for more than that: it comes
-/// with each further establishment, so also where a UA was lost, and after one contents may come a second time
-/// (`specs/WorkedLosing`). Of what is told after an error no law speaks.
+/// [`a_call_comes_through`], and one is asked to establish. Then data is asked for as there, T200 and T203 of the link
+/// expire at either end, and frames are given, taken or lost, in any order and at any time. As long as neither end
+/// tells an error, of whatever link, the notes and contents that layer 3 of each was told are one establishment and
+/// then a beginning of the data that the other was granted to send, in order, each once, and nothing else. An error is
+/// needed for more than that: it comes with each further establishment, so also where a UA was lost, and after one
+/// contents may come a second time (`specs/WorkedLosing`). Of what is told after an error no law speaks.
 pub fn told_in_order()
     ensures { CallsAreToldInOrder }
 {}

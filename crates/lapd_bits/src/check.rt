@@ -245,7 +245,7 @@ fn divided_more(register: u16, octets: &[u8]) -> u16
     divided(after, octets[octets.len() - 1])
 }
 
-// The register after octets more, but for the last of an odd number. What is left of eights is most of a short frame.
+// The register after octets more, except for the last of an odd number. What is left of eights is most of a short frame.
 fn divided_twos(register: u16, octets: &[u8]) -> u16
     ensures { (d : List Bool) → HoldsDivision register d
         → HoldsDivision result (d ++ bits (take (2 * (length octets.now / 2)) octets.now)) }
@@ -269,7 +269,7 @@ fn divided_two(register: u16, octets: &[u8], at: usize) -> u16
     first ^ second
 }
 
-// The register after octets more, but for those at the end that are fewer than eight. Eight at a time, since a step waits
+// The register after octets more, except for those at the end that are fewer than eight. Eight at a time, since a step waits
 // for the one before it.
 fn divided_eights(register: u16, octets: &[u8]) -> u16
     ensures { (d : List Bool) → HoldsDivision register d

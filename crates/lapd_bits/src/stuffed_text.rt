@@ -100,7 +100,7 @@ impl StuffedText {
         self.give_all(buffer);
     }
 
-    // Goes on with octets, but for those at the end that are fewer than four.
+    // Goes on with octets, except for those at the end that are fewer than four.
     #[inline(always)]
     fn stuff_fours(&mut self, buffer: &mut [u8], octets: &[u8])
         requires low { self.old.waiting.count < 8 }

@@ -1,5 +1,5 @@
--- How many octets a card stores, line by line: of a card for frames, those of a card of octets but for what that holds of frames
--- on their way.
+-- How many octets a card stores, line by line: of a card for frames, those of a card of octets except for what that
+-- holds of frames on their way.
 use Rattle.lapd_card.proofs.Vocabulary.{◌≡◌, ℕ, suc, ◌+◌, ◌*◌, ◌/◌, ◌≤◌, ◌<◌, List, [], ◌∷◌, length, take, reverse, get_or, refl, sym, ap, subst, ◌∙◌, arith, Fits, w32, w64, mul-le-mul_left, mul-le-mul_right, All-head, All-tail, sum_by_more, sum_by-cons, sum_by, take_all, option_map_or, kept_count, room_for, unstuffed, Config, IsInRange, held_received, held_in, held_sent, octets_of, slots_of, stored_in, ranges_of, IsIdle, waiting_few, octets_few, Card, used, stored, limit, limit_in, IsReached, reached-sound, stored_within_limit, Store, stored_octets, HeldOf, line_count, LineKind, of_frames, StandsOf, HasPastOf, frame_limit_in, frame_limit}
 use Rattle.std.proofs.Common.{All}
 use Rattle.model_line.specs.Line as line

@@ -2,7 +2,7 @@
 --
 -- Read after those of `model_card`, in this order: Start; Reply; Sink and Drive, what a sink has taken; Kept, the
 -- sink of this crate; and for a card in the middle of its life Card, Counted, Lines and Stands. FrameReply, FrameDrive,
--- FrameCard, FrameLines and FrameStands say the same of a card for frames.
+-- FrameCard and FrameStands say the same of a card for frames.
 pub mod Reply
 pub mod Kept
 pub mod Sink

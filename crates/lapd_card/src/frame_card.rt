@@ -34,12 +34,12 @@ pub struct RoomTooSmall {
     pub room: usize,
 }
 
-/// A line card over a shelf for the contents that wait, whose lines' flags, stuffed 0s and checks are a controller's: it takes
-/// and gives whole frames, from the address to the information.
+/// A line card over a shelf for the contents that wait, whose lines' flags, stuffed 0s and checks are a controller's:
+/// it takes and gives whole frames, from the address to the information.
 ///
-/// It is a card of octets, [`crate::Card`], at whose lines no other octets come than those which frames and faults mean. All memory
-/// is taken by [`FrameCard::start`]; no other call takes any. Lines are counted from 0, and each call but `state` needs one
-/// that the card has.
+/// It is a card of octets, [`crate::Card`], at whose lines no other octets come than those which frames and faults
+/// mean. All memory is taken by [`FrameCard::start`]; no other call takes any. Lines are counted from 0, and each call
+/// but `state` needs one that the card has.
 #[derive(Debug, Drop)]
 pub struct FrameCard<S: Shelf> {
     pub(crate) config: Config,
@@ -81,10 +81,9 @@ impl<S: Shelf> FrameCard<S> {
         usize::from(self.config.n201) + 4
     }
 
-    /// Takes a frame that came from a line, from its address to its information, without its check, and tells what it led
-    /// to. One that is too short, or longer than N201 has room for, is answered as these octets between flags would be (Q.921
-    /// clause 2.9).
-    /// Contents that it delivers are lent from the octets themselves.
+    /// Takes a frame that came from a line, from its address to its information, without its check, and tells what it
+    /// led to. One that is too short, or longer than N201 has room for, is answered as these octets between flags would
+    /// be (Q.921 clause 2.9). Contents that it delivers are lent from the octets themselves.
     pub fn frame<'a>(&mut self, line: usize, octets: &'a [u8]) -> Report<'a>
         requires { line < line_count self.old }
         ensures told { (m : machine.Card) → Stands S.store self.old m
@@ -107,13 +106,14 @@ impl<S: Shelf> FrameCard<S> {
         self.lines[line].failed(fault)
     }
 
-    /// Writes the next frame to be sent on a line in front of `out`, from its address to its information, without its check:
-    /// a message of TEI management, else unit data, else a frame of a link, each link in its turn (profile); none where
-    /// none waits. The frame is the controller's then, and the octets behind it stay as they were.
+    /// Writes the next frame to be sent on a line in front of `out`, from its address to its information, without its
+    /// check: a message of TEI management, else unit data, else a frame of a link, each link in its turn (profile);
+    /// none where none waits. The frame is the controller's then, and the octets behind it stay as they were.
     ///
     /// # Errors
     ///
-    /// [`RoomTooSmall`] where `out` has fewer octets than [`FrameCard::frame_room`], whatever waits. Nothing has changed then.
+    /// [`RoomTooSmall`] where `out` has fewer octets than [`FrameCard::frame_room`], whatever waits. Nothing has
+    /// changed then.
     pub fn next_frame(
         &mut self,
         line: usize,
@@ -215,8 +215,8 @@ impl<S: Shelf> FrameCard<S> {
         self.lines[line].room(service, tei, &self.shelf, u32::from(self.config.slots))
     }
 
-    /// What was counted of a line since the card's start, as [`Card::counters`] has it: a frame as it is heard when it comes, a
-    /// fault under its cause, and a frame that was given as begun.
+    /// What was counted of a line since the card's start, as [`Card::counters`] has it: a frame as it is heard when it
+    /// comes, a fault under its cause, and a frame that was given as begun.
     pub fn counters(&self, line: usize) -> &Counters
         requires { line < line_count self.now }
         ensures { result.now ≡ get_or (frame_counters_in self.now.lines) line none_counted }
@@ -224,9 +224,9 @@ impl<S: Shelf> FrameCard<S> {
         self.lines[line].counters()
     }
 
-    /// How many octets the card stores now: of control frames and messages that wait, of assignments that are remembered,
-    /// and of contents in slots. It keeps nothing of the frames that come and go: it is a card of octets but for what that
-    /// holds of frames on their way. They are never more than [`FrameCard::frame_limit`] says.
+    /// How many octets the card stores now: of control frames and messages that wait, of assignments that are
+    /// remembered, and of contents in slots. It keeps nothing of the frames that come and go: it is a card of octets
+    /// except for what that holds of frames on their way. They are never more than [`FrameCard::frame_limit`] says.
     pub fn stored(&self) -> u32
         ensures octets { (m : machine.Card) → Stands S.store self.now m → result + sum_by held_sent m.lines ≡ stored m }
         ensures few { result ≤ frame_limit self.now.config }

@@ -20,7 +20,7 @@ const LONGEST: usize = 260;
 pub struct KeptReply {
     /// The line of its event.
     pub line: usize,
-    /// The reply, but for the contents that it lent.
+    /// The reply, except for the contents that it lent.
     pub reply: Reply<'static>,
     /// A copy of those contents.
     pub contents: Option<ArrayVec<u8, LONGEST>>,

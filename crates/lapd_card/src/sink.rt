@@ -22,7 +22,7 @@ pub trait Sink {
     /// What a sink is before and after it takes a reply, that of an event at a line.
     ghost takes: { Self → ℕ → Answer → Self → Type 0 };
 
-    /// The same of a reply that it does not take. A sink that keeps whole replies is as before, but for the count; one
+    /// The same of a reply that it does not take. A sink that keeps whole replies is as before, except for the count; one
     /// that writes them may have written the beginning of one.
     ghost misses: { Self → ℕ → Answer → Self → Type 0 };
 

@@ -20,7 +20,7 @@ abbrev pub info_of : received.Received → List ℕ
 info_of (Frame frame) = frame.info.now
 info_of other = []
 
--- what happens but for requests and offers
+-- what happens except for requests and offers
 abbrev pub event_of : Happening → machine.Event
 event_of (Received received) = machine.received (received_of received)
 event_of (Expired timer) = machine.expired timer

@@ -26,7 +26,7 @@ terms_of link = link.terms
 abbrev pub slots_of : Link → List ℕ
 slots_of link = link.queue.slots
 
--- A link holds what a link of the machine is, but for its past: its numbers are the remainders of the machine's. The
+-- A link holds what a link of the machine is, except for its past: its numbers are the remainders of the machine's. The
 -- machine's link is sound, so that the bounds hold from any link on.
 pub record Fits (link : Link) (m : machine.Link) : Type 0 where
   pub range : IsInRange (terms_of link)

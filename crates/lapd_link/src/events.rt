@@ -23,7 +23,7 @@ use lapd_link_steps::{Entity, Told};
 use lapd_store::Shelf;
 use model_link::{LinkTimer, Terms};
 
-// What happens to a link but for requests and offers.
+// What happens to a link except for requests and offers.
 #[derive(Clone, Copy)]
 enum Happening<'a> {
     Received(Received<'a>),

@@ -1,4 +1,4 @@
-//! The rows of a link's state tables, as code: what each event does to a link and what it tells, but for the slots in
+//! The rows of a link's state tables, as code: what each event does to a link and what it tells, except for the slots in
 //! which the contents of its queue lie (Q.921 clause 5, states 4 to 8 of annex B).
 //!
 //! - `entity`: `Entity`, the state and the variables of one link, and the control frames that wait.

@@ -73,7 +73,7 @@ pub(crate) fn send<T: Target>(
     Ok(())
 }
 
-/// What a terminal has to send, but for the last bits that are no whole octet, comes from its line.
+/// What a terminal has to send, except for the last bits that are no whole octet, comes from its line.
 fn give<T: Target>(
     terminal: &mut Terminal,
     exchange: &mut Exchange,

@@ -33,7 +33,7 @@ pub fn on_line(alloc: Global, frame: &[u8]) -> Result<ArrayVec<u8, MOST_ON_LINE>
     Ok(line)
 }
 
-/// Puts what a terminal has to send, but for the last bits that are no whole octet.
+/// Puts what a terminal has to send, except for the last bits that are no whole octet.
 fn put_sent(terminal: &mut Terminal, line: &mut ArrayVec<u8, MOST_ON_LINE>)
     requires room { (items : List Item) × HasPut terminal.old line.old.items items × (length (line_text items) ≤ 8 * 1300) }
     ensures rest { length terminal.new.framer.left < 8 }

@@ -1,4 +1,4 @@
--- What is known of a link, and when its timers are started anew: each row of the tables, but for offers.
+-- What is known of a link, and when its timers are started anew: each row of the tables, except for offers.
 use Rattle.std.proofs.Common.{◌≡◌, ℕ, ◌≤◌, ◌+◌, Bool, true, false, List, Option, Some, None, refl, sym, subst}
 use Rattle.std.specs.Prelude.{nat_lt, length}
 use Rattle.std.specs.Option.{option_map_or}

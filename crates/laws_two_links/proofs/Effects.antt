@@ -54,7 +54,7 @@ pub record Back (nr : Seq) (l l' : Link) : Type 0 where
   pub rejecting : l'.rejecting ≡ l.rejecting
   pub waiting : l'.waiting ≡ l.waiting
 
--- So it stays, but for a frame of this kind that waits anew.
+-- So it stays, except for a frame of this kind that waits anew.
 pub record Went (k : Kind) (l l' : Link) : Type 0 where
   pub state : l'.state ≡ l.state
   pub s : l'.s ≡ l.s

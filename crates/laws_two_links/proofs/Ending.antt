@@ -21,8 +21,8 @@ use Rattle.laws_two_links.proofs.Plain.{acknowledgement_frame}
 use Rattle.laws_two_links.proofs.Shapes.{in_8_with, in_7_with, having, acknowledged-8}
 use Rattle.laws_two_links.proofs.Acknowledging.{Acknowledges, by-rr}
 
--- An end that is left as it was, but for V(A), that own busy is off, whether it takes the other for busy, and whether it owes
--- an acknowledgement.
+-- An end that is left as it was, except for V(A), that own busy is off, whether it takes the other for busy, and
+-- whether it owes an acknowledgement.
 pub record IsLeft (va : ℕ) (taken owed : Bool) (n n' : End) : Type 0 where
   pub terms : n'.terms ≡ n.terms
   pub contents : n'.link.contents ≡ n.link.contents

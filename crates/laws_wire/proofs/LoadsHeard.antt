@@ -1,4 +1,5 @@
--- A frame that is heard in states 7 and 8 brings no more to send than it weighs, and than the contents that it delivers allow.
+-- A frame that is heard in states 7 and 8 brings no more to send than it weighs, and than the contents that it delivers
+-- allow.
 use Rattle.std.proofs.Common.{◌≡◌, ℕ, ◌+◌, ◌-◌, ◌*◌, ◌≤◌, Bool, true, false, cond, ◌&&◌, IsTrue, List, length, Option, Some, None, refl, sym, ap, subst, ◌∙◌, ◌⊎◌, inl, inr, true≢false, arith}
 use Rattle.std.specs.Prelude.{nat_lt}
 use Rattle.lapd_seq.specs.declared.numbers.Seq.{Seq}
@@ -32,7 +33,7 @@ resent : (len a s n k w : ℕ) → a ≤ n → s ≤ a + k → s ≤ len → n �
 resent len a s n k w from within all to wide = omega arith
 
 module _ (w : ℕ) (t : Terms) (l : Link) (sound : IsSound t l) (wide : 2 * t.k ≤ w) where
-  -- the numbers are as they were, but for V(R); and there is so much to send
+  -- the numbers are as they were, except for V(R); and there is so much to send
   record Costs (g b : ℕ) (c : Course) : Type 0 where
     contents : c.link.contents ≡ l.contents
     first : c.link.a ≡ l.a

@@ -30,19 +30,19 @@ pub fn frames_amortised()
     ensures { FramesAmortised }
 {}
 
-/// The same bound for single events, and so in every moment of a run. What may be sent rises by at most two for an octet that
-/// ends a frame which is heard (one octet ends one frame at most), and by k more where that is an REJ with a valid
-/// N(R); by k + 1 for an expiry of a running timer; by one for an accepted request. A drop by the deframer (abort,
-/// ragged, short, frame check), a refusal and an expiry of a timer that does not run let it rise by nothing. A frame
-/// that is dropped later is one that was heard: see [`drops_cost_nothing`]. A pull that begins a frame lowers
-/// it by one or two, and any other pull leaves it as it is.
+/// The same bound for single events, and so in every moment of a run. What may be sent rises by at most two for an
+/// octet that ends a frame which is heard (one octet ends one frame at most), and by k more where that is an REJ with a
+/// valid N(R); by k + 1 for an expiry of a running timer; by one for an accepted request. A drop by the deframer
+/// (abort, ragged, short, frame check), a refusal and an expiry of a timer that does not run let it rise by nothing. A
+/// frame that is dropped later is one that was heard: see [`drops_cost_nothing`]. A pull that begins a frame lowers it
+/// by one or two, and any other pull leaves it as it is.
 #[tactic(auto, using(crate::proofs::ByEvent::frames_by_event))]
 pub fn frames_by_event()
     ensures { FramesByEvent }
 {}
 
 /// In every moment of a run: where the answer to an octet names a cause, whichever, what may be sent stays as it is. So
-/// a frame that is dropped lets it rise by nothing, for its address and for want of service too.
+/// a frame that is dropped raises it by nothing, for its address and for want of service too.
 pub fn drops_cost_nothing()
     ensures { DropsCostNothing }
 {}

@@ -39,7 +39,7 @@ reported r before after f true x h =
     record { news = h.news ++ f ∷ []; more = ap (λ ws. ws ++ f ∷ []) h.more ∙ append_assoc before h.news (f ∷ []); are = reports-push r h.news f x h.are }
 reported r before after f false x h = h
 
--- A link stays as it was but for its V(A), its V(S) by a claim on it, its V(R), and reports.
+-- A link stays as it was except for its V(A), its V(S) by a claim on it, its V(R), and reports.
 abbrev pub Number : Type 1
 Number = ℕ → Type 0
 

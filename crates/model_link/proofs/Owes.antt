@@ -1,4 +1,4 @@
--- What a link owes the line, and how each word lets it rise: a purse holds the frames that may still be sent.
+-- What a link owes the line, and how each word raises it: a purse holds the frames that may still be sent.
 use Rattle.model_link.proofs.Vocabulary.{◌≡◌, ℕ, ◌+◌, ◌-◌, ◌≤◌, Bool, true, false, cond, IsTrue, List, [], ◌∷◌, ◌++◌, length, take, drop, Option, is_some, refl, ap, arith, length-append, length-take-le, length-drop, State, TeiAssigned, AwaitingEstablishment, AwaitingRelease, Established, TimerRecovery, LinkTimer, T203, ControlFrame, Terms, may_send, window_back, data_in_7_8, is_multiple_frame, IsInRange, Sent, Course, ◌then◌, changed}
 use Rattle.model_link.specs.Words
 use Rattle.model_link.specs.Offers
@@ -36,7 +36,7 @@ module _ (t : Terms) (r : IsInRange t) (total extra : ℕ) (Window : Type 0) (pa
   abbrev sound : Careful t (Unit {0}) (Unit {0}) (Unit {0}) (Unit {0}) (Unit {0}) (Unit {0}) is_in (Stands t t.queue) (λ p q c. Stands t t.queue c) (Stands t t.queue)
   sound = stand t r.tei t.queue (Unit {0}) (λ x. refl)
 
-  -- the last word, and any that lets rise what is owed by no more than it spends
+  -- the last word, and any that raises what is owed by no more than it spends
   done : (p : Purse) (c : Course) → Owes t total extra p c → Within t total c
   done p c h = record { within = omega (arith, h.within) }
 

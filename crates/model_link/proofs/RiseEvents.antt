@@ -1,4 +1,4 @@
--- No event lets rise what is sent and still owed by more than its price.
+-- No event raises what is sent and still owed by more than its price.
 use Rattle.model_link.proofs.Vocabulary.{◌≡◌, ℕ, ◌+◌, ◌-◌, ◌*◌, ◌<◌, ◌≤◌, Bool, true, false, cond, not, ◌&&◌, List, [], ◌∷◌, length, Option, Some, None, is_some, refl, ap, ◌∙◌, arith, nat_lt, ltb-true, and_parts, and_from, Seq, named, Control, ErrorCode, Refusal, State, TeiAssigned, AwaitingEstablishment, AwaitingRelease, Established, TimerRecovery, LinkTimer, ControlFrame, Terms, Link, is_multiple_frame, may_send, sent, reject_number, is_valid_reject, price, sent_in_all, price_of_all, IsInRange, IsSound, Course, begun}
 use Rattle.lapd_frame.specs.declared.notes.ErrorCode.TheVariants as code
 use Rattle.model_link.specs.Events

@@ -1,4 +1,4 @@
--- How many frames a link may still send, and by how much each event lets that rise.
+-- How many frames a link may still send, and by how much each event raises that.
 use Rattle.std.specs.Prelude.{ℕ, ◌+◌, ◌≤◌, ◌&&◌, Bool, false, List, [], ◌∷◌, length, sum_by, Option, None, Some, is_some, if◌then◌else◌}
 use Rattle.lapd_seq.specs.declared.numbers.Seq.{Seq}
 use Rattle.lapd_seq.specs.Circle.{named}

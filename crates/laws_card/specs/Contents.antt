@@ -22,8 +22,8 @@ line_before m = line_at m.event.line m.card
 abbrev pub line_after : Moment → Line
 line_after m = line_at m.event.line (after m.event m.card)
 
--- What a moment is to the contents of a link: what its event is, at the link's own line, except for a request that finds the
--- pool full.
+-- What a moment is to the contents of a link: what its event is, at the link's own line, except for a request that
+-- finds the pool full.
 abbrev pub share_at : LinkName → Moment → Share
 share_at name m = line.share_of m.card.config name.number m.event.what (line_at name.line m.card)
 

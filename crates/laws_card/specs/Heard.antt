@@ -13,8 +13,8 @@ use Rattle.laws_line.specs.Steady.{EndsFrame, Brings}
 use Rattle.model_card.specs.Run.{Moment}
 use Rattle.laws_card.specs.Contents.{line_before, line_after}
 
--- An octet that ends nothing, or a stretch that is no frame, changes nothing but what was received, and what is answered says
--- nothing, or why the stretch is none. What is due to layer 3 is handed on.
+-- An octet that ends nothing, or a stretch that is no frame, changes nothing but what was received, and what is
+-- answered says nothing, or why the stretch is none. What is due to layer 3 is handed on.
 pub record IsHeardIn (m : Moment) : Type 0 where
   pub none : (value : ℕ) → m.event.what ≡ octet value → Adds m.card.config (line_before m) value []
       → OnlyTells nothing (line_before m) (line_after m) m.answer value

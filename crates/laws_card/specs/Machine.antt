@@ -29,8 +29,8 @@ FramesCounted =
     (card : Card) (events : List Event) → IsSound card → AreAtLines card events →
     frames_heard (after_all card events) ≡ frames_heard card + heard (moments card events)
 
--- What a happening is: of a frame or a fault the octets that it means, of a call the pulls for the next frame; and of a list,
--- its events in order, each happening's at the card where those before it lead.
+-- What a happening is: of a frame or a fault the octets that it means, of a call the pulls for the next frame; and of a
+-- list, its events in order, each happening's at the card where those before it lead.
 pub record HappeningsAreSpelled : Type 0 where
   pub frames : (m : Card) (n : ℕ) (octets : List ℕ) → spelled m (comes n octets ∷ []) ≡ map (at n) (map octet (line_octets octets))
   pub faults : (m : Card) (n : ℕ) (fault : Fault) → spelled m (failed n fault ∷ []) ≡ map (at n) (map octet (fault_octets fault))

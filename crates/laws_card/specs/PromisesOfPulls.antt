@@ -80,7 +80,8 @@ pub record HasFewToGo (c : Config) (l : Line) : Type 0 where
 abbrev pub FewAreToGo : Card → List Event → Type 0
 FewAreToGo m events = (number : ℕ) → number < m.config.lines → HasFewToGo m.config (line_at number (after_all m events))
 
--- So the configuration gives numbers of pulls that are enough, whatever waits: for a control frame, and for all that may go.
+-- So the configuration gives numbers of pulls that are enough, whatever waits: for a control frame, and for all that
+-- may go.
 
 -- Of a line the pulls come that are enough for a control frame, and nothing else.
 pub record ArePullsEnough (card : Card) (number : ℕ) (events : List Event) : Type 0 where

@@ -25,8 +25,8 @@ use Rattle.laws_card.specs.Received.{octets_at}
 use Rattle.laws_card.specs.Timers.{runs_at_callers}
 use Rattle.laws_card.specs.Worked.{usual}
 
--- `nothing_is_lost`: a link that has let its contents go where nothing emptied it; and `counted`: one that keeps none of those
--- that were accepted.
+-- `nothing_is_lost`: a link that has let its contents go where nothing emptied it; and `counted`: one that keeps none
+-- of those that were accepted.
 abbrev one_kept : Link
 one_kept = record fresh_link { contents = (1 ∷ []) ∷ [] }
 
@@ -47,8 +47,8 @@ untold x = let same = ap cause_in x.answer_is in cc same
 not_kept : (line_at 0 (fresh usual)).received ≡ (line_at 0 (fresh usual)).received ++ octets_at 0 (at 0 (octet 0x7E) ∷ []) → ⊥
 not_kept e = cc e
 
--- `timers`, `notes_tell` and `teis_are_told`: a timer that is needed, and was never started; a link that is up, and a TEI on the
--- line, of which no note told.
+-- `timers`, `notes_tell` and `teis_are_told`: a timer that is needed, and was never started; a link that is up, and a
+-- TEI on the line, of which no note told.
 not_started : runs_at_callers 0 (T200 Call 64) false [] ≡ true → ⊥
 not_started e = cc e
 

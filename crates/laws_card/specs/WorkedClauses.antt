@@ -33,8 +33,8 @@ up_but_one = on_0 (Assign 64) ∷ hears 0x7E ∷ hears 0x00 ∷ hears 0x81 ∷ h
 abbrev moment : Card → line_event.Event → Answer → Moment
 moment card what answer = record { card = card; event = at 0 what; answer = answer }
 
--- `drops` and `without_effect`: the octet that ends SABME is told as dropped, and its answer waits; and one that is dropped is told
--- as lost as well.
+-- `drops` and `without_effect`: the octet that ends SABME is told as dropped, and its answer waits; and one that is
+-- dropped is told as lost as well.
 dropped_at_a_cost : IsDropWithoutCost (moment (after_all (fresh usual) up_but_one) (octet 0xFC) (told (dropped Fcs))) → ⊥
 unfolding after_all lines.after lines.takes_slot reading header_of control_of unnumbered_of teis.course teis.refusal low_bits
 dropped_at_a_cost free = cc (free 0xFC refl refl)
@@ -68,7 +68,8 @@ heard_of_none : 6 * heard (moment (after_all (fresh usual) up_but_one) (octet 0x
 unfolding after_all lines.after lines.takes_slot reading header_of control_of unnumbered_of teis.course teis.refusal low_bits
 heard_of_none six = let all : 6 ≤ 0 = six in omega (arith, all)
 
--- `isolated`: a line that answers an octet as it would not on a card of its own; and `never_full`: a request that finds no slot.
+-- `isolated`: a line that answers an octet as it would not on a card of its own; and `never_full`: a request that finds
+-- no slot.
 abbrev other_answer : List Moment
 other_answer = moment (fresh usual) (octet 0x7E) (told (dropped Fcs)) ∷ []
 

@@ -9,8 +9,8 @@ pub fn frames_are_counted()
     ensures { FramesAreCounted }
 {}
 
-/// What a call for the next frame gives is what goes: `given_goes` of `FramePromises`. Calls for the next frame of a line, one
-/// after the other with nothing else between them, serve all that waits: `calls_end`, `waiting_is_given`,
+/// What a call for the next frame gives is what goes: `given_goes` of `FramePromises`. Calls for the next frame of a
+/// line, one after the other with nothing else between them, serve all that waits: `calls_end`, `waiting_is_given`,
 /// `polls_are_answered` and `commands_are_answered` of it.
 pub fn calls_serve()
     ensures { CallsServe }

@@ -6,11 +6,10 @@
 //! (`Contents`), what holds in a moment (`Faithful`, `Heard`), what is promised of a list of events (`Promises`), which
 //! timers a caller runs (`Timers`), what a line comes to by its pulls (`Among`, `PromisesOfPulls`), what notes tell
 //! (`Knowledge`), which frames pulls begin (`Begun`), which octets come to a line (`Received`), what frames that come
-//! and go whole count and how soon they go (`Frames`), the laws, which say of which cards and lists (`Laws`), and
-//! worked values (`Worked`, `WorkedTimers`, `WorkedNotes`, `WorkedBegun`, `WorkedPlaces`, `WorkedReceived`; of the
-//! machine `WorkedCard`, `WorkedHappenings`). Each law is the contract of a call that does nothing. `laws_promises` has
-//! all promises of a list of events in one record, `Promises`: a law here names the fields that it proves, and their
-//! comments say it in words.
+//! and go whole count and how soon they go (`Frames`), the laws, which say of which cards and lists (`Laws`,
+//! `Machine`), and worked values of the laws and of the machine, also some that break them (`Worked*`). Each law is the
+//! contract of a call that does nothing. `laws_promises` has all promises of a list of events in one record,
+//! `Promises`: a law here names the fields that it proves, and their comments say it in words.
 //!
 //! - `machine`, `laws`, `timers`, `notes`, `progress`, `frames`: the laws.
 #![tactic(auto)]

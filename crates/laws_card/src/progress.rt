@@ -60,14 +60,14 @@ pub fn pulls_serve_a_line()
         IsBegunAmong card number events (control_text card.config link tei f) }
 {}
 
-/// So it is wherever in a list of events a line is only pulled, from any card on. One of the pulls begins a control frame that
-/// waits, so also each answer, once they are enough; that also where other events of the line are between its pulls, by the
-/// messages and the unit data that come meanwhile (`begun`).
-/// Once they give more than the bits to go, nothing waits but I-frames that may not go, and idle flags go on (`ended`).
-/// And on each card that is reached the bits to go of a line, and those before a control frame that waits, are at most what
-/// the configuration allows (`few`). So the numbers of pulls that are enough for a control frame that waits, and for all that
-/// may go, are computed from the configuration (`enough`): 23,050 and 64,346 with eight terminals, N201 of 260, windows of 7,
-/// 4 unit data and 4 control frames.
+/// So it is wherever in a list of events a line is only pulled, from any card on. One of the pulls begins a control
+/// frame that waits, so also each answer, once they are enough; that also where other events of the line are between
+/// its pulls, by the messages and the unit data that come meanwhile (`begun`). Once they give more than the bits to go,
+/// nothing waits but I-frames that may not go, and idle flags go on (`ended`). And on each card that is reached the
+/// bits to go of a line, and those before a control frame that waits, are at most what the configuration allows
+/// (`few`). So the numbers of pulls that are enough for a control frame that waits, and for all that may go, are
+/// computed from the configuration (`enough`): 23,050 and 64,346 with eight terminals, N201 of 260, windows of 7, 4
+/// unit data and 4 control frames.
 pub fn pulls_serve_wherever()
     ensures begun { (m : Card) (events : List Event) → IsSound m → AreAtLines m events → WaitingAreBegun m events }
     ensures ended { (m : Card) (events : List Event) → IsSound m → AreAtLines m events → PullsComeToAnEnd m events }

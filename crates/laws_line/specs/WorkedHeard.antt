@@ -67,8 +67,8 @@ nothing_heard : contents_in (answer usual (octet 0x00) before_flag) ≡ None
 unfolding answer seq distance_of named reading header_of control_of unnumbered_of teis.course teis.refusal low_bits
 nothing_heard = refl
 
--- Where the check's last octet is another, the flag ends a stretch that is no frame, and that its check is wrong is all that
--- is answered.
+-- Where the check's last octet is another, the flag ends a stretch that is no frame, and that its check is wrong is all
+-- that is answered.
 abbrev before_wrong_check : Line
 before_wrong_check = record both_up { received = 0x7E ∷ 0x00 ∷ 0x81 ∷ 0x00 ∷ 0x00 ∷ 0x41 ∷ 0x2F ∷ 0xAC ∷ [] }
 
@@ -96,8 +96,8 @@ unit_noted : list_any (is_unit_of Call 64) (notes_of (answer usual (octet 0xFC) 
 unfolding answer seq distance_of named reading header_of control_of unnumbered_of teis.course teis.refusal low_bits
 unit_noted = refl
 
--- A frame of TEI 64 and SAPI 0 with an undefined control field came in the same way: its link is established anew, and no other
--- feels it.
+-- A frame of TEI 64 and SAPI 0 with an undefined control field came in the same way: its link is established anew, and
+-- no other feels it.
 abbrev pub before_undefined : Line
 before_undefined = record both_up { received = 0x7E ∷ 0x00 ∷ 0x81 ∷ 0x4F ∷ 0x5A ∷ 0x14 ∷ 0xFD ∷ [] }
 

@@ -49,9 +49,9 @@ use Rattle.model_card.specs.Run.{moments, after_all, IsAtLine, AreAtLines}
 use Rattle.model_card.specs.Sound as card_sound
 use Rattle.model_card.proofs.CardSound.{after_is_sound, always_sound, fresh_is_sound}
 use Rattle.model_card.proofs.Steps.{has_lines, by_room, line_sound}
-use Rattle.laws_trace.specs.ControlFrames.{of_link}
+use Rattle.laws_trace.specs.ControlFrames.{of_link, control_in as control_by, controls_at as control_at}
 use Rattle.laws_trace.specs.MessagesAreOwed.{messages_begun}
-use Rattle.laws_trace.specs.NoLossInVain.{control_by, control_at, IsCrowded, IsFull as IsFullAfter}
+use Rattle.laws_trace.specs.NoLossInVain.{IsCrowded, HasFullLink, HasFullQueue as IsFull, IsFull as IsFullAfter}
 use Rattle.laws_trace.specs.Trace as traces
 use Rattle.laws_trace.specs.Trace.{Seen, put, seen, trace, trace_of}
 use Rattle.laws_trace.specs.Units.{is_ui}
@@ -68,10 +68,10 @@ use Rattle.laws_trace.proofs.Units.{NoneWaits, fresh-none, Passes, rests, joins,
 use Rattle.laws_trace.proofs.UnitsGoOut.{after-both}
 use Rattle.laws_trace.proofs.Spelled.{whole-parts, given-spells}
 
-abbrev pub control_in : ControlFrame → List Control
+abbrev pub control_in : ControlFrame → List ControlFrame
 control_in f = control_by f.command f.control
 
-abbrev pub controls : List ControlFrame → List Control
+abbrev pub controls : List ControlFrame → List ControlFrame
 controls ws = flat_map control_in ws
 
 -- Each frame that waits is one.
@@ -100,13 +100,13 @@ all-controls t (f ∷ fs) plain frames =
     omega (arith, first, rest, both)
 
 module _ (service : Service) (tei : ℕ) where
-  abbrev pub shown : Config → List Seen → List Control
+  abbrev pub shown : Config → List Seen → List ControlFrame
   shown c t = flat_map (control_at c service tei) t
 
-  abbrev shown_in : Config → List ℕ → List Control
+  abbrev shown_in : Config → List ℕ → List ControlFrame
   shown_in c octets = of_link service tei control_by (reading c.side octets)
 
-  abbrev pub waits : Line → List Control
+  abbrev pub waits : Line → List ControlFrame
   waits l = controls (link_of service tei l).waiting
 
   pull-shown : (c : Config) (o : Option Taken) (a : Answer)
@@ -136,7 +136,7 @@ module _ (service : Service) (tei : ℕ) where
     offered (f ∷ fs) h =
         let under = Offers.offer_among t (f ∷ fs) (course_begun l) in
         let g : Given = record { frame = f; contents = None; orders = orders_for t l.running under.started under.link.running } in
-        let own : List Control = shown_in c (frame_of c t g) in
+        let own : List ControlFrame = shown_in c (frame_of c t g) in
         let both : length (controls (f ∷ fs)) ≡ length (control_in f) + length (controls fs) = length-append (control_in f) (controls fs) in
         let same : length (own ++ []) ≡ length (control_in f) = ap length (append-nil own ∙ given-read c g h) in
         let goal : length (controls (f ∷ fs)) ≤ length (own ++ []) + length (controls fs) = omega (arith, both, same) in
@@ -225,15 +225,6 @@ module _ (service : Service) (tei : ℕ) where
         ap length (flat_map-append (control_at c service tei) now then) ∙ length-append (shown c now) (shown c then) in
         let goal : length (waits (line_at number m)) ≤ length (shown c (now ++ then)) + length (waits last) = omega (arith, first, rest, both) in
         goal
-
--- A part of a line has no room.
-pub record HasFullLink (c : Config) (l : Line) : Type 0 where
-  pub service : Service
-  pub tei : ℕ
-  pub as_many : length (link_of service tei l).waiting ≡ c.control
-
-abbrev pub IsFull : Config → Line → Type 0
-IsFull c l = (length l.management.waiting ≡ 4) ⊎ HasFullLink c l
 
 -- What waits on a link begins.
 so-many : (number n : ℕ) → pulls_at number (replicate n (at number pull)) ≡ n

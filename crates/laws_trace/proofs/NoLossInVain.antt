@@ -51,7 +51,7 @@ use Rattle.laws_card.proofs.Wherever.{all-left, all-right, config-stays}
 use Rattle.laws_line.specs.Frames.{lost_in}
 use Rattle.laws_line.specs.Steady.{IsBy}
 use Rattle.laws_line.proofs.Obeyed.{service-same}
-use Rattle.laws_trace.specs.NoLossInVain.{NoLossInVain}
+use Rattle.laws_trace.specs.NoLossInVain.{NoLossInVain, QueuesAreFull, HasFullQueue as IsFull}
 use Rattle.laws_trace.specs.Trace as traces
 use Rattle.laws_trace.specs.Trace.{Seen, heard, noted, lost, seen, seen_told, seen_granted, trace_of, IsAmong, Always}
 use Rattle.laws_trace.proofs.AllAreTold.{none-among}
@@ -60,7 +60,7 @@ use Rattle.laws_trace.proofs.ManagingNotes as managing
 use Rattle.laws_trace.proofs.OneLink.{Goes, is_at_link, event-goes}
 use Rattle.laws_trace.proofs.Runs.{nothing-seen}
 use Rattle.laws_trace.proofs.LossesOfParts.{management-kept, link-full}
-use Rattle.laws_trace.proofs.Crowded.{IsFull, by-trace}
+use Rattle.laws_trace.proofs.Crowded.{by-trace}
 use Rattle.laws_trace.proofs.UnitsGoOut.{after-both}
 
 -- One event of a line.
@@ -271,19 +271,26 @@ module _ (m : Card) (e : card.Event) (s : card_sound.IsSound m) (n : ℕ) (some 
       subst (λ number. Fulls number (seen m.config e.what (line_at number m) (answer e m))) (eqb-true e.line number is) (own here) among
   at-card number here false other among = absurd (none-among (lost n) among.front among.back among.split)
 
-pub no-loss-in-vain : Always NoLossInVain
+pub queues-are-full : Always QueuesAreFull
 unfolding moments after_all
-no-loss-in-vain c events number ranged all within before e behind split n among some =
+queues-are-full c events number ranged all within before e behind split n among some =
     let m = after_all (cards.fresh c) before in
     let these = subst (AreAtLines (cards.fresh c)) split all in
     let first = all-left (IsAtLine (cards.fresh c)) before (e ∷ behind) these in
     let here = All-head (IsAtLine (cards.fresh c)) e behind (all-right (IsAtLine (cards.fresh c)) before (e ∷ behind) these) in
     let kept : m.config ≡ c = config-stays (cards.fresh c) before in
     let t = cond (e.line == number) (seen m.config e.what (line_at number m) (answer e m)) [] in
-    let last : after_all (cards.fresh c) (before ++ e ∷ []) ≡ after e m = after-both (cards.fresh c) before (e ∷ []) in
+    subst (λ d. IsFull d (line_at number (after e m))) kept
+    (at-card m e (always_sound (cards.fresh c) before (fresh_is_sound c ranged) first) n some number (subst (λ (c : Config). e.line < c.lines) (sym kept) here) (e.line == number) refl
+    (subst (IsAmong (lost n)) (append-nil t) among))
+
+pub no-loss-in-vain : Always NoLossInVain
+unfolding after_all
+no-loss-in-vain c events number ranged all within before e behind split n among some =
+    let these = subst (AreAtLines (cards.fresh c)) split all in
+    let first = all-left (IsAtLine (cards.fresh c)) before (e ∷ behind) these in
+    let here = All-head (IsAtLine (cards.fresh c)) e behind (all-right (IsAtLine (cards.fresh c)) before (e ∷ behind) these) in
+    let last : after_all (cards.fresh c) (before ++ e ∷ []) ≡ after e (after_all (cards.fresh c) before) = after-both (cards.fresh c) before (e ∷ []) in
     let now = All-append (IsAtLine (cards.fresh c)) before (e ∷ []) first (All-cons (IsAtLine (cards.fresh c)) e [] here (All-nil (IsAtLine (cards.fresh c)))) in
     by-trace c (before ++ e ∷ []) number ranged now within
-    (subst (λ d. IsFull d (line_at number (after_all (cards.fresh c) (before ++ e ∷ [])))) kept
-    (subst (λ x. IsFull m.config (line_at number x)) (sym last)
-    (at-card m e (always_sound (cards.fresh c) before (fresh_is_sound c ranged) first) n some number (subst (λ (c : Config). e.line < c.lines) (sym kept) here) (e.line == number) refl
-    (subst (IsAmong (lost n)) (append-nil t) among))))
+    (subst (λ x. IsFull c (line_at number x)) (sym last) (queues-are-full c events number ranged all within before e behind split n among some))

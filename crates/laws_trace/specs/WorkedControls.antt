@@ -93,10 +93,23 @@ two_due : due (on_0 (Assign 64) ∷ on_0 (Establish Call 64) ∷ at 0 (expiry (T
 unfolding moments along lines.after lines.answer lines.takes_slot teis.course teis.refusal low_bits
 two_due = refl
 
+two_go : gone (on_0 (Assign 64) ∷ on_0 (Establish Call 64) ∷ at 0 (expiry (T200 Call 64)) ∷ pulls 12) ≡ as_command (Sabme true) ++ as_command (Sabme true)
+unfolding moments lines.after lines.answer lines.takes_slot teis.course teis.refusal low_bits reading header_of control_of unnumbered_of
+two_go = refl
+
 an_enquiry : due (up ++ at 0 (expiry (T203 Call 64)) ∷ on_0 (Release Call 64) ∷ [])
     ≡ as_response (Ua true) ++ as_command (ReceiveReady (seq 0) true) ++ as_command (Disc true)
 unfolding moments along lines.after lines.answer lines.takes_slot teis.course teis.refusal low_bits seq reading header_of control_of unnumbered_of supervisory_of
 an_enquiry = refl
+
+-- As T200 expires for the last time, which ends state 5, none is due.
+abbrev again : List Event
+again = at 0 (expiry (T200 Call 64)) ∷ []
+
+four_due : due (on_0 (Assign 64) ∷ on_0 (Establish Call 64) ∷ again ++ again ++ again ++ again)
+    ≡ as_command (Sabme true) ++ as_command (Sabme true) ++ as_command (Sabme true) ++ as_command (Sabme true)
+unfolding moments along lines.after lines.answer lines.takes_slot teis.course teis.refusal low_bits
+four_due = refl
 
 -- An I-frame with N(S)=1 and P=0, of which nothing is told, is answered by REJ with N(R)=0 in state 7, and by nothing
 -- in state 5; a second one by nothing.
@@ -151,3 +164,21 @@ ua_for_dm part =
 
 never_answered : IsPart (as_response (Ua true)) [] → ⊥
 never_answered part = no_other _ _ part (record { command = false; control = Ua true }) refl refl
+
+-- Nor is SABME with P=0 ever due, nor an answer to a poll in state 4: where one begins, the first law is broken.
+without_p : controls_at usual Call 64 (begun (0x02 ∷ 0x81 ∷ 0x6F ∷ [])) ≡ as_command (Sabme false)
+unfolding reading header_of control_of unnumbered_of
+without_p = refl
+
+has_p : Control → Bool
+has_p (Sabme p) = p
+has_p other = false
+
+sabme_without_p : IsPart (as_command (Sabme false)) (as_command (Sabme true)) → ⊥
+unfolding has_p
+sabme_without_p part =
+    alone (record { command = true; control = Sabme false }) (record { command = true; control = Sabme true })
+    (λ e. let same : false ≡ true = ap (λ (f : ControlFrame). has_p f.control) e in cc same) _ _ part refl refl
+
+answered_in_4 : IsPart (as_response (ReceiveReady (seq 0) true)) (answer_to at_first at_first 4 true (ReceiveReady (seq 0) true)) → ⊥
+answered_in_4 part = no_other _ _ part (record { command = false; control = ReceiveReady (seq 0) true }) refl refl

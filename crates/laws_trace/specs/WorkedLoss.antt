@@ -16,7 +16,8 @@ use Rattle.model_card.specs.Run.{moments, after_all}
 use Rattle.laws_card.specs.Worked.{usual, on_0, hears}
 use Rattle.laws_trace.specs.Managing.{owed_through}
 use Rattle.laws_trace.specs.MessagesAreOwed.{messages_begun, owed, all_owed}
-use Rattle.laws_trace.specs.NoLossInVain.{control_at, IsCrowded, IsFull}
+use Rattle.laws_trace.specs.ControlFrames.{controls_at}
+use Rattle.laws_trace.specs.NoLossInVain.{IsCrowded, IsFull}
 use Rattle.laws_trace.specs.Trace.{heard, noted, lost, trace}
 
 -- Four removals wait; the answer to a terminal that asks for a TEI is told as lost, and four messages wait behind it.
@@ -52,5 +53,5 @@ none_owed : length (all_owed usual [] 0) ≡ length (messages_begun usual []) + 
 unfolding moments owed
 none_owed e = cc e
 
-none_begins : usual.control ≤ length (flat_map (control_at usual Call 64) []) → ⊥
+none_begins : usual.control ≤ length (flat_map (controls_at usual Call 64) []) → ⊥
 none_begins few = let four : 4 ≤ 0 = few in omega (arith, four)

@@ -16,7 +16,7 @@ ghost use Rattle.laws_trace.specs.LinksTakeTurns.{LinksTakeTurns};
 ghost use Rattle.laws_trace.specs.MessagesComeFirst.{MessagesComeFirst};
 ghost use Rattle.laws_trace.specs.MessagesAreOwed.{MessagesAreOwed, AllMessagesGoOut};
 ghost use Rattle.laws_trace.specs.News.{NewsIsTold};
-ghost use Rattle.laws_trace.specs.NoLossInVain.{NoLossInVain};
+ghost use Rattle.laws_trace.specs.NoLossInVain.{NoLossInVain, QueuesAreFull};
 ghost use Rattle.laws_trace.specs.TeisAgree.{TeisAgree, HeldForOne};
 ghost use Rattle.laws_trace.specs.TeisAreGiven.{TeisAreGiven};
 ghost use Rattle.laws_trace.specs.TimersAreTimely.{TimersRun, TimersAreStarted};
@@ -116,13 +116,14 @@ pub fn what_is_told_was_heard()
 /// Data goes out. Of each link, since its numbers began: the contents of new I-frames that begin are the first of the
 /// data that was granted, in order, each once; N(S) counts them from 0 on, modulo 128; and an I-frame that goes again,
 /// which is one of the last 127, has the contents that its number had. N(R) of each I-frame is the number of contents
-/// told of the link since then, modulo 128. Where numbers begin, contents that had not gone stay, and take the first
-/// numbers, or none stays, as where an indication of an establishment is told (`front`). And all of it has gone, once
-/// the line was only pulled, as often as the configuration says, on a link in state 7 whose terminal is not busy, with
-/// fewer than k I-frames outstanding, by what was heard and what began; and the number that goes next is then behind
-/// all of it, though REJ and the end of a recovery set it back to their N(R); each I-frame that begins sets it behind
-/// its own (`again`). And each has that number, so that they go again in order, from there on, and none is passed over
-/// (`next`; Q.921 clauses 3.5.2.1 to 3.5.2.6, 5.5.1.2, 5.6.1, 5.6.4, 5.6.5, 5.6.7 and 5.7).
+/// told of the link since then, modulo 128. Where numbers begin, some of the last contents stay, all that had not gone
+/// among them, and take the first numbers; or none stays, as where an indication of an establishment is told (`front`).
+/// And all of it has gone, once the line was only pulled, as often as the configuration says, on a link in state 7
+/// whose terminal is not busy, with fewer than k I-frames outstanding, by what was heard and what began; and the number
+/// that goes next is then behind all of it, though REJ and the end of a recovery set it back to their N(R); each
+/// I-frame that begins sets it behind its own (`again`). And each has that number, so that they go again in order, from
+/// there on, and none is passed over (`next`; Q.921 clauses 3.5.2.1 to 3.5.2.6, 5.5.1.2, 5.6.1, 5.6.4, 5.6.5, 5.6.7 and
+/// 5.7).
 pub fn data_goes_out()
     ensures front { Always DataGoesOut }
     ensures again { Always AllGoesAgain }
@@ -132,7 +133,8 @@ pub fn data_goes_out()
 /// Control frames that are due go, and no others: of a link, all frames except I-frames and UI. Due are, by the state
 /// of the link before: UA to SABME, and to DISC, with F = P, except DM to SABME in state 6, and to DISC in states 4 and
 /// 5; in states 7 and 8 REJ, with F = P, to the first I-frame of which nothing is told though layer 3 is not busy, RNR
-/// or RR with F=1 to each other command with P=1, and with F=0 where layer 3 comes to be busy, or is so no more; and,
+/// or RR with F=1 to each other I-frame, RR, RNR and REJ that is a command with P=1, and with F=0 where layer 3 comes to
+/// be busy, or is so no more; and,
 /// with P=1, SABME, DISC or an enquiry where the link comes to state 5, 6 or 8, and again where T200 expires and leaves
 /// it there. It is RNR while layer 3 is busy, and RR while it is not, with the number of contents told of the link
 /// since its numbers began, modulo 128, as it was when the frame was due. From whenever the TEI is not on the line,
@@ -162,10 +164,12 @@ pub fn all_are_acknowledged()
 {}
 
 /// Nothing is lost in vain. Behind a moment that tells a frame as lost, all but four of the messages that are owed have
-/// begun, or as many control frames of one link as the configuration says would begin, were the line only pulled: so a part
-/// of the line had no room; which, is not said (profile).
+/// begun, or as many control frames of one link as the configuration says would begin, were the line only pulled
+/// (`seen`): so four messages wait, or as many control frames of one link, and that part of the line has no room
+/// (`full`); which, is not said (profile).
 pub fn nothing_is_lost_in_vain()
-    ensures { Always NoLossInVain }
+    ensures seen { Always NoLossInVain }
+    ensures full { Always QueuesAreFull }
 {}
 
 /// Messages of TEI management are owed. The frames that begin with SAPI 63 are the first of the messages that are owed,
@@ -191,7 +195,8 @@ pub fn messages_are_owed()
 {}
 
 /// Timers are timely. At a caller's that obeys the orders T200 of a link runs exactly where an answer is awaited: in
-/// states 5, 6 and 8, and in state 7 where an I-frame that went is not acknowledged, or the terminal is busy. T203 runs
+/// states 5, 6 and 8, and in state 7 where an I-frame is outstanding, or the terminal is busy. Outstanding are those that
+/// went and are not acknowledged, except those that are to go again, since REJ or the end of a recovery. T203 runs
 /// exactly where none is, in state 7; and neither in state 4, nor where the TEI is not on the line (`run`). An answer
 /// orders that one is started exactly where it runs then, and it did not run, or had just expired, or is started anew:
 /// because the link moves to another state, or, in state 7, because of a frame. For T200 this is RNR, and RR, or I
@@ -225,11 +230,11 @@ pub fn links_move()
 /// News of links is told. Where the TEI of a link is on the line before an event, the answer notes of its establishment
 /// and its release exactly what is due; a link whose TEI leaves comes to state 4: an establish indication where it
 /// comes from state 4 to state 7; from state 5 a confirm, where layer 3 asked for that establishment, and if this side
-/// began it, or the terminal establishes a link anew by SABME, an indication exactly where an I-frame that went is not
-/// acknowledged, in state 5 as it was where the link came there; a release confirm where it comes from state 6 to state
-/// 4, or is released in state 4; and a release indication where it comes to state 4 from another state. And XID that is
-/// heard of it is told. So no confirm is told that layer 3 did not ask for, none twice, and no end of a link goes
-/// untold (Q.921 clauses 4.1.1.1, 4.1.1.2, 5.5.1, 5.5.3 and 5.7).
+/// began it, or the terminal establishes a link anew by SABME, an indication exactly where an I-frame is outstanding,
+/// as [`timers_are_timely`] has it, in state 5 as it was where the link came there; a release confirm where it comes
+/// from state 6 to state 4, or is released in state 4; and a release indication where it comes to state 4 from another
+/// state. And XID that is heard of it is told. So no confirm is told that layer 3 did not ask for, none twice, and no
+/// end of a link goes untold (Q.921 clauses 4.1.1.1, 4.1.1.2, 5.5.1, 5.5.3 and 5.7).
 pub fn news_is_told()
     ensures { Always NewsIsTold }
 {}

@@ -54,7 +54,7 @@ asked service tei number was m =
     let after = state_after service tei number m in
     if m.event.line == number && is_state 5 after && differ (state_before service tei number m) after then establishes service tei m.event.what m.answer else was
 
--- And whether I-frames that went are not acknowledged: in state 5, as it was where the link came there.
+-- And whether an I-frame is outstanding: in state 5, as it was where the link came there.
 pub record Owing : Type 0 where
   pub known : Known
   pub outstanding : Bool

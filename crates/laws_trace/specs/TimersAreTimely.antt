@@ -83,8 +83,8 @@ state_after service tei number m = state_of service tei (line_at number (after m
 abbrev pub watch : Config → Service → ℕ → ℕ → Known → Moment → Known
 watch c service tei number k m = learned c service tei (state_before service tei number m) (state_after service tei number m) k (seen_in number m)
 
--- An answer is awaited of a link in states 5, 6 and 8, and in state 7 where an I-frame that went is not acknowledged,
--- or the terminal is busy (clauses 5.5.1.3, 5.5.3.3, 5.6.1, 5.6.5 and 5.6.7).
+-- An answer is awaited of a link in states 5, 6 and 8, and in state 7 where an I-frame is outstanding, which went, is not
+-- acknowledged and is not to go again, or the terminal is busy (clauses 5.5.1.3, 5.5.3.3, 5.6.1, 5.6.5 and 5.6.7).
 abbrev pub awaits : Known → Option ℕ → Bool
 awaits k None = false
 awaits k (Some state) = state == 5 || state == 6 || state == 8 || (state == 7 && (k.busy || not (k.next == k.acknowledged)))

@@ -83,7 +83,7 @@ is_due_then : said (sabme_comes ++ hears 0xFC ∷ []) (request (Remove 64)) 7 4 
 unfolding moments after_all lines.after lines.answer lines.takes_slot teis.course teis.refusal low_bits reading header_of control_of unnumbered_of supervisory_of
 is_due_then = refl
 
--- SABME comes again while an I-frame that went is not acknowledged: an indication.
+-- SABME comes again while an I-frame is outstanding: an indication.
 abbrev one_gone : List card.Event
 one_gone =
     sabme_comes ++ hears 0x00 ∷ on_0 (Data Call 64 (7 ∷ []))

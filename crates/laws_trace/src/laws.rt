@@ -116,14 +116,14 @@ pub fn what_is_told_was_heard()
 /// Data goes out. Of each link, since its numbers began: the contents of new I-frames that begin are the first of the
 /// data that was granted, in order, each once; N(S) counts them from 0 on, modulo 128; and an I-frame that goes again,
 /// which is one of the last 127, has the contents that its number had. N(R) of each I-frame is the number of contents
-/// told of the link since then, modulo 128. Where numbers begin, some of the last contents stay, all that had not gone
-/// among them, and take the first numbers; or none stays, as where an indication of an establishment is told (`front`).
-/// And all of it has gone, once the line was only pulled, as often as the configuration says, on a link in state 7
-/// whose terminal is not busy, with fewer than k I-frames outstanding, by what was heard and what began; and the number
-/// that goes next is then behind all of it, though REJ and the end of a recovery set it back to their N(R); each
-/// I-frame that begins sets it behind its own (`again`). And each has that number, so that they go again in order, from
-/// there on, and none is passed over (`next`; Q.921 clauses 3.5.2.1 to 3.5.2.6, 5.5.1.2, 5.6.1, 5.6.4, 5.6.5, 5.6.7 and
-/// 5.7).
+/// told of the link since then, modulo 128. Where numbers begin, contents that had not gone stay, and before them may
+/// stay some that had, as those do that were to go again; these take the first numbers; or none stays, as where an
+/// indication of an establishment is told (`front`). And all of it has gone, once the line was only pulled, as often as
+/// the configuration says, on a link in state 7 whose terminal is not busy, with fewer than k I-frames outstanding, by
+/// what was heard and what began; and the number that goes next is then behind all of it, though REJ and the end of a
+/// recovery set it back to their N(R); each I-frame that begins sets it behind its own (`again`). And each has that
+/// number, so that they go again in order, from there on, and none is passed over (`next`; Q.921 clauses 3.5.2.1 to
+/// 3.5.2.6, 5.5.1.2, 5.6.1, 5.6.4, 5.6.5, 5.6.7 and 5.7).
 pub fn data_goes_out()
     ensures front { Always DataGoesOut }
     ensures again { Always AllGoesAgain }
@@ -132,17 +132,17 @@ pub fn data_goes_out()
 
 /// Control frames that are due go, and no others: of a link, all frames except I-frames and UI. Due are, by the state
 /// of the link before: UA to SABME, and to DISC, with F = P, except DM to SABME in state 6, and to DISC in states 4 and
-/// 5; in states 7 and 8 REJ, with F = P, to the first I-frame of which nothing is told though layer 3 is not busy, RNR
-/// or RR with F=1 to each other I-frame, RR, RNR and REJ that is a command with P=1, and with F=0 where layer 3 comes to
-/// be busy, or is so no more; and,
-/// with P=1, SABME, DISC or an enquiry where the link comes to state 5, 6 or 8, and again where T200 expires and leaves
-/// it there. It is RNR while layer 3 is busy, and RR while it is not, with the number of contents told of the link
-/// since its numbers began, modulo 128, as it was when the frame was due. From whenever the TEI is not on the line,
-/// those that begin are among these, in their order, and none twice; except that RR with F=0, and the number told, goes
-/// by itself too in states 7 and 8, while layer 3 is not busy (`only`). And while the TEI stays on the line they all
-/// go, except the last of a moment, as many as its answer counts as lost: each has begun once the line was only pulled,
-/// as often as the configuration says, in their order (`all`; Q.921 clauses 3.5.1, 3.5.2.4 to 3.5.2.6, 5.5, 5.6, 5.7,
-/// 5.8.1 and 5.10.3).
+/// 5; in states 7 and 8 REJ, with F = P, to the first I-frame, since data was told or the numbers began, of which
+/// nothing is told though layer 3 is not busy, RNR or RR with F=1 to each other I-frame with P=1, and to RR, RNR and
+/// REJ that are commands with P=1, and RNR or RR with F=0 where layer 3 comes to be busy, or is so no more; and, with
+/// P=1, SABME, DISC or an enquiry where the link comes to state 5, 6 or 8, and again where T200 expires and leaves it
+/// there. A receipt, and an enquiry, is RNR while layer 3 is busy and RR while it is not; it and REJ have the number of
+/// contents told of the link since its numbers began, modulo 128, as it was when the frame was due. From whenever the
+/// TEI is not on the line, those that begin are among these, in their order, and none twice; except that RR with F=0,
+/// and the number told, goes by itself too in states 7 and 8, while layer 3 is not busy (`only`). And while the TEI
+/// stays on the line they all go, except the last of a moment, as many as its answer counts as lost: each has begun
+/// once the line was only pulled, as often as the configuration says, in their order (`all`; Q.921 clauses 3.5.1,
+/// 3.5.2.4 to 3.5.2.6, 5.5, 5.6, 5.7, 5.8.1 and 5.10.3).
 pub fn control_frames_go()
     ensures only { Always OnlyDueGo }
     ensures all { Always AllDueGo }
@@ -195,8 +195,8 @@ pub fn messages_are_owed()
 {}
 
 /// Timers are timely. At a caller's that obeys the orders T200 of a link runs exactly where an answer is awaited: in
-/// states 5, 6 and 8, and in state 7 where an I-frame is outstanding, or the terminal is busy. Outstanding are those that
-/// went and are not acknowledged, except those that are to go again, since REJ or the end of a recovery. T203 runs
+/// states 5, 6 and 8, and in state 7 where an I-frame is outstanding, or the terminal is busy. Outstanding are those
+/// that went and are not acknowledged, except those that are to go again, since REJ or the end of a recovery. T203 runs
 /// exactly where none is, in state 7; and neither in state 4, nor where the TEI is not on the line (`run`). An answer
 /// orders that one is started exactly where it runs then, and it did not run, or had just expired, or is started anew:
 /// because the link moves to another state, or, in state 7, because of a frame. For T200 this is RNR, and RR, or I

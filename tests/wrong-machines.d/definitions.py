@@ -5,7 +5,7 @@ import shutil
 
 # The crates that define machines and state laws, and what a copy of one doesn't have.
 MACHINES = re.compile(r"^(model|laws)_|^lapd_tei$")
-DROPPED = "proofs", "out", "must-fail", "wrong-bodies"
+DROPPED = "proofs", "out", "must-fail", "wrong-bodies.txt"
 # A worked value: its statement, what it unfolds, and its proof by computing, alone or field by field.
 WORKED = re.compile(
     r"^(?:pub )?(\S+) :(?:.*\n)(?:[ \t].*\n)*(?:unfolding .*\n)?\1 = (?:refl|record \{\n(?:[ \t].*\n)*\})\n",

@@ -14,11 +14,15 @@ ROOT = os.path.dirname(os.path.dirname(os.path.dirname(os.path.abspath(__file__)
 MINUTES, MOST_PROCESSORS = 0.75, 4
 
 
-def uses() -> Dict[str, List[str]]:
-    """What each crate uses, by crates.txt."""
+def rows() -> Dict[str, str]:
+    """The line of each crate in crates.txt, in its order. A word behind the name says what is made of the crate."""
     with open(f"{ROOT}/crates.txt", encoding="utf-8") as lines:
-        rows = [it.partition(":") for it in lines if ":" in it and not it.startswith("#")]
-    return {words.split()[0]: below.split() for words, _, below in rows}
+        return {it.partition(":")[0].split()[0]: it for it in lines if ":" in it and not it.startswith("#")}
+
+
+def uses() -> Dict[str, List[str]]:
+    """What each crate uses."""
+    return {name: line.partition(":")[2].split() for name, line in rows().items()}
 
 
 def closure(crates: Dict[str, List[str]], name: str) -> Set[str]:

@@ -23,8 +23,10 @@ def skip(what, why):
         print(f"c: SKIPPED: {what}, since {why}")
 
 
-def run(words, stdin=None, env=None):
-    return subprocess.run(words, stdin=stdin, capture_output=True, env={**os.environ, **(env or {})}, timeout=120)
+def run(words, stdin=None, env=None, given=None):
+    """Runs a program, whose input is a file, or octets that are given."""
+    source = {"stdin": stdin} if given is None else {"input": given}
+    return subprocess.run(words, **source, capture_output=True, env={**os.environ, **(env or {})}, timeout=120)
 
 
 def read(path, otherwise=b""):

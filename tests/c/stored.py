@@ -1,27 +1,19 @@
 """The stored scripts, played through the C library."""
 import concurrent.futures
-import glob
 import os
+import sys
 
 from compiled import HERE, ROOT, STRICT, check, read, run
+
+sys.path.insert(0, f"{ROOT}/tests/scripts")
+from worked import worked
 
 PLAY = [f"{HERE}/{it}.c" for it in ("play", "words", "hdlc", "memory")]
 
 
-def scripts():
-    return sorted(glob.glob(f"{ROOT}/tests/scripts/*/*.script"))
-
-
-def stored(script):
-    """What a stored script has to give: transcript, fault line and status."""
-    base = script[: -len(".script")]
-    fault = read(base + ".fault")
-    return read(base + ".transcript"), fault, int(read(base + ".status", b"1" if fault else b"0"))
-
-
 def answer(words, script):
-    with open(script, "rb") as source:
-        ran = run(words, source)
+    """What a program writes on a script, and its status."""
+    ran = run(words, given=script)
     return ran.stdout, ran.stderr, ran.returncode
 
 
@@ -29,20 +21,18 @@ class Turned:
     """The stored scripts with a pull after each octet that comes, and what lapdsim says of them."""
 
     def __init__(self, compiler, lapdsim, folder):
-        self.lapdsim, self.folder, self.turn = lapdsim, f"{folder}/turned", f"{folder}/turn"
-        os.makedirs(self.folder)
+        self.lapdsim, self.turn = lapdsim, f"{folder}/turn"
         said = run([*compiler, "-std=c99", *STRICT, f"-I{ROOT}/include", "-o", self.turn,
                     *[f"{HERE}/{it}.c" for it in ("turn", "words", "hdlc")]])
         check("turn compiles", said.returncode == 0, said.stderr.decode()[:600])
-        self.of = dict(in_parallel(self.made, scripts())) if said.returncode == 0 else {}
-        octets = sum(want[0].count(b" tx ") for path, want in self.of.values())
+        self.of = dict(in_parallel(self.made, worked().items())) if said.returncode == 0 else {}
+        octets = sum(want[0].count(b" tx ") for _, want in self.of.values())
         check("turns", octets > 10000, f"only {octets} octets are pulled")
 
-    def made(self, script):
-        path = f"{self.folder}/{os.path.relpath(script, ROOT).replace('/', '-')}"
-        with open(path, "wb") as file:
-            file.write(answer([self.turn], script)[0])
-        return script, (path, answer([self.lapdsim, "run"], path))
+    def made(self, stored):
+        name, script = stored
+        turned = answer([self.turn], script.text)[0]
+        return name, (turned, answer([self.lapdsim, "run"], turned))
 
 
 def in_parallel(work, many):
@@ -54,12 +44,12 @@ def play_all(build, turned):
     play = build.program("play", PLAY)
     if not play:
         return
-    own = {it: (it, stored(it)) for it in scripts()}
+    own = {name: (it.text, it.wanted()) for name, it in worked().items()}
     for way, words, plays in (("", [play], own), (", pulled by lapd_exchange", [play, "--exchange"], own),
                               (", in turns by lapd_exchange", [play, "--exchange"], turned.of)):
         good = in_parallel(lambda it: answer(words, plays[it][0]) == plays[it][1], plays)
-        for script, is_good in zip(plays, good):
-            check(f"{build.name}: {os.path.relpath(script, ROOT)}{way}", is_good, "another transcript, fault line or status")
+        for name, is_good in zip(plays, good):
+            check(f"{build.name}: tests/scripts/{name}{way}", is_good, "another transcript, fault line or status")
     refuse_each(build, play)
 
 

@@ -15,14 +15,14 @@ nothing and 0.
 import os
 import re
 import sys
-from typing import Dict, Iterator, List, NamedTuple, Tuple
+from typing import Dict, List, NamedTuple, Optional, Tuple
 
 HERE = os.path.dirname(os.path.abspath(__file__))
 BUILT = f"{os.path.dirname(os.path.dirname(HERE))}/crates/lapdsim/out/lapdsim"
 SECONDS = 60
 OWN = "run", "worked.py"
 KINDS = ".script", ".transcript"
-HEAD = re.compile(rb"([a-z0-9-]+):(?: (.+))?")
+HEAD, PART = re.compile(rb"([a-z0-9-]+):(?: (.+))?"), re.compile(rb"[|=](?: |$)")
 ESCAPE = re.compile(rb"\\x([0-9A-F]{2})|\\r|(.)\\\{(\d+)\}|\\$", re.S)
 
 
@@ -56,26 +56,21 @@ def octets_of(line: bytes) -> bytes:
             return found[2] * int(found[3])
         return b"\r" if found[0] == b"\\r" else b""
 
-    if b"\\" in ESCAPE.sub(b"", line):
-        sys.exit(f"scripts: what is meant by {line.decode(errors='replace')}?")
     return ESCAPE.sub(meant, line) + (b"" if line.endswith(b"\\") else b"\n")
 
 
-def rows_of(path: str) -> Iterator[Tuple[str, Worked]]:
-    """The scripts of a table, by their names in it."""
-    name, parts = "", {b"|": b"", b"=": b"", b":": b""}
+def rows_of(path: str) -> List[Tuple[str, Worked]]:
+    """The scripts of a table, with their names in it."""
+    rows: List[Tuple[str, Dict[bytes, bytes]]] = []
     for number, line in enumerate(content(path).split(b"\n"), 1):
         head = HEAD.fullmatch(line)
         if head:
-            if name:
-                yield name, Worked(parts[b"|"], parts[b"="], parts[b":"])
-            name, parts = head[1].decode(), {b"|": b"", b"=": b"", b":": head[2] + b"\n" if head[2] else b""}
-        elif name and (line[:2] in (b"| ", b"= ") or line in (b"|", b"=")):
-            parts[line[:1]] += octets_of(line[2:])
+            rows.append((head[1].decode(), {b"|": b"", b"=": b"", b":": head[2] + b"\n" if head[2] else b""}))
+        elif rows and PART.match(line) and b"\\" not in ESCAPE.sub(b"", line):
+            rows[-1][1][line[:1]] += octets_of(line[2:])
         elif line and not line.startswith(b"#"):
             sys.exit(f"scripts: {path}: line {number} is no part of a script")
-    if name:
-        yield name, Worked(parts[b"|"], parts[b"="], parts[b":"])
+    return [(name, Worked(parts[b"|"], parts[b"="], parts[b":"])) for name, parts in rows]
 
 
 def pair_of(base: str) -> Worked:
@@ -89,8 +84,9 @@ def worked(folder: str = HERE) -> Dict[str, Worked]:
     tables = [it for it in files if it.endswith(".txt")]
     known = {f"{name}{kind}" for name in names for kind in KINDS} | {*tables, *OWN}
     stray = [it for it in files if it not in known]
-    if stray:
-        sys.exit(f"scripts: {stray[0]} belongs to no script")
+    bare = [it for it in names if f"{it}.transcript" not in files]
+    if stray or bare:
+        sys.exit(f"scripts: {stray[0]} belongs to no script" if stray else f"scripts: {bare[0]} has no transcript")
     found = {it: pair_of(f"{folder}/{it}") for it in names}
     for table in tables:
         for name, row in rows_of(f"{folder}/{table}"):
@@ -101,7 +97,7 @@ def worked(folder: str = HERE) -> Dict[str, Worked]:
     return {it: found[it] for it in sorted(found)}
 
 
-def first_difference(wanted: bytes, got: bytes):
+def first_difference(wanted: bytes, got: bytes) -> Optional[str]:
     """The number and the two texts of the first line that differs, or None."""
     lines = [it.split(b"\n") for it in (got, wanted)]
     for at in range(max(map(len, lines))):
@@ -111,7 +107,7 @@ def first_difference(wanted: bytes, got: bytes):
     return None
 
 
-def difference(wanted: Tuple[bytes, bytes, int], got: Tuple[bytes, bytes, int]):
+def difference(wanted: Tuple[bytes, bytes, int], got: Tuple[bytes, bytes, int]) -> Optional[str]:
     """How what a script wrote, and its status, differ from what is wanted, or None."""
     for what, one, other in zip(("transcript", "fault"), wanted, got):
         if one != other:

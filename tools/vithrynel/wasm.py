@@ -16,8 +16,8 @@ from typing import Iterable, List
 from .crates import ROOT, sum_of
 from .static_library import NotBuilt, built, kit, module
 
-# What each module exports beside its functions: a place for what a caller hands over, and where the heap lies.
-OWN = ("module_take", "module_give", "module_heap", "__heap_base")
+# What a module exports beside its functions: a place for what a caller hands over.
+OWN = ("module_take", "module_give")
 STACK = 16384
 # The features that every engine has had for years, and wabt's wasm2c takes.
 FEATURES = ("bulk-memory", "sign-ext", "mutable-globals")
@@ -67,7 +67,7 @@ def linked(objects: List[str], exports: Iterable[str], folder: str, stack: int =
     linker = f"{folder}/wasm-ld"
     os.symlink(clang(), linker)
     words = ["-mwasm64", "--no-entry", "--strip-all", "-z", f"stack-size={stack}"]
-    run([linker, *words, *(f"--export={it}" for it in (*exports, *OWN)), *objects, "-o", "wide.wasm"], folder)
+    run([linker, *words, *(f"--export={it}" for it in exports), *objects, "-o", "wide.wasm"], folder)
     return f"{folder}/wide.wasm"
 
 
@@ -85,11 +85,12 @@ def wasm(source: str, exports: Iterable[str], folder: str, stack: int = STACK, l
 
 
 def wasm_of(name: str, exports: Iterable[str], to: str, over_gate: bool = False) -> None:
-    """The module of a crate that is a static library, proved, with these functions exported, is written to a path."""
+    """The module of a crate that is a static library, proved, is written to a path: these functions are exported, OWN, and its
+    memory."""
     need("wasm-opt")
     built(name, over_gate=over_gate, with_module=True)
     with tempfile.TemporaryDirectory(prefix="wasm-") as folder:
-        shutil.copyfile(wasm(module(name), exports, folder), to)
+        shutil.copyfile(wasm(module(name), [*exports, *OWN], folder), to)
 
 
 def put(folder: str, names: List[str], to: str) -> None:

@@ -1,7 +1,7 @@
 /* ---- Cards and clocks: each has a machine of its own -------------------------------------------------------------- */
 
 /* Where what is handed over lies in a machine's memory: the handle, a report, and whatever else a call has. */
-enum { HANDLE = PLACES, REPORT = PLACES + 16, OTHER = PLACES + 320, HEAP = OTHER + OTHER_OCTETS, RUN = 256 };
+enum { HANDLE = PLACES, REPORT = PLACES + 16, OTHER = PLACES + 320, HEAP = OTHER + OTHER_OCTETS };
 
 /* A machine whose heap has so many octets, on which nothing was started; NULL where there is no memory. */
 static machine *new_machine(u64 heap) {

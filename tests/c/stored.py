@@ -76,4 +76,4 @@ def refuse_each(build, play):
             break
         check(f"{build.name}: allocation {number} refused", (got.stdout, got.stderr) == (b"", b"out of memory\n"),
               got.stderr.decode())
-    check(f"{build.name}: allocations", number > 10, f"only {number - 1} were refused")
+    check(f"{build.name}: allocations", number > build.blocks, f"only {number - 1} were refused")

@@ -7,12 +7,13 @@ parts of c/portable, and what turns a caller's structs to the module's memory an
     portable      the whole file
 """
 import re
+import tempfile
 from typing import Dict, List, NamedTuple, Tuple
 
-from .crates import ROOT
+from .crates import ROOT, sum_of, uses
 from .header import Field, Function, Parameter, Struct, functions, numbers, structs
-from .static_library import NotBuilt
-from .wasm import run
+from .static_library import NotBuilt, built, made_of, module
+from .wasm import need, put, run, versions, wasm
 
 # Each function of these has its own text in c/portable/card.c; the others are written here.
 BY_HAND = ("lapd_version", "lapd_card_start", "lapd_card_start_frames", "lapd_clock_start", "lapd_card_free", "lapd_clock_free",
@@ -28,6 +29,11 @@ IN_OUT = {("lapd_next_link", "place")}
 # So many of the octets that are handed over say all that the call asks: one more than the longest that is served.
 MOST = {"lapd_frame": numbers()["LAPD_MOST_FRAME"] + 1, "lapd_request": numbers()["LAPD_MOST_OCTETS"] + 1,
         "lapd_next_frame": numbers()["LAPD_MOST_FRAME"]}
+# Octets of an exchange that are handed over at a time, and the room for a report.
+RUN, REPORT = 256, 304
+# Octets of stack in a machine's memory, where C's own has the rest; calls were seen to take less than half, and one that takes
+# more ends the program, as the stack lies at the memory's beginning.
+STACK = 8192
 WIDTH = {"uint8_t": 8, "uint16_t": 16, "uint32_t": 32, "uint64_t": 64, "size_t": 64}
 LOADS = {8: "i32_load8_u", 16: "i32_load16_u", 32: "i32_load", 64: "i64_load"}
 STORES = {8: "i32_store8", 16: "i32_store16", 32: "i32_store", 64: "i64_store"}
@@ -230,15 +236,74 @@ def memory() -> str:
             f"#elif !defined(LAPD_OWN_MEMORY)\n\n{functions_of_memory('c/heap.c')}\n\n#endif\n")
 
 
-def portable(made: Machine, comment: str) -> str:
-    calls = [Call(it) for it in functions() if it.name not in BY_HAND]
-    others = max(1024, *(it.octets for it in calls))
+def calls() -> List["Call"]:
+    return [Call(it) for it in functions() if it.name not in BY_HAND]
+
+
+def other_octets() -> int:
+    """So many octets take what one call hands over beside the handle and a report; an exchange takes two runs and its steps."""
+    return max(16 + 2 * RUN, *(it.octets for it in calls()))
+
+
+def own_octets(made: Machine) -> int:
+    """So many octets a machine takes beside its heap: its data and stack, what is handed over, and 64 of its own."""
+    return -(-made.heap_base // 16) * 16 + 16 + REPORT + other_octets() + 64
+
+
+def portable(made: Machine, head: str) -> str:
     struct = (f"/* A card or a clock: WebAssembly's globals and memory. */\ntypedef struct {{\n{made.fields}u64 octets;\n"
               "u8 data[];\n} machine;\n")
     return "\n".join([
-        comment, '#include "lapd.h"\n', content("c/portable/head.c"), memory(), struct, content("c/portable/memory.c"),
+        head, '#include "lapd.h"\n', content("c/portable/head.c"), memory(), struct, content("c/portable/memory.c"),
         "/* ---- What wasm2c made of the proved library ---- */\n", made.functions,
-        f"enum {{ PLACES = {-(-made.heap_base // 16) * 16}, OTHER_OCTETS = {others} }};\n",
+        f"enum {{ PLACES = {-(-made.heap_base // 16) * 16}, OTHER_OCTETS = {other_octets()}, RUN = {RUN} }};\n",
         "/* So many octets of the caller's, or as many of them as say all that a call asks. */\n"
         "static inline size_t at_most(size_t count, size_t most) {\n    return count < most ? count : most;\n}\n",
-        marshalling(), content("c/portable/card.c"), *(it.text() for it in calls)])
+        marshalling(), content("c/portable/card.c"), *(it.text() for it in calls())])
+
+
+NAME = "lapd_c"
+COMMENT = """\
+/*
+ * lapd.c: the whole of lapd.h in one file, for each processor. Written by tools/portable of Vithrynel; not to be edited.
+ *
+ * {from_what}
+ *
+ * The library is proved, each function of it, in Rattle. Proofs end with its code as the kit's compiler has it. From there on
+ * nothing is proved, and all is tested: that code is compiled for WebAssembly by the kit's clang, its addresses are lowered by
+ * wasm-opt, and wasm2c writes the module as C; the parts around it, which turn a caller's structs to the module's memory and
+ * back, are the repository's. Each card and each clock has such a memory of its own, which does not grow.
+ */
+"""
+README = """\
+lapd.c and lapd.h: LAPD for line cards (ITU-T Q.921, modulo 128), in C99, for each processor of 32 or 64 bits.
+
+    cc -std=c99 -O2 -o program program.c lapd.c
+
+lapd.h says what each function does. Cards and clocks lie in one static region: -DLAPD_HEAP_OCTETS=N says how large it is
+(131072 if left out), or -DLAPD_MALLOC takes malloc, or -DLAPD_OWN_MEMORY the program's rattle_alloc and rattle_dealloc. A
+card takes lapd_card_octets(&config) octets and {own} more, a clock lapd_clock_octets(&config) and {own} more. Starts and ends
+run one at a time, unless the functions of memory allow more; else cards of several threads have nothing in common. Each access
+to a card's memory is tested, and ends the program by abort() where it lies outside, which no run has shown; -DLAPD_UNTESTED
+leaves that out. A compiler that does not tell the order of octets as GCC does wants -DLAPD_BIG_END_FIRST=0 or 1.
+"""
+
+
+def comment(wasm: str) -> str:
+    made = [f"From crates/{NAME}, whose sources have the sum", f"{made_of(uses(), NAME)}, by", *versions("wasm-opt", "wasm2c"),
+            "through a module with the sum", f"{sum_of(wasm)}."]
+    return COMMENT.format(from_what="\n * ".join(made))
+
+
+def written(to: str, over_gate: bool = False) -> None:
+    """lapd.c, lapd.h and a page, in a folder, by all steps."""
+    need("wasm-opt", "wasm2c")
+    built(NAME, over_gate=over_gate, with_module=True)
+    with tempfile.TemporaryDirectory(prefix="portable-") as folder:
+        module_of = wasm(module(NAME), exports(), folder, STACK)
+        made = machine(module_of, folder)
+        for name, text in (("lapd.c", portable(made, comment(module_of))), ("lapd.h", content("include/lapd.h")),
+                           ("README", README.format(own=own_octets(made)))):
+            with open(f"{folder}/{name}", "w", encoding="utf-8") as file:
+                file.write(text)
+        put(folder, ["lapd.c", "lapd.h", "README"], to)

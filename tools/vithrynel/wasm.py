@@ -13,12 +13,12 @@ import subprocess
 import tempfile
 from typing import Iterable, List
 
-from .crates import ROOT, sum_of
+from .crates import ROOT
 from .static_library import NotBuilt, built, kit, module
 
 # What a module exports beside its functions: a place for what a caller hands over.
 OWN = ("module_take", "module_give")
-STACK = 16384
+STACK = 65536
 # The features that every engine has had for years, and wabt's wasm2c takes.
 FEATURES = ("bulk-memory", "sign-ext", "mutable-globals")
 WITHOUT = ("multivalue", "reference-types", "nontrapping-fptoint", "simd128", "tail-call", "extended-const")
@@ -115,6 +115,3 @@ def versions(*programs: str) -> List[str]:
         said.append(f"{it} {re.sub(r'^.*version ', '', told)} ({PACKAGES[it]})")
     return said
 
-
-def sum_of_module(name: str) -> str:
-    return sum_of(module(name))

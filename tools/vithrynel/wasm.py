@@ -49,7 +49,7 @@ def clang() -> str:
     return f"{kit()}/toolchain/bin/clang"
 
 
-def for_wasm(source: str, folder: str, level: str = "-O3") -> str:
+def for_wasm(source: str, folder: str, level: str = "-O2") -> str:
     """The compiler's module as an object for WebAssembly. Its functions name a processor that this target has not; clang says
     so, and goes on."""
     run([clang(), *TARGET, *SECTIONS, "-Wno-override-module", level, "-c", "-x", "ir", source, "-o", "module.o"], folder)
@@ -77,7 +77,7 @@ def lowered(wide: str, folder: str) -> str:
     return f"{folder}/module.wasm"
 
 
-def wasm(source: str, exports: Iterable[str], folder: str, stack: int = STACK, level: str = "-O3") -> str:
+def wasm(source: str, exports: Iterable[str], folder: str, stack: int = STACK, level: str = "-O2") -> str:
     """All steps from the compiler's module: the path of module.wasm in the folder, which is to be empty."""
     need("wasm-opt")
     objects = [for_wasm(source, folder, level), memory_for_wasm(folder)]

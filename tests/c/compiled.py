@@ -72,7 +72,7 @@ class Build:
     def __init__(self, name, compiler, words, library, folder, runner=(), each=0, blocks=10, stack=()):
         self.name, self.compiler, self.words, self.library = name, compiler, words, library
         self.folder, self.runner = f"{folder}/{name}", runner
-        self.each, self.blocks, self.stack = each, blocks, stack
+        self.each, self.blocks, self.stack, self.is_brief = each, blocks, stack, False
         os.makedirs(self.folder)
 
     def program(self, name, sources, *flags, words=None):

@@ -8,7 +8,8 @@ import subprocess
 import sys
 from typing import NamedTuple, Tuple
 
-from compiled import HERE, ROOT, STRICT, Build, check, compilers, run, skip
+from compiled import HERE, ROOT, STRICT, Build, check, read, run, skip
+from stored import in_parallel
 
 sys.path.insert(0, f"{ROOT}/tools")
 from vithrynel.header import functions, structs
@@ -54,19 +55,21 @@ def tool(name, folder):
 
 
 class Portable:
-    """What tools/portable leaves, made once for all targets."""
+    """What tools/portable leaves: in a folder that is named, or made once for all targets."""
 
-    def __init__(self, folder):
-        self.folder = f"{folder}/lapd"
-        self.is_there = tool("portable", self.folder)
+    def __init__(self, folder, made):
+        self.folder = made or f"{folder}/lapd"
+        self.is_there = bool(made) or tool("portable", self.folder)
         if self.is_there:
             with open(f"{self.folder}/README", encoding="utf-8") as file:
                 self.each = int(re.search(r"lapd_card_octets\(&config\) octets and (\d+) more", file.read())[1])
 
     def build(self, name, target, folder):
         """The tests' programs over lapd.c, with three functions of memory of the tests' own."""
-        library, compiler = f"{folder}/{name}.o", shutil.which(target.compiler)
-        said = run([compiler, "-std=c99", "-O2", *STRICT, "-pedantic", "-DLAPD_OWN_MEMORY", "-c", f"{self.folder}/lapd.c", "-o", library])
+        library, compiler = f"{folder}/lib{name}.a", shutil.which(target.compiler)
+        words = [compiler, "-std=c99", "-O2", *STRICT, "-pedantic", "-DLAPD_OWN_MEMORY", "-c", f"{self.folder}/lapd.c"]
+        said = run([*words, "-o", f"{folder}/{name}.o"])
+        run([re.sub("gcc$|cc$", "ar", target.compiler), "rcs", library, f"{folder}/{name}.o"])
         check(f"{name}: lapd.c compiles", said.returncode == 0, said.stderr.decode()[:600])
         if said.returncode:
             return None
@@ -130,20 +133,21 @@ def one_file(portable, folder):
     wanted = {it.name for it in functions()}
     check("exports of lapd.c", there == wanted, sorted(there ^ wanted))
     check("what lapd.c asks for", asked <= ASKED_FOR, sorted(asked - ASKED_FOR))
-    for flags in ([], ["-DLAPD_MALLOC"], ["-DLAPD_HEAP_OCTETS=120000"], ["-DLAPD_UNTESTED"]):
-        said = run(["cc", "-O1", "-o", f"{folder}/one", f"{ROOT}/examples/c/first.c", f"{portable.folder}/lapd.c", *flags])
-        good = said.returncode == 0 and run([f"{folder}/one"]).stdout == FIRST
-        check(f"first.c with lapd.c {' '.join(flags)}", good, said.stderr.decode()[:600])
-    said = run(["cc", "-O1", "-DLAPD_HEAP_OCTETS=20000", "-o", f"{folder}/small", f"{ROOT}/examples/c/first.c", f"{portable.folder}/lapd.c"])
-    check("first.c where there is no room", run([f"{folder}/small"]).stderr == b"out of memory\n", said.stderr.decode()[:600])
+    small = "-DLAPD_HEAP_OCTETS=20000"
+    ways = {"": FIRST, "-DLAPD_MALLOC": FIRST, "-DLAPD_HEAP_OCTETS=120000": FIRST, "-DLAPD_UNTESTED": FIRST, small: b"out of memory\n"}
+    for flag, (compiled, said) in zip(ways, in_parallel(lambda it: first_with(portable, it, folder), ways)):
+        check(f"first.c with lapd.c {flag}", said == ways[flag], f"{compiled} {said}")
+
+
+def first_with(portable, flag, folder):
+    """What first.c with lapd.c says, compiled quickly; what the compiler says comes first."""
+    path = f"{folder}/first{flag}"
+    said = run(["cc", f"-I{portable.folder}", "-o", path, f"{ROOT}/examples/c/first.c", f"{portable.folder}/lapd.c", *flag.split()])
+    ran = run([path]) if said.returncode == 0 else None
+    return said.stderr.decode()[:600], ran and ran.stdout + ran.stderr
 
 
 FIRST = b"0 establish-indication 64\n0 tx 7E008173C4127E\nstored 0 limit 17470\n"
-
-
-def read(path):
-    with open(path, "rb") as file:
-        return file.read()
 
 
 def inside(portable, folder):

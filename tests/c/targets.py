@@ -19,7 +19,7 @@ REQUIRED = "TARGETS"
 # What lapd.c asks a C library for: compilers call the first three by themselves, and GCC's own helpers begin with __.
 ASKED_FOR = {"memcpy", "memmove", "memset", "abort", "rattle_alloc", "rattle_dealloc"}
 # The stack that calls may take where C's locals stand for the machine's: docs/TARGETS.md says so.
-STACK = ("-DMOST=4096", "-DMOST_OF_START=4096")
+STACK = ("-DMOST=5120", "-DMOST_OF_START=5120")
 
 
 class Target(NamedTuple):

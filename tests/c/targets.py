@@ -102,6 +102,18 @@ def build_for(name, portable, build, folder):
     return portable().build(name, target, folder) if portable().is_there else None
 
 
+def installed(build, folder):
+    """A program is linked with what tools/install leaves for a processor, by the flags of pkg-config, and runs."""
+    at = f"{folder}/installed-{build.name}"
+    said = run([f"{ROOT}/tools/install", "--target", build.name, at])
+    check(f"tools/install --target {build.name}", said.returncode == 0, said.stderr.decode()[-600:])
+    for name, env in (("lapd", {}), ("lapd-shared", {"LD_LIBRARY_PATH": f"{at}/lib"})):
+        told = run(["pkg-config", "--cflags", "--libs", name], env={"PKG_CONFIG_PATH": f"{at}/lib/pkgconfig"})
+        run([*build.compiler, "-o", f"{at}/{name}", f"{ROOT}/examples/c/first.c", *told.stdout.decode().split()])
+        words = [*build.runner, *(word for key, value in env.items() for word in ("-E", f"{key}={value}")), f"{at}/{name}"]
+        check(f"{build.name}: a program with {name}", os.path.exists(f"{at}/{name}") and run(words).stdout == FIRST, told.stderr.decode())
+
+
 # ---- What holds of lapd.c and lapd.wasm on this machine ----------------------------------------------------------------
 
 def layouts():

@@ -64,16 +64,16 @@ class Portable:
             with open(f"{self.folder}/README", encoding="utf-8") as file:
                 self.each = int(re.search(r"lapd_card_octets\(&config\) octets and (\d+) more", file.read())[1])
 
-    def build(self, name, target, folder):
+    def build(self, name, target, folder, level="-O2", flags=()):
         """The tests' programs over lapd.c, with three functions of memory of the tests' own."""
         library, compiler = f"{folder}/lib{name}.a", shutil.which(target.compiler)
-        words = [compiler, "-std=c99", "-O2", *STRICT, "-pedantic", "-DLAPD_OWN_MEMORY", "-c", f"{self.folder}/lapd.c"]
+        words = [compiler, *flags, "-std=c99", level, *STRICT, "-pedantic", "-DLAPD_OWN_MEMORY", "-c", f"{self.folder}/lapd.c"]
         said = run([*words, "-o", f"{folder}/{name}.o"])
         run([re.sub("gcc$|cc$", "ar", target.compiler), "rcs", library, f"{folder}/{name}.o"])
         check(f"{name}: lapd.c compiles", said.returncode == 0, said.stderr.decode()[:600])
         if said.returncode:
             return None
-        return Build(name, [compiler], [compiler], library, folder, target.emulator, each=self.each, blocks=2, stack=STACK)
+        return Build(name, [compiler], [compiler, *flags], library, folder, target.emulator, each=self.each, blocks=2, stack=STACK)
 
 
 def proved_for(name, build):
@@ -170,6 +170,17 @@ def inside(portable, folder):
     if said.returncode == 0:
         ran = run([path])
         check("what is handed over", ran.returncode == 0, (ran.stdout + ran.stderr).decode()[:600])
+
+
+def threads(portable, folder):
+    """Cards of several threads have nothing in common; where the compiler has a sanitizer of threads, it says the same."""
+    words = ["cc", "-std=c99", "-O0", *STRICT, f"-I{portable.folder}", "-DLAPD_MALLOC", "-o", f"{folder}/threads"]
+    sources = [f"{HERE}/threads.c", f"{portable.folder}/lapd.c", "-lpthread"]
+    if run([*words, "-fsanitize=thread", *sources]).returncode or run([f"{folder}/threads"]).returncode not in (0, 1, 66):
+        print("c: SKIPPED: a sanitizer of threads, since the compiler has none here")
+        run([*words, *sources])
+    ran = run([f"{folder}/threads"])
+    check("threads", ran.returncode == 0, ran.stderr.decode()[:600])
 
 
 def engine(folder):

@@ -24,8 +24,8 @@ def skip(what, why, required="CC_TESTS"):
         print(f"c: SKIPPED: {what}, since {why}")
 
 
-def run(words, stdin=None, env=None):
-    return subprocess.run(words, stdin=stdin, capture_output=True, env={**os.environ, **(env or {})}, timeout=120)
+def run(words, stdin=None, env=None, timeout=120):
+    return subprocess.run(words, stdin=stdin, capture_output=True, env={**os.environ, **(env or {})}, timeout=timeout)
 
 
 def read(path, otherwise=b""):

@@ -16,6 +16,8 @@ from vithrynel.header import functions, structs
 from vithrynel.static_library import archive, made_of, noted, uses
 
 REQUIRED = "TARGETS"
+# lapd.c is long, and a machine may have much to do.
+LONG = 900
 # What lapd.c asks a C library for: compilers call the first three by themselves, and GCC's own helpers begin with __.
 ASKED_FOR = {"memcpy", "memmove", "memset", "abort", "rattle_alloc", "rattle_dealloc"}
 # The stack that calls may take where C's locals stand for the machine's: docs/TARGETS.md says so.
@@ -68,7 +70,7 @@ class Portable:
         """The tests' programs over lapd.c, with three functions of memory of the tests' own."""
         library, compiler = f"{folder}/lib{name}.a", shutil.which(target.compiler)
         words = [compiler, *flags, "-std=c99", level, *STRICT, "-pedantic", "-DLAPD_OWN_MEMORY", "-c", f"{self.folder}/lapd.c"]
-        said = run([*words, "-o", f"{folder}/{name}.o"])
+        said = run([*words, "-o", f"{folder}/{name}.o"], timeout=LONG)
         run([re.sub("gcc$|cc$", "ar", target.compiler), "rcs", library, f"{folder}/{name}.o"])
         check(f"{name}: lapd.c compiles", said.returncode == 0, said.stderr.decode()[:600])
         if said.returncode:
@@ -154,7 +156,7 @@ def one_file(portable, folder):
 def first_with(portable, flag, folder):
     """What first.c with lapd.c says, compiled quickly; what the compiler says comes first."""
     path = f"{folder}/first{flag}"
-    said = run(["cc", f"-I{portable.folder}", "-o", path, f"{ROOT}/examples/c/first.c", f"{portable.folder}/lapd.c", *flag.split()])
+    said = run(["cc", f"-I{portable.folder}", "-o", path, f"{ROOT}/examples/c/first.c", f"{portable.folder}/lapd.c", *flag.split()], timeout=LONG)
     ran = run([path]) if said.returncode == 0 else None
     return said.stderr.decode()[:600], ran and ran.stdout + ran.stderr
 
@@ -165,7 +167,7 @@ FIRST = b"0 establish-indication 64\n0 tx 7E008173C4127E\nstored 0 limit 17470\n
 def inside(portable, folder):
     """What lapd.c's own parts decide is what the machine decides (handed.c, which has lapd.c in it)."""
     path = f"{folder}/handed"
-    said = run(["cc", "-std=c99", "-O1", *STRICT, f"-I{portable.folder}", "-DLAPD_MALLOC", "-o", path, f"{HERE}/handed.c"])
+    said = run(["cc", "-std=c99", "-O1", *STRICT, f"-I{portable.folder}", "-DLAPD_MALLOC", "-o", path, f"{HERE}/handed.c"], timeout=LONG)
     check("handed.c compiles", said.returncode == 0, said.stderr.decode()[:600])
     if said.returncode == 0:
         ran = run([path])
@@ -176,9 +178,9 @@ def threads(portable, folder):
     """Cards of several threads have nothing in common; where the compiler has a sanitizer of threads, it says the same."""
     words = ["cc", "-std=c99", "-O0", *STRICT, f"-I{portable.folder}", "-DLAPD_MALLOC", "-o", f"{folder}/threads"]
     sources = [f"{HERE}/threads.c", f"{portable.folder}/lapd.c", "-lpthread"]
-    if run([*words, "-fsanitize=thread", *sources]).returncode or run([f"{folder}/threads"]).returncode not in (0, 1, 66):
+    if run([*words, "-fsanitize=thread", *sources], timeout=LONG).returncode or run([f"{folder}/threads"]).returncode not in (0, 1, 66):
         print("c: SKIPPED: a sanitizer of threads, since the compiler has none here")
-        run([*words, *sources])
+        run([*words, *sources], timeout=LONG)
     ran = run([f"{folder}/threads"])
     check("threads", ran.returncode == 0, ran.stderr.decode()[:600])
 

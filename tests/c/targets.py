@@ -206,9 +206,9 @@ def told(name, words, folder, **env):
 def faults(folder):
     """Without its programs, and where it can't write."""
     os.makedirs(f"{folder}/words")
-    for name in ("python3", "rt"):
-        if shutil.which(name):
-            os.symlink(shutil.which(name), f"{folder}/words/{name}")
+    for name, path in (("python3", sys.executable), ("rt", shutil.which("rt"))):
+        if path:
+            os.symlink(path, f"{folder}/words/{name}")
     with open(f"{folder}/file", "w", encoding="ascii"):
         pass
     for name in ("portable", "module"):

@@ -1,0 +1,86 @@
+"""What include/lapd.h declares: its functions, and its structs with where their fields lie in a module's memory, which is as on
+x86-64 (tests/c/layout.c has the same numbers by hand, and tests/c/targets.py compares)."""
+import functools
+import re
+from typing import Dict, List, NamedTuple, Optional, Tuple
+
+from .crates import ROOT
+
+HEADER = f"{ROOT}/include/lapd.h"
+# How many octets a plain type has, at a multiple of which it lies.
+PLAIN = {"bool": 1, "uint8_t": 1, "uint16_t": 2, "uint32_t": 4, "uint64_t": 8, "size_t": 8, "void *": 8}
+
+
+class Parameter(NamedTuple):
+    """Of a function: its type without `*` and `const`, and how it is handed over."""
+    kind: str
+    name: str
+    is_pointer: bool
+    is_const: bool
+
+
+class Function(NamedTuple):
+    name: str
+    result: str
+    parameters: Tuple[Parameter, ...]
+
+
+class Field(NamedTuple):
+    """Of a struct; `count` is None where it is no array."""
+    kind: str
+    name: str
+    count: Optional[int]
+    at: int
+
+
+class Struct(NamedTuple):
+    name: str
+    fields: Tuple[Field, ...]
+    octets: int
+    alignment: int
+
+
+@functools.lru_cache(None)
+def text() -> str:
+    """The header without comments."""
+    with open(HEADER, encoding="utf-8") as file:
+        return re.sub(r"/\*.*?\*/", "", file.read(), flags=re.S)
+
+
+def parameter(words: str) -> Parameter:
+    found = re.fullmatch(r"(const )?(?:struct )?(\w+) (\*?)(\w+)", " ".join(words.split()))
+    if not found:
+        raise ValueError(f"a parameter that is not read: {words}")
+    return Parameter(found[2], found[4], bool(found[3]), bool(found[1]))
+
+
+@functools.lru_cache(None)
+def functions() -> List[Function]:
+    """The functions of the library, in order: none of those that the header defines."""
+    rows = re.findall(r"^(uint(?:32|64)_t) (lapd_\w+)\(([^)]*)\);", text(), re.M)
+    return [Function(name, result, tuple(map(parameter, words.split(",") if words != "void" else ())))
+            for result, name, words in rows]
+
+
+def numbers() -> Dict[str, int]:
+    """The header's numbers by name."""
+    return {name: int(number) for name, number in re.findall(r"\b(LAPD_\w+) = (\d+)\b", text())}
+
+
+def laid_out(name: str, body: str, known: Dict[str, Struct]) -> Struct:
+    fields, at, alignment = [], 0, 1
+    for kind, field, count in re.findall(r"(\w+|void \*) ?\b(\w+)(?:\[(\w+)\])?;", body):
+        size, own = (known[kind].octets, known[kind].alignment) if kind in known else (PLAIN[kind], PLAIN[kind])
+        at = -(-at // own) * own
+        many = None if not count else int(count) if count.isdigit() else numbers()[count]
+        fields.append(Field(kind, field, many, at))
+        at, alignment = at + size * (1 if many is None else many), max(alignment, own)
+    return Struct(name, tuple(fields), -(-at // alignment) * alignment, alignment)
+
+
+@functools.lru_cache(None)
+def structs() -> Dict[str, Struct]:
+    found: Dict[str, Struct] = {}
+    for name, body in re.findall(r"^(?:typedef )?struct (\w+) \{\n(.*?)^\}", text(), re.M | re.S):
+        found[name] = laid_out(name, body, found)
+    return found

@@ -1,0 +1,133 @@
+"""Static libraries of the repository: proved and built for a processor. Beside an archive for x86-64 lies the compiler's
+module that it was made from, which tools/vithrynel/wasm.py compiles on for WebAssembly."""
+import os
+import re
+import shlex
+import subprocess
+import sys
+import tempfile
+from typing import Dict, List, NamedTuple, Set, Tuple
+
+from .crates import (ROOT, closure, is_newer, need_toolchain, note, noted, plan, proved, rlib, sum_of_sources, unproved, uses)
+
+
+class Processor(NamedTuple):
+    """The kit's name of a target, and the first processor of that kind: what is compiled for it runs on each."""
+    target: str
+    cpu: str
+
+
+HOST = "x86-64"
+PROCESSORS = {HOST: Processor("x86_64-unknown-linux-gnu", "x86-64"),
+              "aarch64": Processor("aarch64-unknown-linux-gnu", "generic")}
+# What else an archive is made by: its sum covers these.
+TOOLS = (f"{ROOT}/tools/library", os.path.abspath(__file__))
+NOT_TRIED = 77
+
+
+class NotBuilt(Exception):
+    """What is told where a library is not built; the status with which a tool ends."""
+
+    def __init__(self, why: str, status: int = 1) -> None:
+        super().__init__(why)
+        self.status = status
+
+
+def archive(name: str, processor: str = HOST) -> str:
+    out = f"{ROOT}/crates/{name}/out"
+    return f"{out}/lib{name}.a" if processor == HOST else f"{out}/{processor}/lib{name}.a"
+
+
+def module(name: str) -> str:
+    """The compiler's module of the archive for x86-64."""
+    return f"{ROOT}/crates/{name}/out/{name}.bc"
+
+
+def kit() -> str:
+    """The folder of the toolchain's kit."""
+    said = subprocess.run(["rt", "doc"], stdout=subprocess.PIPE, text=True, check=True)
+    return os.path.dirname(said.stdout.strip())
+
+
+def made_of(crates: Dict[str, List[str]], name: str, processor: str = HOST) -> str:
+    """The sum of what an archive is made from."""
+    return sum_of_sources(crates, name, *TOOLS) + ("" if processor == HOST else f"-{processor}")
+
+
+def are_of_gate(crates: Dict[str, List[str]], below: Set[str]) -> bool:
+    """Whether `rt ci` left each library below: newer than its sources, and with no stamp, by which `rt lib` knows its own."""
+    of_gate = [not os.path.exists(f"{os.path.dirname(rlib(it))}/stamp") for it in below]
+    return all(of_gate) and not unproved(crates, below)
+
+
+def keeping(toolchain: str, folder: str, kept: str) -> str:
+    """A folder like the kit's toolchain, whose clang also keeps the module that it is given to compile."""
+    os.makedirs(f"{folder}/bin")
+    for name in os.listdir(f"{toolchain}/bin"):
+        if name != "clang":
+            os.symlink(f"{toolchain}/bin/{name}", f"{folder}/bin/{name}")
+    os.symlink(f"{toolchain}/lib", f"{folder}/lib")
+    with open(f"{folder}/bin/clang", "w", encoding="utf-8") as file:
+        file.write(f'#!/bin/sh\nfor word; do case $word in *module.bc) cp "$word" {shlex.quote(kept)} || exit ;; esac; done\n'
+                   f'exec {shlex.quote(toolchain)}/bin/clang "$@"\n')
+    os.chmod(f"{folder}/bin/clang", 0o755)
+    return folder
+
+
+def words_of_build(crates: Dict[str, List[str]], name: str, processor: str, toolchain: str) -> List[str]:
+    """The words by which the kit's compiler proves a crate over libraries that are there, and builds it, as `rt` has them."""
+    root, below, to = kit(), closure(crates, name) - {name}, archive(name, processor)
+    words = ["--crate-name", name, "src/lib.rt", "--extern", f"std={root}/rlibs/std.rlib"]
+    for it in crates[name]:
+        words += ["--extern", f"{it}={rlib(it) if it in below else f'{root}/rlibs/{it}.rlib'}"]
+    for folder in [f"{root}/rlibs", *(os.path.dirname(rlib(it)) for it in sorted(below))]:
+        words += ["-L", f"dependency={folder}"]
+    words += ["--antt-project", f"{root}/rattle/logic/antt-project.json", "--logic-built", f"{root}/logic_built"]
+    words += ["--jobs", os.environ.get("RT_JOBS") or str(len(os.sched_getaffinity(0))), "--links", f"{name}="]
+    words += ["--crate-type", "staticlib", "--toolchain", toolchain, "--backend", "llvm"]
+    words += [f"--target={PROCESSORS[processor].target}", f"--cpu={PROCESSORS[processor].cpu}", "-o", to]
+    if not are_of_gate(crates, below):
+        # `rt lib` left what it checked of the crate itself, too
+        words += ["--incremental", "out/incremental"]
+    os.makedirs(os.path.dirname(to), exist_ok=True)
+    return [f"{root}/bin/rattle", "build", *words]
+
+
+def compiled(crates: Dict[str, List[str]], name: str, processor: str) -> Tuple[bool, str]:
+    """Proves the crate over the libraries below it, which are there, and builds its archive."""
+    if processor != HOST:
+        return proved(words_of_build(crates, name, processor, f"{kit()}/toolchain"), name, 1)
+    with tempfile.TemporaryDirectory(prefix="toolchain-") as folder:
+        toolchain = keeping(f"{kit()}/toolchain", f"{folder}/toolchain", f"{folder}/module.bc")
+        is_built, said = proved(words_of_build(crates, name, processor, toolchain), name, 1)
+        if is_built:
+            with open(f"{folder}/module.bc", "rb") as source, open(module(name), "wb") as target:
+                target.write(source.read())
+        return is_built, said
+
+
+def built(name: str, processor: str = HOST, over_gate: bool = False, with_module: bool = False) -> str:
+    """Has the archive proved and built where it is not there, made from these sources; its path. With the compiler's module
+    beside it, where that is asked for. Where `rt lib` would have to prove crates below, `over_gate` ends with NOT_TRIED."""
+    crates = uses()
+    of, path = made_of(crates, name, processor), archive(name, processor)
+    is_there = noted(path) == of or over_gate and is_newer(path, closure(crates, name), *TOOLS)
+    if is_there and not (with_module and noted(module(name)) != of):
+        return path
+    need_toolchain()
+    below = closure(crates, name) - {name}
+    if not are_of_gate(crates, below):
+        if over_gate:
+            raise NotBuilt(f"`rt lib` in crates/{name} would have to prove it", NOT_TRIED)
+        missing = [*unproved(crates, below), name]
+        print(f"library: proves {plan(missing)}", file=sys.stderr, flush=True)
+        is_built, said = proved(["rt", "lib"], name, len(missing))
+        if not is_built:
+            raise NotBuilt("\n".join([*said.splitlines()[-8:], "it was not built"]))
+    is_built, said = compiled(crates, name, processor)
+    if not is_built or not re.search(r"^logic=proved ", said, re.M) or not os.path.exists(path):
+        raise NotBuilt("\n".join([*said.splitlines()[-8:], "it was not built"]))
+    note(path, of)
+    if processor == HOST:
+        note(module(name), of)
+    return path

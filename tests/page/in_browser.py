@@ -1,0 +1,426 @@
+"""The page in a browser."""
+import base64
+import json
+import os
+import random
+import time
+from typing import Iterator, List, Tuple
+
+from browser import Browser, Lost
+from vithrynel.program import ROOT
+from vithrynel.story import BESIDE, COMMENT, FAULT, PAUSE
+from wanted import Played
+
+MOST_DIGITS = 120  # of information that is shown whole
+MANY = 40  # scripts that are shown in one go
+AWAY = 2.0  # seconds for which the page may be away at most
+LOST = "conversation/frame-lost"  # the script of the menu in which a frame is lost
+
+# What the page shows, in its own words.
+LOOK = """
+window.look = () => ({
+  ladders: [...document.querySelectorAll("#ladder .names")].map((it) => ({
+    title: it.querySelector("h2").textContent,
+    names: [...it.querySelectorAll(".bars b")].map((name) => name.textContent),
+    rows: [...it.nextElementSibling.querySelectorAll("[data-line]")].map((row) => [
+      row.className.split(" ").find((name) => name.startsWith("kind-")).slice(5),
+      row.querySelector(".words, .pass, .comment, .fault")?.textContent ?? "",
+      row.querySelector(".meaning")?.textContent ?? "",
+      row.querySelector(".beside")?.textContent ?? "",
+      Number(row.dataset.line),
+    ]),
+  })),
+  said: [...document.querySelectorAll("#transcript-lines .said")].map((it) => it.textContent),
+  verdict: document.getElementById("verdict").textContent,
+  faulty: [...document.querySelectorAll("#gutter .is-faulty")].map((it) => it.textContent),
+  band: document.querySelector(".band.fault")?.textContent ?? "",
+  text: document.getElementById("text").value,
+});
+window.isPlayed = () => document.body.dataset.state === "played";
+window.played = async () => {
+  for (let at = 0; !isPlayed(); at += 1) await new Promise((go) => setTimeout(go, at < 50 ? 2 : 20));
+};
+window.shown = async (fragment) => {
+  if (location.hash !== fragment) {
+    const turned = new Promise((go) => addEventListener("hashchange", go, { once: true }));
+    location.hash = fragment;
+    await turned;
+  }
+  await played();
+  return look();
+};
+window.type = async (script) => {
+  const text = document.getElementById("text");
+  text.focus();
+  text.value = script;
+  text.dispatchEvent(new Event("input"));
+  await played();
+};
+window.watch = () => {
+  window.away = 0;
+  let latest = performance.now();
+  clearInterval(window.watching);
+  window.watching = setInterval(() => {
+    const now = performance.now();
+    window.away = Math.max(window.away, now - latest);
+    latest = now;
+  }, 10);
+};
+"""
+
+
+def fragment(script: bytes) -> str:
+    return "#script=" + base64.urlsafe_b64encode(script).decode().rstrip("=")
+
+
+def shortened(digits: str) -> str:
+    return digits if len(digits) <= MOST_DIGITS else f"{digits[:MOST_DIGITS - 20]}… ({len(digits) // 2} octets)"
+
+
+def drawn(row: List) -> List[str]:
+    """A row as the page shows it: its kind, the words on its arrow, what they mean, and what stands beside it."""
+    _, kind, head, info, meaning, beside = row
+    if kind == PAUSE:
+        return [kind, f"{head} pass", "", ""]
+    if kind == BESIDE:
+        return [kind, "", "", head]
+    return [kind, head if kind in (COMMENT, FAULT) or not info else f"{head} {shortened(info)}", meaning, beside]
+
+
+def differences(it: Played, got: dict) -> Iterator[str]:
+    """How what the page shows of a script differs from what the tools make of it."""
+    fault = [[FAULT, it.fault, "", ""]] if it.fault else []
+    wanted = [(f"line {line}", [*map(drawn, rows), *fault]) for line, rows in it.rows.items()]
+    found = [(ladder["title"], [row[:4] for row in ladder["rows"]]) for ladder in got["ladders"]]
+    if found != wanted:
+        pairs = [(one, two) for left, right in zip(found, wanted) for one, two in zip(left[1], right[1]) if one != two]
+        yield f"ladder: {pairs[:1] or (found[:1], wanted[:1])}"[:600]
+    names = ["exchange", "user", "layer 3"] if it.is_user else ["terminal", "exchange", "layer 3"]
+    if any(ladder["names"] != names for ladder in got["ladders"]):
+        yield f"names {got['ladders'][0]['names']}"
+    if "".join(f"{said}\n" for said in got["said"]) != it.transcript:
+        yield "another transcript"
+    number = it.fault.split(":")[0].split(" ")[1] if it.fault else ""
+    if (it.fault or "No fault.") not in got["verdict"] or (got["band"] != "") != bool(it.fault):
+        yield f"verdict {got['verdict']!r}, {got['band']!r}, wanted {it.fault!r}"
+    if int(number or 1) < 20 and got["faulty"] != [number] * bool(it.fault):
+        yield f"marked {got['faulty']}, wanted {number!r}"
+
+
+class Page:
+    """The page, opened from its file."""
+
+    def __init__(self, browser: Browser, path: str) -> None:
+        self.browser = browser
+        self.url = f"file://{os.path.abspath(path)}"
+
+    def open(self, more: str = "") -> None:
+        self.browser.size(1360, 860)
+        self.browser.open("about:blank")
+        self.browser.open(self.url + more)
+        self.browser.until("document.body?.dataset.state === 'played'")
+        self.browser.value(LOOK)
+
+    def look(self) -> dict:
+        self.browser.value("played()")
+        return self.browser.value("look()")
+
+    def choose(self, name: str) -> dict:
+        script = "const menu = document.getElementById('menu'); menu.value = %s; menu.dispatchEvent(new Event('change'));"
+        self.browser.value(f"{{{script % json.dumps(name)}}}")
+        return self.look()
+
+    def type(self, script: str) -> dict:
+        self.browser.value(f"type({json.dumps(script)})", 120)
+        return self.look()
+
+    def click(self, selector: str) -> None:
+        self.browser.value(f"document.querySelector({json.dumps(selector)}).click()")
+
+
+def opens(page: Page, scripts: List[Played]) -> Iterator[str]:
+    """It plays the conversation as it is opened, asks for nothing but itself, and breaks no rule of its own."""
+    page.browser.events.clear()
+    page.open()
+    call = next(it for it in scripts if it.path.endswith("conversation/call.script"))
+    yield from differences(call, page.look())
+    asked = [it["params"]["request"]["url"] for it in page.browser.events if it["method"] == "Network.requestWillBeSent"]
+    if [it for it in asked if not it.startswith(("blob:", "about:", page.url))]:
+        yield f"it asks for {asked}"
+    yield from told_wrong(page)
+
+
+def told_wrong(page: Page) -> Iterator[str]:
+    for it in page.browser.events:
+        if it["method"] in ("Runtime.exceptionThrown", "Log.entryAdded"):
+            yield f"{it['method']}: {json.dumps(it['params'])[:300]}"
+
+
+def shows_all(page: Page, scripts: List[Played]) -> Iterator[str]:
+    """Each script, by its address."""
+    page.open()
+    those = [it for it in scripts if it.is_text()]
+    for at in range(0, len(those), MANY):
+        some = those[at : at + MANY]
+        words = json.dumps([fragment(it.script) for it in some])
+        told = page.browser.value(f"(async () => {{ const found = []; for (const it of {words}) found.push(await shown(it)); return found; }})()", 120)
+        for it, got in zip(some, told):
+            name = os.path.relpath(it.path, ROOT)
+            if got["text"].encode() != it.script:
+                yield f"{name}: another script"
+            yield from (f"{name}: {how}" for how in differences(it, got))
+    yield from told_wrong(page)
+    if len(those) < 300:
+        yield f"only {len(those)} scripts"
+
+
+def has_menu(page: Page, scripts: List[Played]) -> Iterator[str]:
+    """The menu has each subject, and what it offers is played without a fault."""
+    page.open()
+    groups = page.browser.value("[...document.querySelectorAll('#menu optgroup')].map((it) => it.label)")
+    wanted = ["Conversations", "Recovery", "TEI management", "Hostile terminals", "Both ends of a trunk"]
+    if groups[:5] != wanted:
+        yield f"subjects {groups}"
+    by_path = {os.path.relpath(it.path, f"{ROOT}/tests/scripts")[: -len(".script")]: it for it in scripts}
+    names = page.browser.value("[...document.querySelectorAll('#menu option')].map((it) => it.value).filter(Boolean)")
+    for name in names:
+        got = page.choose(name)
+        if name in by_path:
+            yield from (f"{name}: {how}" for how in differences(by_path[name], got))
+        elif "No fault." not in got["verdict"]:
+            yield f"{name}: {got['verdict']}"
+
+
+def marks_faults(page: Page, scripts: List[Played]) -> Iterator[str]:
+    """A fault is told on its line while one types, and goes as the line is mended."""
+    page.open()
+    got = page.type("card 1 8 7 8 4 4 64 260 3\nassign 0 64\nin 0 0081Z\nstored\n")
+    if (got["faulty"], got["band"], got["verdict"]) != (["3"], "bad octets", "line 3: bad octets"):
+        yield f"{got['faulty']} {got['band']} {got['verdict']}"
+    got = page.type("card 1 8 7 8 4 4 64 260 3\nassign 0 64\nin 0 00817F\nstored\n")
+    if got["faulty"] or got["band"] or "No fault." not in got["verdict"]:
+        yield f"{got['faulty']} {got['band']} {got['verdict']}"
+
+
+def loses_a_frame(page: Page, scripts: List[Played]) -> Iterator[str]:
+    """As a new user: the script in which a frame is lost; an octet of the frame behind it is changed; no REJ goes any more,
+    and the frame is dropped for its check."""
+    page.open()
+    got = page.choose(LOST)
+    rows = got["ladders"][0]["rows"]
+    rej = [row for row in rows if row[0] == "out" and " rej " in row[1]]
+    if len(rej) != 1:
+        yield f"REJ goes {len(rej)} times"
+        return
+    lines = got["text"].split("\n")
+    number = max(row[4] for row in rows if row[0] == "in" and row[4] < rej[0][4])
+    changed = lines[number - 1][:22] + ("0" if lines[number - 1][22] != "0" else "1") + lines[number - 1][23:]
+    lines[number - 1] = changed
+    rows = page.type("\n".join(lines))["ladders"][0]["rows"]
+    if any(" rej " in row[1] for row in rows) or not [row for row in rows if row[4] == number and row[3] == "dropped fcs"]:
+        yield f"line {number}, {changed}: {[row for row in rows if row[4] >= number][:3]}"
+
+
+def makes_no_markup(page: Page, scripts: List[Played]) -> Iterator[str]:
+    """What stands in a script is shown as it is."""
+    page.open()
+    evil = '<img src=x onerror="window.evil=1"><script>window.evil=1</script><b>bold</b>&amp;'
+    count = "document.querySelectorAll('img, script, b, iframe').length"
+    page.type("card 1 8 7 8 4 4 64 260 3\nassign 0 64\n")
+    before = page.browser.value(count)
+    got = page.type(f"# {evil}\ncard 1 8 7 8 4 4 64 260 3\nassign 0 64\n# {evil}\n{evil}\n")
+    if page.browser.value("window.evil") or page.browser.value(count) != before:
+        yield "a script's text has become markup"
+    if [row[1] for row in got["ladders"][0]["rows"] if row[0] == COMMENT] != [evil, evil]:
+        yield f"comments {got['ladders'][0]['rows']}"
+    page.open(fragment(f"# {evil}\n".encode()))
+    if page.browser.value("window.evil") or page.look()["text"] != f"# {evil}\n":
+        yield "by the address, a script's text has become markup"
+    page.open("#script=%%%")
+    if not page.look()["text"].startswith("# A terminal is plugged in."):
+        yield "an address that is none has another script"
+
+
+def steps(page: Page, scripts: List[Played]) -> Iterator[str]:
+    """By keys it plays line by line, and shows what a script of these lines shows."""
+    page.open()
+    whole = page.look()
+    lines = whole["text"].split("\n")
+    stops = [at for at, it in enumerate(lines, 1) if it and not it.startswith("#")]
+    for count in (1, 2, 3):
+        page.browser.key("F8", 119)
+        got = page.look()
+        if page.browser.value("document.getElementById('how-far').textContent") != f"played up to line {stops[count - 1]}":
+            yield f"step {count}: {page.browser.value('document.getElementById(`how-far`).textContent')}"
+        alone = page.browser.value(f"shown({json.dumps(fragment(chr(10).join(lines[:stops[count - 1]]).encode() + b'%c' % 10))})")
+        if alone["ladders"] != got["ladders"] or alone["said"] != got["said"]:
+            yield f"step {count}: another ladder than of these lines alone"
+        page.browser.value(f"shown({json.dumps(fragment(whole['text'].encode()))})")
+        for _ in range(count):
+            page.browser.key("F8", 119)
+            page.look()
+    page.browser.key("F7", 118)
+    page.look()
+    if page.browser.value("document.getElementById('how-far').textContent") != f"played up to line {stops[1]}":
+        yield "F7 goes to another line"
+    page.browser.key("F9", 120)
+    if page.look()["ladders"] != whole["ladders"]:
+        yield "F9 does not play all"
+
+
+def leads(page: Page, scripts: List[Played]) -> Iterator[str]:
+    """A row leads to its line, and a line marks its rows; by mouse and by keys."""
+    page.open()
+    got = page.look()
+    line = "document.getElementById('text').value.slice(0, document.getElementById('text').selectionStart).split('\\n').length"
+    at, row = next((at, it) for at, it in enumerate(got["ladders"][0]["rows"]) if it[0] == "up")
+    page.browser.value(f"document.querySelectorAll('#ladder [data-line]')[{at}].click()")
+    if page.browser.value(line) != row[4]:
+        yield f"a click on row {at} leads to line {page.browser.value(line)}, wanted {row[4]}"
+    marked = page.browser.value("[...document.querySelectorAll('#ladder .is-here')].map((it) => Number(it.dataset.line))")
+    if not marked or set(marked) != {row[4]}:
+        yield f"marked are rows of {marked}"
+    page.browser.value("document.querySelector('#ladder [tabindex=\"0\"]').focus()")
+    page.browser.key("ArrowDown", 40)
+    page.browser.key("Enter", 13, text="\r")
+    if page.browser.value(line) != got["ladders"][0]["rows"][at + 1][4]:
+        yield "Enter on the next row leads to another line"
+    page.click("#tab-transcript")
+    page.click("#transcript .said")
+    if page.browser.value(line) != got["ladders"][0]["rows"][2][4] or not page.browser.value("document.getElementById('ladder').hidden"):
+        yield f"the transcript's first line leads to line {page.browser.value(line)}"
+
+
+def has_fields(page: Page, scripts: List[Played]) -> Iterator[str]:
+    """The card's numbers are fields, which change the card line and nothing else."""
+    page.open()
+    before = page.look()["text"].split("\n")
+    change = "{const it = document.querySelector('#fields [name=\"%s\"]'); it.value = '%s'; it.dispatchEvent(new Event('change', {bubbles: true}));}"
+    for name, value, wanted in [("K", "3", "card 1 8 3 8 4 4 64 260 3"), ("side", "user", "card 1 8 3 8 4 4 64 260 3 user"),
+                                ("K16", "2", "card 1 8 3 8 4 4 64 260 3 2 user"), ("kind", "frames", "frames 1 8 3 8 4 4 64 260 3 2 user")]:
+        page.browser.value(change % (name, value))
+        time.sleep(0.2)
+        after = page.look()["text"].split("\n")
+        if after[1] != wanted or after[:1] + after[2:] != before[:1] + before[2:]:
+            yield f"{name} {value}: {after[1]!r}, wanted {wanted!r}"
+
+
+def links(page: Page, scripts: List[Played]) -> Iterator[str]:
+    """A link carries the script, and its capture is that of tools/capture."""
+    page.open()
+    page.type("# \N{GREEK SMALL LETTER ALPHA}\ncard 1 1 7 8 1 4 64 260 3\nassign 0 0\n")
+    page.click("#link")
+    found = page.browser.value("location.hash")
+    if found != fragment("# \N{GREEK SMALL LETTER ALPHA}\ncard 1 1 7 8 1 4 64 260 3\nassign 0 0\n".encode()):
+        yield f"the address has {found}"
+    page.open()
+    page.browser.value("""{window.saved = []; const make = URL.createObjectURL;
+        URL.createObjectURL = (blob) => { saved.push(blob.arrayBuffer()); return make(blob); };
+        HTMLAnchorElement.prototype.click = function () { window.named = this.download; };}""")
+    page.click("#ladder .names button")
+    page.click("#save")
+    got = page.browser.value("Promise.all(saved).then((all) => all.map((it) => btoa(String.fromCharCode(...new Uint8Array(it)))))")
+    call = next(it for it in scripts if it.path.endswith("conversation/call.script"))
+    if got != [call.captures[0], base64.b64encode(call.transcript.encode()).decode()]:
+        yield "another capture or transcript is saved"
+    if page.browser.value("named") != "call.transcript":
+        yield f"it is saved as {page.browser.value('named')}"
+
+
+def is_awake(page: Page, scripts: List[Played]) -> Iterator[str]:
+    """What is long or wild does not take the page away."""
+    numbers = random.Random(921)
+    signs = "".join(chr(it) for it in range(32, 127)) + "\n\t<>&\N{GREEK SMALL LETTER ALPHA}\N{GRINNING FACE}"
+    begin = "card 64 8 7 8 4 4 64 260 3\n" + "".join(f"assign {it} 64\nin {it} 00817F\npull {it} 20\n" for it in range(64))
+    turns = "".join(f"in 0 0081{2 * at % 256:02X}{2 * at % 256:02X}41\ndata 0 64 42\npull 0 30\n" for at in range(3333))
+    cases = {
+        "2 MB of random text": "".join(numbers.choices(signs, k=2 << 20)),
+        "2 MB in a line": "# " + "".join(numbers.choices(signs.replace("\n", ""), k=2 << 20)),
+        "2 MB behind a card line": "card 1 8 7 8 4 4 64 260 3\n# " + "\n# ".join("".join(numbers.choices(signs[:90], k=60)) for _ in range(33000)) + "\nin 0 00\n",
+        "64 lines": begin,
+        "ten thousand events": f"card 1 8 7 8 4 4 64 260 3\nassign 0 64\nin 0 00817F\npull 0 20\n{turns}",
+        "ten thousand waits": "card 1 8 7 8 4 4 64 260 3\ntimers 999 9991 1001\nassign 0 64\n" + "establish 0 64\nwait 3600000\nwait 7\n" * 3334,
+    }
+    for name, script in cases.items():
+        page.open()
+        page.browser.value("watch()")
+        begun = time.monotonic()
+        page.browser.value(f"type({json.dumps(script)})", 90)
+        took = time.monotonic() - begun
+        page.browser.value("new Promise((go) => setTimeout(go, 50))")
+        away = page.browser.value("away") / 1000
+        if away > AWAY:
+            yield f"{name}: it is away for {away:.1f} seconds"
+        if os.environ.get("PAGE_TIMES"):
+            print(f"page: {name}: away {away:.2f} s, done after {took:.2f} s: {page.browser.value('document.getElementById(`verdict`).textContent')[:60]}")
+        if not page.browser.value("isPlayed()"):
+            yield f"{name}: it is not played"
+
+
+def can_be_stopped(page: Page, scripts: List[Played]) -> Iterator[str]:
+    """A long play tells of itself, and is stopped; then the page plays on."""
+    page.open()
+    turns = "".join(f"in 0 0081{2 * at % 256:02X}{2 * at % 256:02X}41\ndata 0 64 42\npull 0 4000\n" for at in range(30000))
+    script = f"card 1 8 7 8 4 4 64 260 3\nassign 0 64\nin 0 00817F\npull 0 20\n{turns}"
+    page.browser.value(f"void type({json.dumps(script)})")
+    try:
+        page.browser.until("!document.getElementById('progress').hidden", 10)
+        words = page.browser.value("document.getElementById('progress-words').textContent")
+        if not words:
+            yield "nothing is told while it is played"
+        page.click("#stop")
+        page.browser.until("isPlayed()", 2)
+    except Lost as lost:
+        yield str(lost)
+    if not page.look()["verdict"].startswith("Stopped"):
+        yield f"verdict {page.look()['verdict']}"
+    got = page.choose("conversation/call")
+    if "No fault." not in got["verdict"]:
+        yield f"after a stop: {got['verdict']}"
+
+
+def fits(page: Page, scripts: List[Played]) -> Iterator[str]:
+    """It fits a phone's width, and has colours of its own for the dark."""
+    page.open()
+    light = page.browser.value("getComputedStyle(document.body).backgroundColor")
+    page.browser.size(1360, 860, is_dark=True)
+    if page.browser.value("getComputedStyle(document.body).backgroundColor") == light:
+        yield "it is as light in the dark"
+    for width in (360, 390, 768):
+        page.browser.size(width, 780, is_phone=True)
+        page.browser.until(f"innerWidth === {width}", 5)
+        wide = page.browser.value("document.scrollingElement.scrollWidth")
+        if wide > width:
+            yield f"at {width} pixels it is {wide} wide"
+
+
+TESTS = {"opens": opens, "shows all": shows_all, "has a menu": has_menu, "marks faults": marks_faults, "loses a frame": loses_a_frame,
+         "makes no markup": makes_no_markup, "steps": steps, "leads": leads, "has fields": has_fields, "links": links,
+         "is awake": is_awake, "can be stopped": can_be_stopped, "fits": fits}
+
+
+def pictures(page: Page, folder: str) -> Iterator[str]:
+    os.makedirs(folder, exist_ok=True)
+    for name, (width, height, is_dark, is_phone) in {"light": (1360, 860, False, False), "dark": (1360, 860, True, False),
+                                                     "phone": (390, 1400, False, True), "phone-dark": (390, 1400, True, True)}.items():
+        page.open()
+        page.browser.size(width, height, is_dark, is_phone)
+        page.browser.value("document.querySelectorAll('#ladder [data-line]')[12].click()")
+        time.sleep(0.3)
+        page.browser.picture(f"{folder}/page-{name}.png")
+    yield from ()
+
+
+def guarded(test, *words) -> Iterator[str]:
+    try:
+        yield from test(*words)
+    except Lost as lost:
+        yield str(lost)
+
+
+def tests(browser: Browser, path: str, scripts: List[Played], folder: str) -> Iterator[Tuple[str, Iterator[str]]]:
+    page = Page(browser, path)
+    for name, test in TESTS.items():
+        yield name, guarded(test, page, scripts)
+    if folder:
+        yield "pictures", guarded(pictures, page, folder)

@@ -3,6 +3,7 @@
 
 const PORTION = 400; // rows that are drawn at a time
 const MOST = 20000; // rows that are drawn unasked
+const USUAL_HEIGHT = 34; // pixels of a row that is out of sight
 
 /** An element with a class and a text. No text becomes markup. */
 export function element(name, className, words = "") {
@@ -50,6 +51,7 @@ export class Rows {
       const block = element("div", "block");
       block.setAttribute("role", "presentation");
       for (; this.shown < end; this.shown += 1) block.append(this.item(this.rows[this.shown]));
+      block.style.containIntrinsicSize = `auto ${USUAL_HEIGHT * block.childElementCount}px`;
       this.place.append(block);
       if (!this.place.querySelector('[tabindex="0"]')) this.place.querySelector("[data-line]")?.setAttribute("tabindex", "0");
     }

@@ -7,6 +7,7 @@ import { Shown } from "./shown.mjs";
 import { MOST_OCTETS, fragmentOf, save, scriptIn } from "./links.mjs";
 
 const PATIENCE = 120; // milliseconds from a key to a play
+const NARROW = "(max-width: 760px)"; // as page.css has it
 
 const byId = (id) => document.getElementById(id);
 const data = JSON.parse(byId("data").textContent);
@@ -23,6 +24,7 @@ class Page {
     this.shown = new Shown(byId, (line) => this.lead(line));
     this.upTo = null; // the last line that is played; null: all are
     this.name = "script";
+    byId("card").open = !matchMedia(NARROW).matches;
     this.fillMenu();
     this.listen();
   }
@@ -85,6 +87,7 @@ class Page {
 
   put(script) {
     this.upTo = null;
+    this.editor.marks.here = null;
     this.editor.value = script;
     this.shown.toTop();
     this.play();
@@ -118,7 +121,7 @@ class Page {
       const { status, fault, line, clock } = message.ended;
       const words = status ? fault : `No fault. The script's clock stands at ${clock} ms.`;
       this.judge(words, status !== 0, status ? { line, words: fault.split(": ").slice(1).join(": ") } : null);
-      this.shown.mark(this.upTo ?? this.editor.line(), this.upTo !== null);
+      this.shown.mark(this.upTo ?? this.editor.marks.here, this.upTo !== null);
     }
   }
 
@@ -155,7 +158,7 @@ class Page {
     this.editor.show(line, !matchMedia("(pointer: coarse)").matches);
     this.shown.mark(line, false);
     this.editor.mark({ here: line });
-    if (matchMedia("(max-width: 760px)").matches) byId("editor").scrollIntoView({ block: "nearest" });
+    if (matchMedia(NARROW).matches) byId("editor").scrollIntoView({ block: "nearest" });
   }
 
   caretMoved() {

@@ -12,6 +12,7 @@ const SECOND = 1000; // timers run for whole seconds where no line says otherwis
 const MOST_MOMENTS = 5000; // a `wait` with more moments than these is handed over whole
 const PARTS = 64; // into which a `wait` is cut at a time
 const STORED = "stored";
+const NEWS = 1000; // lines from one news to the next
 
 function greatestDivisor(a, b) {
   while (b) [a, b] = [b, a % b];
@@ -100,14 +101,14 @@ class Cutter {
 
   /** The octets of `rx` up to and with each that ends something. */
   cut(line, { about, octets }) {
-    const found = this.side(about).received.octets(octets);
-    const ends = [...new Set([...found.map((it) => it.at), octets.length])];
+    const heard = new Map();
+    for (const it of this.side(about).received.octets(octets)) heard.set(it.at, [...(heard.get(it.at) ?? []), it.heard]);
+    if (!heard.has(octets.length)) heard.set(octets.length, []);
     let begin = 0;
-    return ends.map((end) => {
+    return [...heard].map(([end, ended]) => {
       const piece = octets.subarray(begin, end);
       begin = end;
-      const heard = found.filter((it) => it.at === end).map((it) => it.heard);
-      return this.piece(line, `rx ${about} ${digits(piece)}`, piece, heard);
+      return this.piece(line, `rx ${about} ${digits(piece)}`, piece, ended);
     });
   }
 }
@@ -158,10 +159,18 @@ function answersTo(program, pieces) {
   });
 }
 
+/** What is made of each of many, with news of how far that is. */
+function each(many, words, progress, made) {
+  return many.map((it, at) => {
+    if (at % NEWS === 0) progress(words, at / many.length);
+    return made(it, at);
+  });
+}
+
 /** The pieces and their answers, where a `wait` with an answer is cut at each moment at which a timer can fall due. */
 function answered(program, pieces, progress) {
-  for (let round = 1; ; round += 1) {
-    progress(`round ${round}: ${pieces.length} pieces are played`);
+  for (;;) {
+    progress(`${pieces.length} lines are played`);
     const answers = answersTo(program, pieces);
     const cut = pieces.map((it, at) => canBeCut(it, answers[at]));
     if (!cut.includes(true)) return { pieces, answers };
@@ -180,20 +189,20 @@ function traffic(cutter, { line, octets, heard }, answer) {
 /**
  * Plays a script, whose octets are given, on a program. Returns how it ended and its transcript, as `lapdsim run` has them,
  * and the steps: of each its line, the clock after it, the octets on the card's line, what ended in them, the answer, and
- * whether that is what the network sent.
+ * whether that is what the network sent. `progress` hears what is done, and which part of it, where that is known.
  */
 export function play(program, script, progress = () => {}) {
   progress("the script is played");
   const ended = program.run(script);
   const cutter = new Cutter();
-  const lines = linesOf(script, ended.status ? ended.line - 1 : Infinity);
-  const cut = lines.flatMap((line) => cutter.pieces(line));
+  const lines = linesOf(script, ended.status ? ended.line : Infinity);
+  const faulty = ended.status ? lines.pop() : null;
+  const cut = each(lines, "what comes is read", progress, (line) => cutter.pieces(line)).flat();
   const { pieces, answers } = answered(program, cut, progress);
-  progress("the frames are read");
-  const steps = pieces.map((piece, at) => {
+  const steps = each(pieces, "what goes is read", progress, (piece, at) => {
     const answer = answers[at];
     const isSent = ["pull", "next"].includes(piece.line.word());
     return { line: piece.line, at: piece.at, ...traffic(cutter, piece, answer), answer, isOfNetwork: isSent !== cutter.isUser };
   });
-  return { ...ended, clock: cutter.clock, isUser: cutter.isUser, steps };
+  return { ...ended, clock: cutter.clock, isUser: cutter.isUser || Boolean(faulty?.isOfUser()), steps };
 }

@@ -49,12 +49,19 @@ export class Shown {
   }
 
   told(message, name) {
-    if (message.progress) this.byId("progress-words").textContent = message.progress;
+    if (message.progress) this.showProgress(message);
     else if (message.failed !== undefined) this.ended();
     else if (message.ladder !== undefined) this.addLadder(message, name);
     else if (message.more) this.lists.at(-1).add(message.more);
     else if (message.said) this.addSaid(message.said);
     else if (message.ended) this.end(message.ended);
+  }
+
+  showProgress({ progress, part }) {
+    this.byId("progress-words").textContent = part ? `${progress}: ${Math.floor(100 * part)} %` : progress;
+    const bar = this.byId("progress").querySelector("progress");
+    if (part) bar.value = part;
+    else bar.removeAttribute("value");
   }
 
   /** The first news of a play takes away what was shown. */

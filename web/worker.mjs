@@ -10,7 +10,7 @@ const MANY = 2000; // rows that are handed over at a time
 /** What a play says, in messages: progress, rows and the transcript's lines in portions, and last how it ended. */
 function* told(module, script) {
   let waiting = [];
-  const played = play(new Program(module), script, (words) => postMessage({ progress: words }));
+  const played = play(new Program(module), script, (progress, part) => postMessage({ progress, part }));
   const lines = stories(played.steps);
   const { status, fault, transcript, isUser, clock } = played;
   for (const [line, rows] of lines) {

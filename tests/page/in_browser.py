@@ -339,7 +339,7 @@ def is_awake(page: Page, scripts: List[Played]) -> Iterator[str]:
         "2 MB behind a card line": "card 1 8 7 8 4 4 64 260 3\n# " + "\n# ".join("".join(numbers.choices(signs[:90], k=60)) for _ in range(33000)) + "\nin 0 00\n",
         "64 lines": begin,
         "ten thousand events": f"card 1 8 7 8 4 4 64 260 3\nassign 0 64\nin 0 00817F\npull 0 20\n{turns}",
-        "ten thousand waits": "card 1 8 7 8 4 4 64 260 3\ntimers 999 9991 1001\nassign 0 64\n" + "establish 0 64\nwait 3600000\nwait 7\n" * 3334,
+        "ten thousand waits": "card 1 8 7 8 4 4 64 260 3\nassign 0 64\n" + "establish 0 64\nwait 3600000\nstored\n" * 3334,
     }
     for name, script in cases.items():
         page.open()
@@ -399,15 +399,17 @@ TESTS = {"opens": opens, "shows all": shows_all, "has a menu": has_menu, "marks 
          "is awake": is_awake, "can be stopped": can_be_stopped, "fits": fits}
 
 
-def pictures(page: Page, folder: str) -> Iterator[str]:
-    os.makedirs(folder, exist_ok=True)
-    for name, (width, height, is_dark, is_phone) in {"light": (1360, 860, False, False), "dark": (1360, 860, True, False),
-                                                     "phone": (390, 1400, False, True), "phone-dark": (390, 1400, True, True)}.items():
-        page.open()
-        page.browser.size(width, height, is_dark, is_phone)
-        page.browser.value("document.querySelectorAll('#ladder [data-line]')[12].click()")
-        time.sleep(0.3)
-        page.browser.picture(f"{folder}/page-{name}.png")
+LIGHT = (1360, 860, False, False)
+VIEWS = {"light": LIGHT, "dark": (1360, 860, True, False), "phone": (390, 1400, False, True), "phone-dark": (390, 1400, True, True)}
+
+
+def picture(page: Page, view: Tuple[int, int, bool, bool], path: str) -> Iterator[str]:
+    """A picture of the conversation, with a row chosen."""
+    page.open()
+    page.browser.size(*view)
+    page.browser.value("document.querySelectorAll('#ladder [data-line]')[12].click()")
+    time.sleep(0.4)
+    page.browser.picture(path)
     yield from ()
 
 
@@ -418,9 +420,13 @@ def guarded(test, *words) -> Iterator[str]:
         yield str(lost)
 
 
-def tests(browser: Browser, path: str, scripts: List[Played], folder: str) -> Iterator[Tuple[str, Iterator[str]]]:
+def tests(browser: Browser, path: str, scripts: List[Played], folder: str, file: str) -> Iterator[Tuple[str, Iterator[str]]]:
     page = Page(browser, path)
     for name, test in TESTS.items():
         yield name, guarded(test, page, scripts)
     if folder:
-        yield "pictures", guarded(pictures, page, folder)
+        os.makedirs(folder, exist_ok=True)
+    for name, view in VIEWS.items() if folder else ():
+        yield f"picture {name}", guarded(picture, page, view, f"{folder}/page-{name}.png")
+    if file:
+        yield "picture", guarded(picture, page, LIGHT, file)

@@ -2,7 +2,7 @@
 // by the keyboard.
 
 const PORTION = 400; // rows that are drawn at a time
-const MOST = 20000; // rows that are drawn unasked
+const MOST = 5000; // rows that are drawn unasked
 const USUAL_HEIGHT = 34; // pixels of a row that is out of sight
 
 /** An element with a class and a text. No text becomes markup. */

@@ -11,7 +11,8 @@ from typing import Any, List, Optional
 
 NAMES = "chromium", "chromium-browser", "google-chrome-stable", "google-chrome"
 FLAGS = ["--headless=new", "--remote-debugging-pipe", "--no-first-run", "--no-default-browser-check", "--disable-gpu",
-         "--disable-extensions", "--disable-background-networking", "--disable-dev-shm-usage", "--hide-scrollbars"]
+         "--disable-extensions", "--disable-background-networking", "--disable-dev-shm-usage", "--hide-scrollbars",
+         "--disable-ipc-flooding-protection"]  # scripts come by the address as fast as they are played
 
 
 def program() -> Optional[str]:
@@ -56,6 +57,7 @@ class Browser:
         self.session = self.ask("Target.attachToTarget", targetId=target, flatten=True)["sessionId"]
         for it in ("Page", "Runtime", "Network", "Log"):
             self.ask(f"{it}.enable")
+        self.ask("Performance.enable", timeDomain="threadTicks")
         return self
 
     def __exit__(self, *_: object) -> None:
@@ -117,6 +119,11 @@ class Browser:
             if time.monotonic() - begin > seconds:
                 raise Lost(f"{expression}: not within {seconds} seconds")
             time.sleep(0.02)
+
+    def worked(self) -> float:
+        """The processor's seconds for the page up to now, without its workers."""
+        found = self.ask("Performance.getMetrics")["metrics"]
+        return next(it["value"] for it in found if it["name"] == "TaskDuration")
 
     def key(self, name: str, code: int, modifiers: int = 0, text: str = "") -> None:
         more = {"text": text} if text else {}

@@ -1,5 +1,6 @@
 """What the tests of the C library count, and the compilers by which they make programs with it."""
 import os
+import shlex
 import shutil
 import subprocess
 
@@ -16,8 +17,8 @@ def check(name, good, why=""):
         print(f"c: {name}: {why}")
 
 
-def skip(what, why):
-    if os.environ.get("CC_TESTS") == "required":
+def skip(what, why, required="CC_TESTS"):
+    if os.environ.get(required) == "required":
         check(what, False, f"failed, since {why}")
     else:
         print(f"c: SKIPPED: {what}, since {why}")
@@ -64,11 +65,14 @@ def sanitized(words, folder):
 
 
 class Build:
-    """The programs of one compiler, in a folder of its own."""
+    """The programs of one compiler, in a folder of its own. Where a runner is named, as an emulator, a program is a script that
+    has it run. `each` is what a card takes of a heap besides lapd_card_octets, and `blocks` how many blocks a conversation
+    takes at least."""
 
-    def __init__(self, name, compiler, words, library, folder):
+    def __init__(self, name, compiler, words, library, folder, runner=(), each=0, blocks=10, stack=()):
         self.name, self.compiler, self.words, self.library = name, compiler, words, library
-        self.folder = f"{folder}/{name}"
+        self.folder, self.runner = f"{folder}/{name}", runner
+        self.each, self.blocks, self.stack, self.is_brief = each, blocks, stack, False
         os.makedirs(self.folder)
 
     def program(self, name, sources, *flags, words=None):
@@ -77,4 +81,9 @@ class Build:
         said = run([*(words or self.words), "-std=c99", *STRICT, f"-I{ROOT}/include", f"-I{HERE}", "-O1", "-g", *flags,
                     "-o", path, *sources, self.library])
         check(f"{self.name}: {name} compiles", said.returncode == 0, said.stderr.decode()[:600])
+        if said.returncode == 0 and self.runner:
+            os.rename(path, f"{path}.program")
+            with open(path, "w", encoding="utf-8") as file:
+                file.write(f'#!/bin/sh\nexec {shlex.join(self.runner)} {shlex.quote(path)}.program "$@"\n')
+            os.chmod(path, 0o755)
         return path if said.returncode == 0 else None

@@ -9,6 +9,11 @@
 
 #include "lapd.h"
 
+/* What each start takes besides, as a machine of lapd.c does. */
+#ifndef EACH
+#define EACH 0
+#endif
+
 static const lapd_config configs[] = {
     {1, 1, 1, 1, 1, 1, 2, 1, 8, 0, LAPD_NETWORK},
     {1, 8, 7, 7, 8, 4, 4, 64, 260, 3, LAPD_NETWORK},
@@ -38,7 +43,7 @@ typedef uint32_t starts(lapd_card *card, const lapd_config *config);
 static int holds(const lapd_config *config, starts *start) {
     lapd_card card = LAPD_CARD_NONE;
     lapd_clock clock = LAPD_CLOCK_NONE;
-    uint64_t octets = lapd_card_octets(config) + lapd_clock_octets(config);
+    uint64_t octets = lapd_card_octets(config) + lapd_clock_octets(config) + 2 * EACH;
     void *rest = all_but(octets);
     if (rest == NULL) {
         fprintf(stderr, "%u lines: what the heap held before was not given back\n", config->lines);
@@ -58,7 +63,7 @@ static int holds(const lapd_config *config, starts *start) {
 static int refuses(const lapd_config *config, starts *start) {
     lapd_card card = LAPD_CARD_NONE;
     unsigned refused = 0;
-    for (uint64_t octets = lapd_card_octets(config); octets > 16; octets -= (octets / 8 + 15) / 16 * 16) {
+    for (uint64_t octets = lapd_card_octets(config) + EACH; octets > 16; octets -= (octets / 8 + 15) / 16 * 16) {
         void *rest = all_but(octets);
         if (rest == NULL) {
             fprintf(stderr, "%u lines: what a start had taken was not given back\n", config->lines);

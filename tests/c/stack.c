@@ -14,7 +14,12 @@
 #include "hdlc.h"
 #include "lapd.h"
 
-enum { PAINT = 0xA5, MOST = 2048, MOST_OF_START = 4096, STACK = 65536 };
+#ifndef MOST
+#define MOST 2048
+#define MOST_OF_START 4096
+#endif
+
+enum { PAINT = 0xA5, STACK = 65536 };
 
 static uint8_t stack[STACK];
 static ucontext_t here, there;

@@ -13,12 +13,12 @@ import subprocess
 import tempfile
 from typing import Iterable, List
 
-from .crates import ROOT, sum_of
+from .crates import ROOT
 from .static_library import NotBuilt, built, kit, module
 
-# What each module exports beside its functions: a place for what a caller hands over, and where the heap lies.
-OWN = ("module_take", "module_give", "module_heap", "__heap_base")
-STACK = 16384
+# What a module exports beside its functions: a place for what a caller hands over.
+OWN = ("module_take", "module_give")
+STACK = 65536
 # The features that every engine has had for years, and wabt's wasm2c takes.
 FEATURES = ("bulk-memory", "sign-ext", "mutable-globals")
 WITHOUT = ("multivalue", "reference-types", "nontrapping-fptoint", "simd128", "tail-call", "extended-const")
@@ -49,7 +49,7 @@ def clang() -> str:
     return f"{kit()}/toolchain/bin/clang"
 
 
-def for_wasm(source: str, folder: str, level: str = "-O3") -> str:
+def for_wasm(source: str, folder: str, level: str = "-O2") -> str:
     """The compiler's module as an object for WebAssembly. Its functions name a processor that this target has not; clang says
     so, and goes on."""
     run([clang(), *TARGET, *SECTIONS, "-Wno-override-module", level, "-c", "-x", "ir", source, "-o", "module.o"], folder)
@@ -67,7 +67,7 @@ def linked(objects: List[str], exports: Iterable[str], folder: str, stack: int =
     linker = f"{folder}/wasm-ld"
     os.symlink(clang(), linker)
     words = ["-mwasm64", "--no-entry", "--strip-all", "-z", f"stack-size={stack}"]
-    run([linker, *words, *(f"--export={it}" for it in (*exports, *OWN)), *objects, "-o", "wide.wasm"], folder)
+    run([linker, *words, *(f"--export={it}" for it in exports), *objects, "-o", "wide.wasm"], folder)
     return f"{folder}/wide.wasm"
 
 
@@ -77,7 +77,7 @@ def lowered(wide: str, folder: str) -> str:
     return f"{folder}/module.wasm"
 
 
-def wasm(source: str, exports: Iterable[str], folder: str, stack: int = STACK, level: str = "-O3") -> str:
+def wasm(source: str, exports: Iterable[str], folder: str, stack: int = STACK, level: str = "-O2") -> str:
     """All steps from the compiler's module: the path of module.wasm in the folder, which is to be empty."""
     need("wasm-opt")
     objects = [for_wasm(source, folder, level), memory_for_wasm(folder)]
@@ -85,11 +85,12 @@ def wasm(source: str, exports: Iterable[str], folder: str, stack: int = STACK, l
 
 
 def wasm_of(name: str, exports: Iterable[str], to: str, over_gate: bool = False) -> None:
-    """The module of a crate that is a static library, proved, with these functions exported, is written to a path."""
+    """The module of a crate that is a static library, proved, is written to a path: these functions are exported, OWN, and its
+    memory."""
     need("wasm-opt")
     built(name, over_gate=over_gate, with_module=True)
     with tempfile.TemporaryDirectory(prefix="wasm-") as folder:
-        shutil.copyfile(wasm(module(name), exports, folder), to)
+        shutil.copyfile(wasm(module(name), [*exports, *OWN], folder), to)
 
 
 def put(folder: str, names: List[str], to: str) -> None:
@@ -114,6 +115,3 @@ def versions(*programs: str) -> List[str]:
         said.append(f"{it} {re.sub(r'^.*version ', '', told)} ({PACKAGES[it]})")
     return said
 
-
-def sum_of_module(name: str) -> str:
-    return sum_of(module(name))

@@ -1,0 +1,128 @@
+/* ---- Cards and clocks: each has a machine of its own -------------------------------------------------------------- */
+
+/* Where what is handed over lies in a machine's memory: the handle, a report, and whatever else a call has. */
+enum { HANDLE = PLACES, REPORT = PLACES + 16, OTHER = PLACES + 320, HEAP = OTHER + OTHER_OCTETS };
+
+/* A machine whose heap has so many octets, on which nothing was started; NULL where there is no memory. */
+static machine *new_machine(u64 heap) {
+    u64 octets = HEAP + heap;
+    if (octets > (size_t)-1 - sizeof(machine) - BEHIND || octets > 0xFFFFFFF0)
+        return NULL;
+    rattle_tried tried = rattle_alloc(sizeof(machine) + (size_t)octets + BEHIND, 8);
+    if (!tried.there)
+        return NULL;
+    machine *instance = tried.at;
+    memset(instance->data, 0, HEAP);
+    instance->octets = octets;
+    init_globals(instance);
+    init_memories(instance);
+    w2c_module_heap(instance, HEAP, octets);
+    return instance;
+}
+
+/* The first field that is out of range, as a start's status: what is told where there is no memory to ask a machine. */
+static u32 fault_of(const lapd_config *config) {
+    u32 least = config->k > config->k16 ? config->k : config->k16;
+    const struct {
+        u32 value, least, most, status;
+    } fields[] = {
+        {config->lines, 1, 64, LAPD_BAD_LINES},           {config->terminals, 1, 8, LAPD_BAD_TERMINALS},
+        {config->k, 1, 127, LAPD_BAD_K},                  {config->k16, 1, 127, LAPD_BAD_K16},
+        {config->queue, least, 127, LAPD_BAD_QUEUE},      {config->unit_queue, 1, 16, LAPD_BAD_UNIT_QUEUE},
+        {config->control, 2, 16, LAPD_BAD_CONTROL},       {config->slots, 1, 8192, LAPD_BAD_SLOTS},
+        {config->n201, 8, LAPD_MOST_OCTETS, LAPD_BAD_N201}, {config->n200, 0, 10, LAPD_BAD_N200},
+        {config->side, 0, 1, LAPD_BAD_SIDE},
+    };
+    for (size_t i = 0; i < sizeof fields / sizeof *fields; i++)
+        if (fields[i].value < fields[i].least || fields[i].value > fields[i].most)
+            return fields[i].status;
+    return LAPD_OK;
+}
+
+typedef u32 starts(machine *instance, u64 handle, u64 config);
+
+/* Starts a card or a clock in a machine of its own. */
+static uint32_t start(bool *started, void **at, const lapd_config *config, u64 heap, starts *call) {
+    if (*started)
+        return LAPD_SECOND_START;
+    u32 fault = fault_of(config);
+    machine *instance = new_machine(fault == LAPD_OK ? heap : 0);
+    if (instance == NULL)
+        return fault != LAPD_OK ? fault : LAPD_NO_MEMORY;
+    put_lapd_config(instance, OTHER, config);
+    u32 status = call(instance, HANDLE, OTHER);
+    if (status == LAPD_OK) {
+        *started = true;
+        *at = instance;
+    } else {
+        rattle_dealloc(instance);
+    }
+    return status;
+}
+
+uint32_t lapd_version(void) {
+    return LAPD_VERSION;
+}
+
+uint32_t lapd_card_start(lapd_card *card, const lapd_config *config) {
+    return start(&card->started, &card->at, config, lapd_card_octets(config), w2c_lapd_card_start);
+}
+
+uint32_t lapd_card_start_frames(lapd_card *card, const lapd_config *config) {
+    return start(&card->started, &card->at, config, lapd_card_octets(config), w2c_lapd_card_start_frames);
+}
+
+uint32_t lapd_clock_start(lapd_clock *clock, const lapd_config *config) {
+    return start(&clock->started, &clock->at, config, lapd_clock_octets(config), w2c_lapd_clock_start);
+}
+
+uint32_t lapd_card_free(lapd_card *card) {
+    if (!card->started)
+        return LAPD_NO_CARD;
+    u32 status = w2c_lapd_card_free(card->at, HANDLE);
+    rattle_dealloc(card->at);
+    card->started = false;
+    card->at = NULL;
+    return status;
+}
+
+uint32_t lapd_clock_free(lapd_clock *clock) {
+    if (!clock->started)
+        return LAPD_NO_CLOCK;
+    u32 status = w2c_lapd_clock_free(clock->at, HANDLE);
+    rattle_dealloc(clock->at);
+    clock->started = false;
+    clock->at = NULL;
+    return status;
+}
+
+/* Whether two lengths are one, and the steps not beyond it. */
+static bool is_exchange(size_t taken, size_t given, size_t steps) {
+    return taken == given && (steps / 2 < taken || steps == 2 * taken);
+}
+
+/* An exchange goes by runs, each of which is one of the machine's: up to and with the first step that has something to
+ * tell. What is no exchange is handed over as another that is none, for the machine to say what is wrong first. */
+uint32_t lapd_exchange(lapd_card *card, uint32_t line, const uint8_t *in, size_t in_length, uint8_t *out, size_t out_length,
+                       size_t *steps, lapd_report *report) {
+    enum { STEPS = OTHER, IN = OTHER + 16, OUT = IN + RUN };
+    if (!card->started)
+        return LAPD_NO_CARD;
+    machine *instance = card->at;
+    if (!is_exchange(in_length, out_length, *steps))
+        return w2c_lapd_exchange(instance, HANDLE, line, IN, 0, OUT, 1, STEPS, REPORT);
+    for (;;) {
+        size_t from = *steps / 2, run = at_most(in_length - from, RUN), first = *steps % 2, last = first;
+        memcpy(instance->data + IN, in + from, run);
+        put_size_t(instance, STEPS, &last);
+        u32 status = w2c_lapd_exchange(instance, HANDLE, line, IN, run, OUT, run, STEPS, REPORT);
+        if (status != LAPD_OK)
+            return status;
+        get_size_t(instance, STEPS, &last);
+        memcpy(out + from, instance->data + OUT, last / 2);
+        *steps = 2 * from + last;
+        get_lapd_report(instance, REPORT, report);
+        if (lapd_tells(report) || *steps == 2 * in_length)
+            return LAPD_OK;
+    }
+}

@@ -1,0 +1,84 @@
+/* ---- What may be chosen ------------------------------------------------------------------------------------------ */
+
+/*
+ * -DLAPD_MALLOC                cards and clocks lie in memory of malloc
+ * -DLAPD_OWN_MEMORY            they lie in memory of the program's rattle_alloc and rattle_dealloc, as declared below
+ * -DLAPD_HEAP_OCTETS=N         neither: they lie in one static region of so many octets
+ * -DLAPD_BIG_END_FIRST=0|1     the order of octets, where the compiler does not tell it as GCC and Clang do
+ * -DLAPD_UNTESTED              accesses to a card's memory are not tested; the proofs say that each is inside of it
+ */
+#if !defined(LAPD_MALLOC) && !defined(LAPD_OWN_MEMORY) && !defined(LAPD_HEAP_OCTETS)
+#define LAPD_HEAP_OCTETS 131072
+#endif
+
+#ifndef LAPD_BIG_END_FIRST
+#ifndef __BYTE_ORDER__
+#error "LAPD_BIG_END_FIRST: 1 where the high octet of a number lies first in memory, else 0"
+#endif
+#define LAPD_BIG_END_FIRST (__BYTE_ORDER__ == __ORDER_BIG_ENDIAN__)
+#endif
+
+/* ---- A card's memory --------------------------------------------------------------------------------------------- */
+
+#include <stdlib.h>
+#include <string.h>
+
+typedef uint8_t u8;
+typedef int8_t s8;
+typedef uint16_t u16;
+typedef int16_t s16;
+typedef uint32_t u32;
+typedef int32_t s32;
+typedef uint64_t u64;
+typedef int64_t s64;
+
+#if defined(__GNUC__)
+#define UNLIKELY(x) __builtin_expect(!!(x), 0)
+#else
+#define UNLIKELY(x) (x)
+#endif
+
+/* What cannot be, by the proofs, ends the program. */
+#define TRAP() abort()
+#define UNREACHABLE TRAP()
+#define FUNC_PROLOGUE (void)instance
+#define FUNC_EPILOGUE
+
+/* Behind a machine's memory are eight octets more, so that the test of a load or a store needs no sum. */
+enum { BEHIND = 8 };
+#ifdef LAPD_UNTESTED
+#define TEST(at) (void)0
+#define TEST_BLOCK(at, count) (void)0
+#else
+#define TEST(at) do { if (UNLIKELY((at) > instance->octets)) TRAP(); } while (0)
+#define TEST_BLOCK(at, count) do { if (UNLIKELY((u64)(at) + (count) > instance->octets)) TRAP(); } while (0)
+#endif
+
+/* A number of the module's memory, which has the low octet first, as the processor has it, and back. */
+#if LAPD_BIG_END_FIRST
+#define TURNED_8(x) (x)
+#define TURNED_16(x) ((u16)((u16)(x) << 8 | (u16)(x) >> 8))
+#define TURNED_32(x) ((u32)(x) << 24 | ((u32)(x) & 0xFF00) << 8 | ((u32)(x) >> 8 & 0xFF00) | (u32)(x) >> 24)
+#define TURNED_64(x) ((u64)TURNED_32((u32)(x)) << 32 | TURNED_32((u32)((u64)(x) >> 32)))
+#else
+#define TURNED_8(x) (x)
+#define TURNED_16(x) (x)
+#define TURNED_32(x) (x)
+#define TURNED_64(x) (x)
+#endif
+
+/* Loads and stores: so many bits of memory, read as a signed or unsigned number, as a value of the machine. */
+#define DEFINE_LOAD(name, bits, as, value)                                          \
+    static inline value name(const machine *instance, u64 at) {                     \
+        u##bits octets;                                                             \
+        TEST(at);                                                                   \
+        memcpy(&octets, instance->data + (size_t)at, sizeof octets);                \
+        return (value)(as)TURNED_##bits(octets);                                    \
+    }
+#define DEFINE_STORE(name, bits, value)                                             \
+    static inline void name(machine *instance, u64 at, value number) {              \
+        u##bits octets = (u##bits)number;                                           \
+        TEST(at);                                                                   \
+        octets = TURNED_##bits(octets);                                             \
+        memcpy(instance->data + (size_t)at, &octets, sizeof octets);                \
+    }

@@ -1,0 +1,47 @@
+// module.mjs: calls lapd.wasm as examples/c/first.c calls the library, and prints the same. For tests alone.
+//
+//     node module.mjs DIR
+//
+// Status 1 where the module has an import, or other exports than lapd.d.ts says.
+import { readFileSync } from "node:fs";
+
+const folder = process.argv[2];
+const module = new WebAssembly.Module(readFileSync(`${folder}/lapd.wasm`));
+const declared = [...readFileSync(`${folder}/lapd.d.ts`, "utf8").matchAll(/^    (\w+)[(:]/gm)].map((found) => found[1]);
+const exported = WebAssembly.Module.exports(module).map((it) => it.name);
+if (WebAssembly.Module.imports(module).length || declared.sort().join() !== exported.sort().join()) {
+    console.error(`exports ${exported}, declared ${declared}`);
+    process.exit(1);
+}
+const lapd = new WebAssembly.Instance(module).exports;
+const memory = (at, length) => new Uint8Array(lapd.memory.buffer, Number(at), length);
+const [card, config, report, place] = [16n, 22n, 300n, 16n].map((octets) => lapd.module_take(octets));
+memory(card, 16).fill(0);
+new Uint16Array(lapd.memory.buffer, Number(config), 11).set([1, 8, 7, 7, 8, 4, 4, 64, 260, 3, 0]);
+const want = (status, wanted = 0) => {
+    if (status !== wanted) throw new Error(`status ${status}`);
+};
+want(lapd.lapd_lines(card, place), 11);
+want(lapd.lapd_card_start(card, config));
+want(lapd.lapd_card_start(card, config), 13);
+want(lapd.lapd_request(card, 0, 5, 0, 64, place, 0n, report));
+for (const octet of [0x7e, 0x00, 0x81, 0xef, 0x50, 0xb1, 0xfd, 0xfc]) {
+    want(lapd.lapd_octet(card, 0, octet, report));
+    for (let at = 8; at < 8 + 4 * memory(report, 1)[0]; at += 4) {
+        const [note, , tei] = memory(report + BigInt(at), 3);
+        console.log(`0 ${note === 1 ? "establish-indication" : `note ${note}`} ${tei}`);
+    }
+}
+let sent = "";
+for (let i = 0; i < 7; i++) {
+    want(lapd.lapd_pull(card, 0, place, report));
+    sent += memory(place, 1)[0].toString(16).toUpperCase().padStart(2, "0");
+}
+console.log(`0 tx ${sent}`);
+const number = (call) => {
+    want(call(card, place));
+    return new DataView(lapd.memory.buffer).getUint32(Number(place), true);
+};
+console.log(`stored ${number(lapd.lapd_stored)} limit ${number(lapd.lapd_limit)}`);
+want(lapd.lapd_card_free(card));
+for (const at of [card, config, report, place]) lapd.module_give(at);

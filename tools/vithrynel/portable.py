@@ -1,0 +1,309 @@
+"""The card as one file in C99, for each processor: made by wabt's wasm2c from the module of tools/vithrynel/wasm.py, between the
+parts of c/portable, and what turns a caller's structs to the module's memory and back. A function a step:
+
+    machine       what wasm2c makes of the module, without its own head: the parts are found by what they say
+    marshalling   a struct's fields to the module's memory, or from there, by the table that header.structs has
+    call          a function of lapd.h over the machine's
+    portable      the whole file
+"""
+import re
+import tempfile
+from typing import Dict, List, NamedTuple, Tuple
+
+from .crates import ROOT, sum_of, uses
+from .header import Field, Function, Parameter, Struct, functions, numbers, structs
+from .static_library import NotBuilt, built, made_of, module
+from .wasm import need, put, run, versions, wasm
+
+# Each function of these has its own text in c/portable/card.c; the others are written here.
+BY_HAND = ("lapd_version", "lapd_card_start", "lapd_card_start_frames", "lapd_clock_start", "lapd_card_free", "lapd_clock_free",
+           "lapd_exchange")
+# No function of the machine's is asked for it.
+NOT_EXPORTED = ("lapd_version",)
+# An array of a struct, by the field that says how much of it there is.
+COUNTED = {("lapd_report", "notes"): "note_count", ("lapd_report", "orders"): "order_count", ("lapd_report", "contents"): "length"}
+# What is read of a struct that is handed over, where that is not all.
+READ = {"lapd_report": ("order_count", "orders")}
+# What a call reads before it writes it.
+IN_OUT = {("lapd_next_link", "place")}
+# So many of the octets that are handed over say all that the call asks: one more than the longest that is served.
+MOST = {"lapd_frame": numbers()["LAPD_MOST_FRAME"] + 1, "lapd_request": numbers()["LAPD_MOST_OCTETS"] + 1,
+        "lapd_next_frame": numbers()["LAPD_MOST_FRAME"]}
+# Octets of an exchange that are handed over at a time, and the room for a report.
+RUN, REPORT = 256, 304
+# Octets of stack in a machine's memory, where C's own has the rest; calls were seen to take less than half, and one that takes
+# more ends the program, as the stack lies at the memory's beginning.
+STACK = 8192
+WIDTH = {"uint8_t": 8, "uint16_t": 16, "uint32_t": 32, "uint64_t": 64, "size_t": 64}
+LOADS = {8: "i32_load8_u", 16: "i32_load16_u", 32: "i32_load", 64: "i64_load"}
+STORES = {8: "i32_store8", 16: "i32_store16", 32: "i32_store", 64: "i64_store"}
+
+
+# ---- What wasm2c makes ------------------------------------------------------------------------------------------------
+
+class Machine(NamedTuple):
+    """Parts of wasm2c's output: the fields of an instance, and all functions with their prototypes and data."""
+    fields: str
+    functions: str
+    heap_base: int
+
+
+def part(text: str, pattern: str, what: str) -> str:
+    found = re.findall(pattern, text, re.M | re.S)
+    if len(found) != 1:
+        raise NotBuilt(f"wasm2c writes another form than that of wabt 1.0.32: {what}")
+    return found[0]
+
+
+def machine(wasm: str, folder: str) -> Machine:
+    run(["wasm2c", "-n", "machine", wasm, "-o", "machine.c"], folder)
+    with open(f"{folder}/machine.h", encoding="ascii") as file:
+        fields = part(file.read(), r"^typedef struct Z_machine_instance_t \{\n(.*?)  wasm_rt_memory_t w2c_memory;\n\}", "an instance")
+    with open(f"{folder}/machine.c", encoding="ascii") as file:
+        text = file.read()
+    body = part(text, r"^  func_types\[\d+\] = [^\n]*\n\}\n\n(static \w+ w2c_.*?)^/\* export: 'memory' \*/$", "functions")
+    base = part(body, r"instance->w2c___heap_base = (\d+)ull;", "where the heap begins")
+    body = body.replace(part(body, r"^(static void init_data_instances\([^)]*\) \{\n\}\n)", "data that are put in later"), "")
+    return Machine(plain(fields), plain(body), int(base))
+
+
+def plain(body: str) -> str:
+    """wasm2c's text without indentation, for a machine whose memory lies behind its fields."""
+    body = re.sub(r"^ +", "", body, flags=re.M)
+    body = re.sub(r"\bZ_machine_instance_t ?\* ?", "machine *", body)
+    body = body.replace("instance->w2c_memory.pages", "(u32)(instance->octets / 65536)")
+    return body.replace("&instance->w2c_memory", "instance").replace("instance->w2c_memory", "instance")
+
+
+# ---- A caller's structs and the machine's memory -------------------------------------------------------------------------
+
+def place(at: int) -> str:
+    return "at" if at == 0 else f"at + {at}"
+
+
+def moved(kind: str, to: str, value: str, is_put: bool) -> str:
+    """The statement that puts or gets one value of a plain type, or a struct."""
+    if kind in structs():
+        return f"{'put' if is_put else 'get'}_{kind}(instance, {to}, &{value});"
+    width = WIDTH[kind]
+    if width == 8:
+        return f"instance->data[{to}] = {value};" if is_put else f"{value} = instance->data[{to}];"
+    cast = "u32" if width < 64 else "u64"
+    return f"{STORES[width]}(instance, {to}, ({cast}){value});" if is_put else f"{value} = ({kind}){LOADS[width]}(instance, {to});"
+
+
+def field_moved(it: Struct, field: Field, is_put: bool) -> List[str]:
+    """The statements for a field: of an array so much as the struct says that there is."""
+    if field.count is None:
+        return [moved(field.kind, place(field.at), f"it->{field.name}", is_put)]
+    size = structs()[field.kind].octets if field.kind in structs() else WIDTH[field.kind] // 8
+    count = COUNTED.get((it.name, field.name))
+    if size == 1:
+        much = f"at_most(it->{count}, {field.count})" if count else str(field.count)
+        of = f"it->{field.name}", f"instance->data + {place(field.at)}"
+        return [f"memcpy({', '.join(of[::-1] if is_put else of)}, {much});"]
+    bound = f"i < {field.count}" + (f" && i < it->{count}" if count else "")
+    step = f"(u64){size} * i"
+    return [f"for (u32 i = 0; {bound}; i++)",
+            "    " + moved(field.kind, f"{place(field.at)} + {step}", f"it->{field.name}[i]", is_put)]
+
+
+def mover(it: Struct, is_put: bool) -> str:
+    names = READ.get(it.name) if is_put else None
+    rows = [row for one in it.fields if names is None or one.name in names for row in field_moved(it, one, is_put)]
+    what = f"void put_{it.name}(machine *instance, u64 at, const" if is_put else f"void get_{it.name}(const machine *instance, u64 at,"
+    return f"static inline {what} {tag(it.name)} *it) {{\n" + "".join(f"    {row}\n" for row in rows) + "}\n"
+
+
+def plain_mover(kind: str, is_put: bool) -> str:
+    what = f"void put_{kind}(machine *instance, u64 at, const" if is_put else f"void get_{kind}(const machine *instance, u64 at,"
+    return f"static inline {what} {kind} *it) {{\n    {moved(kind, 'at', '*it', is_put)}\n}}\n"
+
+
+def tag(name: str) -> str:
+    """A struct's name in C: those that are called like a function have no other."""
+    return f"struct {name}" if name in {it.name for it in functions()} else name
+
+
+def below(name: str) -> List[str]:
+    """A struct and those that it has, these first."""
+    return [one for field in structs()[name].fields if field.kind in structs() for one in below(field.kind)] + [name]
+
+
+def marshalling() -> str:
+    """What the calls use of it, each once."""
+    wanted: Dict[Tuple[str, bool], None] = {("lapd_config", True): None, ("size_t", True): None, ("size_t", False): None}
+    for it in functions():
+        for one in it.parameters[1:]:
+            if one.is_pointer and (one.kind in structs() or not one.is_const):
+                for kind in below(one.kind) if one.kind in structs() else [one.kind]:
+                    wanted[kind, one.is_const] = None
+                    if (it.name, one.name) in IN_OUT:
+                        wanted[kind, True] = None
+    # octets of a buffer that is written are copied as a block
+    wanted.pop(("lapd_note", True), None)
+    return "\n".join(mover(structs()[kind], is_put) if kind in structs() else plain_mover(kind, is_put) for kind, is_put in wanted)
+
+
+# ---- The functions of lapd.h ---------------------------------------------------------------------------------------------
+
+class Call:
+    """What a function does before it calls the machine's, what it hands over, and what it does after."""
+
+    def __init__(self, of: Function) -> None:
+        self.of, self.octets = of, 0
+        self.before: List[str] = []
+        self.words: List[str] = []
+        self.after: List[str] = []
+        self.last: List[str] = []
+        rest = list(of.parameters[1:])
+        while rest:
+            self.take(rest.pop(0), rest)
+
+    def room(self, octets: int) -> str:
+        """A place of its own for what is handed over."""
+        at = self.octets
+        self.octets += -(-octets // 16) * 16
+        return f"OTHER + {at}" if at else "OTHER"
+
+    def take(self, it: Parameter, rest: List[Parameter]) -> None:
+        if not it.is_pointer:
+            self.words.append(it.name)
+        elif it.kind == "uint8_t" and rest and rest[0].kind == "size_t" and not rest[0].is_pointer:
+            self.buffer(it, rest)
+        elif it.kind == "lapd_report" and not it.is_const:
+            self.words.append("REPORT")
+            self.after.append(f"get_lapd_report(instance, REPORT, {it.name});")
+        else:
+            size = structs()[it.kind].octets if it.kind in structs() else WIDTH[it.kind] // 8
+            at = self.room(size)
+            self.words.append(at)
+            if it.is_const or (self.of.name, it.name) in IN_OUT:
+                self.before.append(f"put_{it.kind}(instance, {at}, {it.name});")
+            if not it.is_const:
+                self.after.append(f"get_{it.kind}(instance, {at}, {it.name});")
+
+    def buffer(self, it: Parameter, rest: List[Parameter]) -> None:
+        """Octets with their length behind them; where they are written, the next pointer tells how many were."""
+        length, most = rest.pop(0).name, MOST[self.of.name]
+        at = self.room(most)
+        self.words += [at, f"at_most({length}, {most})"]
+        if it.is_const:
+            self.before.append(f"memcpy(instance->data + {at}, {it.name}, at_most({length}, {most}));")
+        else:
+            self.last.append(f"memcpy({it.name}, instance->data + {at}, *{rest[0].name});")
+
+    def text(self) -> str:
+        words = ", ".join(f"{'const ' * one.is_const}{tag(one.kind) if one.kind in structs() else one.kind} "
+                          f"{'*' * one.is_pointer}{one.name}" for one in self.of.parameters)
+        handle = self.of.parameters[0]
+        none = "LAPD_NO_CARD" if handle.kind == "lapd_card" else "LAPD_NO_CLOCK"
+        rows = [f"if (!{handle.name}->started)", f"    return {none};", f"machine *instance = {handle.name}->at;", *self.before,
+                f"u32 status = w2c_{self.of.name}(instance, {', '.join(['HANDLE', *self.words])});"]
+        after = self.after + self.last
+        if after:
+            rows += ["if (status == LAPD_OK) {", *(f"    {row}" for row in after), "}"]
+        rows.append("return status;")
+        return f"{self.of.result} {self.of.name}({words}) {{\n" + "".join(f"    {row}\n" for row in rows) + "}\n"
+
+
+def exports() -> List[str]:
+    """What the machine exports: its functions, and for a start where its heap lies."""
+    return [*(it.name for it in functions() if it.name not in NOT_EXPORTED), "module_heap", "__heap_base"]
+
+
+# ---- The file ---------------------------------------------------------------------------------------------------------------
+
+def content(path: str) -> str:
+    with open(f"{ROOT}/{path}", encoding="utf-8") as file:
+        return file.read()
+
+
+def functions_of_memory(path: str) -> str:
+    """What one of c/ says of memory, but how a block gets another size, which no card of a machine's own asks."""
+    text = re.sub(r"\A/\*.*?\*/\n", "", content(path), flags=re.S)
+    text = re.sub(r"^rattle_tried rattle_realloc\(.*?^\}\n\n?", "", text, flags=re.M | re.S)
+    return re.sub(r"^#include .*\n+", "", text, flags=re.M).strip()
+
+
+def memory() -> str:
+    declared = "rattle_tried rattle_alloc(size_t octets, size_t alignment);\nvoid rattle_dealloc(void *at);"
+    own = re.sub("^", "static ", declared, flags=re.M)
+    return ("/* A block of memory, or that there is none: as lapd_memory.h has it. */\n"
+            "typedef struct {\n    bool there;\n    void *at;\n} rattle_tried;\n\n"
+            f"#ifdef LAPD_OWN_MEMORY\n{declared}\n#else\n{own}\n#endif\n\n"
+            f"#ifdef LAPD_MALLOC\n\n{functions_of_memory('c/malloc.c')}\n\n"
+            f"#elif !defined(LAPD_OWN_MEMORY)\n\n{functions_of_memory('c/heap.c')}\n\n#endif\n")
+
+
+def calls() -> List["Call"]:
+    return [Call(it) for it in functions() if it.name not in BY_HAND]
+
+
+def other_octets() -> int:
+    """So many octets take what one call hands over beside the handle and a report; an exchange takes two runs and its steps."""
+    return max(16 + 2 * RUN, *(it.octets for it in calls()))
+
+
+def own_octets(made: Machine) -> int:
+    """So many octets a machine takes beside its heap: its data and stack, what is handed over, and 64 of its own."""
+    return -(-made.heap_base // 16) * 16 + 16 + REPORT + other_octets() + 64
+
+
+def portable(made: Machine, head: str) -> str:
+    struct = (f"/* A card or a clock: WebAssembly's globals and memory. */\ntypedef struct {{\n{made.fields}u64 octets;\n"
+              "u8 data[];\n} machine;\n")
+    return "\n".join([
+        head, '#include "lapd.h"\n', content("c/portable/head.c"), memory(), struct, content("c/portable/memory.c"),
+        "/* ---- What wasm2c made of the proved library ---- */\n", made.functions,
+        f"enum {{ PLACES = {-(-made.heap_base // 16) * 16}, OTHER_OCTETS = {other_octets()}, RUN = {RUN} }};\n",
+        "/* So many octets of the caller's, or as many of them as say all that a call asks. */\n"
+        "static inline size_t at_most(size_t count, size_t most) {\n    return count < most ? count : most;\n}\n",
+        marshalling(), content("c/portable/card.c"), *(it.text() for it in calls())])
+
+
+NAME = "lapd_c"
+COMMENT = """\
+/*
+ * lapd.c: the whole of lapd.h in one file, for each processor. Written by tools/portable of Vithrynel; not to be edited.
+ *
+ * {from_what}
+ *
+ * The library is proved, each function of it, in Rattle. Proofs end with its code as the kit's compiler has it. From there on
+ * nothing is proved, and all is tested: that code is compiled for WebAssembly by the kit's clang, its addresses are lowered by
+ * wasm-opt, and wasm2c writes the module as C; the parts around it, which turn a caller's structs to the module's memory and
+ * back, are the repository's. Each card and each clock has such a memory of its own, which does not grow.
+ */
+"""
+README = """\
+lapd.c and lapd.h: LAPD for line cards (ITU-T Q.921, modulo 128), in C99, for each processor of 32 or 64 bits.
+
+    cc -std=c99 -O2 -o program program.c lapd.c
+
+lapd.h says what each function does. Cards and clocks lie in one static region: -DLAPD_HEAP_OCTETS=N says how large it is
+(131072 if left out), or -DLAPD_MALLOC takes malloc, or -DLAPD_OWN_MEMORY the program's rattle_alloc and rattle_dealloc. A
+card takes lapd_card_octets(&config) octets and {own} more, a clock lapd_clock_octets(&config) and {own} more. Starts and ends
+run one at a time, unless the functions of memory allow more; else cards of several threads have nothing in common. Each access
+to a card's memory is tested, and ends the program by abort() where it lies outside, which no run has shown; -DLAPD_UNTESTED
+leaves that out. A compiler that does not tell the order of octets as GCC does wants -DLAPD_BIG_END_FIRST=0 or 1.
+"""
+
+
+def comment(wasm: str) -> str:
+    made = [f"From crates/{NAME}, whose sources have the sum", f"{made_of(uses(), NAME)}, by", *versions("wasm-opt", "wasm2c"),
+            "through a module with the sum", f"{sum_of(wasm)}."]
+    return COMMENT.format(from_what="\n * ".join(made))
+
+
+def written(to: str, over_gate: bool = False) -> None:
+    """lapd.c, lapd.h and a page, in a folder, by all steps."""
+    need("wasm-opt", "wasm2c")
+    built(NAME, over_gate=over_gate, with_module=True)
+    with tempfile.TemporaryDirectory(prefix="portable-") as folder:
+        module_of = wasm(module(NAME), exports(), folder, STACK)
+        made = machine(module_of, folder)
+        for name, text in (("lapd.c", portable(made, comment(module_of))), ("lapd.h", content("include/lapd.h")),
+                           ("README", README.format(own=own_octets(made)))):
+            with open(f"{folder}/{name}", "w", encoding="utf-8") as file:
+                file.write(text)
+        put(folder, ["lapd.c", "lapd.h", "README"], to)

@@ -90,11 +90,10 @@ export class Card {
     this.side.value = words.at(-1) === "user" ? "user" : "";
     const numbers = words.slice(1).filter((it) => it !== "user");
     this.numbers.forEach((it, at) => {
-      const number = numbers[at];
-      if (document.activeElement !== it) it.value = number !== undefined && /^[0-9]+$/.test(number) ? String(Number(number)) : "";
+      if (document.activeElement !== it) it.value = /^[0-9]+$/.test(numbers[at] ?? "") ? String(Number(numbers[at])) : "";
     });
-    this.summary.textContent = found
-      ? `for ${words[0] === "card" ? "octets" : "whole frames"}, ${words.at(-1) === "user" ? "the user's side" : "the network's side"}`
-      : "the script has no card line yet";
+    const kind = words[0] === "card" ? "octets" : "whole frames";
+    const side = words.at(-1) === "user" ? "user" : "network";
+    this.summary.textContent = found ? `for ${kind}, the ${side}'s side` : "the script has no card line yet";
   }
 }

@@ -37,6 +37,20 @@ function arrowOf(row) {
   return it;
 }
 
+/** Words beside the card: what was lost or dropped, and why, stands out. */
+function besideOf(words) {
+  return element("span", /^(lost|dropped)/.test(words) ? "beside ink-red" : "beside", words);
+}
+
+/** What a row shows between the other side and the card, and between the card and layer 3. */
+function fill(row, link, top) {
+  if (row.kind === PAUSE) link.append(element("span", "pass", `${row.head} pass`));
+  else if (row.kind === BESIDE) top.append(besideOf(row.head));
+  else if ([UP, DOWN].includes(row.kind)) top.append(arrowOf(row));
+  else link.append(arrowOf(row));
+  if (row.beside) top.append(besideOf(row.beside));
+}
+
 /** What draws the rows of a ladder, one after the other; the time stands there where it is another than the latest. */
 export function rowDrawer(names) {
   let shown = -1; // the latest time that was shown
@@ -50,12 +64,11 @@ export function rowDrawer(names) {
     if (row.kind !== PAUSE) shown = row.at;
     const link = element("span", "link");
     const top = element("span", "top");
-    if (row.kind === PAUSE) link.append(element("span", "pass", `${row.head} pass`));
-    else if (row.kind === BESIDE) top.append(element("span", row.head.startsWith("lost") ? "beside ink-red" : "beside", row.head));
-    else if ([UP, DOWN].includes(row.kind)) top.append(arrowOf(row));
-    else link.append(arrowOf(row));
-    if (row.beside) top.append(element("span", "beside ink-red", row.beside));
-    if (![PAUSE, BESIDE].includes(row.kind)) it.setAttribute("aria-label", `${wayOf(row, names)}: ${row.head} ${row.info} ${row.meaning} ${row.beside}`.trim());
+    fill(row, link, top);
+    if (row.kind in INKS) {
+      const words = [row.head, row.info, row.meaning, row.beside].filter(Boolean).join(" ");
+      it.setAttribute("aria-label", `${wayOf(row, names)}: ${words}`);
+    }
     it.append(time, link, top);
     return it;
   };

@@ -88,17 +88,19 @@ export class Rows {
 
   pressed(event) {
     const item = event.target.closest("[data-line]");
-    const items = item && [...this.place.querySelectorAll("[data-line]")];
-    const to = item && { ArrowDown: items.indexOf(item) + 1, ArrowUp: items.indexOf(item) - 1, Home: 0, End: items.length - 1 }[event.key];
-    if (to !== undefined && to !== null && items[to]) {
-      event.preventDefault();
-      item.tabIndex = -1;
-      items[to].tabIndex = 0;
-      items[to].focus();
-    } else if (item && ["Enter", " "].includes(event.key)) {
-      event.preventDefault();
+    if (!item) return;
+    const items = [...this.place.querySelectorAll("[data-line]")];
+    const at = items.indexOf(item);
+    const to = items[{ ArrowDown: at + 1, ArrowUp: at - 1, Home: 0, End: items.length - 1 }[event.key]];
+    if (!to && !["Enter", " "].includes(event.key)) return;
+    event.preventDefault();
+    if (!to) {
       this.choose(item);
+      return;
     }
+    item.tabIndex = -1;
+    to.tabIndex = 0;
+    to.focus();
   }
 
   /** Marks the rows that a line of the script caused. Returns the first of them. */

@@ -198,8 +198,11 @@ class Page {
       return;
     }
     history.replaceState(null, "", fragmentOf(octets));
-    if (navigator.clipboard) navigator.clipboard.writeText(location.href).then(() => tell("Copied"), () => tell("It is in the address"));
-    else tell("It is in the address");
+    const copied = navigator.clipboard?.writeText(location.href) ?? Promise.reject();
+    copied.then(
+      () => tell("Copied"),
+      () => tell("It is in the address"),
+    );
   }
 }
 

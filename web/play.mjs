@@ -202,7 +202,8 @@ export function play(program, script, progress = () => {}) {
   const steps = each(pieces, "what goes is read", progress, (piece, at) => {
     const answer = answers[at];
     const isSent = ["pull", "next"].includes(piece.line.word());
-    return { line: piece.line, at: piece.at, ...traffic(cutter, piece, answer), answer, isOfNetwork: isSent !== cutter.isUser };
+    const { line, at: clock } = piece;
+    return { line, at: clock, ...traffic(cutter, piece, answer), answer, isOfNetwork: isSent !== cutter.isUser };
   });
   return { ...ended, clock: cutter.clock, isUser: cutter.isUser || Boolean(faulty?.isOfUser()), steps };
 }

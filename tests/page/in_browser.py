@@ -7,137 +7,15 @@ import time
 from typing import Iterator, List, Tuple
 
 from browser import Browser, Lost
+from shown import Page, differences, fragment
 from vithrynel.program import ROOT
-from vithrynel.story import BESIDE, COMMENT, FAULT, PAUSE
+from vithrynel.story import COMMENT
 from wanted import Played
 
-MOST_DIGITS = 120  # of information that is shown whole
 MANY = 40  # scripts that are shown in one go
 AWAY = 2.0  # seconds for which the page may be away at most
 TRIES = 3  # of which the best counts, since other tests run beside this one
 LOST = "conversation/frame-lost"  # the script of the menu in which a frame is lost
-
-# What the page shows, in its own words.
-LOOK = """
-window.look = () => ({
-  ladders: [...document.querySelectorAll("#ladder .names")].map((it) => ({
-    title: it.querySelector("h2").textContent,
-    names: [...it.querySelectorAll(".bars b")].map((name) => name.textContent),
-    rows: [...it.nextElementSibling.querySelectorAll("[data-line]")].map((row) => [
-      row.className.split(" ").find((name) => name.startsWith("kind-")).slice(5),
-      row.querySelector(".words, .pass, .comment, .fault")?.textContent ?? "",
-      row.querySelector(".meaning")?.textContent ?? "",
-      row.querySelector(".beside")?.textContent ?? "",
-      Number(row.dataset.line),
-    ]),
-  })),
-  said: [...document.querySelectorAll("#transcript-lines .said")].map((it) => it.textContent),
-  verdict: document.getElementById("verdict").textContent,
-  faulty: [...document.querySelectorAll("#gutter .is-faulty")].map((it) => it.textContent),
-  band: document.querySelector(".band.fault")?.textContent ?? "",
-  text: document.getElementById("text").value,
-});
-window.isPlayed = () => document.body.dataset.state === "played";
-window.played = async () => {
-  for (let at = 0; !isPlayed(); at += 1) await new Promise((go) => setTimeout(go, at < 50 ? 2 : 20));
-};
-window.shown = async (fragment) => {
-  if (location.hash !== fragment) {
-    const turned = new Promise((go) => addEventListener("hashchange", go, { once: true }));
-    location.hash = fragment;
-    await turned;
-  }
-  await played();
-  return look();
-};
-window.type = async (script) => {
-  const text = document.getElementById("text");
-  text.focus();
-  text.value = script;
-  text.dispatchEvent(new Event("input"));
-  await played();
-};
-window.watch = () => {
-  window.away = 0;
-  let latest = performance.now();
-  clearInterval(window.watching);
-  window.watching = setInterval(() => {
-    const now = performance.now();
-    window.away = Math.max(window.away, now - latest);
-    latest = now;
-  }, 10);
-};
-"""
-
-
-def fragment(script: bytes) -> str:
-    return "#script=" + base64.urlsafe_b64encode(script).decode().rstrip("=")
-
-
-def shortened(digits: str) -> str:
-    return digits if len(digits) <= MOST_DIGITS else f"{digits[:MOST_DIGITS - 20]}… ({len(digits) // 2} octets)"
-
-
-def drawn(row: List) -> List[str]:
-    """A row as the page shows it: its kind, the words on its arrow, what they mean, and what stands beside it."""
-    _, kind, head, info, meaning, beside = row
-    if kind == PAUSE:
-        return [kind, f"{head} pass", "", ""]
-    if kind == BESIDE:
-        return [kind, "", "", head]
-    return [kind, head if kind in (COMMENT, FAULT) or not info else f"{head} {shortened(info)}", meaning, beside]
-
-
-def differences(it: Played, got: dict) -> Iterator[str]:
-    """How what the page shows of a script differs from what the tools make of it."""
-    fault = [[FAULT, it.fault, "", ""]] if it.fault else []
-    wanted = [(f"line {line}", [*map(drawn, rows), *fault]) for line, rows in it.rows.items()]
-    found = [(ladder["title"], [row[:4] for row in ladder["rows"]]) for ladder in got["ladders"]]
-    if found != wanted:
-        pairs = [(one, two) for left, right in zip(found, wanted) for one, two in zip(left[1], right[1]) if one != two]
-        yield f"ladder: {pairs[:1] or (found[:1], wanted[:1])}"[:600]
-    names = ["exchange", "user", "layer 3"] if it.is_user else ["terminal", "exchange", "layer 3"]
-    if any(ladder["names"] != names for ladder in got["ladders"]):
-        yield f"names {got['ladders'][0]['names']}"
-    if "".join(f"{said}\n" for said in got["said"]) != it.transcript:
-        yield "another transcript"
-    number = it.fault.split(":")[0].split(" ")[1] if it.fault else ""
-    if (it.fault or "No fault.") not in got["verdict"] or (got["band"] != "") != bool(it.fault):
-        yield f"verdict {got['verdict']!r}, {got['band']!r}, wanted {it.fault!r}"
-    if int(number or 1) < 20 and got["faulty"] != [number] * bool(it.fault):
-        yield f"marked {got['faulty']}, wanted {number!r}"
-
-
-class Page:
-    """The page, opened from its file."""
-
-    def __init__(self, browser: Browser, path: str) -> None:
-        self.browser = browser
-        self.url = f"file://{os.path.abspath(path)}"
-
-    def open(self, more: str = "") -> None:
-        self.browser.size(1360, 860)
-        self.browser.open("about:blank")
-        self.browser.open(self.url + more)
-        self.browser.until("document.body?.dataset.state === 'played'")
-        self.browser.value(LOOK)
-
-    def look(self) -> dict:
-        self.browser.value("played()")
-        return self.browser.value("look()")
-
-    def choose(self, name: str) -> dict:
-        script = "const menu = document.getElementById('menu'); menu.value = %s; menu.dispatchEvent(new Event('change'));"
-        self.browser.value(f"{{{script % json.dumps(name)}}}")
-        return self.look()
-
-    def type(self, script: str) -> dict:
-        self.browser.value(f"type({json.dumps(script)})", 120)
-        return self.look()
-
-    def click(self, selector: str) -> None:
-        self.browser.value(f"document.querySelector({json.dumps(selector)}).click()")
-
 
 def opens(page: Page, scripts: List[Played]) -> Iterator[str]:
     """It plays the conversation as it is opened, asks for nothing but itself, and breaks no rule of its own."""
@@ -163,8 +41,7 @@ def shows_all(page: Page, scripts: List[Played]) -> Iterator[str]:
     those = [it for it in scripts if it.is_text()]
     for at in range(0, len(those), MANY):
         some = those[at : at + MANY]
-        words = json.dumps([fragment(it.script) for it in some])
-        told = page.browser.value(f"(async () => {{ const found = []; for (const it of {words}) found.push(await shown(it)); return found; }})()", 120)
+        told = page.browser.value(f"shownAll({json.dumps([fragment(it.script) for it in some])})", 120)
         for it, got in zip(some, told):
             name = os.path.relpath(it.path, ROOT)
             if got["text"].encode() != it.script:
@@ -253,7 +130,8 @@ def steps(page: Page, scripts: List[Played]) -> Iterator[str]:
         got = page.look()
         if page.browser.value("document.getElementById('how-far').textContent") != f"played up to line {stops[count - 1]}":
             yield f"step {count}: {page.browser.value('document.getElementById(`how-far`).textContent')}"
-        alone = page.browser.value(f"shown({json.dumps(fragment(chr(10).join(lines[:stops[count - 1]]).encode() + b'%c' % 10))})")
+        before = "".join(f"{it}\n" for it in lines[: stops[count - 1]])
+        alone = page.browser.value(f"shown({json.dumps(fragment(before.encode()))})")
         if alone["ladders"] != got["ladders"] or alone["said"] != got["said"]:
             yield f"step {count}: another ladder than of these lines alone"
         page.browser.value(f"shown({json.dumps(fragment(whole['text'].encode()))})")
@@ -273,7 +151,7 @@ def leads(page: Page, scripts: List[Played]) -> Iterator[str]:
     """A row leads to its line, and a line marks its rows; by mouse and by keys."""
     page.open()
     got = page.look()
-    line = "document.getElementById('text').value.slice(0, document.getElementById('text').selectionStart).split('\\n').length"
+    line = "caret()"
     at, row = next((at, it) for at, it in enumerate(got["ladders"][0]["rows"]) if it[0] == "up")
     page.browser.value(f"document.querySelectorAll('#ladder [data-line]')[{at}].click()")
     if page.browser.value(line) != row[4]:
@@ -288,18 +166,23 @@ def leads(page: Page, scripts: List[Played]) -> Iterator[str]:
         yield "Enter on the next row leads to another line"
     page.click("#tab-transcript")
     page.click("#transcript .said")
-    if page.browser.value(line) != got["ladders"][0]["rows"][2][4] or not page.browser.value("document.getElementById('ladder').hidden"):
+    if page.browser.value(line) != got["ladders"][0]["rows"][2][4]:
         yield f"the transcript's first line leads to line {page.browser.value(line)}"
+    if not page.browser.value("document.getElementById('ladder').hidden"):
+        yield "the ladder stays beside the transcript"
 
 
 def has_fields(page: Page, scripts: List[Played]) -> Iterator[str]:
     """The card's numbers are fields, which change the card line and nothing else."""
     page.open()
     before = page.look()["text"].split("\n")
-    change = "{const it = document.querySelector('#fields [name=\"%s\"]'); it.value = '%s'; it.dispatchEvent(new Event('change', {bubbles: true}));}"
-    for name, value, wanted in [("K", "3", "card 1 8 3 8 4 4 64 260 3"), ("side", "user", "card 1 8 3 8 4 4 64 260 3 user"),
-                                ("K16", "2", "card 1 8 3 8 4 4 64 260 3 2 user"), ("kind", "frames", "frames 1 8 3 8 4 4 64 260 3 2 user")]:
-        page.browser.value(change % (name, value))
+    for name, value, wanted in [
+        ("K", "3", "card 1 8 3 8 4 4 64 260 3"),
+        ("side", "user", "card 1 8 3 8 4 4 64 260 3 user"),
+        ("K16", "2", "card 1 8 3 8 4 4 64 260 3 2 user"),
+        ("kind", "frames", "frames 1 8 3 8 4 4 64 260 3 2 user"),
+    ]:
+        page.browser.value(f"change({json.dumps(name)}, {json.dumps(value)})")
         time.sleep(0.2)
         after = page.look()["text"].split("\n")
         if after[1] != wanted or after[:1] + after[2:] != before[:1] + before[2:]:
@@ -320,7 +203,8 @@ def links(page: Page, scripts: List[Played]) -> Iterator[str]:
         HTMLAnchorElement.prototype.click = function () { window.named = this.download; };}""")
     page.click("#ladder .names button")
     page.click("#save")
-    got = page.browser.value("Promise.all(saved).then((all) => all.map((it) => btoa(String.fromCharCode(...new Uint8Array(it)))))")
+    text = "(all) => all.map((it) => btoa(String.fromCharCode(...new Uint8Array(it))))"
+    got = page.browser.value(f"Promise.all(saved).then({text})")
     call = next(it for it in scripts if it.path.endswith("conversation/call.script"))
     if got != [call.captures[0], base64.b64encode(call.transcript.encode()).decode()]:
         yield "another capture or transcript is saved"
@@ -349,10 +233,11 @@ def is_awake(page: Page, scripts: List[Played]) -> Iterator[str]:
     signs = "".join(chr(it) for it in range(32, 127)) + "\n\t<>&\N{GREEK SMALL LETTER ALPHA}\N{GRINNING FACE}"
     begin = "card 64 8 7 8 4 4 64 260 3\n" + "".join(f"assign {it} 64\nin {it} 00817F\npull {it} 20\n" for it in range(64))
     turns = "".join(f"in 0 0081{2 * at % 256:02X}{2 * at % 256:02X}41\ndata 0 64 42\npull 0 30\n" for at in range(3333))
+    comments = "".join("# " + "".join(numbers.choices(signs[:90], k=60)) + "\n" for _ in range(33000))
     cases = {
         "2 MB of random text": "".join(numbers.choices(signs, k=2 << 20)),
         "2 MB in a line": "# " + "".join(numbers.choices(signs.replace("\n", ""), k=2 << 20)),
-        "2 MB behind a card line": "card 1 8 7 8 4 4 64 260 3\n# " + "\n# ".join("".join(numbers.choices(signs[:90], k=60)) for _ in range(33000)) + "\nin 0 00\n",
+        "2 MB behind a card line": f"card 1 8 7 8 4 4 64 260 3\n{comments}in 0 00\n",
         "64 lines": begin,
         "ten thousand events": f"card 1 8 7 8 4 4 64 260 3\nassign 0 64\nin 0 00817F\npull 0 20\n{turns}",
         "ten thousand waits": "card 1 8 7 8 4 4 64 260 3\nassign 0 64\n" + "establish 0 64\nwait 3600000\nstored\n" * 3334,
@@ -404,20 +289,40 @@ def fits(page: Page, scripts: List[Played]) -> Iterator[str]:
             yield f"at {width} pixels it is {wide} wide"
 
 
-TESTS = {"opens": opens, "shows all": shows_all, "has a menu": has_menu, "marks faults": marks_faults, "loses a frame": loses_a_frame,
-         "makes no markup": makes_no_markup, "steps": steps, "leads": leads, "has fields": has_fields, "links": links,
-         "is awake": is_awake, "can be stopped": can_be_stopped, "fits": fits}
+TESTS = {
+    "opens": opens,
+    "shows all": shows_all,
+    "has a menu": has_menu,
+    "marks faults": marks_faults,
+    "loses a frame": loses_a_frame,
+    "makes no markup": makes_no_markup,
+    "steps": steps,
+    "leads": leads,
+    "has fields": has_fields,
+    "links": links,
+    "is awake": is_awake,
+    "can be stopped": can_be_stopped,
+    "fits": fits,
+}
 
 
-STORED = (1160, 640, False, False)  # of docs/pictures
-VIEWS = {"light": (1360, 860, False, False), "dark": (1360, 860, True, False), "phone": (390, 1400, False, True), "phone-dark": (390, 1400, True, True)}
+STORED = (1240, 660, False, False)  # of docs/pictures
+VIEWS = {
+    "light": (1360, 860, False, False),
+    "dark": (1360, 860, True, False),
+    "phone": (390, 1400, False, True),
+    "phone-dark": (390, 1400, True, True),
+}
 
 
 def picture(page: Page, view: Tuple[int, int, bool, bool], path: str) -> Iterator[str]:
-    """A picture of the conversation, with a row chosen."""
+    """A picture of the script in which a frame is lost, with the row of REJ chosen."""
     page.open()
     page.browser.size(*view)
-    page.browser.value("document.querySelectorAll('#ladder [data-line]')[12].click()")
+    page.browser.value("document.getElementById('card').open = false")
+    page.choose(LOST)
+    rej = "[...document.querySelectorAll('#ladder [data-line]')].find((it) => it.textContent.includes(' rej '))"
+    page.browser.value(f"{rej}.click()")
     time.sleep(0.4)
     page.browser.picture(path)
     yield from ()

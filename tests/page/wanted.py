@@ -48,7 +48,8 @@ class Played:
         for it in got["ladders"]:
             rows = self.rows[it["line"]]
             if it["rows"] != rows:
-                at = next((at for at, pair in enumerate(zip(it["rows"], rows)) if pair[0] != pair[1]), min(len(rows), len(it["rows"])))
+                pairs = enumerate(zip(it["rows"], rows))
+                at = next((at for at, pair in pairs if pair[0] != pair[1]), min(len(rows), len(it["rows"])))
                 yield f"line {it['line']}, row {at}: {it['rows'][at:at + 1]}, wanted {rows[at:at + 1]}"
             if it["capture"] != self.captures[it["line"]]:
                 yield f"line {it['line']}: another capture"

@@ -82,14 +82,11 @@ def others(named: List[str]) -> Iterator[Tuple[str, List[Tuple[str, str]]]]:
     """The other scripts without a fault, by folder. Those that a text field would change are left out."""
     for folder in sorted(os.listdir(SCRIPTS)):
         place = os.path.join(SCRIPTS, folder)
-        names = [it[: -len(".script")] for it in os.listdir(place) if it.endswith(".script")] if os.path.isdir(place) else []
-        rows = [
-            (f"{folder}/{it}", it.replace("-", " "))
-            for it in sorted(names)
-            if f"{folder}/{it}" not in named and not os.path.exists(f"{place}/{it}.fault") and is_plain(script_text(f"{folder}/{it}"))
-        ]
-        if rows:
-            yield f"More: {folder}", rows
+        files = sorted(os.listdir(place)) if os.path.isdir(place) else []
+        names = [it[: -len(".script")] for it in files if it.endswith(".script") and f"{it[:-len('.script')]}.fault" not in files]
+        left = [it for it in names if f"{folder}/{it}" not in named and is_plain(script_text(f"{folder}/{it}"))]
+        if left:
+            yield f"More: {folder}", [(f"{folder}/{it}", it.replace("-", " ")) for it in left]
 
 
 def is_plain(octets: bytes) -> bool:

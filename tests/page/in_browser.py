@@ -306,7 +306,7 @@ TESTS = {
 }
 
 
-STORED = (1240, 660, False, False)  # of docs/pictures
+STORED = (1320, 680, False, False)  # of docs/pictures
 VIEWS = {
     "light": (1360, 860, False, False),
     "dark": (1360, 860, True, False),

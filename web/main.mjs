@@ -115,7 +115,9 @@ class Page {
 
   told(message) {
     this.shown.told(message, this.name);
-    if (message.failed !== undefined) {
+    if (message.progress) {
+      if (!byId("progress").hidden) this.judge("It is being played.", false, null);
+    } else if (message.failed !== undefined) {
       this.judge(`Not played: ${message.failed}`, true, null);
     } else if (message.ended) {
       const { status, fault, line, clock } = message.ended;

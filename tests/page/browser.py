@@ -57,7 +57,6 @@ class Browser:
         self.session = self.ask("Target.attachToTarget", targetId=target, flatten=True)["sessionId"]
         for it in ("Page", "Runtime", "Network", "Log"):
             self.ask(f"{it}.enable")
-        self.ask("Performance.enable", timeDomain="threadTicks")
         return self
 
     def __exit__(self, *_: object) -> None:
@@ -120,10 +119,34 @@ class Browser:
                 raise Lost(f"{expression}: not within {seconds} seconds")
             time.sleep(0.02)
 
-    def worked(self) -> float:
-        """The processor's seconds for the page up to now, without its workers."""
-        found = self.ask("Performance.getMetrics")["metrics"]
-        return next(it["value"] for it in found if it["name"] == "TaskDuration")
+    def of_all(self, command: str, **parameters: Any) -> dict:
+        """Gives a command that is about the whole browser."""
+        session, self.session = self.session, None
+        try:
+            return self.ask(command, **parameters)
+        finally:
+            self.session = session
+
+    def watch_tasks(self) -> None:
+        """From now on what the pages' own threads do is noted, task by task."""
+        what = {"includedCategories": ["toplevel"], "excludedCategories": ["*"]}
+        self.of_all("Tracing.start", transferMode="ReportEvents", traceConfig=what)
+
+    def longest_task(self) -> float:
+        """The processor's seconds for the longest task of a page's own thread since then, however busy the machine is."""
+        self.events.clear()
+        self.of_all("Tracing.end")
+        found: List[dict] = []
+        end = time.monotonic() + 60
+        while True:
+            it = self.events.pop(0) if self.events else self.message(end)
+            if it.get("method") == "Tracing.dataCollected":
+                found += it["params"]["value"]
+            if it.get("method") == "Tracing.tracingComplete":
+                break
+        names = [it for it in found if it["name"] == "thread_name" and it["args"]["name"] == "CrRendererMain"]
+        threads = {it["tid"] for it in names}
+        return max(it.get("tdur", it["dur"]) for it in found if it.get("dur") and it["tid"] in threads) / 1e6
 
     def key(self, name: str, code: int, modifiers: int = 0, text: str = "") -> None:
         more = {"text": text} if text else {}

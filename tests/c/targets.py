@@ -19,7 +19,7 @@ REQUIRED = "TARGETS"
 # What lapd.c asks a C library for: compilers call the first three by themselves, and GCC's own helpers begin with __.
 ASKED_FOR = {"memcpy", "memmove", "memset", "abort", "rattle_alloc", "rattle_dealloc"}
 # The stack that calls may take where C's locals stand for the machine's: docs/TARGETS.md says so.
-STACK = ("-DMOST=4096", "-DMOST_OF_START=4096")
+STACK = ("-DMOST=5120", "-DMOST_OF_START=5120")
 
 
 class Target(NamedTuple):
@@ -64,16 +64,16 @@ class Portable:
             with open(f"{self.folder}/README", encoding="utf-8") as file:
                 self.each = int(re.search(r"lapd_card_octets\(&config\) octets and (\d+) more", file.read())[1])
 
-    def build(self, name, target, folder):
+    def build(self, name, target, folder, level="-O2", flags=()):
         """The tests' programs over lapd.c, with three functions of memory of the tests' own."""
         library, compiler = f"{folder}/lib{name}.a", shutil.which(target.compiler)
-        words = [compiler, "-std=c99", "-O2", *STRICT, "-pedantic", "-DLAPD_OWN_MEMORY", "-c", f"{self.folder}/lapd.c"]
+        words = [compiler, *flags, "-std=c99", level, *STRICT, "-pedantic", "-DLAPD_OWN_MEMORY", "-c", f"{self.folder}/lapd.c"]
         said = run([*words, "-o", f"{folder}/{name}.o"])
         run([re.sub("gcc$|cc$", "ar", target.compiler), "rcs", library, f"{folder}/{name}.o"])
         check(f"{name}: lapd.c compiles", said.returncode == 0, said.stderr.decode()[:600])
         if said.returncode:
             return None
-        return Build(name, [compiler], [compiler], library, folder, target.emulator, each=self.each, blocks=2, stack=STACK)
+        return Build(name, [compiler], [compiler, *flags], library, folder, target.emulator, each=self.each, blocks=2, stack=STACK)
 
 
 def proved_for(name, build):
@@ -100,6 +100,18 @@ def build_for(name, portable, build, folder):
         compiler = [shutil.which(target.compiler)]
         return library and Build(name, compiler, compiler, library, folder, target.emulator)
     return portable().build(name, target, folder) if portable().is_there else None
+
+
+def installed(build, folder):
+    """A program is linked with what tools/install leaves for a processor, by the flags of pkg-config, and runs."""
+    at = f"{folder}/installed-{build.name}"
+    said = run([f"{ROOT}/tools/install", "--target", build.name, at])
+    check(f"tools/install --target {build.name}", said.returncode == 0, said.stderr.decode()[-600:])
+    for name, env in (("lapd", {}), ("lapd-shared", {"LD_LIBRARY_PATH": f"{at}/lib"})):
+        told = run(["pkg-config", "--cflags", "--libs", name], env={"PKG_CONFIG_PATH": f"{at}/lib/pkgconfig"})
+        run([*build.compiler, "-o", f"{at}/{name}", f"{ROOT}/examples/c/first.c", *told.stdout.decode().split()])
+        words = [*build.runner, *(word for key, value in env.items() for word in ("-E", f"{key}={value}")), f"{at}/{name}"]
+        check(f"{build.name}: a program with {name}", os.path.exists(f"{at}/{name}") and run(words).stdout == FIRST, told.stderr.decode())
 
 
 # ---- What holds of lapd.c and lapd.wasm on this machine ----------------------------------------------------------------
@@ -158,6 +170,17 @@ def inside(portable, folder):
     if said.returncode == 0:
         ran = run([path])
         check("what is handed over", ran.returncode == 0, (ran.stdout + ran.stderr).decode()[:600])
+
+
+def threads(portable, folder):
+    """Cards of several threads have nothing in common; where the compiler has a sanitizer of threads, it says the same."""
+    words = ["cc", "-std=c99", "-O0", *STRICT, f"-I{portable.folder}", "-DLAPD_MALLOC", "-o", f"{folder}/threads"]
+    sources = [f"{HERE}/threads.c", f"{portable.folder}/lapd.c", "-lpthread"]
+    if run([*words, "-fsanitize=thread", *sources]).returncode or run([f"{folder}/threads"]).returncode not in (0, 1, 66):
+        print("c: SKIPPED: a sanitizer of threads, since the compiler has none here")
+        run([*words, *sources])
+    ran = run([f"{folder}/threads"])
+    check("threads", ran.returncode == 0, ran.stderr.decode()[:600])
 
 
 def engine(folder):

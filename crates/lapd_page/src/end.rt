@@ -1,6 +1,6 @@
 //! How a script ended.
 
-ghost use Rattle.std.specs.Prelude.{◌≡◌, ℕ};
+ghost use Rattle.std.specs.Prelude.{◌≡◌};
 ghost use Rattle.lapd_page.specs.Ends.{end_of};
 
 /// The exit status of `lapdsim run` where a script was played to its end.

@@ -3,7 +3,6 @@
 ghost use Rattle.std.specs.Prelude.{◌≡◌, ◌⊎◌, IfSome};
 ghost use Rattle.lapd_page.specs.Ends.{IsDone, IsFaulty, done, faulty, no_memory};
 ghost use Rattle.lapd_script.specs.FaultLines.{play_line};
-ghost use Rattle.lapd_script.specs.declared.faults.PlayFault.{PlayFault};
 
 use crate::end::{DONE, FAULTY, NO_MEMORY, PlainEnd};
 use crate::room::put;

@@ -1,0 +1,20 @@
+//! The simulator for a page in a browser: one export plays a script that lies in the page's memory, as `lapdsim run` plays
+//! one, and answers its transcript, its fault and its exit status. `tools/page` makes the page.
+//!
+//! - `play`: the export; `end`, what it ends with; `room`, a text in a room of the caller's.
+//! - `text`: a fault line in memory.
+//!
+//! # Only tested
+//!
+//! `tests/page`: that the export plays every stored script as `lapdsim run` does, in a JavaScript engine and in a
+//! browser; that it succeeds where there is memory.
+//!
+//! # Open
+//!
+//! What becomes of a caller whose rooms lie over one another.
+#![tactic(auto)]
+
+mod end;
+mod play;
+mod room;
+mod text;

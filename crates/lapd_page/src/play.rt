@@ -1,0 +1,63 @@
+//! Plays a script for a page.
+
+ghost use Rattle.std.specs.Prelude.{◌≡◌, ◌⊎◌, IfSome};
+ghost use Rattle.lapd_page.specs.Ends.{IsDone, IsFaulty, done, faulty, no_memory};
+ghost use Rattle.lapd_script.specs.FaultLines.{play_line};
+
+use crate::end::{DONE, FAULTY, NO_MEMORY, PlainEnd};
+use crate::room::put;
+use crate::text::Text;
+use lapd_sim::{PlayFault, play_octets, refuse};
+use std::alloc::Global;
+
+/// Plays a script. Puts its transcript and its fault line into rooms of the caller's, as much of them as fits, and
+/// answers the exit status of `lapdsim run`, or that memory was refused.
+#[unsafe(no_mangle)]
+pub extern "C" fn lapd_page_play(
+    alloc: Global,
+    script: &[u8],
+    transcript: &mut [u8],
+    fault: &mut [u8],
+    end: &mut PlainEnd,
+) -> u32
+    ensures status { (result ≡ done) ⊎ (result ≡ faulty) ⊎ (result ≡ no_memory) }
+    ensures done { result ≡ done
+        → IsDone script.now transcript.old transcript.new end.new × (fault.new ≡ fault.old) }
+    ensures faulty { result ≡ faulty
+        → IsFaulty script.now transcript.old transcript.new fault.old fault.new end.new }
+    ensures no_memory { result ≡ no_memory
+        → (transcript.new ≡ transcript.old) × (fault.new ≡ fault.old) × (end.new ≡ end.old) }
+{
+    let (text, played) = play_octets(alloc, script, Vec::new(alloc));
+    match played {
+        Ok(()) => {
+            put(text.as_slice(), transcript);
+            *end = PlainEnd::of(text.as_slice(), &[], 0);
+            DONE
+        }
+        Err(why @ PlayFault::Script { line, .. }) => match words_of(alloc, why) {
+            Some(words) => {
+                put(text.as_slice(), transcript);
+                put(words.as_slice(), fault);
+                *end = PlainEnd::of(text.as_slice(), words.as_slice(), line);
+                FAULTY
+            }
+            None => NO_MEMORY,
+        },
+        // No read of a script in memory fails, and a write to memory fails only where that is refused.
+        Err(PlayFault::Read | PlayFault::Write | PlayFault::OutOfMemory) => NO_MEMORY,
+    }
+}
+
+/// The line that tells of a fault, unless memory is refused.
+fn words_of(alloc: Global, fault: PlayFault) -> Option<Vec<u8>>
+    ensures { IfSome result (λ words. words.items ≡ play_line fault) }
+{
+    let mut text = Text::new(alloc);
+    refuse(fault, &mut text);
+    if text.failures == 0 {
+        Some(text.octets)
+    } else {
+        None
+    }
+}

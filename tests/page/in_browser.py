@@ -1,0 +1,348 @@
+"""The page in a browser."""
+import base64
+import json
+import os
+import random
+import time
+from typing import Iterator, List, Tuple
+
+from browser import Browser, Lost
+from shown import Page, differences, fragment
+from vithrynel.program import ROOT
+from vithrynel.story import COMMENT
+from wanted import Played
+
+MANY = 40  # scripts that are shown in one go
+AWAY = 2.0  # seconds for which the page may be away at most
+TRIES = 3  # of which the best counts, since a busy machine also makes tasks longer
+LOST = "conversation/frame-lost"  # the script of the menu in which a frame is lost
+
+def opens(page: Page, scripts: List[Played]) -> Iterator[str]:
+    """It plays the conversation as it is opened, asks for nothing but itself, and breaks no rule of its own."""
+    page.browser.events.clear()
+    page.open()
+    call = next(it for it in scripts if it.path.endswith("conversation/call.script"))
+    yield from differences(call, page.look())
+    asked = [it["params"]["request"]["url"] for it in page.browser.events if it["method"] == "Network.requestWillBeSent"]
+    if [it for it in asked if not it.startswith(("blob:", "about:", page.url))]:
+        yield f"it asks for {asked}"
+    yield from told_wrong(page)
+
+
+def told_wrong(page: Page) -> Iterator[str]:
+    for it in page.browser.events:
+        if it["method"] in ("Runtime.exceptionThrown", "Log.entryAdded"):
+            yield f"{it['method']}: {json.dumps(it['params'])[:300]}"
+
+
+def shows_all(page: Page, scripts: List[Played]) -> Iterator[str]:
+    """Each script, by its address."""
+    page.open()
+    those = [it for it in scripts if it.is_text()]
+    for at in range(0, len(those), MANY):
+        some = those[at : at + MANY]
+        told = page.browser.value(f"shownAll({json.dumps([fragment(it.script) for it in some])})", 120)
+        for it, got in zip(some, told):
+            name = os.path.relpath(it.path, ROOT)
+            if got["text"].encode() != it.script:
+                yield f"{name}: another script"
+            yield from (f"{name}: {how}" for how in differences(it, got))
+    yield from told_wrong(page)
+    if len(those) < 300:
+        yield f"only {len(those)} scripts"
+
+
+def has_menu(page: Page, scripts: List[Played]) -> Iterator[str]:
+    """The menu has each subject, and what it offers is played without a fault."""
+    page.open()
+    groups = page.browser.value("[...document.querySelectorAll('#menu optgroup')].map((it) => it.label)")
+    wanted = ["Conversations", "Recovery", "TEI management", "Hostile terminals", "Both ends of a trunk"]
+    if groups[:5] != wanted:
+        yield f"subjects {groups}"
+    by_path = {os.path.relpath(it.path, f"{ROOT}/tests/scripts")[: -len(".script")]: it for it in scripts}
+    names = page.browser.value("[...document.querySelectorAll('#menu option')].map((it) => it.value).filter(Boolean)")
+    for name in names:
+        got = page.choose(name)
+        if name in by_path:
+            yield from (f"{name}: {how}" for how in differences(by_path[name], got))
+        elif "No fault." not in got["verdict"]:
+            yield f"{name}: {got['verdict']}"
+
+
+def marks_faults(page: Page, scripts: List[Played]) -> Iterator[str]:
+    """A fault is told on its line while one types, and goes as the line is mended."""
+    page.open()
+    got = page.type("card 1 8 7 8 4 4 64 260 3\nassign 0 64\nin 0 0081Z\nstored\n")
+    if (got["faulty"], got["band"], got["verdict"]) != (["3"], "bad octets", "line 3: bad octets"):
+        yield f"{got['faulty']} {got['band']} {got['verdict']}"
+    got = page.type("card 1 8 7 8 4 4 64 260 3\nassign 0 64\nin 0 00817F\nstored\n")
+    if got["faulty"] or got["band"] or "No fault." not in got["verdict"]:
+        yield f"{got['faulty']} {got['band']} {got['verdict']}"
+
+
+def loses_a_frame(page: Page, scripts: List[Played]) -> Iterator[str]:
+    """As a new user: the script in which a frame is lost; an octet of the frame behind it is changed; no REJ goes any more,
+    and the frame is dropped for its check."""
+    page.open()
+    got = page.choose(LOST)
+    rows = got["ladders"][0]["rows"]
+    rej = [row for row in rows if row[0] == "out" and " rej " in row[1]]
+    if len(rej) != 1:
+        yield f"REJ goes {len(rej)} times"
+        return
+    lines = got["text"].split("\n")
+    number = max(row[4] for row in rows if row[0] == "in" and row[4] < rej[0][4])
+    changed = lines[number - 1][:22] + ("0" if lines[number - 1][22] != "0" else "1") + lines[number - 1][23:]
+    lines[number - 1] = changed
+    rows = page.type("\n".join(lines))["ladders"][0]["rows"]
+    if any(" rej " in row[1] for row in rows) or not [row for row in rows if row[4] == number and row[3] == "dropped fcs"]:
+        yield f"line {number}, {changed}: {[row for row in rows if row[4] >= number][:3]}"
+
+
+def makes_no_markup(page: Page, scripts: List[Played]) -> Iterator[str]:
+    """What stands in a script is shown as it is."""
+    page.open()
+    evil = '<img src=x onerror="window.evil=1"><script>window.evil=1</script><b>bold</b>&amp;'
+    count = "document.querySelectorAll('img, script, b, iframe').length"
+    page.type("card 1 8 7 8 4 4 64 260 3\nassign 0 64\n")
+    before = page.browser.value(count)
+    got = page.type(f"# {evil}\ncard 1 8 7 8 4 4 64 260 3\nassign 0 64\n# {evil}\n{evil}\n")
+    if page.browser.value("window.evil") or page.browser.value(count) != before:
+        yield "a script's text has become markup"
+    if [row[1] for row in got["ladders"][0]["rows"] if row[0] == COMMENT] != [evil, evil]:
+        yield f"comments {got['ladders'][0]['rows']}"
+    page.open(fragment(f"# {evil}\n".encode()))
+    if page.browser.value("window.evil") or page.look()["text"] != f"# {evil}\n":
+        yield "by the address, a script's text has become markup"
+    page.open("#script=%%%")
+    if not page.look()["text"].startswith("# A terminal is plugged in."):
+        yield "an address that is none has another script"
+
+
+def steps(page: Page, scripts: List[Played]) -> Iterator[str]:
+    """By keys it plays line by line, and shows what a script of these lines shows."""
+    page.open()
+    whole = page.look()
+    lines = whole["text"].split("\n")
+    stops = [at for at, it in enumerate(lines, 1) if it and not it.startswith("#")]
+    for count in (1, 2, 3):
+        page.browser.key("F8", 119)
+        got = page.look()
+        if page.browser.value("document.getElementById('how-far').textContent") != f"played up to line {stops[count - 1]}":
+            yield f"step {count}: {page.browser.value('document.getElementById(`how-far`).textContent')}"
+        before = "".join(f"{it}\n" for it in lines[: stops[count - 1]])
+        alone = page.browser.value(f"shown({json.dumps(fragment(before.encode()))})")
+        if alone["ladders"] != got["ladders"] or alone["said"] != got["said"]:
+            yield f"step {count}: another ladder than of these lines alone"
+        page.browser.value(f"shown({json.dumps(fragment(whole['text'].encode()))})")
+        for _ in range(count):
+            page.browser.key("F8", 119)
+            page.look()
+    page.browser.key("F7", 118)
+    page.look()
+    if page.browser.value("document.getElementById('how-far').textContent") != f"played up to line {stops[1]}":
+        yield "F7 goes to another line"
+    page.browser.key("F9", 120)
+    if page.look()["ladders"] != whole["ladders"]:
+        yield "F9 does not play all"
+
+
+def leads(page: Page, scripts: List[Played]) -> Iterator[str]:
+    """A row leads to its line, and a line marks its rows; by mouse and by keys."""
+    page.open()
+    got = page.look()
+    line = "caret()"
+    at, row = next((at, it) for at, it in enumerate(got["ladders"][0]["rows"]) if it[0] == "up")
+    page.browser.value(f"document.querySelectorAll('#ladder [data-line]')[{at}].click()")
+    if page.browser.value(line) != row[4]:
+        yield f"a click on row {at} leads to line {page.browser.value(line)}, wanted {row[4]}"
+    marked = page.browser.value("[...document.querySelectorAll('#ladder .is-here')].map((it) => Number(it.dataset.line))")
+    if not marked or set(marked) != {row[4]}:
+        yield f"marked are rows of {marked}"
+    page.browser.value("document.querySelector('#ladder [tabindex=\"0\"]').focus()")
+    page.browser.key("ArrowDown", 40)
+    page.browser.key("Enter", 13, text="\r")
+    if page.browser.value(line) != got["ladders"][0]["rows"][at + 1][4]:
+        yield "Enter on the next row leads to another line"
+    page.click("#tab-transcript")
+    page.click("#transcript .said")
+    if page.browser.value(line) != got["ladders"][0]["rows"][2][4]:
+        yield f"the transcript's first line leads to line {page.browser.value(line)}"
+    if not page.browser.value("document.getElementById('ladder').hidden"):
+        yield "the ladder stays beside the transcript"
+
+
+def has_fields(page: Page, scripts: List[Played]) -> Iterator[str]:
+    """The card's numbers are fields, which change the card line and nothing else."""
+    page.open()
+    before = page.look()["text"].split("\n")
+    for name, value, wanted in [
+        ("K", "3", "card 1 8 3 8 4 4 64 260 3"),
+        ("side", "user", "card 1 8 3 8 4 4 64 260 3 user"),
+        ("K16", "2", "card 1 8 3 8 4 4 64 260 3 2 user"),
+        ("kind", "frames", "frames 1 8 3 8 4 4 64 260 3 2 user"),
+    ]:
+        page.browser.value(f"change({json.dumps(name)}, {json.dumps(value)})")
+        time.sleep(0.2)
+        after = page.look()["text"].split("\n")
+        if after[1] != wanted or after[:1] + after[2:] != before[:1] + before[2:]:
+            yield f"{name} {value}: {after[1]!r}, wanted {wanted!r}"
+
+
+def links(page: Page, scripts: List[Played]) -> Iterator[str]:
+    """A link carries the script, and its capture is that of tools/capture."""
+    page.open()
+    page.type("# \N{GREEK SMALL LETTER ALPHA}\ncard 1 1 7 8 1 4 64 260 3\nassign 0 0\n")
+    page.click("#link")
+    found = page.browser.value("location.hash")
+    if found != fragment("# \N{GREEK SMALL LETTER ALPHA}\ncard 1 1 7 8 1 4 64 260 3\nassign 0 0\n".encode()):
+        yield f"the address has {found}"
+    page.open()
+    page.browser.value("""{window.saved = []; const make = URL.createObjectURL;
+        URL.createObjectURL = (blob) => { saved.push(blob.arrayBuffer()); return make(blob); };
+        HTMLAnchorElement.prototype.click = function () { window.named = this.download; };}""")
+    page.click("#ladder .names button")
+    page.click("#save")
+    text = "(all) => all.map((it) => btoa(String.fromCharCode(...new Uint8Array(it))))"
+    got = page.browser.value(f"Promise.all(saved).then({text})")
+    call = next(it for it in scripts if it.path.endswith("conversation/call.script"))
+    if got != [call.captures[0], base64.b64encode(call.transcript.encode()).decode()]:
+        yield "another capture or transcript is saved"
+    if page.browser.value("named") != "call.transcript":
+        yield f"it is saved as {page.browser.value('named')}"
+
+
+def away_for(page: Page, name: str, script: str) -> float:
+    """For how many seconds at most the page is away while it plays a script: as a clock in the page has it, and no longer
+    than the processor took for its longest task, since other tests run beside this one."""
+    page.open()
+    page.browser.value("watch()")
+    page.browser.watch_tasks()
+    begun = time.monotonic()
+    page.browser.value(f"type({json.dumps(script)})", 90)
+    took = time.monotonic() - begun
+    page.browser.value("new Promise((go) => setTimeout(go, 50))")
+    away, longest = page.browser.value("away") / 1000, page.browser.longest_task()
+    if os.environ.get("PAGE_TIMES"):
+        print(f"page: {name}: away {away:.2f} s, longest task {longest:.2f} s, done after {took:.2f} s")
+    return min(away, longest)
+
+
+def is_awake(page: Page, scripts: List[Played]) -> Iterator[str]:
+    """What is long or wild does not take the page away."""
+    numbers = random.Random(921)
+    signs = "".join(chr(it) for it in range(32, 127)) + "\n\t<>&\N{GREEK SMALL LETTER ALPHA}\N{GRINNING FACE}"
+    begin = "card 64 8 7 8 4 4 64 260 3\n" + "".join(f"assign {it} 64\nin {it} 00817F\npull {it} 20\n" for it in range(64))
+    turns = "".join(f"in 0 0081{2 * at % 256:02X}{2 * at % 256:02X}41\ndata 0 64 42\npull 0 30\n" for at in range(3333))
+    comments = "".join("# " + "".join(numbers.choices(signs[:90], k=60)) + "\n" for _ in range(33000))
+    cases = {
+        "2 MB of random text": "".join(numbers.choices(signs, k=2 << 20)),
+        "2 MB in a line": "# " + "".join(numbers.choices(signs.replace("\n", ""), k=2 << 20)),
+        "2 MB behind a card line": f"card 1 8 7 8 4 4 64 260 3\n{comments}in 0 00\n",
+        "64 lines": begin,
+        "ten thousand events": f"card 1 8 7 8 4 4 64 260 3\nassign 0 64\nin 0 00817F\npull 0 20\n{turns}",
+        "ten thousand waits": "card 1 8 7 8 4 4 64 260 3\nassign 0 64\n" + "establish 0 64\nwait 3600000\nstored\n" * 3334,
+    }
+    for name, script in cases.items():
+        tries = []
+        while len(tries) < TRIES and min(tries, default=AWAY + 1) > AWAY:
+            tries.append(away_for(page, name, script))
+        if min(tries) > AWAY:
+            yield f"{name}: it is away for {min(tries):.1f} seconds"
+        if not page.browser.value("isPlayed()"):
+            yield f"{name}: it is not played"
+
+
+def can_be_stopped(page: Page, scripts: List[Played]) -> Iterator[str]:
+    """A long play tells of itself, and is stopped; then the page plays on."""
+    page.open()
+    turns = "".join(f"in 0 0081{2 * at % 256:02X}{2 * at % 256:02X}41\ndata 0 64 42\npull 0 4000\n" for at in range(30000))
+    script = f"card 1 8 7 8 4 4 64 260 3\nassign 0 64\nin 0 00817F\npull 0 20\n{turns}"
+    page.browser.value(f"void type({json.dumps(script)})")
+    try:
+        page.browser.until("!document.getElementById('progress').hidden", 10)
+        words = page.browser.value("document.getElementById('progress-words').textContent")
+        if not words:
+            yield "nothing is told while it is played"
+        page.click("#stop")
+        page.browser.until("isPlayed()", 2)
+    except Lost as lost:
+        yield str(lost)
+    if not page.look()["verdict"].startswith("Stopped"):
+        yield f"verdict {page.look()['verdict']}"
+    got = page.choose("conversation/call")
+    if "No fault." not in got["verdict"]:
+        yield f"after a stop: {got['verdict']}"
+
+
+def fits(page: Page, scripts: List[Played]) -> Iterator[str]:
+    """It fits a phone's width, and has colours of its own for the dark."""
+    page.open()
+    light = page.browser.value("getComputedStyle(document.body).backgroundColor")
+    page.browser.size(1360, 860, is_dark=True)
+    if page.browser.value("getComputedStyle(document.body).backgroundColor") == light:
+        yield "it is as light in the dark"
+    for width in (360, 390, 768):
+        page.browser.size(width, 780, is_phone=True)
+        page.browser.until(f"innerWidth === {width}", 5)
+        wide = page.browser.value("document.scrollingElement.scrollWidth")
+        if wide > width:
+            yield f"at {width} pixels it is {wide} wide"
+
+
+TESTS = {
+    "opens": opens,
+    "shows all": shows_all,
+    "has a menu": has_menu,
+    "marks faults": marks_faults,
+    "loses a frame": loses_a_frame,
+    "makes no markup": makes_no_markup,
+    "steps": steps,
+    "leads": leads,
+    "has fields": has_fields,
+    "links": links,
+    "is awake": is_awake,
+    "can be stopped": can_be_stopped,
+    "fits": fits,
+}
+
+
+STORED = (1320, 680, False, False)  # of docs/pictures
+VIEWS = {
+    "light": (1360, 860, False, False),
+    "dark": (1360, 860, True, False),
+    "phone": (390, 1400, False, True),
+    "phone-dark": (390, 1400, True, True),
+}
+
+
+def picture(page: Page, view: Tuple[int, int, bool, bool], path: str) -> Iterator[str]:
+    """A picture of the script in which a frame is lost, with the row of REJ chosen."""
+    page.open()
+    page.browser.size(*view)
+    page.browser.value("document.getElementById('card').open = false")
+    page.choose(LOST)
+    rej = "[...document.querySelectorAll('#ladder [data-line]')].find((it) => it.textContent.includes(' rej '))"
+    page.browser.value(f"{rej}.click()")
+    time.sleep(0.4)
+    page.browser.picture(path)
+    yield from ()
+
+
+def guarded(test, *words) -> Iterator[str]:
+    try:
+        yield from test(*words)
+    except Lost as lost:
+        yield str(lost)
+
+
+def tests(browser: Browser, path: str, scripts: List[Played], folder: str, file: str) -> Iterator[Tuple[str, Iterator[str]]]:
+    page = Page(browser, path)
+    for name, test in TESTS.items():
+        yield name, guarded(test, page, scripts)
+    if folder:
+        os.makedirs(folder, exist_ok=True)
+    for name, view in VIEWS.items() if folder else ():
+        yield f"picture {name}", guarded(picture, page, view, f"{folder}/page-{name}.png")
+    if file:
+        yield "picture", guarded(picture, page, STORED, file)

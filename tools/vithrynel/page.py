@@ -1,0 +1,142 @@
+"""One HTML file of the sources in web/: the modules of the page and of its worker, each joined to one script, with the
+program and the scripts of the menu as data."""
+import base64
+import hashlib
+import json
+import os
+import re
+from typing import Dict, Iterator, List, Tuple
+
+from .program import ROOT, Fault
+from .svg import MONO, SANS, SHADES
+
+WEB = os.path.join(ROOT, "web")
+SCRIPTS = os.path.join(ROOT, "tests", "scripts")
+IMPORT = re.compile(r'^import \{[^}]*\} from "\./(\w+\.mjs)";\n', re.M)
+NAMED = re.compile(r"^(?:export )?(?:async )?(?:function\*?|class|const|let) (\w+)", re.M)
+EXPORT = re.compile(r"^export ", re.M)
+FIRST = "lapdsim"  # the name of the script that README.md begins with
+MOST_OCTETS = 600_000
+
+
+def text_of(path: str) -> str:
+    with open(path, encoding="utf-8") as it:
+        return it.read()
+
+
+def source(name: str) -> str:
+    return text_of(os.path.join(WEB, name))
+
+
+def below(name: str, found: List[str]) -> List[str]:
+    """A module and those that it imports, each behind those that it imports itself."""
+    for it in IMPORT.findall(source(name)):
+        if it not in found:
+            below(it, found)
+    found.append(name)
+    return found
+
+
+def joined(name: str) -> str:
+    """A module and those that it imports as one script. They share one scope, so no two may have a name in common."""
+    owners: Dict[str, str] = {}
+    parts = []
+    for module in below(name, []):
+        text = source(module)
+        for it in NAMED.findall(text):
+            if it in owners:
+                raise Fault(f"web/{module} and web/{owners[it]} both have a name {it}")
+            owners[it] = module
+        parts.append(EXPORT.sub("", IMPORT.sub("", text)).strip())
+    body = "\n\n".join(parts)
+    return f'"use strict";\n(() => {{\n{body}\n}})();\n'
+
+
+def colours(scheme: int) -> str:
+    return "".join(f"--{name}:{shade[scheme]};" for name, shade in SHADES.items())
+
+
+def style() -> str:
+    fonts = f"--sans:{SANS};--mono:{MONO};"
+    dark = f"@media (prefers-color-scheme:dark){{:root{{{colours(1)}}}}}"
+    return f":root{{{fonts}{colours(0)}}}\n{dark}\n{source('page.css')}"
+
+
+def script_text(name: str) -> bytes:
+    path = f"{ROOT}/crates/lapdsim/stdin" if name == FIRST else f"{SCRIPTS}/{name}.script"
+    try:
+        with open(path, "rb") as it:
+            return it.read()
+    except OSError as error:
+        raise Fault(f"web/menu.txt: {path}: {error.strerror}") from None
+
+
+def chosen() -> Iterator[Tuple[str, List[Tuple[str, str]]]]:
+    """The subjects of web/menu.txt, each with its scripts and their titles."""
+    for part in source("menu.txt").split("\n== ")[1:]:
+        subject, *rows = part.strip().split("\n")
+        yield subject, [(it.split(" ", 1)[0], it.split(" ", 1)[1]) for it in rows if it]
+
+
+def others(named: List[str]) -> Iterator[Tuple[str, List[Tuple[str, str]]]]:
+    """The other scripts without a fault, by folder. Those that a text field would change are left out."""
+    for folder in sorted(os.listdir(SCRIPTS)):
+        place = os.path.join(SCRIPTS, folder)
+        files = sorted(os.listdir(place)) if os.path.isdir(place) else []
+        names = [it[: -len(".script")] for it in files if it.endswith(".script") and f"{it[:-len('.script')]}.fault" not in files]
+        left = [it for it in names if f"{folder}/{it}" not in named and is_plain(script_text(f"{folder}/{it}"))]
+        if left:
+            yield f"More: {folder}", [(f"{folder}/{it}", it.replace("-", " ")) for it in left]
+
+
+def is_plain(octets: bytes) -> bool:
+    try:
+        return b"\r" not in octets and b"\0" not in octets and bool(octets.decode())
+    except UnicodeDecodeError:
+        return False
+
+
+def subjects() -> List[dict]:
+    first = list(chosen())
+    named = [name for _, rows in first for name, _ in rows]
+    return [
+        {
+            "subject": subject,
+            "scripts": [{"name": name, "title": title, "text": script_text(name).decode()} for name, title in rows],
+        }
+        for subject, rows in [*first, *others(named)]
+    ]
+
+
+def sum_of(text: str) -> str:
+    return "'sha256-" + base64.b64encode(hashlib.sha256(text.encode()).digest()).decode() + "'"
+
+
+def version() -> str:
+    number = int(re.search(r"#define LAPD_VERSION (\d+)", text_of(f"{ROOT}/include/lapd.h"))[1])
+    return f"{number // 1000}.{number % 1000}"
+
+
+def page(module: bytes) -> str:
+    """The page with this module of the program. Its policy lets it run its own script, and load nothing."""
+    script, css = joined("main.mjs"), style()
+    data = {"module": base64.b64encode(module).decode(), "worker": joined("worker.mjs"), "subjects": subjects()}
+    policy = [
+        "default-src 'none'",
+        f"script-src {sum_of(script)} 'wasm-unsafe-eval'",
+        "worker-src blob:",
+        f"style-src {sum_of(css)}",
+        "base-uri 'none'",
+        "form-action 'none'",
+    ]
+    parts = {
+        "POLICY": "; ".join(policy),
+        "STYLE": css,
+        "VERSION": version(),
+        "HELP": source("help.html"),
+        "DATA": json.dumps(data, separators=(",", ":")).replace("<", "\\u003c"),
+        "PAGE": script,
+    }
+    if "</script" in script or "</style" in css:
+        raise Fault("web/: a script or a style ends its own element")
+    return re.sub(r"@([A-Z]+)@", lambda it: parts[it[1]], source("page.html"))

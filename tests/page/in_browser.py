@@ -8,7 +8,6 @@ from typing import Iterator, List, Tuple
 
 from browser import Browser, Lost
 from shown import Page, differences, fragment
-from vithrynel.program import ROOT
 from vithrynel.story import COMMENT
 from wanted import Played
 
@@ -21,7 +20,7 @@ def opens(page: Page, scripts: List[Played]) -> Iterator[str]:
     """It plays the conversation as it is opened, asks for nothing but itself, and breaks no rule of its own."""
     page.browser.events.clear()
     page.open()
-    call = next(it for it in scripts if it.path.endswith("conversation/call.script"))
+    call = next(it for it in scripts if it.name == "conversation/call")
     yield from differences(call, page.look())
     asked = [it["params"]["request"]["url"] for it in page.browser.events if it["method"] == "Network.requestWillBeSent"]
     if [it for it in asked if not it.startswith(("blob:", "about:", page.url))]:
@@ -43,10 +42,9 @@ def shows_all(page: Page, scripts: List[Played]) -> Iterator[str]:
         some = those[at : at + MANY]
         told = page.browser.value(f"shownAll({json.dumps([fragment(it.script) for it in some])})", 120)
         for it, got in zip(some, told):
-            name = os.path.relpath(it.path, ROOT)
             if got["text"].encode() != it.script:
-                yield f"{name}: another script"
-            yield from (f"{name}: {how}" for how in differences(it, got))
+                yield f"{it.name}: another script"
+            yield from (f"{it.name}: {how}" for how in differences(it, got))
     yield from told_wrong(page)
     if len(those) < 300:
         yield f"only {len(those)} scripts"
@@ -59,12 +57,12 @@ def has_menu(page: Page, scripts: List[Played]) -> Iterator[str]:
     wanted = ["Conversations", "Recovery", "TEI management", "Hostile terminals", "Both ends of a trunk"]
     if groups[:5] != wanted:
         yield f"subjects {groups}"
-    by_path = {os.path.relpath(it.path, f"{ROOT}/tests/scripts")[: -len(".script")]: it for it in scripts}
+    by_name = {it.name: it for it in scripts}
     names = page.browser.value("[...document.querySelectorAll('#menu option')].map((it) => it.value).filter(Boolean)")
     for name in names:
         got = page.choose(name)
-        if name in by_path:
-            yield from (f"{name}: {how}" for how in differences(by_path[name], got))
+        if name in by_name:
+            yield from (f"{name}: {how}" for how in differences(by_name[name], got))
         elif "No fault." not in got["verdict"]:
             yield f"{name}: {got['verdict']}"
 
@@ -205,7 +203,7 @@ def links(page: Page, scripts: List[Played]) -> Iterator[str]:
     page.click("#save")
     text = "(all) => all.map((it) => btoa(String.fromCharCode(...new Uint8Array(it))))"
     got = page.browser.value(f"Promise.all(saved).then({text})")
-    call = next(it for it in scripts if it.path.endswith("conversation/call.script"))
+    call = next(it for it in scripts if it.name == "conversation/call")
     if got != [call.captures[0], base64.b64encode(call.transcript.encode()).decode()]:
         yield "another capture or transcript is saved"
     if page.browser.value("named") != "call.transcript":

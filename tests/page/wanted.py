@@ -15,8 +15,8 @@ def content(path):
 class Played:
     """What the tools make of a script, over the program."""
 
-    def __init__(self, path, program):
-        self.path = path
+    def __init__(self, name, path, program):
+        self.name, self.path = name, path
         self.script = content(path)
         play = Play(self.script, program)
         steps = list(play.steps())

@@ -16,6 +16,7 @@ AWAY = 2.0  # seconds for which the page may be away at most
 TRIES = 3  # of which the best counts, since a busy machine also makes tasks longer
 LOST = "conversation/frame-lost"  # the script of the menu in which a frame is lost
 
+
 def opens(page: Page, scripts: List[Played]) -> Iterator[str]:
     """It plays the conversation as it is opened, asks for nothing but itself, and breaks no rule of its own."""
     page.browser.events.clear()
@@ -212,7 +213,7 @@ def links(page: Page, scripts: List[Played]) -> Iterator[str]:
 
 def away_for(page: Page, name: str, script: str) -> float:
     """For how many seconds at most the page is away while it plays a script: as a clock in the page has it, and no longer
-    than the processor took for its longest task, since other tests run beside this one."""
+    than it had the processor between two moments of that clock, since other tests run beside this one."""
     page.open()
     page.browser.value("watch()")
     page.browser.watch_tasks()
@@ -220,9 +221,9 @@ def away_for(page: Page, name: str, script: str) -> float:
     page.browser.value(f"type({json.dumps(script)})", 90)
     took = time.monotonic() - begun
     page.browser.value("new Promise((go) => setTimeout(go, 50))")
-    away, longest = page.browser.value("away") / 1000, page.browser.longest_task()
+    away, longest = page.browser.value("away") / 1000, page.browser.longest_stretch("awake")
     if os.environ.get("PAGE_TIMES"):
-        print(f"page: {name}: away {away:.2f} s, longest task {longest:.2f} s, done after {took:.2f} s")
+        print(f"page: {name}: away {away:.2f} s, {longest:.2f} s of the processor, done after {took:.2f} s")
     return min(away, longest)
 
 

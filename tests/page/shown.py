@@ -72,6 +72,7 @@ window.watch = () => {
     const now = performance.now();
     window.away = Math.max(window.away, now - latest);
     latest = now;
+    performance.mark("awake");
   }, 10);
 };
 """

@@ -5,7 +5,8 @@
  * -DLAPD_OWN_MEMORY            they lie in memory of the program's rattle_alloc and rattle_dealloc, as declared below
  * -DLAPD_HEAP_OCTETS=N         neither: they lie in one static region of so many octets
  * -DLAPD_BIG_END_FIRST=0|1     the order of octets, where the compiler does not tell it as GCC and Clang do
- * -DLAPD_UNTESTED              accesses to a card's memory are not tested; the proofs say that each is inside of it
+ * -DLAPD_UNTESTED              accesses to a card's memory are not tested: the proofs say that each is inside of it, where the
+ *                              steps behind them are right, and the stack in it suffices, which is only tested
  */
 #if !defined(LAPD_MALLOC) && !defined(LAPD_OWN_MEMORY) && !defined(LAPD_HEAP_OCTETS)
 #define LAPD_HEAP_OCTETS 131072

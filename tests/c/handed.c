@@ -4,6 +4,8 @@
  *
  * - Configurations: fault_of finds the field that the machine's start finds, at each edge and at random.
  * - Octets: a frame or contents of more octets than a call hands over are answered as their first ones are.
+ * - Stack: none of that, nor the start of a large card for octets, takes half of the stack in a machine's memory, which is
+ *   filled there and looked at afterwards.
  */
 #include "lapd.c"
 
@@ -21,13 +23,29 @@ static void fail(const char *what, u32 one, u32 other) {
     exit(1);
 }
 
+/* The stack begins at STACK and goes down to 0; the lower half of it is filled. */
+enum { STACK = 8192, FILL = 0xA5 };
+
+static machine *filled(u64 heap) {
+    machine *instance = new_machine(heap);
+    memset(instance->data, FILL, STACK / 2);
+    return instance;
+}
+
+static void end(machine *instance) {
+    for (u32 i = 0; i < STACK / 2; i++)
+        if (instance->data[i] != FILL)
+            fail("octets of stack", STACK - i, STACK / 2);
+    rattle_dealloc(instance);
+}
+
 /* ---- Configurations ----------------------------------------------------------------------------------------------- */
 
 static unsigned good, bad;
 
 /* A machine with no heap: a start on it finds a fault, or no memory. */
 static void compare(const lapd_config *config) {
-    machine *instance = new_machine(0);
+    machine *instance = filled(0);
     starts *const calls[] = {w2c_lapd_card_start, w2c_lapd_card_start_frames, w2c_lapd_clock_start};
     u32 fault = fault_of(config);
     put_lapd_config(instance, OTHER, config);
@@ -37,7 +55,7 @@ static void compare(const lapd_config *config) {
             fail("a configuration", fault, status);
     }
     *(fault == LAPD_OK ? &good : &bad) += 1;
-    rattle_dealloc(instance);
+    end(instance);
 }
 
 static void configurations(void) {
@@ -64,7 +82,7 @@ enum { LONGEST = 2000 };
 /* A machine with a card for frames, a link that is up, and room at its end for octets. */
 static machine *with_link(const lapd_config *config) {
     static const u8 sabme[] = {0x00, 0x81, 0x7F};
-    machine *instance = new_machine(lapd_card_octets(config) + LONGEST);
+    machine *instance = filled(lapd_card_octets(config) + LONGEST);
     put_lapd_config(instance, OTHER, config);
     u32 status = w2c_lapd_card_start_frames(instance, HANDLE, OTHER);
     status |= w2c_lapd_request(instance, HANDLE, 0, LAPD_ASSIGN, LAPD_CALL, 64, OTHER, 0, REPORT);
@@ -108,13 +126,29 @@ static void octets(void) {
         a = w2c_lapd_request(one, HANDLE, line, request, service, 64, at, cut, REPORT);
         b = w2c_lapd_request(other, HANDLE, line, request, service, 64, at, length, REPORT);
         are_same("contents", one, other, a, b);
-        rattle_dealloc(one);
-        rattle_dealloc(other);
+        end(one);
+        end(other);
     }
+}
+
+/* ---- A start for octets, which takes the most stack ---------------------------------------------------------------- */
+
+static void start_of_octets(void) {
+    static const lapd_config most = {64, 8, 127, 127, 127, 16, 16, 8192, 260, 10, LAPD_NETWORK};
+    machine *instance = filled(lapd_card_octets(&most));
+    put_lapd_config(instance, OTHER, &most);
+    u32 status = w2c_lapd_card_start(instance, HANDLE, OTHER);
+    if (status != LAPD_OK)
+        fail("a card for octets", LAPD_OK, status);
+    status = w2c_lapd_card_free(instance, HANDLE);
+    if (status != LAPD_OK)
+        fail("its end", LAPD_OK, status);
+    end(instance);
 }
 
 int main(void) {
     configurations();
     octets();
+    start_of_octets();
     return 0;
 }

@@ -1,6 +1,6 @@
 /*
- * polls.c: a terminal with TEI 64 polls (RR command, P=1) at a card for frames, and each is answered. For tests/c/targets,
- * which counts what a poll costs.
+ * polls.c: a terminal with TEI 64 polls (RR command, P=1) at a card for frames, and each is answered. For tests alone, which
+ * count the instructions.
  *
  *     polls POLLS
  *

@@ -3,12 +3,13 @@ linked with there. `portable` is lapd.c of tools/portable on this machine; on aa
 the others lapd.c."""
 import os
 import re
+import shlex
 import shutil
 import subprocess
 import sys
 from typing import NamedTuple, Tuple
 
-from compiled import HERE, ROOT, STRICT, Build, check, read, run, skip
+from compiled import HERE, ROOT, STRICT, Build, check, compilers, read, run, skip
 from stored import in_parallel
 
 sys.path.insert(0, f"{ROOT}/tools")
@@ -147,6 +148,9 @@ def one_file(portable, folder):
     wanted = {it.name for it in functions()}
     check("exports of lapd.c", there == wanted, sorted(there ^ wanted))
     check("what lapd.c asks for", asked <= ASKED_FOR, sorted(asked - ASKED_FOR))
+    for name, compiler in compilers().items():
+        said = run([*compiler, "-std=c99", *STRICT, "-pedantic", "-fsyntax-only", f"{portable.folder}/lapd.c"], timeout=LONG)
+        check(f"{name} warns of nothing in lapd.c", said.returncode == 0, said.stderr.decode()[:600])
     small = "-DLAPD_HEAP_OCTETS=20000"
     ways = {"": FIRST, "-DLAPD_MALLOC": FIRST, "-DLAPD_HEAP_OCTETS=120000": FIRST, "-DLAPD_UNTESTED": FIRST, small: b"out of memory\n"}
     for flag, (compiled, said) in zip(ways, in_parallel(lambda it: first_with(portable, it, folder), ways)):
@@ -172,6 +176,30 @@ def inside(portable, folder):
     if said.returncode == 0:
         ran = run([path])
         check("what is handed over", ran.returncode == 0, (ran.stdout + ran.stderr).decode()[:600])
+
+
+def costs(folder):
+    """A poll by frames takes at most three times as many instructions as with the proved library."""
+    if not shutil.which("valgrind") or not os.path.exists(archive("lapd_c")):
+        print("c: SKIPPED: what a poll costs, since there is no valgrind, or not the proved library beside lapd.c")
+        return
+    native, portable = (a_poll(name, library, folder)
+                        for name, library in (("native", archive("lapd_c")), ("portable", f"{folder}/libportable.a")))
+    check("what a poll costs", 0 < portable <= 3 * native, f"{portable} instructions, and {native} with the proved library")
+
+
+def a_poll(name, library, folder):
+    """How many instructions a poll takes with a library: what a thousand more of them take."""
+    path = f"{folder}/polls-{name}"
+    said = run(["cc", "-std=c99", "-O2", *STRICT, f"-I{ROOT}/include", "-o", path, f"{HERE}/polls.c", f"{ROOT}/c/malloc.c", library])
+    check(f"polls.c with the {name} library compiles", said.returncode == 0, said.stderr.decode()[:600])
+    counted = []
+    for polls in (1000, 2000):
+        ran = run(["valgrind", "--tool=callgrind", f"--callgrind-out-file={path}.counts", path, str(polls)])
+        found = re.search(r"Collected : (\d+)", ran.stderr.decode())
+        check(f"{polls} polls with the {name} library", ran.returncode == 0 and found, ran.stderr.decode()[-300:])
+        counted.append(int(found[1]) if found else 0)
+    return (counted[1] - counted[0]) // 1000
 
 
 def threads(portable, folder):
@@ -203,14 +231,28 @@ def told(name, words, folder, **env):
     check(f"tools/{name} {folder}: a fault", good and not os.path.exists(folder), said.stderr[-300:])
 
 
+def another_kit(folder):
+    """A folder with the `rt` of a kit whose clang has no WebAssembly."""
+    at = f"{folder}/kit"
+    clang = "error: unable to create target: 'No available targets are compatible with triple \"wasm64\"'\\n1 error generated."
+    for path, words in ((f"{at}/rt", f"echo {at}/doc"), (f"{at}/toolchain/bin/clang", f"printf '%b\\n' {shlex.quote(clang)} >&2; exit 1")):
+        os.makedirs(os.path.dirname(path), exist_ok=True)
+        with open(path, "w", encoding="utf-8") as file:
+            file.write(f"#!/bin/sh\n{words}\n")
+        os.chmod(path, 0o755)
+    return at
+
+
 def faults(folder):
-    """Without its programs, and where it can't write."""
+    """Without its programs, with a kit of other targets, and where it can't write."""
     os.makedirs(f"{folder}/words")
     for name, path in (("python3", sys.executable), ("rt", shutil.which("rt"))):
         if path:
             os.symlink(path, f"{folder}/words/{name}")
     with open(f"{folder}/file", "w", encoding="ascii"):
         pass
+    kit = another_kit(folder)
     for name in ("portable", "module"):
         told(name, [f"{folder}/none"], f"{folder}/none", PATH=f"{folder}/words")
+        told(name, [f"{folder}/none"], f"{folder}/none", PATH=f"{kit}:{os.environ['PATH']}")
         told(name, [f"{folder}/file/in"], f"{folder}/file/in")

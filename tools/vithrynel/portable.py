@@ -250,16 +250,23 @@ def own_octets(made: Machine) -> int:
     return -(-made.heap_base // 16) * 16 + 16 + REPORT + other_octets() + 64
 
 
+def asked_for(memory: str, rest: str) -> str:
+    """The loads and stores of c/portable/memory.c that the rest calls: some compilers warn of the others."""
+    return re.sub(r"^DEFINE_(?:LOAD|STORE)\((\w+), .*\n", lambda it: it[0] if f"{it[1]}(" in rest else "", memory, flags=re.M)
+
+
 def portable(made: Machine, head: str) -> str:
     struct = (f"/* A card or a clock: WebAssembly's globals and memory. */\ntypedef struct {{\n{made.fields}u64 octets;\n"
               "u8 data[];\n} machine;\n")
+    movers = marshalling()
+    loads = asked_for(content("c/portable/memory.c"), made.functions + movers)
     return "\n".join([
-        head, '#include "lapd.h"\n', content("c/portable/head.c"), memory(), struct, content("c/portable/memory.c"),
+        head, '#include "lapd.h"\n', content("c/portable/head.c"), memory(), struct, loads,
         "/* ---- What wasm2c made of the proved library ---- */\n", made.functions,
         f"enum {{ PLACES = {-(-made.heap_base // 16) * 16}, OTHER_OCTETS = {other_octets()}, RUN = {RUN} }};\n",
         "/* So many octets of the caller's, or as many of them as say all that a call asks. */\n"
         "static inline size_t at_most(size_t count, size_t most) {\n    return count < most ? count : most;\n}\n",
-        marshalling(), content("c/portable/card.c"), *(it.text() for it in calls())])
+        movers, content("c/portable/card.c"), *(it.text() for it in calls())])
 
 
 NAME = "lapd_c"

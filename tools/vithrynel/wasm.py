@@ -25,6 +25,8 @@ WITHOUT = ("multivalue", "reference-types", "nontrapping-fptoint", "simd128", "t
 TARGET = ["--no-default-config", "-no-canonical-prefixes", "-fintegrated-cc1", "--target=wasm64-unknown-unknown",
           *(f"-m{it}" for it in FEATURES), *(f"-mno-{it}" for it in WITHOUT)]
 SECTIONS = ["-ffunction-sections", "-fdata-sections"]
+# What clang says of a target that it was built without.
+NO_TARGET = "unable to create target"
 # Programs that are not the kit's, and Debian's packages of them.
 PACKAGES = {"wasm-opt": "binaryen", "wasm2c": "wabt"}
 
@@ -41,7 +43,8 @@ def run(words: List[str], folder: str) -> str:
     said = subprocess.run(words, cwd=folder, stdin=subprocess.DEVNULL, stdout=subprocess.PIPE, stderr=subprocess.STDOUT, text=True,
                           errors="replace", check=False)
     if said.returncode:
-        raise NotBuilt(f"{os.path.basename(words[0])}: {said.stdout.strip()[-600:]}")
+        lines = said.stdout.strip().splitlines() or [f"status {said.returncode}"]
+        raise NotBuilt(f"{os.path.basename(words[0])}: {next((it for it in lines if 'rror' in it), lines[-1])}")
     return said.stdout
 
 
@@ -52,7 +55,12 @@ def clang() -> str:
 def for_wasm(source: str, folder: str, level: str = "-O2") -> str:
     """The compiler's module as an object for WebAssembly. Its functions name a processor that this target has not; clang says
     so, and goes on."""
-    run([clang(), *TARGET, *SECTIONS, "-Wno-override-module", level, "-c", "-x", "ir", source, "-o", "module.o"], folder)
+    try:
+        run([clang(), *TARGET, *SECTIONS, "-Wno-override-module", level, "-c", "-x", "ir", source, "-o", "module.o"], folder)
+    except NotBuilt as fault:
+        if NO_TARGET not in str(fault):
+            raise
+        raise NotBuilt("the kit's clang has no WebAssembly: README.md names a kit whose clang has it") from None
     return f"{folder}/module.o"
 
 

@@ -4,7 +4,9 @@ import subprocess
 
 from vithrynel import pcap
 from vithrynel.play import Play
-from vithrynel.story import stories
+from vithrynel.story import COMMENT, PAUSE, stories
+
+LATER = COMMENT, PAUSE
 
 
 def content(path):
@@ -55,3 +57,15 @@ class Played:
                 yield f"line {it['line']}: another capture"
             if not all(isinstance(cause, int) and 1 <= cause <= self.lines for cause in it["causes"]):
                 yield f"line {it['line']}: a row with no line of the script"
+                return
+        yield from self.wrong_causes(got)
+
+    def wrong_causes(self, got):
+        """Whether the beginnings of the script have those rows that their lines cause, on lines of the card of which they
+        speak. Pauses show once more comes, and a comment may be about what comes."""
+        for begun in got["beginnings"]:
+            shown = {it["line"]: [row for row in it["rows"] if row[1] not in LATER] for it in begun["ladders"]}
+            for it in got["ladders"]:
+                caused = [row for row, cause in zip(it["rows"], it["causes"]) if cause <= begun["last"] and row[1] not in LATER]
+                if shown.get(it["line"], caused) != caused:
+                    yield f"line {it['line']}: the first {begun['last']} lines show other rows than they cause"

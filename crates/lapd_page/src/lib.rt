@@ -6,8 +6,8 @@
 //!
 //! # Only tested
 //!
-//! `tests/page`: that the export plays every stored script as `lapdsim run` does, in a JavaScript engine and in a
-//! browser; that it succeeds where there is memory.
+//! `tests/page`: that the export plays every stored script as `lapdsim run` does in a JavaScript engine, and in a browser
+//! each that a text field can hold; that it succeeds where there is memory.
 //!
 //! # Open
 //!

@@ -2,9 +2,8 @@
  * module.c: what a WebAssembly module made of a static library of this repository has instead of a C library: the functions
  * of memory that the library asks for, over the module's own memory, from where its data end.
  *
- * tools/vithrynel/wasm.py compiles it, for wasm64, freestanding, by the kit's clang, which has no headers. The heap is
- * heap.c's: blocks lie one after the other, each behind a header of 16 octets; free neighbours are joined when the first
- * that fits is looked for. Where none fits, the memory grows, unless its owner has said where the heap lies.
+ * tools/vithrynel/wasm.py compiles it, for wasm64, freestanding, by the kit's clang, which has no headers. The heap is that of
+ * blocks.h. Where no block fits, the memory grows, unless its owner has said where the heap lies.
  *
  *     module_take    a place for what a caller hands over, of so many octets; 0 where there is none
  *     module_give    takes it back
@@ -23,15 +22,11 @@ typedef struct {
     void *at;
 } rattle_tried;
 
-enum { UNIT = 16, PAGE = 65536, MOST = 0x7FFFFFFF };
+rattle_tried rattle_alloc(size_t octets, size_t alignment);
 
-typedef union {
-    struct {
-        uint32_t units;
-        uint32_t used;
-    } block;
-    uint64_t words[UNIT / sizeof(uint64_t)];
-} unit;
+#include "blocks.h"
+
+enum { PAGE = 65536, MOST = 0x7FFFFFFF };
 
 extern char __heap_base[];
 static unit *first, *end;
@@ -41,12 +36,10 @@ static bool is_fixed;
 static void set_up(uintptr_t from, uintptr_t to) {
     first = (unit *)((from + UNIT - 1) / UNIT * UNIT);
     end = (unit *)(to / UNIT * UNIT);
-    if (end <= first) {
+    if (end > first)
+        lay(first, end);
+    else
         end = first;
-        return;
-    }
-    first->block.units = (uint32_t)(end - first - 1);
-    first->block.used = 0;
 }
 
 void module_heap(uintptr_t from, uintptr_t to) {
@@ -61,78 +54,33 @@ static bool grow(uint32_t units) {
         return false;
     unit *added = end;
     end += pages * (PAGE / UNIT);
-    added->block.units = (uint32_t)(end - added - 1);
-    added->block.used = 0;
+    lay(added, end);
     return true;
 }
 
-/* Joins the free blocks that follow a free block. */
-static void join(unit *header) {
-    for (unit *next = header + 1 + header->block.units; next < end && !next->block.used;
-         next = header + 1 + header->block.units)
-        header->block.units += 1 + next->block.units;
-}
-
-/* Takes the first units of a free block, and leaves the rest as a free one. */
-static void take(unit *header, uint32_t units) {
-    uint32_t rest = header->block.units - units;
-    if (rest > 0) {
-        header->block.units = units;
-        header[1 + units].block.units = rest - 1;
-        header[1 + units].block.used = 0;
-    }
-    header->block.used = 1;
-}
-
-static void *block_of(uint32_t units) {
+static unit *block_of(size_t octets) {
+    if (octets > MOST)
+        return NULL;
     if (first == NULL)
         set_up((uintptr_t)__heap_base, __builtin_wasm_memory_size(0) * PAGE);
-    do {
-        for (unit *header = first; header < end; header += 1 + header->block.units) {
-            if (header->block.used)
-                continue;
-            join(header);
-            if (header->block.units >= units) {
-                take(header, units);
-                return header + 1;
-            }
-        }
-    } while (grow(units));
-    return NULL;
+    unit *found;
+    do
+        found = first_fit(first, end, units_of(octets));
+    while (found == NULL && grow(units_of(octets)));
+    return found;
 }
 
 void *module_take(size_t octets) {
-    if (octets > MOST)
-        return NULL;
-    return block_of(octets > 0 ? (uint32_t)((octets + UNIT - 1) / UNIT) : 1);
+    unit *found = block_of(octets);
+    return found != NULL ? found + 1 : NULL;
 }
 
 void module_give(void *at) {
-    ((unit *)at)[-1].block.used = 0;
-}
-
-static rattle_tried answer(void *at) {
-    rattle_tried tried = {at != NULL, at != NULL ? at : (void *)__heap_base};
-    return tried;
+    rattle_dealloc(at);
 }
 
 rattle_tried rattle_alloc(size_t octets, size_t alignment) {
-    return answer(alignment <= UNIT ? module_take(octets) : NULL);
-}
-
-void rattle_dealloc(void *at) {
-    module_give(at);
-}
-
-rattle_tried rattle_realloc(void *at, size_t old_octets, size_t octets, size_t alignment) {
-    if (alignment <= UNIT && octets <= (size_t)((unit *)at)[-1].block.units * UNIT)
-        return answer(at);
-    rattle_tried tried = rattle_alloc(octets, alignment);
-    if (tried.there) {
-        __builtin_memcpy(tried.at, at, old_octets < octets ? old_octets : octets);
-        module_give(at);
-    }
-    return tried;
+    return answer(alignment <= UNIT ? block_of(octets) : NULL);
 }
 
 /* Instructions of WebAssembly, each of these. */

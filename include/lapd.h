@@ -10,8 +10,8 @@
  *
  * A card has no callbacks, starts no thread, prints nothing, sets no errno, and takes memory in its start alone, as a
  * clock does. Link as pkg-config says of lapd (-llapd -llapd_malloc), or of lapd-shared. A program without malloc brings
- * three functions of memory of its own, which lapd_memory.h declares. The library is built for Linux on every x86-64
- * processor.
+ * three functions of memory of its own, which lapd_memory.h declares. The library is built for Linux on every x86-64 and
+ * 64-bit ARM processor, and for each other processor as one file in C99, lapd.c, with this header.
  *
  * What the caller promises, and no call can test:
  *
@@ -38,6 +38,42 @@
 #include <stdbool.h>
 #include <stddef.h>
 #include <stdint.h>
+
+/* What a call answers. One that is not looked at is warned of in C++17 and C23; `(void)` before the call says that it is meant
+ * so. */
+#ifndef LAPD_NODISCARD
+#if defined(__cplusplus) && __cplusplus >= 201703L
+#define LAPD_NODISCARD [[nodiscard]]
+#elif defined(__STDC_VERSION__) && __STDC_VERSION__ > 201710L && defined(__has_c_attribute)
+#define LAPD_NODISCARD [[nodiscard]]
+#else
+#define LAPD_NODISCARD
+#endif
+#endif
+#define LAPD_STATUS LAPD_NODISCARD uint32_t
+
+/* Functions that this header defines. The library has them as symbols as well, for languages that read no header of C. In C++
+ * each is one function for the whole program, as those of lapd.hpp that call them. */
+#ifndef LAPD_INLINE
+#ifdef __cplusplus
+#define LAPD_INLINE inline
+#else
+#define LAPD_INLINE static inline
+#endif
+#endif
+#define LAPD_INLINE_STATUS LAPD_NODISCARD LAPD_INLINE uint32_t
+
+/* What C and C++ spell in two ways. */
+#if defined(__cplusplus) && __cplusplus >= 201103L
+#define LAPD_NULL nullptr
+#else
+#define LAPD_NULL NULL
+#endif
+#ifdef __cplusplus
+#define LAPD_ADDRESS(at) reinterpret_cast<uintptr_t>(at)
+#else
+#define LAPD_ADDRESS(at) ((uintptr_t)(at))
+#endif
 
 #ifdef __cplusplus
 #ifdef __GNUC__ /* a call that is called like its struct hides the struct's constructor, which -Wshadow would tell */
@@ -242,26 +278,27 @@ typedef struct lapd_card {
     void *at;
 } lapd_card;
 
-#define LAPD_CARD_NONE { false, 0 }
+#define LAPD_CARD_NONE { false, LAPD_NULL }
 
 /* Starts a card for octets, on which no TEI is on any line. Takes memory, as only the starts of a card do.
  * LAPD_SECOND_START, the first bad field (LAPD_BAD_LINES to LAPD_BAD_SIDE) or LAPD_NO_MEMORY: there is no other card than
  * before. */
-uint32_t lapd_card_start(lapd_card *card, const lapd_config *config);
+LAPD_STATUS lapd_card_start(lapd_card *card, const lapd_config *config);
 
 /* Starts a card for frames in the same way. It takes less memory, as no line of it has room for a frame on its way. */
-uint32_t lapd_card_start_frames(lapd_card *card, const lapd_config *config);
+LAPD_STATUS lapd_card_start_frames(lapd_card *card, const lapd_config *config);
 
 /* Ends a card of either kind and gives back all memory that its start took. LAPD_NO_CARD: nothing happens. */
-uint32_t lapd_card_free(lapd_card *card);
+LAPD_STATUS lapd_card_free(lapd_card *card);
 
 /* ---- What happens at a card for octets. On a card for frames: LAPD_WRONG_CARD ------------------------------------- */
 
-/* Takes an octet that came from a line, bit 1 (the low bit) first. */
-uint32_t lapd_octet(lapd_card *card, uint32_t line, uint8_t octet, lapd_report *report);
+/* Takes an octet that came from a line, bit 1 (the low bit) first. Controllers of E1 and T1 mostly have the bit that came first
+ * as bit 8: turn their octets by lapd_turned, here, at lapd_pull and at lapd_exchange. */
+LAPD_STATUS lapd_octet(lapd_card *card, uint32_t line, uint8_t octet, lapd_report *report);
 
 /* Gives the next octet of a line to send, bit 1 first: of a frame where one waits or is on its way, else of flags. */
-uint32_t lapd_pull(lapd_card *card, uint32_t line, uint8_t *octet, lapd_report *report);
+LAPD_STATUS lapd_pull(lapd_card *card, uint32_t line, uint8_t *octet, lapd_report *report);
 
 /*
  * Takes and gives octets in turn: step 2i takes in[i], step 2i+1 gives out[i]. Goes on from step *steps, up to and with
@@ -271,13 +308,11 @@ uint32_t lapd_pull(lapd_card *card, uint32_t line, uint8_t *octet, lapd_report *
  * has nothing to tell no report is written. `in` and `out` are two buffers: what is proved of the octets that are taken
  * holds while none of them is written over. With one buffer call lapd_octet and lapd_pull in turn.
  *
- *     for (size_t steps = 0; steps < 2 * n;) {
- *         lapd_exchange(&card, line, in, n, out, n, &steps, &report);
+ *     for (size_t steps = 0; steps < 2 * n && lapd_exchange(&card, line, in, n, out, n, &steps, &report) == LAPD_OK;)
  *         ... what the report tells ...
- *     }
  */
-uint32_t lapd_exchange(lapd_card *card, uint32_t line, const uint8_t *in, size_t in_length, uint8_t *out,
-                       size_t out_length, size_t *steps, lapd_report *report);
+LAPD_STATUS lapd_exchange(lapd_card *card, uint32_t line, const uint8_t *in, size_t in_length, uint8_t *out,
+                          size_t out_length, size_t *steps, lapd_report *report);
 
 /* ---- What happens at a card for frames. On a card for octets: LAPD_WRONG_CARD ------------------------------------- */
 
@@ -287,11 +322,11 @@ uint32_t lapd_exchange(lapd_card *card, uint32_t line, const uint8_t *in, size_t
  * information that is too long (error O of a link). The octets lie outside of *report. Whoever gets two octets of check
  * with each frame, as some drivers give them, leaves them off.
  */
-uint32_t lapd_frame(lapd_card *card, uint32_t line, const uint8_t *octets, size_t length, lapd_report *report);
+LAPD_STATUS lapd_frame(lapd_card *card, uint32_t line, const uint8_t *octets, size_t length, lapd_report *report);
 
 /* The controller of a line told a fault in place of a frame: LAPD_ABORT, LAPD_RAGGED (no whole octets), LAPD_SHORT or
  * LAPD_FCS. The report has it as its cause; nothing else happens. LAPD_WRONG_CAUSE: it is none of these four. */
-uint32_t lapd_frame_failed(lapd_card *card, uint32_t line, uint8_t cause, lapd_report *report);
+LAPD_STATUS lapd_frame_failed(lapd_card *card, uint32_t line, uint8_t cause, lapd_report *report);
 
 /*
  * Gives the next frame of a line to send: writes it in front of `out`, from the address to the information, without a
@@ -304,14 +339,14 @@ uint32_t lapd_frame_failed(lapd_card *card, uint32_t line, uint8_t cause, lapd_r
  *     for (size_t length; lapd_next_frame(&card, line, out, sizeof out, &length, &report) == LAPD_OK;)
  *         ... the report's orders, then out[0] to out[length - 1] to the controller ...
  */
-uint32_t lapd_next_frame(lapd_card *card, uint32_t line, uint8_t *out, size_t room, size_t *length,
-                         lapd_report *report);
+LAPD_STATUS lapd_next_frame(lapd_card *card, uint32_t line, uint8_t *out, size_t room, size_t *length,
+                            lapd_report *report);
 
 /* ---- What happens at a card of either kind ---------------------------------------------------------------------- */
 
 /* A timer of a line expired. One that does not run has no effect, and nothing is told. The timer lies outside of
  * *report, which is written while it is read: a lapd_due's does; copy that of one of the report's own orders. */
-uint32_t lapd_expire(lapd_card *card, uint32_t line, const lapd_timer *timer, lapd_report *report);
+LAPD_STATUS lapd_expire(lapd_card *card, uint32_t line, const lapd_timer *timer, lapd_report *report);
 
 enum {
     LAPD_ESTABLISH = 1, /* establish the link (DL-ESTABLISH request, clause 4.1.1.1) */
@@ -329,15 +364,15 @@ enum {
  * LAPD_REFUSED_WRONG_SIDE, where it is refused. The service is LAPD_CALL or LAPD_PACKET in each, though assign, remove
  * and check are about both; the length is 0 except for LAPD_DATA and LAPD_UNIT. The contents lie outside of *report;
  * where they are those of the report itself, ask by lapd_data or lapd_unit. */
-uint32_t lapd_request(lapd_card *card, uint32_t line, uint8_t request, uint8_t service, uint8_t tei,
-                      const uint8_t *contents, size_t length, lapd_report *report);
+LAPD_STATUS lapd_request(lapd_card *card, uint32_t line, uint8_t request, uint8_t service, uint8_t tei,
+                         const uint8_t *contents, size_t length, lapd_report *report);
 
 /* ---- What a card says of itself --------------------------------------------------------------------------------- */
 
 /* The state of the link of a service with this TEI, by its number in Q.921: 4 (TEI assigned), 5 (awaiting
  * establishment), 6 (awaiting release), 7 (multiple frame established), 8 (timer recovery); 0 where the TEI is not on
  * the line. */
-uint32_t lapd_state(lapd_card *card, uint32_t line, uint8_t service, uint8_t tei, uint8_t *state);
+LAPD_STATUS lapd_state(lapd_card *card, uint32_t line, uint8_t service, uint8_t tei, uint8_t *state);
 
 /* A link of a line. */
 typedef struct lapd_link {
@@ -355,7 +390,7 @@ typedef struct lapd_link {
  *     for (lapd_link link; lapd_next_link(&card, line, &place, &link) == LAPD_OK;)
  *         ... link.service, link.tei, link.state ...
  */
-uint32_t lapd_next_link(lapd_card *card, uint32_t line, uint8_t *place, lapd_link *link);
+LAPD_STATUS lapd_next_link(lapd_card *card, uint32_t line, uint8_t *place, lapd_link *link);
 
 /* How much room a link has for contents. As the call has the same name, it is `struct lapd_room` also in C++. */
 struct lapd_room {
@@ -373,7 +408,7 @@ struct lapd_room {
  * the link keeps n contents (the card's `queue` less the room's), all of them are acknowledged once V(A) has risen by n;
  * unless the link is established anew, which sets V(A) to 0.
  */
-uint32_t lapd_room(lapd_card *card, uint32_t line, uint8_t service, uint8_t tei, struct lapd_room *room);
+LAPD_STATUS lapd_room(lapd_card *card, uint32_t line, uint8_t service, uint8_t tei, struct lapd_room *room);
 
 /* How a frame begins, and how long it is. */
 typedef struct lapd_head {
@@ -383,7 +418,7 @@ typedef struct lapd_head {
 
 /* Which frame a pull of the line began last, as after one whose report says `begun`: it stays until a pull begins
  * another. The length is 0 where no pull has begun one yet. LAPD_WRONG_CARD on a card for frames, which has no pulls. */
-uint32_t lapd_begun(lapd_card *card, uint32_t line, lapd_head *head);
+LAPD_STATUS lapd_begun(lapd_card *card, uint32_t line, lapd_head *head);
 
 /*
  * What is counted of a line: the place of each number in lapd_counters.
@@ -401,9 +436,10 @@ enum {
     LAPD_BEGUN_XID = 22, LAPD_BEGUN_UNDEFINED = 23,
     /* octets of these frames, from the address to the information */
     LAPD_HEARD_OCTETS = 24, LAPD_BEGUN_OCTETS = 25,
-    /* of these frames, the commands I, RR, RNR and REJ with P=1, which ask for an answer */
+    /* of these frames, the commands I, RR, RNR and REJ with P=1, which ask for an answer: by the C/R bit of the first octet, the
+     * third octet, and the lowest bit of the fourth, also where the frame is not well formed */
     LAPD_HEARD_POLLS = 26, LAPD_BEGUN_POLLS = 27,
-    /* good frames that are too long to be kept */
+    /* good frames that are too long to be kept, also those that are then dropped, as for a TEI that is not on the line */
     LAPD_HEARD_OVERLONG = 28,
     /* what was dropped, by its cause */
     LAPD_DROPPED_ABORT = 29, LAPD_DROPPED_RAGGED = 30, LAPD_DROPPED_SHORT = 31, LAPD_DROPPED_FCS = 32,
@@ -429,17 +465,17 @@ struct lapd_counters {
 
 /* What was counted of a line since the card began, on a card of either kind. A request that is refused is not counted. It
  * changes nothing. */
-uint32_t lapd_counters(lapd_card *card, uint32_t line, struct lapd_counters *counters);
+LAPD_STATUS lapd_counters(lapd_card *card, uint32_t line, struct lapd_counters *counters);
 
 /* How many octets the card stores now, of frames, messages and contents; at most lapd_limit's. A card for frames stores
  * none of frames that come and go. */
-uint32_t lapd_stored(lapd_card *card, uint32_t *octets);
+LAPD_STATUS lapd_stored(lapd_card *card, uint32_t *octets);
 
-/* How many octets the card stores at most, which its configuration alone says. */
-uint32_t lapd_limit(lapd_card *card, uint32_t *octets);
+/* How many octets a card for octets of this configuration stores at most, and so also one for frames, which stores less. */
+LAPD_STATUS lapd_limit(lapd_card *card, uint32_t *octets);
 
 /* How many lines the card has. */
-uint32_t lapd_lines(lapd_card *card, uint32_t *lines);
+LAPD_STATUS lapd_lines(lapd_card *card, uint32_t *lines);
 
 /* ---- A clock ---------------------------------------------------------------------------------------------------- */
 
@@ -450,10 +486,10 @@ typedef struct lapd_clock {
     void *at;
 } lapd_clock;
 
-#define LAPD_CLOCK_NONE { false, 0 }
+#define LAPD_CLOCK_NONE { false, LAPD_NULL }
 
 /* The latest moment that a timer may be ordered at: 2^63 ms. */
-#define LAPD_LATEST ((uint64_t)1 << 63)
+#define LAPD_LATEST (UINT64_C(1) << 63)
 
 /* A timer that fell due. */
 typedef struct lapd_due {
@@ -463,30 +499,30 @@ typedef struct lapd_due {
 
 /* Starts a clock on which no timer runs, for a card of this configuration. Takes memory, as the only call on a clock.
  * LAPD_SECOND_START, the first bad field or LAPD_NO_MEMORY: there is no other clock than before. */
-uint32_t lapd_clock_start(lapd_clock *clock, const lapd_config *config);
+LAPD_STATUS lapd_clock_start(lapd_clock *clock, const lapd_config *config);
 
 /* How long timers run that are started from now on, in milliseconds, 1 to 3,600,000 each: T200 and T203 of each link, and
  * T201 of each line. Those that run keep their moments. A clock begins with 1,000, 10,000 and 1,000 (clauses 5.9.1, 5.9.8
  * and 5.9.6). LAPD_WRONG_TIME: one is out of range, and nothing has changed. */
-uint32_t lapd_clock_set_lengths(lapd_clock *clock, uint32_t t200, uint32_t t203, uint32_t t201);
+LAPD_STATUS lapd_clock_set_lengths(lapd_clock *clock, uint32_t t200, uint32_t t203, uint32_t t201);
 
 /* Ends a clock and gives back all memory that its start took. LAPD_NO_CLOCK: nothing happens. */
-uint32_t lapd_clock_free(lapd_clock *clock);
+LAPD_STATUS lapd_clock_free(lapd_clock *clock);
 
 /* Carries out one order for a timer of a line at a moment. LAPD_NO_PLACE: the line has no place for the timer, and
  * nothing has changed. */
-uint32_t lapd_clock_apply(lapd_clock *clock, uint32_t line, const lapd_order *order, uint64_t now);
+LAPD_STATUS lapd_clock_apply(lapd_clock *clock, uint32_t line, const lapd_order *order, uint64_t now);
 
 /* Carries out all orders of a report, in order, at a moment: to be called with each report whose order_count is not 0.
  * LAPD_NO_PLACE: at least one found no place; the others were carried out. */
-uint32_t lapd_clock_apply_report(lapd_clock *clock, uint32_t line, const lapd_report *report, uint64_t now);
+LAPD_STATUS lapd_clock_apply_report(lapd_clock *clock, uint32_t line, const lapd_report *report, uint64_t now);
 
 /* Takes out the timer that falls due first, where its moment is not after `now`; hand it to lapd_expire. At one moment:
  * by line, then T200 before T203 before T201, by TEI, and call control before packet. LAPD_NO_TIMER: none is due. */
-uint32_t lapd_clock_due(lapd_clock *clock, uint64_t now, lapd_due *due);
+LAPD_STATUS lapd_clock_due(lapd_clock *clock, uint64_t now, lapd_due *due);
 
 /* The moment of the timer that falls due first, due or not. LAPD_NO_TIMER: none runs. */
-uint32_t lapd_clock_next(lapd_clock *clock, uint64_t *moment);
+LAPD_STATUS lapd_clock_next(lapd_clock *clock, uint64_t *moment);
 
 #ifdef __cplusplus
 }
@@ -498,56 +534,59 @@ uint32_t lapd_clock_next(lapd_clock *clock, uint64_t *moment);
 /* ---- In words and by name: defined here ------------------------------------------------------------------------- */
 
 /* Whether a report has anything to tell. */
-static inline bool lapd_tells(const lapd_report *report) {
+LAPD_INLINE bool lapd_tells(const lapd_report *report) {
     return report->note_count != 0 || report->order_count != 0 || report->cause != 0 || report->lost != 0
            || report->begun != 0 || report->delivered != 0;
 }
 
 /* A block of memory in a heap: rounded up to 16 octets, and 16 octets for what the heap notes of it. */
-static inline uint64_t lapd_block_octets(uint64_t octets) {
+LAPD_INLINE uint64_t lapd_block_octets(uint64_t octets) {
     return (octets + 15) / 16 * 16 + 16;
 }
 
-/* So many octets of memory are enough for the start of a card, of either kind, whose configuration is in range, by blocks
- * as above. This is no promise of the proofs: tests start cards in so many, on a target with 8 octets a pointer. */
-static inline uint64_t lapd_card_octets(const lapd_config *config) {
-    uint64_t links = 2 * (uint64_t)config->terminals;
-    uint64_t link = lapd_block_octets(16 * (uint64_t)config->control) + lapd_block_octets(8 * (uint64_t)config->queue);
-    uint64_t stuffed = (config->n201 + 6u) * 6u / 5u + 2u;
-    uint64_t line = lapd_block_octets(config->n201 + 6u) + lapd_block_octets(stuffed)
-                    + lapd_block_octets(192 * links) + links * link
-                    + lapd_block_octets(16 * (uint64_t)config->unit_queue) + lapd_block_octets(128)
-                    + lapd_block_octets(16 * (uint64_t)config->terminals);
-    return lapd_block_octets(256) + lapd_block_octets(640 * (uint64_t)config->lines) + config->lines * line
-           + lapd_block_octets(2 * (uint64_t)config->slots) + lapd_block_octets((uint64_t)config->slots * config->n201);
+/* So many octets of memory are enough for the start of a card for frames whose configuration is in range, by blocks as above.
+ * This is no promise of the proofs: tests start cards in so many, on a target with 8 octets a pointer. */
+LAPD_INLINE uint64_t lapd_card_octets_frames(const lapd_config *config) {
+    uint64_t lines = config->lines, slots = config->slots, links = 2u * config->terminals;
+    uint64_t link = lapd_block_octets(8u * config->control) + lapd_block_octets(8u * config->queue);
+    uint64_t line = lapd_block_octets(128 * links) + links * link + lapd_block_octets(16u * config->unit_queue)
+                    + lapd_block_octets(64);
+    return lapd_block_octets(256) + lapd_block_octets(832 * lines) + lines * line + lapd_block_octets(2 * slots)
+           + lapd_block_octets(slots * config->n201);
+}
+
+/* The same of a card for octets, which has room besides for a frame that comes and one that goes on each line. */
+LAPD_INLINE uint64_t lapd_card_octets(const lapd_config *config) {
+    uint64_t lines = config->lines, frame = config->n201 + 6u;
+    uint64_t port = lapd_block_octets(frame) + lapd_block_octets(frame * 6 / 5 + 2);
+    return lapd_card_octets_frames(config) + lapd_block_octets(176 * lines) + lines * port;
 }
 
 /* The same of a clock. */
-static inline uint64_t lapd_clock_octets(const lapd_config *config) {
-    uint64_t places = 4 * (uint64_t)config->terminals + 1;
-    return lapd_block_octets(64) + lapd_block_octets(32 * (uint64_t)config->lines)
-           + config->lines * lapd_block_octets(24 * places);
+LAPD_INLINE uint64_t lapd_clock_octets(const lapd_config *config) {
+    uint64_t lines = config->lines, places = 4u * config->terminals + 1u;
+    return lapd_block_octets(96) + lapd_block_octets(32 * lines) + lapd_block_octets(16 * lines)
+           + lines * lapd_block_octets(24 * places);
 }
 
-/* Asks for the link (DL-ESTABLISH request). */
-static inline uint32_t lapd_establish(lapd_card *card, uint32_t line, uint8_t service, uint8_t tei,
-                                      lapd_report *report) {
-    return lapd_request(card, line, LAPD_ESTABLISH, service, tei, (const uint8_t *)"", 0, report);
+/* An octet with its bits turned round: bit 1 becomes bit 8. For an octet that has the bit that came first as bit 8. */
+LAPD_INLINE uint8_t lapd_turned(uint8_t octet) {
+    static const uint8_t low[16] = {0x00, 0x80, 0x40, 0xC0, 0x20, 0xA0, 0x60, 0xE0,
+                                    0x10, 0x90, 0x50, 0xD0, 0x30, 0xB0, 0x70, 0xF0};
+    static const uint8_t high[16] = {0x00, 0x08, 0x04, 0x0C, 0x02, 0x0A, 0x06, 0x0E,
+                                     0x01, 0x09, 0x05, 0x0D, 0x03, 0x0B, 0x07, 0x0F};
+    return low[octet & 15u] | high[octet >> 4];
 }
 
-/* Releases the link (DL-RELEASE request). */
-static inline uint32_t lapd_release(lapd_card *card, uint32_t line, uint8_t service, uint8_t tei,
-                                    lapd_report *report) {
-    return lapd_request(card, line, LAPD_RELEASE, service, tei, (const uint8_t *)"", 0, report);
-}
-
-/* A request with contents, which may lie in the report: they are copied before that is written. */
-static inline uint32_t lapd_request_with(lapd_card *card, uint32_t line, uint8_t request, uint8_t service, uint8_t tei,
-                                         const uint8_t *contents, size_t length, lapd_report *report) {
+/* A request with contents, which may lie in the report: they are copied before that is written. Without contents the pointer
+ * may be null. */
+LAPD_INLINE_STATUS lapd_request_with(lapd_card *card, uint32_t line, uint8_t request, uint8_t service, uint8_t tei,
+                                     const uint8_t *contents, size_t length, lapd_report *report) {
+    static const uint8_t nothing = 0;
     uint8_t copy[sizeof(lapd_report)];
-    uintptr_t at = (uintptr_t)contents, from = (uintptr_t)report;
+    uintptr_t at = LAPD_ADDRESS(contents), from = LAPD_ADDRESS(report);
     if (length == 0)
-        return lapd_request(card, line, request, service, tei, (const uint8_t *)"", 0, report);
+        return lapd_request(card, line, request, service, tei, &nothing, 0, report);
     if (at < from || at >= from + sizeof *report || length > from + sizeof *report - at)
         return lapd_request(card, line, request, service, tei, contents, length, report);
     for (size_t i = 0; i < length; i++)
@@ -555,47 +594,56 @@ static inline uint32_t lapd_request_with(lapd_card *card, uint32_t line, uint8_t
     return lapd_request(card, line, request, service, tei, copy, length, report);
 }
 
-/* Contents for the link, acknowledged (DL-DATA request); also those of the report itself. Without contents the pointer
- * may be null. */
-static inline uint32_t lapd_data(lapd_card *card, uint32_t line, uint8_t service, uint8_t tei,
-                                 const uint8_t *contents, size_t length, lapd_report *report) {
+/* Asks for the link (DL-ESTABLISH request). */
+LAPD_INLINE_STATUS lapd_establish(lapd_card *card, uint32_t line, uint8_t service, uint8_t tei, lapd_report *report) {
+    return lapd_request_with(card, line, LAPD_ESTABLISH, service, tei, LAPD_NULL, 0, report);
+}
+
+/* Releases the link (DL-RELEASE request). */
+LAPD_INLINE_STATUS lapd_release(lapd_card *card, uint32_t line, uint8_t service, uint8_t tei, lapd_report *report) {
+    return lapd_request_with(card, line, LAPD_RELEASE, service, tei, LAPD_NULL, 0, report);
+}
+
+/* Contents for the link, acknowledged (DL-DATA request); also those of the report itself. */
+LAPD_INLINE_STATUS lapd_data(lapd_card *card, uint32_t line, uint8_t service, uint8_t tei, const uint8_t *contents,
+                             size_t length, lapd_report *report) {
     return lapd_request_with(card, line, LAPD_DATA, service, tei, contents, length, report);
 }
 
 /* Contents without acknowledgement (DL-UNIT DATA request), also those of the report itself; LAPD_GROUP_TEI is all
  * terminals of the line, to which the network's side alone sends. */
-static inline uint32_t lapd_unit(lapd_card *card, uint32_t line, uint8_t service, uint8_t tei,
-                                 const uint8_t *contents, size_t length, lapd_report *report) {
+LAPD_INLINE_STATUS lapd_unit(lapd_card *card, uint32_t line, uint8_t service, uint8_t tei, const uint8_t *contents,
+                             size_t length, lapd_report *report) {
     return lapd_request_with(card, line, LAPD_UNIT, service, tei, contents, length, report);
 }
 
 /* Puts the TEI on the line (MDL-ASSIGN request). */
-static inline uint32_t lapd_assign(lapd_card *card, uint32_t line, uint8_t tei, lapd_report *report) {
-    return lapd_request(card, line, LAPD_ASSIGN, LAPD_CALL, tei, (const uint8_t *)"", 0, report);
+LAPD_INLINE_STATUS lapd_assign(lapd_card *card, uint32_t line, uint8_t tei, lapd_report *report) {
+    return lapd_request_with(card, line, LAPD_ASSIGN, LAPD_CALL, tei, LAPD_NULL, 0, report);
 }
 
 /* Takes the TEI from the line (MDL-REMOVE request). Of the network's side alone: LAPD_REFUSED_WRONG_SIDE. */
-static inline uint32_t lapd_remove(lapd_card *card, uint32_t line, uint8_t tei, lapd_report *report) {
-    return lapd_request(card, line, LAPD_REMOVE, LAPD_CALL, tei, (const uint8_t *)"", 0, report);
+LAPD_INLINE_STATUS lapd_remove(lapd_card *card, uint32_t line, uint8_t tei, lapd_report *report) {
+    return lapd_request_with(card, line, LAPD_REMOVE, LAPD_CALL, tei, LAPD_NULL, 0, report);
 }
 
 /* Asks the terminals of the line who has the TEI. Of the network's side alone: LAPD_REFUSED_WRONG_SIDE. */
-static inline uint32_t lapd_check(lapd_card *card, uint32_t line, uint8_t tei, lapd_report *report) {
-    return lapd_request(card, line, LAPD_CHECK, LAPD_CALL, tei, (const uint8_t *)"", 0, report);
+LAPD_INLINE_STATUS lapd_check(lapd_card *card, uint32_t line, uint8_t tei, lapd_report *report) {
+    return lapd_request_with(card, line, LAPD_CHECK, LAPD_CALL, tei, LAPD_NULL, 0, report);
 }
 
 /* Layer 3 can take no data of the link for now. */
-static inline uint32_t lapd_busy(lapd_card *card, uint32_t line, uint8_t service, uint8_t tei, lapd_report *report) {
-    return lapd_request(card, line, LAPD_BUSY, service, tei, (const uint8_t *)"", 0, report);
+LAPD_INLINE_STATUS lapd_busy(lapd_card *card, uint32_t line, uint8_t service, uint8_t tei, lapd_report *report) {
+    return lapd_request_with(card, line, LAPD_BUSY, service, tei, LAPD_NULL, 0, report);
 }
 
 /* It can again. */
-static inline uint32_t lapd_ready(lapd_card *card, uint32_t line, uint8_t service, uint8_t tei, lapd_report *report) {
-    return lapd_request(card, line, LAPD_READY, service, tei, (const uint8_t *)"", 0, report);
+LAPD_INLINE_STATUS lapd_ready(lapd_card *card, uint32_t line, uint8_t service, uint8_t tei, lapd_report *report) {
+    return lapd_request_with(card, line, LAPD_READY, service, tei, LAPD_NULL, 0, report);
 }
 
 /* A status in words: a refusal by its name in docs/FORMAT.md. */
-static inline const char *lapd_status_text(uint32_t status) {
+LAPD_INLINE const char *lapd_status_text(uint32_t status) {
     switch (status) {
     case LAPD_OK: return "ok";
     case LAPD_REFUSED_BAD_TEI: return "bad-tei";
@@ -643,7 +691,7 @@ static inline const char *lapd_status_text(uint32_t status) {
 }
 
 /* A note in words: its name in docs/FORMAT.md, with -16 for a packet link. */
-static inline const char *lapd_note_text(const lapd_note *note) {
+LAPD_INLINE const char *lapd_note_text(const lapd_note *note) {
     bool packet = note->service == LAPD_PACKET;
     switch (note->note) {
     case LAPD_ESTABLISH_INDICATION: return packet ? "establish-indication-16" : "establish-indication";
@@ -662,7 +710,7 @@ static inline const char *lapd_note_text(const lapd_note *note) {
 }
 
 /* A cause in words: its name in docs/FORMAT.md. */
-static inline const char *lapd_cause_text(uint8_t cause) {
+LAPD_INLINE const char *lapd_cause_text(uint8_t cause) {
     switch (cause) {
     case 0: return "none";
     case LAPD_ABORT: return "abort";
@@ -678,7 +726,7 @@ static inline const char *lapd_cause_text(uint8_t cause) {
 }
 
 /* A counter in words, by its place: its name in lapdsim(5). */
-static inline const char *lapd_counter_text(unsigned place) {
+LAPD_INLINE const char *lapd_counter_text(unsigned place) {
     static const char *const names[LAPD_COUNTERS] = {
         "heard-i", "heard-rr", "heard-rnr", "heard-rej", "heard-sabme", "heard-disc", "heard-ui", "heard-ua",
         "heard-dm", "heard-frmr", "heard-xid", "heard-undefined", "begun-i", "begun-rr", "begun-rnr", "begun-rej",

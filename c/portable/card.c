@@ -69,31 +69,32 @@ uint32_t lapd_card_start(lapd_card *card, const lapd_config *config) {
 }
 
 uint32_t lapd_card_start_frames(lapd_card *card, const lapd_config *config) {
-    return start(&card->started, &card->at, config, lapd_card_octets(config), w2c_lapd_card_start_frames);
+    return start(&card->started, &card->at, config, lapd_card_octets_frames(config), w2c_lapd_card_start_frames);
 }
 
 uint32_t lapd_clock_start(lapd_clock *clock, const lapd_config *config) {
     return start(&clock->started, &clock->at, config, lapd_clock_octets(config), w2c_lapd_clock_start);
 }
 
-uint32_t lapd_card_free(lapd_card *card) {
-    if (!card->started)
-        return LAPD_NO_CARD;
-    u32 status = w2c_lapd_card_free(card->at, HANDLE);
-    rattle_dealloc(card->at);
-    card->started = false;
-    card->at = NULL;
+typedef u32 ends(machine *instance, u64 handle);
+
+/* Ends a card or a clock, whose machine goes. */
+static uint32_t finish(bool *started, void **at, uint32_t none, ends *call) {
+    if (!*started)
+        return none;
+    u32 status = call(*at, HANDLE);
+    rattle_dealloc(*at);
+    *started = false;
+    *at = NULL;
     return status;
 }
 
+uint32_t lapd_card_free(lapd_card *card) {
+    return finish(&card->started, &card->at, LAPD_NO_CARD, w2c_lapd_card_free);
+}
+
 uint32_t lapd_clock_free(lapd_clock *clock) {
-    if (!clock->started)
-        return LAPD_NO_CLOCK;
-    u32 status = w2c_lapd_clock_free(clock->at, HANDLE);
-    rattle_dealloc(clock->at);
-    clock->started = false;
-    clock->at = NULL;
-    return status;
+    return finish(&clock->started, &clock->at, LAPD_NO_CLOCK, w2c_lapd_clock_free);
 }
 
 /* Whether two lengths are one, and the steps not beyond it. */

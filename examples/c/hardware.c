@@ -4,12 +4,12 @@
  * with one frame a read and a write. Timers are the library's clock, by the system's monotonic time (linecard.c). Layer 3
  * answers every call.
  *
- *     hardware [--check] [RECORD] <> LINE
+ *     hardware [--check] [RECORD [CAPTURE]] <> LINE
  *
  * With --check two octets stand behind each frame, in place of its check, as DAHDI's D-channels have them; without it the
  * frame is all, as in Linux's LAPD devices. Standard error tells what layer 3 is told. With RECORD, all that happens is
- * written there as a script of docs/FORMAT.md: `lapdsim run < RECORD` then shows the same. A frame of no octets, or the
- * other side's end, ends the program.
+ * written there as a script of docs/FORMAT.md: `lapdsim run < RECORD` then shows the same. With CAPTURE, the frames of both
+ * ways are written there for Wireshark (pcap.c). A frame of no octets, or the other side's end, ends the program.
  */
 #define _POSIX_C_SOURCE 200809L
 
@@ -20,10 +20,12 @@
 #include <unistd.h>
 
 #include "linecard.h"
+#include "pcap.h"
 
 enum { LONGEST_DATAGRAM = 2048 };
 
 static size_t check_octets;
+static FILE *capture; /* or NULL */
 
 /* A message of Q.931 came on a link, with a call reference of one octet: a call is connected, and cleared as it is asked. */
 static bool message_came(linecard *own, const lapd_note *note, const uint8_t *contents, size_t length) {
@@ -51,6 +53,8 @@ static bool take(const uint8_t *datagram, size_t length) {
         fprintf(own.record, "in 0 ");
         put_octets(own.record, datagram, length);
     }
+    if (capture != NULL)
+        pcap_frame(capture, own.now, false, LAPD_NETWORK, datagram, length, length);
     return linecard_is_ok(&own, lapd_frame(&own.card, 0, datagram, length, &report), "frame") && linecard_tell(&own, &report);
 }
 
@@ -68,6 +72,8 @@ static bool give(bool *is_full) {
             return false;
         if (own.record != NULL)
             fprintf(own.record, "next 0\n");
+        if (capture != NULL)
+            pcap_frame(capture, own.now, true, LAPD_NETWORK, datagram, length, length);
         memset(datagram + length, 0, check_octets);
         if (write(STDIN_FILENO, datagram, length + check_octets) < 0 && errno != EPIPE)
             return false;
@@ -100,13 +106,17 @@ int main(int words, char **argv) {
         words--;
         argv++;
     }
-    if (words > 2 || (words == 2 && (own.record = fopen(argv[1], "w")) == NULL)) {
-        fprintf(stderr, "usage: hardware [--check] [RECORD] <> LINE\n");
+    if (words > 3 || (words > 1 && (own.record = fopen(argv[1], "w")) == NULL)
+        || (words > 2 && (capture = fopen(argv[2], "wb")) == NULL)) {
+        fprintf(stderr, "usage: hardware [--check] [RECORD [CAPTURE]] <> LINE\n");
         return 2;
     }
     signal(SIGPIPE, SIG_IGN); /* a write to a side that has ended fails instead */
     if (own.record != NULL)
         fprintf(own.record, "frames " LINECARD_NUMBERS "\n");
+    if (capture != NULL)
+        pcap_begin(capture);
     bool good = linecard_is_ok(&own, lapd_card_start_frames(&own.card, &linecard_config), "card") && linecard_begin(&own) && serve();
-    return !linecard_end(&own) || !good;
+    bool is_kept = capture == NULL || (!ferror(capture) && fclose(capture) == 0);
+    return !linecard_end(&own) || !is_kept || !good;
 }

@@ -104,7 +104,7 @@ bool linecard_begin(linecard *own) {
 }
 
 bool linecard_end(linecard *own) {
-    lapd_clock_free(&own->timers);
-    lapd_card_free(&own->card);
-    return own->record == NULL || fclose(own->record) == 0;
+    (void)lapd_clock_free(&own->timers);
+    (void)lapd_card_free(&own->card);
+    return own->record == NULL || (!ferror(own->record) && fclose(own->record) == 0);
 }

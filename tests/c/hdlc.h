@@ -9,6 +9,10 @@
 #include <stddef.h>
 #include <stdint.h>
 
+#ifdef __cplusplus
+extern "C" {
+#endif
+
 enum {
     HDLC_MOST_OCTETS = 1028,                               /* of a frame without its check */
     HDLC_MOST_BITS = (HDLC_MOST_OCTETS + 2) * 8 * 6 / 5 + 32 /* stuffed, with flags and what was left over */
@@ -50,5 +54,9 @@ void hdlc_listen(hdlc_listener *listener);
 
 /* Takes an octet. Answers whether it ended a good frame, which then stands in `frame`, without its check. */
 bool hdlc_hear(hdlc_listener *listener, uint8_t octet);
+
+#ifdef __cplusplus
+}
+#endif
 
 #endif

@@ -1,6 +1,6 @@
 /*
- * heap_holds.c: a card of either kind and its clock fit into the octets that lapd_card_octets and lapd_clock_octets say, over
- * c/heap.c; where there are fewer and fewer, a start is refused memory at last, and what it had taken is given back; and
+ * heap_holds.c: a card of either kind and its clock fit into the octets that lapd_card_octets, lapd_card_octets_frames and
+ * lapd_clock_octets say, over c/heap.c; where there are fewer and fewer, a start is refused memory at last, and what it had taken is given back; and
  * what they give back can be taken again. The heap is compiled with room for the largest of these configurations.
  */
 #include <stdbool.h>
@@ -38,18 +38,24 @@ static void *all_but(uint64_t octets) {
     return tried.there ? tried.at : NULL;
 }
 
-typedef uint32_t starts(lapd_card *card, const lapd_config *config);
+/* A kind of card: its start, and how many octets are enough. */
+typedef struct {
+    uint32_t (*start)(lapd_card *card, const lapd_config *config);
+    uint64_t (*octets)(const lapd_config *config);
+} kind;
 
-static int holds(const lapd_config *config, starts *start) {
+static const kind kinds[] = {{lapd_card_start, lapd_card_octets}, {lapd_card_start_frames, lapd_card_octets_frames}};
+
+static int holds(const lapd_config *config, const kind *of) {
     lapd_card card = LAPD_CARD_NONE;
     lapd_clock clock = LAPD_CLOCK_NONE;
-    uint64_t octets = lapd_card_octets(config) + lapd_clock_octets(config) + 2 * EACH;
+    uint64_t octets = of->octets(config) + lapd_clock_octets(config) + 2 * EACH;
     void *rest = all_but(octets);
     if (rest == NULL) {
         fprintf(stderr, "%u lines: what the heap held before was not given back\n", config->lines);
         return 0;
     }
-    uint32_t one = start(&card, config), other = lapd_clock_start(&clock, config);
+    uint32_t one = of->start(&card, config), other = lapd_clock_start(&clock, config);
     if (one != LAPD_OK || other != LAPD_OK)
         fprintf(stderr, "%u lines in %llu octets: %s, %s\n", config->lines, (unsigned long long)octets,
                 lapd_status_text(one), lapd_status_text(other));
@@ -60,16 +66,16 @@ static int holds(const lapd_config *config, starts *start) {
 }
 
 /* A start with too little: in so many octets, and in every eighth less, down to none. */
-static int refuses(const lapd_config *config, starts *start) {
+static int refuses(const lapd_config *config, const kind *of) {
     lapd_card card = LAPD_CARD_NONE;
     unsigned refused = 0;
-    for (uint64_t octets = lapd_card_octets(config) + EACH; octets > 16; octets -= (octets / 8 + 15) / 16 * 16) {
+    for (uint64_t octets = of->octets(config) + EACH; octets > 16; octets -= (octets / 8 + 15) / 16 * 16) {
         void *rest = all_but(octets);
         if (rest == NULL) {
             fprintf(stderr, "%u lines: what a start had taken was not given back\n", config->lines);
             return 0;
         }
-        uint32_t status = start(&card, config);
+        uint32_t status = of->start(&card, config);
         refused += status == LAPD_NO_MEMORY;
         if (status == LAPD_OK)
             lapd_card_free(&card);
@@ -83,8 +89,7 @@ static int refuses(const lapd_config *config, starts *start) {
 int main(void) {
     int good = 1;
     for (int round = 0; round < 3; round++)
-        for (size_t i = 0; i < sizeof configs / sizeof *configs; i++)
-            good &= holds(&configs[i], lapd_card_start) & holds(&configs[i], lapd_card_start_frames)
-                    & refuses(&configs[i], lapd_card_start) & refuses(&configs[i], lapd_card_start_frames);
+        for (size_t i = 0; i < 2 * (sizeof configs / sizeof *configs); i++)
+            good &= holds(&configs[i / 2], &kinds[i % 2]) & refuses(&configs[i / 2], &kinds[i % 2]);
     return !good;
 }

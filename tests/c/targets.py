@@ -112,7 +112,7 @@ def installed(build, folder):
     check(f"tools/install --target {build.name}", said.returncode == 0, said.stderr.decode()[-600:])
     for name, env in (("lapd", {}), ("lapd-shared", {"LD_LIBRARY_PATH": f"{at}/lib"})):
         told = run(["pkg-config", "--cflags", "--libs", name], env={"PKG_CONFIG_PATH": f"{at}/lib/pkgconfig"})
-        run([*build.compiler, "-o", f"{at}/{name}", f"{ROOT}/examples/c/first.c", *told.stdout.decode().split()])
+        run([*build.compiler, "-o", f"{at}/{name}", f"{ROOT}/examples/c/first.c", *shlex.split(told.stdout.decode())])
         words = [*build.runner, *(word for key, value in env.items() for word in ("-E", f"{key}={value}")), f"{at}/{name}"]
         check(f"{build.name}: a program with {name}", os.path.exists(f"{at}/{name}") and run(words).stdout == FIRST, told.stderr.decode())
 

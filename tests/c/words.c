@@ -14,7 +14,7 @@ typedef struct {
 /* A word of the language: how many words follow it, of which the last may be octets. */
 typedef struct {
     const char *name;
-    verb verb;
+    verbs verb;
     uint8_t request, service;
     size_t numbers;
     bool octets;

@@ -6,6 +6,10 @@
 #include <stddef.h>
 #include <stdint.h>
 
+#ifdef __cplusplus
+extern "C" {
+#endif
+
 enum { MOST_LINE = 4096, MOST_WORDS = 12 };
 
 /* What a line can be faulty in, in the order in which it is told. */
@@ -29,11 +33,11 @@ typedef enum {
 
 const char *fault_text(fault kind);
 
-typedef enum { CARD, RX, IN, PULL, FAILED, NEXT, WAIT, TIMERS, STORED, COUNTERS, REQUEST } verb;
+typedef enum { CARD, RX, IN, PULL, FAILED, NEXT, WAIT, TIMERS, STORED, COUNTERS, REQUEST } verbs;
 
 /* A line that was read: what it says, before a card is asked. */
 typedef struct {
-    verb verb;
+    verbs verb;
     uint8_t request, service; /* of a REQUEST */
     uint8_t cause;            /* of FAILED, as in a report */
     bool for_frames;          /* of a CARD */
@@ -49,5 +53,9 @@ bool next_line(char *line, size_t *length);
 
 /* Reads a line without its line feed. */
 fault read_command(const char *line, size_t length, command *read);
+
+#ifdef __cplusplus
+}
+#endif
 
 #endif

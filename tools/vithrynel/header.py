@@ -10,6 +10,9 @@ HEADER = f"{ROOT}/include/lapd.h"
 # How many octets a plain type has, at a multiple of which it lies.
 PLAIN = {"bool": 1, "uint8_t": 1, "uint16_t": 2, "uint32_t": 4, "uint64_t": 8, "size_t": 8, "void *": 8}
 
+# How a function of the header begins, and what that means in C99.
+KINDS = {"LAPD_STATUS": "uint32_t ", "LAPD_INLINE_STATUS": "static inline uint32_t ", "LAPD_INLINE": "static inline "}
+
 
 class Parameter(NamedTuple):
     """Of a function: its type without `*` and `const`, and how it is handed over."""
@@ -42,9 +45,10 @@ class Struct(NamedTuple):
 
 @functools.lru_cache(None)
 def text() -> str:
-    """The header without comments."""
+    """The header without comments, with what its words for a function's kind mean in C99."""
     with open(HEADER, encoding="utf-8") as file:
-        return re.sub(r"/\*.*?\*/", "", file.read(), flags=re.S)
+        found = re.sub(r"/\*.*?\*/", "", file.read(), flags=re.S)
+    return functools.reduce(lambda it, word: re.sub(f"^{word} ", KINDS[word], it, flags=re.M), KINDS, found)
 
 
 def parameter(words: str) -> Parameter:
@@ -60,6 +64,11 @@ def functions() -> List[Function]:
     rows = re.findall(r"^(uint(?:32|64)_t) (lapd_\w+)\(([^)]*)\);", text(), re.M)
     return [Function(name, result, tuple(map(parameter, words.split(",") if words != "void" else ())))
             for result, name, words in rows]
+
+
+def defined() -> List[str]:
+    """The functions that the header defines."""
+    return re.findall(r"^static inline .*?\b(lapd_\w+)\(", text(), re.M)
 
 
 def numbers() -> Dict[str, int]:

@@ -219,11 +219,11 @@ def content(path: str) -> str:
         return file.read()
 
 
-def functions_of_memory(path: str) -> str:
-    """What one of c/ says of memory, but how a block gets another size, which no card of a machine's own asks."""
-    text = re.sub(r"\A/\*.*?\*/\n", "", content(path), flags=re.S)
+def functions_of_memory(*paths: str) -> str:
+    """What these of c/ say of memory, but how a block gets another size, which no card of a machine's own asks."""
+    text = "\n\n".join(re.sub(r"\A/\*.*?\*/\n", "", content(it), flags=re.S).strip() for it in paths)
     text = re.sub(r"^rattle_tried rattle_realloc\(.*?^\}\n\n?", "", text, flags=re.M | re.S)
-    return re.sub(r"^#include .*\n+", "", text, flags=re.M).strip()
+    return re.sub(r"^#include .*\n+", "", text, flags=re.M)
 
 
 def memory() -> str:
@@ -233,7 +233,7 @@ def memory() -> str:
             "typedef struct {\n    bool there;\n    void *at;\n} rattle_tried;\n\n"
             f"#ifdef LAPD_OWN_MEMORY\n{declared}\n#else\n{own}\n#endif\n\n"
             f"#ifdef LAPD_MALLOC\n\n{functions_of_memory('c/malloc.c')}\n\n"
-            f"#elif !defined(LAPD_OWN_MEMORY)\n\n{functions_of_memory('c/heap.c')}\n\n#endif\n")
+            f"#elif !defined(LAPD_OWN_MEMORY)\n\n{functions_of_memory('c/blocks.h', 'c/heap.c')}\n\n#endif\n")
 
 
 def calls() -> List["Call"]:
@@ -289,10 +289,11 @@ lapd.c and lapd.h: LAPD for line cards (ITU-T Q.921, modulo 128), in C99, for ea
 
 lapd.h says what each function does. Cards and clocks lie in one static region: -DLAPD_HEAP_OCTETS=N says how large it is
 (131072 if left out), or -DLAPD_MALLOC takes malloc, or -DLAPD_OWN_MEMORY the program's rattle_alloc and rattle_dealloc. A
-card takes lapd_card_octets(&config) octets and {own} more, a clock lapd_clock_octets(&config) and {own} more. Starts and ends
-run one at a time, unless the functions of memory allow more; else cards of several threads have nothing in common. Each access
-to a card's memory is tested, and ends the program by abort() where it lies outside, which no run has shown; -DLAPD_UNTESTED
-leaves that out. A compiler that does not tell the order of octets as GCC does wants -DLAPD_BIG_END_FIRST=0 or 1.
+card takes lapd_card_octets(&config) octets and {own} more (one for frames lapd_card_octets_frames(&config) and as many), a clock
+lapd_clock_octets(&config) and {own} more. Starts and ends run one at a time, unless the functions of memory allow more; else
+cards of several threads have nothing in common. Each access to a card's memory is tested, and ends the program by abort()
+where it lies outside, which no run has shown; -DLAPD_UNTESTED leaves that out. A compiler that does not tell the order of
+octets as GCC does wants -DLAPD_BIG_END_FIRST=0 or 1.
 """
 
 

@@ -1,5 +1,5 @@
 -- Contents that an answer delivers have at most N201 octets.
-use Rattle.lapd_c.proofs.Vocabulary.{◌≡◌, ℕ, ◌≤◌, Bool, true, false, cond, List, length, Option, nat_lt, refl, sym, ap, subst, arith, None, leb-true, ltb-false, and_parts, option_or, option_map_or, Control, Ui, Refusal, Service, Timer, T200, T203, T201, State, TeiAssigned, AwaitingEstablishment, AwaitingRelease, Established, TimerRecovery, Terms, LinkTimer, Arrived, is_eligible, eligible_of, information_in, Link, Course, Step, begun, by_bit, leave_unserved, deliver_unit, delivered-at_once, no_more, another, how_many, Telling, HasTold, frames_in_4, frames_in_5, frames_in_6, frames_in_7, frames_in_8, expired_tells, malformed_tells, granted_tells, Change, Gained, Left, Config, octet, expiry, request, pull, refused, nothing, at_none, told_of_management, of_link, of_change, of_management, of_aim, at_timer, aim_of_expiry, Line, link_in, terms, place_in, unless_refused, unless_refused_told, gained, aim_of_heard, with_received, refusal, of_heard, Request, Establish, Release, Data, Unit, Assign, Remove, Check, SetBusy, ClearBusy, at_requested, aim_of_request, heard_aims, PoolFull, line_at, wants_room, contents_of, contents_in, ContentsFit}
+use Rattle.lapd_c.proofs.Vocabulary.{◌≡◌, ℕ, ◌≤◌, Answer, Card, OctetCard, told, gave, option_map, Bool, true, false, cond, List, length, Option, nat_lt, refl, sym, ap, subst, arith, None, leb-true, ltb-false, and_parts, option_or, option_map_or, Control, Ui, Refusal, Service, Timer, T200, T203, T201, State, TeiAssigned, AwaitingEstablishment, AwaitingRelease, Established, TimerRecovery, Terms, LinkTimer, Arrived, is_eligible, eligible_of, information_in, Link, Course, Step, begun, by_bit, leave_unserved, deliver_unit, delivered-at_once, no_more, another, how_many, Telling, HasTold, frames_in_4, frames_in_5, frames_in_6, frames_in_7, frames_in_8, expired_tells, malformed_tells, granted_tells, Change, Gained, Left, Config, hears, expiry, request, next, refused, nothing, told_of_management, of_link, of_change, of_management, of_aim, at_timer, aim_of_expiry, Line, link_in, terms, place_in, unless_refused, unless_refused_told, aim_of_heard, refusal, Request, Establish, Release, Data, Unit, Assign, Remove, Check, SetBusy, ClearBusy, at_requested, aim_of_request, heard_aims, PoolFull, line_at, wants_room, contents_of, contents_in, ContentsFit}
 use Rattle.model_link.proofs.Leads.{Leads}
 use Rattle.std.proofs.Common.{Some}
 use Rattle.model_bits.specs.Stream as stream
@@ -12,6 +12,12 @@ use Rattle.lapd_tei.specs.Events as teis
 use Rattle.lapd_tei.specs.Machine as tei
 use Rattle.model_line.specs.Event.{Event}
 use Rattle.model_line.specs.Machine.{answer}
+use Rattle.model_card.specs.Event as frames
+use Rattle.model_card.specs.Machine.{answer as frames_answer}
+use Rattle.model_ports.specs.Card.{answer_to, meant, port_at, said}
+unfoldable use Rattle.model_ports.specs.Card.{answer as octets_answer}
+use Rattle.model_ports.specs.Event as octets
+use Rattle.model_ports.specs.Port as port
 
 abbrev IsSmall : ℕ → Option (List ℕ) → Type 0
 IsSmall most o = length (contents_of o) ≤ most
@@ -102,12 +108,11 @@ module _ (c : Config) where
   management-small : (e : teis.Event) (l : Line) → IsSmall c.n201 (of_management c e l).told.contents
   management-small e l = change-small (teis.told e l.management).change (teis.told e l.management) (record l { management = teis.after e l.management })
 
-  octet-small : (l m : Line) (o : Option stream.Event) → IsSmall c.n201 (of_aim c (option_map_or (aim_of_heard c l) o (at_none nothing)) m).told.contents
-  octet-small l m None = omega arith
-  octet-small l m (Some e) =
-      heard_aims c l (λ aim. IsSmall c.n201 (of_aim c aim m).told.contents) (λ cause. omega arith)
-      (λ service n place what at. link-small service n place (link.received what) m (received-small (terms c service n) what (link_in m service place)))
-      (λ info. management-small (teis.message info) m) (λ parts service to. to.size) e
+  heard-small : (l : Line) (e : stream.Event) → IsSmall c.n201 (of_aim c (aim_of_heard c l e) l).told.contents
+  heard-small l e =
+      heard_aims c l (λ aim. IsSmall c.n201 (of_aim c aim l).told.contents) (λ cause. omega arith)
+      (λ service n place what at. link-small service n place (link.received what) l (received-small (terms c service n) what (link_in l service place)))
+      (λ info. management-small (teis.message info) l) (λ parts service to. to.size) e
 
   timer-small : (l : Line) (service : Service) (n : ℕ) (timer : LinkTimer) (o : Option ℕ) → IsSmall c.n201 (of_aim c (at_timer service n timer o) l).told.contents
   timer-small l service n timer None = omega arith
@@ -139,10 +144,10 @@ module _ (c : Config) where
 
   line-small : (e : Event) (l : Line) → IsSmall c.n201 (contents_in (answer c e l))
   unfolding answer
-  line-small (octet value) l = octet-small l (with_received value l) (gained c.n201 l.received value)
+  line-small (hears e) l = heard-small l e
   line-small (expiry timer) l = expiry-small l timer
   line-small (request r) l = unrefused-small r l (refusal c false r l)
-  line-small pull l = omega arith
+  line-small next l = omega arith
 
 -- and of a card
 pub contents_fit : ContentsFit
@@ -152,6 +157,27 @@ contents_fit card e = go (wants_room e card)
     go true = omega arith
     go false = line-small card.config e.what (line_at e.line card)
 
--- and what a frame that came whole, or a fault, is to a line
-pub heard_fits : (c : Config) (e : stream.Event) (l : Line) → length (contents_of (of_heard c e l).told.contents) ≤ c.n201
-heard_fits c e l = octet-small c l l (Some e)
+-- and so do those of a card of octets, which are what its card of frames says
+abbrev pub contents_told : port.Answer → Option (List ℕ)
+contents_told (port.told t) = t.contents
+contents_told (port.refused why) = None
+contents_told (port.pulled value begun orders) = None
+
+passed-on : (most : ℕ) (a : Answer) → IsSmall most (contents_in a) → IsSmall most (contents_told (port.answer_of a))
+passed-on most (told t) h = h
+passed-on most (refused why) h = omega arith
+passed-on most (gave frame) h = omega arith
+
+said-small : (card : Card) (o : Option frames.Event) → IsSmall card.config.n201 (contents_told (option_map_or port.answer_of (option_map (answer_to card) o) (port.told nothing)))
+said-small card None = omega arith
+said-small card (Some e) = passed-on card.config.n201 (frames_answer e card) (contents_fit card e)
+
+pub replies_fit : (m : OctetCard) (e : octets.Event) → length (contents_of (contents_told (octets_answer e m))) ≤ m.card.config.n201
+unfolding octets_answer
+replies_fit m e = go e.what
+  where
+    go : (w : port.Event) → IsSmall m.card.config.n201 (contents_told (port.answer w (said e m) (port_at e.line m)))
+    go (port.octet value) = said-small m.card (meant e m)
+    go (port.expiry timer) = said-small m.card (meant e m)
+    go (port.request r) = said-small m.card (meant e m)
+    go port.pull = omega arith

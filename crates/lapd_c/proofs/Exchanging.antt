@@ -1,43 +1,37 @@
 -- One step more of an exchange.
-use Rattle.lapd_c.proofs.Vocabulary.{◌≡◌, ℕ, suc, ◌+◌, ◌-◌, Bool, true, false, not, List, [], ◌∷◌, ◌++◌, refl, sym, ap, ◌∙◌, subst, arith, fold-append, Card, Event, answer, moment_counted, moment_of, all_counted, Run, run, one_more, moments, after_all, run_is_moments, Counters, Store, Held, counters_in, moments-more, PlainReport, ShowsAnswer, CardStands, shelf_of, is_quiet, step_event, steps_made, card_after, answer_after, with_step, given_after, AllQuiet}
-use Rattle.model_card.specs.Machine.{after}
-use Rattle.lapd_card.specs.Stands.{Leads}
+use Rattle.lapd_c.proofs.Vocabulary.{◌≡◌, ℕ, suc, ◌+◌, ◌-◌, Bool, true, false, not, List, refl, sym, ap, ◌∙◌, subst, arith, meanings-count, octets-more, all_counted, moments, meant_all, Counters, Store, counters_in, OctetCard, PlainReport, ShowsReply, CardStands, shelf_of, is_quiet, step_event, steps_made, card_after, answer_after, with_step, given_after, AllQuiet}
+use Rattle.model_ports.specs.Card.{after, answer}
+use Rattle.model_ports.specs.Run.{Run}
+use Rattle.lapd_card.specs.Card.{Held}
+use Rattle.lapd_card.specs.Stands.{Leads, meaning_counted}
 
-run-more : (m : Card) (es : List Event) (e : Event) → run m (es ++ e ∷ []) ≡ one_more (run m es) e
-run-more m es e = fold-append one_more (record { card = m; replies = [] }) es (e ∷ [])
-
-module _ (line : ℕ) (taken : List ℕ) (from : ℕ) (m : Card) where
+module _ (line : ℕ) (taken : List ℕ) (from : ℕ) (m : OctetCard) where
   -- the counters after n steps
   abbrev counted_after : List Counters → ℕ → List Counters
-  counted_after before n = all_counted before (moments m (steps_made line taken from n))
+  counted_after before n = all_counted before (moments m.card (meant_all m (steps_made line taken from n)))
 
   -- where it is after n steps, none of which had anything to tell, and what was counted of them
   pub record Through (before : List Counters) (n : ℕ) (card : Held Store) (given given' : List ℕ) : Type 0 where
     pub stands : CardStands card (card_after line taken from n m)
-    pub counted : counters_in card.lines ≡ counted_after before n
+    pub counted : counters_in card.frames.lines ≡ counted_after before n
     pub octets : given' ≡ given_after line taken from n m given
     pub quiet : AllQuiet line taken from n m
 
   card-more : (n : ℕ) → after (step_event line taken (from + n)) (card_after line taken from n m) ≡ card_after line taken from (suc n) m
   unfolding steps_made
-  card-more n = sym (ap (λ (r : Run). r.card) (run-more m (steps_made line taken from n) (step_event line taken (from + n))))
+  card-more n = sym (ap (λ (r : Run). r.card) (octets-more m (steps_made line taken from n) (step_event line taken (from + n))))
 
   -- what a step counts
-  counted-more : (before : List Counters) (n : ℕ) → moment_counted (counted_after before n) (moment_of (card_after line taken from n m) (step_event line taken (from + n))) ≡ counted_after before (suc n)
+  counted-more : (before : List Counters) (n : ℕ) → meaning_counted (counted_after before n) (card_after line taken from n m) (step_event line taken (from + n)) ≡ counted_after before (suc n)
   unfolding steps_made
-  counted-more before n =
-      let es = steps_made line taken from n in
-      let e = step_event line taken (from + n) in
-      ap (λ card. moment_counted (counted_after before n) (moment_of card e)) (run_is_moments.card m es)
-      ∙ sym (fold-append moment_counted before (moments m es) (moment_of (after_all m es) e ∷ []))
-      ∙ ap (all_counted before) (sym (moments-more m es e))
+  counted-more before n = sym (meanings-count before m (steps_made line taken from n) (step_event line taken (from + n)))
 
   pub counted-made : (before : List Counters) (n step : ℕ) (card card' : Held Store) (given given' : List ℕ) → step ≡ from + n → Through before n card given given' → Leads shelf_of (step_event line taken step) card card'
-      → counters_in card'.lines ≡ counted_after before (suc n)
+      → counters_in card'.frames.lines ≡ counted_after before (suc n)
   counted-made before n step card card' given given' e h leads =
       let there = card_after line taken from n m in
       (subst (λ (s : ℕ). Leads shelf_of (step_event line taken s) card card') e leads).counted there h.stands
-      ∙ ap (λ all. moment_counted all (moment_of there (step_event line taken (from + n)))) h.counted
+      ∙ ap (λ all. meaning_counted all there (step_event line taken (from + n))) h.counted
       ∙ counted-more before n
 
   -- so many steps are those from the first to the last
@@ -48,7 +42,7 @@ module _ (line : ℕ) (taken : List ℕ) (from : ℕ) (m : Card) where
       less n to e = omega (arith, e)
 
   pub counted-none : (before : List Counters) → before ≡ counted_after before 0
-  unfolding steps_made moments
+  unfolding steps_made moments meant_all
   counted-none before = refl
 
   -- what a step makes of the card and of the octets given
@@ -95,6 +89,6 @@ module _ (line : ℕ) (taken : List ℕ) (from : ℕ) (m : Card) where
       go true is = is
       go false is = refl
 
-  pub shown-made : (n step : ℕ) (r : PlainReport) → step ≡ from + n → ShowsAnswer r (answer (step_event line taken step) (card_after line taken from n m))
-      → ShowsAnswer r (answer_after line taken from n m)
-  shown-made n step r e h = subst (λ (s : ℕ). ShowsAnswer r (answer (step_event line taken s) (card_after line taken from n m))) e h
+  pub shown-made : (n step : ℕ) (r : PlainReport) → step ≡ from + n → ShowsReply r (answer (step_event line taken step) (card_after line taken from n m))
+      → ShowsReply r (answer_after line taken from n m)
+  shown-made n step r e h = subst (λ (s : ℕ). ShowsReply r (answer (step_event line taken s) (card_after line taken from n m))) e h

@@ -1,44 +1,138 @@
 -- A card of either kind.
-use Rattle.lapd_c.proofs.Vocabulary.{◌≡◌, ℕ, List, [], ◌∷◌, drop, get_or, map, replicate, set, Option, is_some, if◌then◌else◌, sym, ap, refl, subst, ◌∙◌, None, option_map_or, set-get_or, Config, NextFrame, IsNext, written, pull, Taken, pulls_to_begin, Event, at, Happening, goes, events_of, IsReached, after_all, moment_counted, moment_of, happening_counted, Counters, none_counted, with_all, taken_shown, Store, frame_counters_in, AnyCard, Octets, Frames, after_happening, next_at, AnyStands, AnyLeads, FrameCardStands, line_count, shelf_of, Leads}
+use Rattle.lapd_c.proofs.Vocabulary.{◌≡◌, ℕ, Bool, true, false, cond, List, drop, Option, Result, Ok, Err, IfOk, IfErr, sym, ap, refl, subst, ◌∙◌, None, option_map, option_to_list, Config, IsInRange, Timer, Refusal, refusal, Request, Report, NextFrame, written, gave_in, next_in, Card, line_at, Event, at, moment_counted, moment_of, all_counted, Counters, Store, counters_in, AnyCard, Octets, Frames, OctetCard, Machine, with_ports, alone, card_in, AnyStands, AnyLeads, CardStands, FrameCardStands, line_count, shelf_of, comes, goes, next_at, report_told}
 use Rattle.std.proofs.Common.{Some}
-use Rattle.model_card.specs.Card as machine
-use Rattle.lapd_card.specs.FrameCard.{Held}
+use Rattle.lapd_frame.specs.declared.refusals.Refusal.TheVariants.{PoolFull}
+use Rattle.model_line.specs.Came.{came}
+use Rattle.model_line.specs.Event as line
+use Rattle.model_line.specs.Machine.{of_request, unless_refused_told}
+unfoldable use Rattle.model_line.specs.Machine.{answer as line_answer, takes_slot}
+use Rattle.model_card.specs.Machine as machine
+use Rattle.model_ports.specs.Card as octet_card
+use Rattle.model_ports.specs.Codec.{frame_moment}
+use Rattle.model_ports.specs.Event as octet_event
+use Rattle.model_ports.specs.Port as port
+use Rattle.model_ports.specs.Port.{answer_of}
+use Rattle.lapd_card.specs.Card as octets
+use Rattle.lapd_card.specs.FrameCard as frames
+use Rattle.lapd_card.specs.FrameReply as frame_reply
+use Rattle.lapd_card.specs.FrameStands as frame_stands
+use Rattle.lapd_card.specs.Reply as reply
+use Rattle.lapd_card.specs.Stands as octets_stand
+use Rattle.lapd_card.proofs.OneOctet.{IsPassedOn, expiry_passes, request_passes, meant_is, passed_after, passed_answer, none_leaves, none_counts, same_result}
+use Rattle.lapd_c.specs.Kinds as kinds
 
--- it was reached from a beginning
-pub reached_of : (card : AnyCard) (m : machine.Card) → AnyStands card m → IsReached m
-reached_of (Octets c) m s = s.reached
-reached_of (Frames c) m s = s.reached
+-- what holds of each machine for which a card for octets stands, or one for frames
+pub by_octets : (P : Machine → Type 0) {card : AnyCard} {c : octets.Held Store} → card ≡ Octets c → ((m : OctetCard) → CardStands c m → P (with_ports m)) → (m : Machine) → AnyStands card m → P m
+by_octets P {card} {c} is h m s = go m (subst (λ card. AnyStands card m) is s)
+  where
+    go : (m : Machine) → AnyStands (Octets c) m → P m
+    go (with_ports m) s = h m s
+    go (alone m) s = absurd s
+
+pub by_frames : (P : Machine → Type 0) {card : AnyCard} {c : frames.Held Store} → card ≡ Frames c → ((m : Card) → FrameCardStands c m → P (alone m)) → (m : Machine) → AnyStands card m → P m
+by_frames P {card} {c} is h m s = go m (subst (λ card. AnyStands card m) is s)
+  where
+    go : (m : Machine) → AnyStands (Frames c) m → P m
+    go (with_ports m) s = absurd s
+    go (alone m) s = h m s
+
+-- its configuration is in range
+pub ranges_in : (card : AnyCard) (m : Machine) → AnyStands card m → IsInRange (card_in m).config
+ranges_in (Octets c) m s = by_octets (λ m. IsInRange (card_in m).config) refl (λ m s. s.reached.config) m s
+ranges_in (Frames c) m s = by_frames (λ m. IsInRange (card_in m).config) refl (λ m s. s.reached.config) m s
 
 -- it has the machine's lines
-pub lines_of : (card : AnyCard) (m : machine.Card) → AnyStands card m → line_count card ≡ m.config.lines
-lines_of (Octets c) m s = ap (λ (config : Config). config.lines) (sym s.config)
-lines_of (Frames c) m s = ap (λ (config : Config). config.lines) (sym s.config)
+pub lines_of : (card : AnyCard) (m : Machine) → AnyStands card m → line_count card ≡ (card_in m).config.lines
+lines_of (Octets c) m s = by_octets (λ m. line_count (Octets c) ≡ (card_in m).config.lines) refl (λ m s. ap (λ (config : Config). config.lines) (sym s.frames.config)) m s
+lines_of (Frames c) m s = by_frames (λ m. line_count (Frames c) ≡ (card_in m).config.lines) refl (λ m s. ap (λ (config : Config). config.lines) (sym s.config)) m s
 
--- what means one event leads where the event does
-pub leads_by_one : (h : Happening) (e : Event) (old new : Held Store) → ((m : machine.Card) → events_of m h ≡ e ∷ [])
-    → ((all : List Counters) (m : machine.Card) → happening_counted all m h ≡ moment_counted all (moment_of m e)) → Leads shelf_of h old new → AnyLeads e (Frames old) (Frames new)
-unfolding after_all
-leads_by_one h e old new one same leads = record {
+-- ---- an event at the card of frames
+
+pub frames_lead : {e : Event} {card : AnyCard} {old new : frames.Held Store} → card ≡ Frames old → frame_stands.Leads shelf_of e old new → AnyLeads e card (Frames new)
+frames_lead {e} {card} {old} {new} is leads = subst (λ card. AnyLeads e card (Frames new)) (sym is) (record {
   kind = refl;
-  stands = λ m s. subst (λ events. FrameCardStands new (after_all m events)) (one m) (leads.stands m s);
-  counted = λ m s. leads.counted m s ∙ same (frame_counters_in old.lines) m;
-}
+  stands = by_frames (λ m. AnyStands (Frames new) (kinds.after e m)) refl leads.stands;
+  counted = by_frames (λ m. counters_in new.lines ≡ moment_counted (counters_in old.lines) (moment_of (card_in m) e)) refl leads.counted;
+})
 
--- where no frame waits, a call for one means nothing
-pub none_goes : (line : ℕ) (m : machine.Card) (c : Held Store) → next_at line m ≡ None → FrameCardStands c (after_happening (goes line) m) → FrameCardStands c m
-unfolding after_all
-none_goes line m c none s =
-    subst (FrameCardStands c) (ap (λ (t : Option Taken). after_all m (map (at line) (if is_some t then replicate (pulls_to_begin (machine.line_at line m)) pull else []))) none) s
+-- a card for octets passes it on
+module _ {e : port.Event} {f : line.Event} (on : IsPassedOn e f) where
+  pub octets_lead : {i : ℕ} {card : AnyCard} {old new : octets.Held Store} → card ≡ Octets old → octets_stand.Leads shelf_of (octet_event.at i e) old new → AnyLeads (at i f) card (Octets new)
+  octets_lead {i} {card} {old} {new} is leads = subst (λ card. AnyLeads (at i f) card (Octets new)) (sym is) (record {
+    kind = refl;
+    stands = by_octets (λ m. AnyStands (Octets new) (kinds.after (at i f) m)) refl (λ m s. subst (CardStands new) (passed_after on i m) (leads.stands m s));
+    counted = by_octets (λ m. counters_in new.frames.lines ≡ moment_counted (counters_in old.frames.lines) (moment_of (card_in m) (at i f))) refl
+        (λ m s. leads.counted m s ∙ ap (λ o. all_counted (counters_in old.frames.lines) (option_to_list (option_map (frame_moment m) o))) (meant_is on i m));
+  })
+
+-- it tells or refuses what the card of frames does
+abbrev IsSaid : line.Answer → Type 0
+IsSaid (line.told t) = Unit {0}
+IsSaid (line.refused why) = Unit {0}
+IsSaid (line.gave next) = ⊥
+
+same_answer : (a b : line.Answer) → IsSaid a → IsSaid b → answer_of a ≡ answer_of b → a ≡ b
+same_answer (line.told t) (line.told u) _ _ is = cc
+same_answer (line.told t) (line.refused why) _ _ is = absurd (cc)
+same_answer (line.refused why) (line.told u) _ _ is = absurd (cc)
+same_answer (line.refused why) (line.refused other) _ _ is = cc
+same_answer (line.gave next) b a_said _ is = absurd a_said
+same_answer a (line.gave next) _ b_said is = absurd b_said
+
+expiry_said : (i : ℕ) (timer : Timer) (card : Card) → IsSaid (machine.answer (at i (line.expiry timer)) card)
+unfolding line_answer takes_slot
+expiry_said i timer card = tt
+
+request_said : (i : ℕ) (r : Request) (card : Card) → IsSaid (machine.answer (at i (line.request r)) card)
+unfolding line_answer
+request_said i r card = go (machine.wants_room (at i (line.request r)) card) (refusal card.config false r (line_at i card))
+  where
+    go : (b : Bool) (o : Option Refusal) → IsSaid (cond b (line.refused PoolFull) (unless_refused_told o (of_request card.config r (line_at i card))))
+    go true o = tt
+    go false None = tt
+    go false (Some why) = tt
+
+pub expiry_told : (i : ℕ) (timer : Timer) (r : Report) (m : OctetCard) → port.told (report_told r) ≡ octet_card.answer (octet_event.at i (port.expiry timer)) m
+    → line.told (report_told r) ≡ machine.answer (at i (line.expiry timer)) m.card
+expiry_told i timer r m is =
+    same_answer (line.told (report_told r)) _ tt (expiry_said i timer m.card) (is ∙ passed_answer (expiry_passes timer) i m)
+
+result_said : (result : Result Report Refusal) → IsSaid (frame_reply.answer_of_result result)
+result_said (Ok report) = tt
+result_said (Err why) = tt
+
+pub request_told : (i : ℕ) (r : Request) (result : Result Report Refusal) (m : OctetCard) → reply.answer_of_result result ≡ octet_card.answer (octet_event.at i (port.request r)) m
+    → frame_reply.answer_of_result result ≡ machine.answer (at i (line.request r)) m.card
+request_told i r result m is =
+    same_answer (frame_reply.answer_of_result result) _ (result_said result) (request_said i r m.card) (sym (same_result result) ∙ is ∙ passed_answer (request_passes r) i m)
+
+-- ---- results
+
+pub if_ok_then : {X E : Type 0} {P Q : X → Type 0} (r : Result X E) → ((x : X) → P x → Q x) → IfOk r P → IfOk r Q
+if_ok_then (Ok x) h p = h x p
+if_ok_then (Err e) h p = tt
+
+pub if_err_then : {X E : Type 0} {P Q : E → Type 0} (r : Result X E) → ((e : E) → P e → Q e) → IfErr r P → IfErr r Q
+if_err_then (Ok x) h p = tt
+if_err_then (Err e) h p = h e p
+
+-- ---- whole frames
+
+-- a frame that comes at a card is heard by the configuration of its machine
+pub comes_at : (i : ℕ) (frame : List ℕ) (c : frames.Held Store) (m : Card) → FrameCardStands c m → at i (line.hears (came c.config.n201 frame)) ≡ comes i frame m
+comes_at i frame c m s = ap (λ (config : Config). at i (line.hears (came config.n201 frame))) (sym s.config)
+
+-- what is written is the frame that is next
+pub next_is : (i : ℕ) (m : Card) (out : List ℕ) (given : Option NextFrame) → gave_in out given ≡ machine.answer (goes i) m → next_at i m ≡ option_map (next_in out) given
+next_is i m out given is = ap port.given_in (sym is)
+
+-- where no frame waits, the card stays, and nothing is counted
+pub none_goes : (i : ℕ) (m : Card) (c : frames.Held Store) → next_at i m ≡ None → FrameCardStands c (machine.after (goes i) m) → FrameCardStands c m
+none_goes i m c none s = subst (FrameCardStands c) (none_leaves m i none) s
+
+pub none_counted : (i : ℕ) (m : Card) (all : List Counters) → next_at i m ≡ None → moment_counted all (moment_of m (goes i)) ≡ all
+none_counted i m all none = none_counts m i all none
 
 -- and nothing is written
-pub unwritten : (next : Option NextFrame) (out out' : List ℕ) → next ≡ None → drop (written next) out' ≡ drop (written next) out → out' ≡ out
-unwritten next out out' none rest = subst (λ (n : Option NextFrame). drop (written n) out' ≡ drop (written n) out) none rest
-
--- nor counted
-pub none_counts : (line : ℕ) (m : machine.Card) (all : List Counters) (next : Option NextFrame) (out : List ℕ) → next ≡ None → IsNext (next_at line m) next out
-    → happening_counted all m (goes line) ≡ all
-none_counts line m all next out none is = go (next_at line m) (subst (λ (n : Option NextFrame). IsNext (next_at line m) n out) none is)
-  where
-    go : (o : Option Taken) → IsNext o None out → set all line (with_all (get_or all line none_counted) (option_map_or (taken_shown m.config) o [])) ≡ all
-    go None is = set-get_or all line none_counted
-    go (Some k) is = absurd is
+pub unwritten : (given : Option NextFrame) (out out' : List ℕ) → given ≡ None → drop (written given) out' ≡ drop (written given) out → out' ≡ out
+unwritten given out out' none rest = subst (λ (n : Option NextFrame). drop (written n) out' ≡ drop (written n) out) none rest

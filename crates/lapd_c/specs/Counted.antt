@@ -4,8 +4,9 @@ use Rattle.lapd_count.specs.declared.counters.Counters.{Counters}
 use Rattle.model_card.specs.Card.{Card}
 use Rattle.model_card.specs.Counted.{moment_counted, moment_of}
 use Rattle.model_card.specs.Event.{Event}
-use Rattle.model_card.specs.Happening.{Happening}
-use Rattle.model_card.specs.HappeningsCounted.{happening_counted}
+use Rattle.model_ports.specs.Card.{OctetCard}
+use Rattle.model_ports.specs.Event as octets
+use Rattle.lapd_card.specs.Stands.{meaning_counted}
 use Rattle.lapd_c.specs.declared.card.CardHandle.{CardHandle}
 use Rattle.lapd_c.specs.CardSlots.{HeldCard}
 use Rattle.lapd_c.specs.Cards.{card_of}
@@ -19,9 +20,10 @@ counters_held (Some card) = counters_of card
 abbrev pub counters_at : CardHandle → List Counters
 counters_at h = counters_held (card_of h)
 
--- An event, or what happens to frames, is counted: at its line what it shows, and on no other line anything.
+-- An event is counted: at its line what it shows, and on no other line anything. One of octets is counted as what it means to
+-- the card of frames.
 abbrev pub Counts : Event → Card → List Counters → List Counters → Type 0
 Counts e m old new = new ≡ moment_counted old (moment_of m e)
 
-abbrev pub CountsHappening : Happening → Card → List Counters → List Counters → Type 0
-CountsHappening h m old new = new ≡ happening_counted old m h
+abbrev pub CountsMeaning : octets.Event → OctetCard → List Counters → List Counters → Type 0
+CountsMeaning e m old new = new ≡ meaning_counted old m e

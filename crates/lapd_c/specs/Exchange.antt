@@ -1,15 +1,15 @@
 -- Octets taken and given in turn.
 use Rattle.std.specs.Prelude.{◌≡◌, ◌⊎◌, ℕ, zero, suc, ◌+◌, ◌*◌, ◌/◌, ◌%◌, ◌==◌, nat_le, Bool, true, false, not, ◌&&◌, List, [], ◌∷◌, ◌++◌, length, get_or, set, is_none, None, Some, if◌then◌else◌}
-use Rattle.model_card.specs.Card.{Card}
-use Rattle.model_card.specs.Event.{Event, at}
-use Rattle.model_card.specs.Machine.{answer}
-use Rattle.model_card.specs.Run.{run}
-use Rattle.model_line.specs.Event.{Answer, octet, pull, told, refused, pulled, nothing}
+use Rattle.model_line.specs.Event.{nothing}
+use Rattle.model_ports.specs.Card.{OctetCard, answer}
+use Rattle.model_ports.specs.Event.{Event, at}
+use Rattle.model_ports.specs.Port.{Answer, octet, pull, told, refused, pulled}
+use Rattle.model_ports.specs.Run.{run}
 use Rattle.lapd_store.specs.Store.{Store}
 use Rattle.lapd_card.specs.Card.{Held}
 use Rattle.lapd_c.specs.declared.plain.reports.PlainReport.{PlainReport}
 use Rattle.lapd_c.specs.declared.kinds.AnyCard.TheVariants.{Octets, Frames}
-use Rattle.lapd_c.specs.Cards.{ShowsAnswer, octet_of}
+use Rattle.lapd_c.specs.Answers.{ShowsReply, octet_of}
 use Rattle.lapd_c.specs.CardSlots.{HeldCard}
 use Rattle.lapd_c.specs.Kinds.{CardStands}
 
@@ -33,50 +33,50 @@ steps_made line taken from zero = []
 steps_made line taken from (suc n) = steps_made line taken from n ++ step_event line taken (from + n) ∷ []
 
 -- The card after them, and the answer to the one that follows.
-abbrev pub card_after : ℕ → List ℕ → ℕ → ℕ → Card → Card
+abbrev pub card_after : ℕ → List ℕ → ℕ → ℕ → OctetCard → OctetCard
 card_after line taken from n m = (run m (steps_made line taken from n)).card
 
-abbrev pub answer_after : ℕ → List ℕ → ℕ → ℕ → Card → Answer
+abbrev pub answer_after : ℕ → List ℕ → ℕ → ℕ → OctetCard → Answer
 answer_after line taken from n m = answer (step_event line taken (from + n)) (card_after line taken from n m)
 
 -- The octets given after them: each that a step gives stands in its place.
 abbrev pub with_step : ℕ → Answer → List ℕ → List ℕ
 with_step step a given = if step % 2 == 0 then given else set given (step / 2) (octet_of a)
 
-unfoldable pub given_after : ℕ → List ℕ → ℕ → ℕ → Card → List ℕ → List ℕ
+unfoldable pub given_after : ℕ → List ℕ → ℕ → ℕ → OctetCard → List ℕ → List ℕ
 given_after line taken from zero m given = given
 given_after line taken from (suc n) m given =
     with_step (from + n) (answer_after line taken from n m) (given_after line taken from n m given)
 
 -- All of the first steps have nothing to tell.
-unfoldable pub AllQuiet : ℕ → List ℕ → ℕ → ℕ → Card → Type 0
+unfoldable pub AllQuiet : ℕ → List ℕ → ℕ → ℕ → OctetCard → Type 0
 AllQuiet line taken from zero m = Unit {0}
 AllQuiet line taken from (suc n) m = AllQuiet line taken from n m × (is_quiet (answer_after line taken from n m) ≡ true)
 
 -- All steps were made, and none had anything to tell.
-pub record IsThrough (line : ℕ) (taken : List ℕ) (from n : ℕ) (m : Card) (to : ℕ) (r : PlainReport) : Type 0 where
+pub record IsThrough (line : ℕ) (taken : List ℕ) (from n : ℕ) (m : OctetCard) (to : ℕ) (r : PlainReport) : Type 0 where
   pub end : to ≡ 2 * length taken
   pub made : to ≡ from + n
   pub quiet : AllQuiet line taken from n m
-  pub report : ShowsAnswer r (told nothing)
+  pub report : ShowsReply r (told nothing)
 
 -- The last step was the first to have something to tell, and the report tells it.
-pub record IsTold (line : ℕ) (taken : List ℕ) (from n : ℕ) (m : Card) (to : ℕ) (r : PlainReport) : Type 0 where
+pub record IsTold (line : ℕ) (taken : List ℕ) (from n : ℕ) (m : OctetCard) (to : ℕ) (r : PlainReport) : Type 0 where
   pub before : ℕ
   pub last : n ≡ before + 1
   pub made : to ≡ from + n
   pub quiet : AllQuiet line taken from before m
   pub tells : is_quiet (answer_after line taken from before m) ≡ false
-  pub report : ShowsAnswer r (answer_after line taken from before m)
+  pub report : ShowsReply r (answer_after line taken from before m)
 
 -- So many steps were made of the machine, and the card stands for it after them.
-pub record Exchanged (line : ℕ) (taken : List ℕ) (from : ℕ) (m : Card) (card : Held Store) (given given' : List ℕ) (to : ℕ) (r : PlainReport) : Type 0 where
+pub record Exchanged (line : ℕ) (taken : List ℕ) (from : ℕ) (m : OctetCard) (card : Held Store) (given given' : List ℕ) (to : ℕ) (r : PlainReport) : Type 0 where
   pub n : ℕ
   pub stands : CardStands card (card_after line taken from n m)
   pub octets : given' ≡ given_after line taken from n m given
   pub ended : IsThrough line taken from n m to r ⊎ IsTold line taken from n m to r
 
-abbrev pub ExchangedIn : ℕ → List ℕ → ℕ → Card → HeldCard → List ℕ → List ℕ → ℕ → PlainReport → Type 0
+abbrev pub ExchangedIn : ℕ → List ℕ → ℕ → OctetCard → HeldCard → List ℕ → List ℕ → ℕ → PlainReport → Type 0
 ExchangedIn line taken from m None given given' to r = ⊥
 ExchangedIn line taken from m (Some (Octets card)) given given' to r = Exchanged line taken from m card given given' to r
 ExchangedIn line taken from m (Some (Frames card)) given given' to r = ⊥

@@ -2,7 +2,7 @@
 use Rattle.std.specs.Prelude.{◌≡◌, ℕ, ◌==◌, Result, Ok, Err, Some, if◌then◌else◌, refl}
 use Rattle.model_line.specs.declared.faults.Fault.{Fault}
 use Rattle.model_line.specs.declared.faults.Fault.TheVariants.{Abort, Ragged, Short, Fcs}
-use Rattle.model_line.specs.Whole.{cause_of}
+use Rattle.model_line.specs.Came.{cause_of}
 use Rattle.lapd_c.specs.Notes.{cause_number}
 use Rattle.lapd_c.specs.Statuses.{wrong_cause}
 

@@ -1,28 +1,30 @@
 -- Whole frames in C.
 use Rattle.std.specs.Prelude.{◌≡◌, ℕ, List, length, take, drop, Option}
-use Rattle.model_line.specs.Pull.{Taken, taken}
-use Rattle.model_card.specs.Card.{Card, line_at}
-use Rattle.model_card.specs.Happening.{Happening, events_of}
-use Rattle.model_card.specs.Run.{after_all}
-use Rattle.model_card.specs.Said.{Said, says, gives}
-use Rattle.lapd_c.specs.declared.plain.reports.PlainReport.{PlainReport}
-use Rattle.lapd_c.specs.Cards.{ShowsAnswer}
+use Rattle.model_bits.specs.Stream.{dropped}
+use Rattle.model_line.specs.declared.faults.Fault.{Fault}
+use Rattle.model_line.specs.Came.{came, cause_of}
+use Rattle.model_line.specs.Event.{NextFrame, hears, next}
+use Rattle.model_card.specs.Card.{Card}
+use Rattle.model_card.specs.Event.{Event, at}
+use Rattle.model_card.specs.Machine.{answer}
+use Rattle.model_ports.specs.Port.{given_in}
 
--- The card after what happens, which means a list of events.
-abbrev pub after_happening : Happening → Card → Card
-after_happening h m = after_all m (events_of m h)
+-- At a line of a card a frame comes; a fault is told in place of one; the next frame is called for.
+abbrev pub comes : ℕ → List ℕ → Card → Event
+comes line octets m = at line (hears (came m.config.n201 octets))
 
--- A report shows what a line says: all of it, and nothing else. The next frame is no matter of a report alone.
-abbrev pub ShowsSaid : PlainReport → Said → Type 0
-ShowsSaid r (says answer) = ShowsAnswer r answer
-ShowsSaid r (gives next) = ⊥
+abbrev pub fails : ℕ → Fault → Event
+fails line fault = at line (hears (dropped (cause_of fault)))
+
+abbrev pub goes : ℕ → Event
+goes line = at line next
 
 -- The frame of a line that is next, if one waits.
-abbrev pub next_at : ℕ → Card → Option Taken
-next_at line m = taken m.config (line_at line m)
+abbrev pub next_at : ℕ → Card → Option NextFrame
+next_at line m = given_in (answer (goes line) m)
 
 -- It lies in front of the octets that it was written to, so long it is, and those behind it are as they were.
-pub record IsGiven (next : Taken) (out out' : List ℕ) (count : ℕ) : Type 0 where
-  pub whole : count ≡ length next.frame
-  pub octets : take count out' ≡ next.frame
+pub record IsGiven (next : NextFrame) (out out' : List ℕ) (count : ℕ) : Type 0 where
+  pub whole : count ≡ length next.octets
+  pub octets : take count out' ≡ next.octets
   pub rest : drop count out' ≡ drop count out

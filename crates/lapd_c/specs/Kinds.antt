@@ -1,13 +1,17 @@
 -- The two kinds of cards: for octets, and for whole frames.
 use Rattle.std.specs.Prelude.{◌≡◌, ℕ, List}
 use Rattle.lapd_count.specs.declared.counters.Counters.{Counters}
-use Rattle.model_card.specs.Card as machine
+use Rattle.model_card.specs.Card.{Card}
 use Rattle.model_card.specs.Counted.{moment_counted, moment_of}
 use Rattle.model_card.specs.Event.{Event}
-use Rattle.model_card.specs.Machine.{after}
+use Rattle.model_card.specs.Machine as machine
+use Rattle.model_card.specs.Stored as of_frames
+use Rattle.model_line.specs.Event.{Answer}
+use Rattle.model_ports.specs.Card.{OctetCard}
+use Rattle.model_ports.specs.Stored as of_octets
 use Rattle.lapd_store.specs.Store.{Store}
 use Rattle.lapd_card.specs.Card as octets
-use Rattle.lapd_card.specs.Counted.{counters_in, frame_counters_in}
+use Rattle.lapd_card.specs.Counted.{counters_in}
 use Rattle.lapd_card.specs.FrameCard as frames
 use Rattle.lapd_card.specs.FrameStands as frame_card
 use Rattle.lapd_card.specs.Stands as octet_card
@@ -28,26 +32,51 @@ line_count (Frames card) = frames.line_count card
 
 -- The counters of its lines.
 abbrev pub counters_of : AnyCard → List Counters
-counters_of (Octets card) = counters_in card.lines
-counters_of (Frames card) = frame_counters_in card.lines
+counters_of (Octets card) = counters_in card.frames.lines
+counters_of (Frames card) = counters_in card.lines
 
 -- The card's shelf, as its contracts see it.
 abbrev pub shelf_of : Store → Store
 shelf_of s = s
 
+-- The machine of a card: one of octets, or one of frames.
+pub data Machine : Type 0 where
+  with_ports : OctetCard → Machine
+  alone : Card → Machine
+
+-- The card of frames, with its ports or alone.
+abbrev pub card_in : Machine → Card
+card_in (with_ports m) = m.card
+card_in (alone m) = m
+
+-- An expiry and a request are events at the card of frames, and concern no port.
+abbrev pub after : Event → Machine → Machine
+after e (with_ports m) = with_ports (record m { card = machine.after e m.card })
+after e (alone m) = alone (machine.after e m)
+
+abbrev pub answer : Event → Machine → Answer
+answer e m = machine.answer e (card_in m)
+
+-- How many octets a card stores.
+abbrev pub stored : Machine → ℕ
+stored (with_ports m) = of_octets.stored m
+stored (alone m) = of_frames.stored m
+
 -- A card for octets stands for a machine; one for frames; one of either kind.
-abbrev pub CardStands : octets.Held Store → machine.Card → Type 0
+abbrev pub CardStands : octets.Held Store → OctetCard → Type 0
 CardStands c m = octet_card.Stands shelf_of c m
 
-abbrev pub FrameCardStands : frames.Held Store → machine.Card → Type 0
+abbrev pub FrameCardStands : frames.Held Store → Card → Type 0
 FrameCardStands c m = frame_card.Stands shelf_of c m
 
-abbrev pub AnyStands : AnyCard → machine.Card → Type 0
-AnyStands (Octets c) m = CardStands c m
-AnyStands (Frames c) m = FrameCardStands c m
+abbrev pub AnyStands : AnyCard → Machine → Type 0
+AnyStands (Octets c) (with_ports m) = CardStands c m
+AnyStands (Octets c) (alone m) = ⊥
+AnyStands (Frames c) (with_ports m) = ⊥
+AnyStands (Frames c) (alone m) = FrameCardStands c m
 
--- An event leads a card from one value to another, of the same kind, and is counted.
+-- An event at the card of frames leads a card from one value to another, of the same kind, and is counted.
 pub record AnyLeads (e : Event) (old new : AnyCard) : Type 0 where
   pub kind : kind_of new ≡ kind_of old
-  pub stands : (m : machine.Card) → AnyStands old m → AnyStands new (after e m)
-  pub counted : (m : machine.Card) → AnyStands old m → counters_of new ≡ moment_counted (counters_of old) (moment_of m e)
+  pub stands : (m : Machine) → AnyStands old m → AnyStands new (after e m)
+  pub counted : (m : Machine) → AnyStands old m → counters_of new ≡ moment_counted (counters_of old) (moment_of (card_in m) e)

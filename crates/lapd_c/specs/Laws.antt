@@ -1,6 +1,6 @@
 -- What a card's machine answers fits a report.
 use Rattle.std.specs.Prelude.{ℕ, ◌≤◌, List, length, Option, None}
-use Rattle.model_line.specs.Event.{Answer, told, refused, pulled}
+use Rattle.model_line.specs.Event.{Answer, told, refused, gave}
 use Rattle.model_card.specs.Card.{Card}
 use Rattle.model_card.specs.Event.{Event}
 use Rattle.model_card.specs.Machine.{answer}
@@ -10,7 +10,7 @@ use Rattle.lapd_c.specs.Reports.{contents_of}
 abbrev pub contents_in : Answer → Option (List ℕ)
 contents_in (told t) = t.contents
 contents_in (refused why) = None
-contents_in (pulled value begun orders) = None
+contents_in (gave next) = None
 
 -- They have at most N201 octets: from any card on, whatever happens.
 abbrev pub ContentsFit : Type 0

@@ -10,6 +10,7 @@ pub mod Notes
 pub mod Faults
 pub mod Requests
 pub mod Reports
+pub mod Answers
 pub mod Counters
 pub mod ClockSlots
 pub mod Clocks

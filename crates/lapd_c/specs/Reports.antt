@@ -1,7 +1,5 @@
 -- What a report shows.
 use Rattle.std.specs.Prelude.{◌≡◌, ℕ, ◌==◌, Bool, List, [], length, take, map, Option, Some, None, if◌then◌else◌}
-use Rattle.model_bits.specs.declared.heard.Cause.{Cause}
-use Rattle.lapd_frame.specs.declared.notes.Note.{Note}
 use Rattle.lapd_frame.specs.declared.timers.Order.{Order}
 use Rattle.model_line.specs.Event.{LineTold}
 use Rattle.lapd_c.specs.declared.plain.notes.PlainNote.{PlainNote}
@@ -29,10 +27,6 @@ contents_of (Some contents) = contents
 abbrev pub mark_of : Option (List ℕ) → ℕ
 mark_of None = 0
 mark_of (Some contents) = 1
-
--- An answer of these parts.
-abbrev pub told_by : List Note → List Order → Option Cause → ℕ → Option (List ℕ) → LineTold
-told_by notes orders cause lost contents = record { notes = notes; contents = contents; cause = cause; orders = orders; lost = lost }
 
 -- It shows what an octet, an expiry or a request was answered with: all of it, and nothing else.
 pub record Shows (r : PlainReport) (t : LineTold) : Type 0 where

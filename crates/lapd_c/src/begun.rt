@@ -1,8 +1,8 @@
 //! Which frame a pull began.
 
 ghost use Rattle.std.specs.Prelude.{◌≡◌, ◌≤◌, ◌<◌, Some, None};
-ghost use Rattle.model_card.specs.Begun.{head_begun_at};
-ghost use Rattle.model_card.specs.Card as machine;
+ghost use Rattle.model_ports.specs.Begun.{head_begun_at};
+ghost use Rattle.model_ports.specs.Card as machine;
 ghost use Rattle.lapd_c.specs.Heads.{plain_head};
 ghost use Rattle.lapd_c.specs.Statuses as status;
 ghost use Rattle.lapd_c.specs.Cards.{card_of, kind_in, IsHandle, OctetsStand};
@@ -29,9 +29,9 @@ pub extern "C" fn lapd_begun(
         → (result ≡ status.no_card) × (handle.new ≡ handle.old) × (head.new ≡ head.old) }
     ensures unchanged { card_of handle.new ≡ card_of handle.old }
     ensures wrong_card { kind_in handle.old ≡ Some for_frames → (result ≡ status.wrong_card) × (head.new ≡ head.old) }
-    ensures wrong_line { (m : machine.Card) → OctetsStand handle.old m → m.config.lines ≤ line
+    ensures wrong_line { (m : machine.OctetCard) → OctetsStand handle.old m → m.card.config.lines ≤ line
         → (result ≡ status.wrong_line) × (head.new ≡ head.old) }
-    ensures told { (m : machine.Card) → OctetsStand handle.old m → line < m.config.lines
+    ensures told { (m : machine.OctetCard) → OctetsStand handle.old m → line < m.card.config.lines
         → (result ≡ status.ok) × (head.new ≡ plain_head (head_begun_at line m)) }
 {
     let Some(card) = handle.take(alloc) else {
@@ -47,9 +47,9 @@ pub extern "C" fn lapd_begun(
 }
 
 fn tell_begun(card: &Card<RawShelf>, line: u32, head: &mut PlainHead) -> u32
-    ensures wrong_line { (m : machine.Card) → CardStands card.now m → m.config.lines ≤ line
+    ensures wrong_line { (m : machine.OctetCard) → CardStands card.now m → m.card.config.lines ≤ line
         → (result ≡ status.wrong_line) × (head.new ≡ head.old) }
-    ensures told { (m : machine.Card) → CardStands card.now m → line < m.config.lines
+    ensures told { (m : machine.OctetCard) → CardStands card.now m → line < m.card.config.lines
         → (result ≡ status.ok) × (head.new ≡ plain_head (head_begun_at line m)) }
 {
     let line = line as usize;

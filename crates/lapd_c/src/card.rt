@@ -1,14 +1,15 @@
 //! A card in C: where it lies, how one of either kind begins, and how it ends.
 
 ghost use Rattle.std.specs.Prelude.{◌≡◌, ◌⊎◌, Some, None, Ok, Err, IfOk, IfSome, IfNone, option_map, replicate};
-ghost use Rattle.model_card.specs.Card as machine;
+ghost use Rattle.model_card.specs.Card as frames;
 ghost use Rattle.model_line.specs.Config.{first_fault};
+ghost use Rattle.model_ports.specs.Card as octets;
 ghost use Rattle.lapd_c.specs.Config.{config_in, config_fault};
 ghost use Rattle.lapd_c.specs.Statuses as status;
 ghost use Rattle.lapd_count.specs.Counters.{none_counted};
 ghost use Rattle.lapd_c.specs.Counted.{counters_at};
-ghost use Rattle.lapd_c.specs.Kinds.{counters_of};
-ghost use Rattle.lapd_c.specs.Cards.{card_of, IsHandle, OctetsStand, FramesStand, OctetsStandIn, FramesStandIn};
+ghost use Rattle.lapd_c.specs.Kinds.{AnyStands, with_ports, alone, counters_of};
+ghost use Rattle.lapd_c.specs.Cards.{card_of, IsHandle, OctetsStand, FramesStand};
 
 use crate::card_slot::CardSlot;
 use crate::kinds::AnyCard;
@@ -87,7 +88,7 @@ pub extern "C" fn lapd_card_start(
         (λ wrong. (result ≡ wrong) × (handle.new ≡ handle.old)) }
     ensures otherwise { card_of handle.old ≡ None → config_fault config.now ≡ None
         → (result ≡ status.ok) ⊎ (result ≡ status.no_memory) }
-    ensures fresh { result ≡ status.ok → OctetsStand handle.new (machine.fresh (config_in config.now)) }
+    ensures fresh { result ≡ status.ok → OctetsStand handle.new (octets.fresh (config_in config.now)) }
     ensures counters { result ≡ status.ok → counters_at handle.new ≡ replicate (config_in config.now).lines none_counted }
     ensures no_memory { result ≡ status.no_memory → handle.new ≡ handle.old }
 {
@@ -105,7 +106,7 @@ pub extern "C" fn lapd_card_start(
 // A card for octets of a configuration that is in range, if there is memory for it.
 fn octets_started(alloc: Global, config: Config) -> Option<Box<AnyCard>>
     requires { first_fault config ≡ None }
-    ensures fresh { IfSome result (λ card. OctetsStandIn (Some card.value) (machine.fresh config)) }
+    ensures fresh { IfSome result (λ card. AnyStands card.value (with_ports (octets.fresh config))) }
     ensures counters { IfSome result (λ card. counters_of card.value ≡ replicate config.lines none_counted) }
 {
     let shelf = RawShelf::start(alloc, u32::from(config.slots), config.n201).ok()?;
@@ -127,7 +128,7 @@ pub extern "C" fn lapd_card_start_frames(
         (λ wrong. (result ≡ wrong) × (handle.new ≡ handle.old)) }
     ensures otherwise { card_of handle.old ≡ None → config_fault config.now ≡ None
         → (result ≡ status.ok) ⊎ (result ≡ status.no_memory) }
-    ensures fresh { result ≡ status.ok → FramesStand handle.new (machine.fresh (config_in config.now)) }
+    ensures fresh { result ≡ status.ok → FramesStand handle.new (frames.fresh (config_in config.now)) }
     ensures counters { result ≡ status.ok → counters_at handle.new ≡ replicate (config_in config.now).lines none_counted }
     ensures no_memory { result ≡ status.no_memory → handle.new ≡ handle.old }
 {
@@ -145,7 +146,7 @@ pub extern "C" fn lapd_card_start_frames(
 // A card for frames of a configuration that is in range, if there is memory for it.
 fn frames_started(alloc: Global, config: Config) -> Option<Box<AnyCard>>
     requires { first_fault config ≡ None }
-    ensures fresh { IfSome result (λ card. FramesStandIn (Some card.value) (machine.fresh config)) }
+    ensures fresh { IfSome result (λ card. AnyStands card.value (alone (frames.fresh config))) }
     ensures counters { IfSome result (λ card. counters_of card.value ≡ replicate config.lines none_counted) }
 {
     let shelf = RawShelf::start(alloc, u32::from(config.slots), config.n201).ok()?;

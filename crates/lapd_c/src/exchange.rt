@@ -1,17 +1,19 @@
 //! Octets taken and given in turn.
 
 ghost use Rattle.std.specs.Prelude.{◌≡◌, ◌≢◌, ◌≤◌, ◌<◌, ◌*◌, ◌-◌, true, false, not, length, Some, None};
-ghost use Rattle.model_card.specs.Card as machine;
-ghost use Rattle.model_card.specs.Event.{at};
-ghost use Rattle.model_card.specs.Machine.{answer};
-ghost use Rattle.model_line.specs.Event as line_event;
+ghost use Rattle.model_ports.specs.Card as machine;
+ghost use Rattle.model_ports.specs.Card.{answer};
+ghost use Rattle.model_ports.specs.Event.{at};
+ghost use Rattle.model_ports.specs.Port as port;
+ghost use Rattle.model_ports.specs.Run.{meant_all};
 ghost use Rattle.lapd_card.specs.Card.{line_count};
-ghost use Rattle.lapd_card.specs.Lines.{told_at};
+ghost use Rattle.lapd_card.specs.Ports.{told_at};
 ghost use Rattle.lapd_card.specs.Stands.{Leads};
 ghost use Rattle.lapd_line.specs.Reports.{report_told};
+ghost use Rattle.lapd_c.specs.Answers.{ShowsReply, octet_of};
 ghost use Rattle.lapd_c.specs.Reports.{Shows, contents_of};
 ghost use Rattle.lapd_c.specs.Statuses as status;
-ghost use Rattle.lapd_c.specs.Cards.{card_of, kind_in, IsHandle, OctetsStand, ShowsAnswer, octet_of};
+ghost use Rattle.lapd_c.specs.Cards.{card_of, kind_in, IsHandle, OctetsStand};
 ghost use Rattle.lapd_c.specs.Kinds.{CardStands, for_frames, shelf_of};
 ghost use Rattle.lapd_c.specs.Counted.{counters_at};
 ghost use Rattle.lapd_c.specs.Exchange.{is_quiet, is_exchange, step_event, steps_made, with_step, Exchanged, ExchangedIn};
@@ -46,20 +48,20 @@ pub extern "C" fn lapd_exchange(
     ensures wrong_card { kind_in handle.old ≡ Some for_frames
         → (result ≡ status.wrong_card) × (card_of handle.new ≡ card_of handle.old) × (given.new ≡ given.old)
         × (steps.new ≡ steps.old) × (report.new ≡ report.old) }
-    ensures wrong_line { (m : machine.Card) → OctetsStand handle.old m → m.config.lines ≤ line
+    ensures wrong_line { (m : machine.OctetCard) → OctetsStand handle.old m → m.card.config.lines ≤ line
         → (result ≡ status.wrong_line) × OctetsStand handle.new m × (given.new ≡ given.old) × (steps.new ≡ steps.old)
         × (report.new ≡ report.old) }
-    ensures wrong_length { (m : machine.Card) → OctetsStand handle.old m → line < m.config.lines
+    ensures wrong_length { (m : machine.OctetCard) → OctetsStand handle.old m → line < m.card.config.lines
         → is_exchange taken.now given.old steps.old ≡ false
         → (result ≡ status.wrong_length) × OctetsStand handle.new m × (given.new ≡ given.old) × (steps.new ≡ steps.old)
         × (report.new ≡ report.old) }
-    ensures served { (m : machine.Card) → OctetsStand handle.old m → line < m.config.lines
+    ensures served { (m : machine.OctetCard) → OctetsStand handle.old m → line < m.card.config.lines
         → is_exchange taken.now given.old steps.old ≡ true
         → (result ≡ status.ok) × ExchangedIn line taken.now steps.old m (card_of handle.new) given.old given.new steps.new report.new }
-    ensures counted { (m : machine.Card) → OctetsStand handle.old m → line < m.config.lines
+    ensures counted { (m : machine.OctetCard) → OctetsStand handle.old m → line < m.card.config.lines
         → is_exchange taken.now given.old steps.old ≡ true
-        → counters_at handle.new ≡ all_counted (counters_at handle.old) (moments m (steps_made line taken.now steps.old (steps.new - steps.old))) }
-    ensures uncounted { (m : machine.Card) → OctetsStand handle.old m → result ≢ status.ok → counters_at handle.new ≡ counters_at handle.old }
+        → counters_at handle.new ≡ all_counted (counters_at handle.old) (moments m.card (meant_all m (steps_made line taken.now steps.old (steps.new - steps.old)))) }
+    ensures uncounted { (m : machine.OctetCard) → OctetsStand handle.old m → result ≢ status.ok → counters_at handle.new ≡ counters_at handle.old }
 {
     let Some(mut card) = handle.take(alloc) else {
         return NO_CARD;
@@ -81,20 +83,20 @@ fn exchange_at(
     steps: &mut usize,
     report: &mut PlainReport,
 ) -> u32
-    ensures wrong_line { (m : machine.Card) → CardStands card.old m → m.config.lines ≤ line
+    ensures wrong_line { (m : machine.OctetCard) → CardStands card.old m → m.card.config.lines ≤ line
         → (result ≡ status.wrong_line) × CardStands card.new m × (given.new ≡ given.old) × (steps.new ≡ steps.old)
         × (report.new ≡ report.old) }
-    ensures wrong_length { (m : machine.Card) → CardStands card.old m → line < m.config.lines
+    ensures wrong_length { (m : machine.OctetCard) → CardStands card.old m → line < m.card.config.lines
         → is_exchange taken.now given.old steps.old ≡ false
         → (result ≡ status.wrong_length) × CardStands card.new m × (given.new ≡ given.old) × (steps.new ≡ steps.old)
         × (report.new ≡ report.old) }
-    ensures served { (m : machine.Card) → CardStands card.old m → line < m.config.lines
+    ensures served { (m : machine.OctetCard) → CardStands card.old m → line < m.card.config.lines
         → is_exchange taken.now given.old steps.old ≡ true
         → (result ≡ status.ok) × Exchanged line taken.now steps.old m card.new given.old given.new steps.new report.new }
-    ensures counted { (m : machine.Card) → CardStands card.old m → line < m.config.lines
+    ensures counted { (m : machine.OctetCard) → CardStands card.old m → line < m.card.config.lines
         → is_exchange taken.now given.old steps.old ≡ true
-        → counters_in card.new.lines ≡ all_counted (counters_in card.old.lines) (moments m (steps_made line taken.now steps.old (steps.new - steps.old))) }
-    ensures uncounted { (m : machine.Card) → CardStands card.old m → result ≢ status.ok → counters_in card.new.lines ≡ counters_in card.old.lines }
+        → counters_in card.new.frames.lines ≡ all_counted (counters_in card.old.frames.lines) (moments m.card (meant_all m (steps_made line taken.now steps.old (steps.new - steps.old)))) }
+    ensures uncounted { (m : machine.OctetCard) → CardStands card.old m → result ≢ status.ok → counters_in card.new.frames.lines ≡ counters_in card.old.frames.lines }
 {
     let line = line as usize;
     if line >= card.lines() {
@@ -117,10 +119,10 @@ fn exchange(
 )
     requires line { line < line_count card.old }
     requires lengths { is_exchange taken.now given.old steps.old ≡ true }
-    ensures made { (m : machine.Card) → CardStands card.old m
+    ensures made { (m : machine.OctetCard) → CardStands card.old m
         → Exchanged line taken.now steps.old m card.new given.old given.new steps.new report.new }
-    ensures counted { (m : machine.Card) → CardStands card.old m
-        → counters_in card.new.lines ≡ all_counted (counters_in card.old.lines) (moments m (steps_made line taken.now steps.old (steps.new - steps.old))) }
+    ensures counted { (m : machine.OctetCard) → CardStands card.old m
+        → counters_in card.new.frames.lines ≡ all_counted (counters_in card.old.frames.lines) (moments m.card (meant_all m (steps_made line taken.now steps.old (steps.new - steps.old)))) }
 {
     let end = 2 * taken.len();
     for step in *steps..end {
@@ -146,13 +148,13 @@ fn make_step(
     requires within { step < 2 * length taken.now }
     requires lengths { length given.old ≡ length taken.now }
     ensures leads { Leads shelf_of (step_event line taken.now step) card.old card.new }
-    ensures given { (m : machine.Card) → CardStands card.old m
+    ensures given { (m : machine.OctetCard) → CardStands card.old m
         → given.new ≡ with_step step (answer (step_event line taken.now step) m) given.old }
     ensures length { length given.new ≡ length given.old }
-    ensures tells { (m : machine.Card) → CardStands card.old m
+    ensures tells { (m : machine.OctetCard) → CardStands card.old m
         → result ≡ not (is_quiet (answer (step_event line taken.now step) m)) }
-    ensures shown { (m : machine.Card) → CardStands card.old m → result ≡ true
-        → ShowsAnswer report.new (answer (step_event line taken.now step) m) }
+    ensures shown { (m : machine.OctetCard) → CardStands card.old m → result ≡ true
+        → ShowsReply report.new (answer (step_event line taken.now step) m) }
 {
     if step % 2 == 0 {
         return tells_taken(card, line, taken[step / 2], report);
@@ -163,11 +165,11 @@ fn make_step(
 // Takes an octet, and says whether there is anything to tell; else nothing is written.
 fn tells_taken(card: &mut Card<RawShelf>, line: usize, octet: u8, report: &mut PlainReport) -> bool
     requires { line < line_count card.old }
-    ensures leads { Leads shelf_of (at line (line_event.octet octet)) card.old card.new }
-    ensures tells { (m : machine.Card) → CardStands card.old m
-        → result ≡ not (is_quiet (answer (at line (line_event.octet octet)) m)) }
-    ensures shown { (m : machine.Card) → CardStands card.old m → result ≡ true
-        → ShowsAnswer report.new (answer (at line (line_event.octet octet)) m) }
+    ensures leads { Leads shelf_of (at line (port.octet octet)) card.old card.new }
+    ensures tells { (m : machine.OctetCard) → CardStands card.old m
+        → result ≡ not (is_quiet (answer (at line (port.octet octet)) m)) }
+    ensures shown { (m : machine.OctetCard) → CardStands card.old m → result ≡ true
+        → ShowsReply report.new (answer (at line (port.octet octet)) m) }
     ensures unchanged { result ≡ false → report.new ≡ report.old }
 {
     match card.hear(line, octet) {
@@ -185,22 +187,16 @@ fn tells_ended(
     report: &mut PlainReport,
 ) -> bool
     requires { line < line_count card.now }
-    ensures tells { result ≡ not (is_quiet (line_event.told (told_at card.now.lines line bare.now))) }
-    ensures shown { length (contents_of (told_at card.now.lines line bare.now).contents) ≤ 260 → result ≡ true
-        → Shows report.new (told_at card.now.lines line bare.now) }
+    ensures tells { result ≡ not (is_quiet (port.told (told_at card.now.ports line bare.now))) }
+    ensures shown { length (contents_of (told_at card.now.ports line bare.now).contents) ≤ 260 → result ≡ true
+        → Shows report.new (told_at card.now.ports line bare.now) }
     ensures unchanged { result ≡ false → report.new ≡ report.old }
 {
     let told = card.lend(line, bare);
     if is_quiet(&told) {
         return false;
     }
-    report.show(
-        told.notes(),
-        told.orders(),
-        told.cause,
-        told.lost,
-        told.delivered,
-    );
+    report.show(&told);
     true
 }
 
@@ -212,13 +208,13 @@ fn tells_given(
     report: &mut PlainReport,
 ) -> bool
     requires { line < line_count card.old }
-    ensures leads { Leads shelf_of (at line line_event.pull) card.old card.new }
-    ensures octet { (m : machine.Card) → CardStands card.old m
-        → octet.new ≡ octet_of (answer (at line line_event.pull) m) }
-    ensures tells { (m : machine.Card) → CardStands card.old m
-        → result ≡ not (is_quiet (answer (at line line_event.pull) m)) }
-    ensures shown { (m : machine.Card) → CardStands card.old m → result ≡ true
-        → ShowsAnswer report.new (answer (at line line_event.pull) m) }
+    ensures leads { Leads shelf_of (at line port.pull) card.old card.new }
+    ensures octet { (m : machine.OctetCard) → CardStands card.old m
+        → octet.new ≡ octet_of (answer (at line port.pull) m) }
+    ensures tells { (m : machine.OctetCard) → CardStands card.old m
+        → result ≡ not (is_quiet (answer (at line port.pull) m)) }
+    ensures shown { (m : machine.OctetCard) → CardStands card.old m → result ≡ true
+        → ShowsReply report.new (answer (at line port.pull) m) }
     ensures unchanged { result ≡ false → report.new ≡ report.old }
 {
     let pulled = card.pull(line);
@@ -231,7 +227,7 @@ fn tells_given(
 }
 
 fn is_quiet(told: &Report<'_>) -> bool
-    ensures { result ≡ is_quiet (line_event.told (report_told told.now)) }
+    ensures { result ≡ is_quiet (port.told (report_told told.now)) }
 {
     told.notes().is_empty()
         && told.orders().is_empty()

@@ -2,16 +2,16 @@
 
 ghost use Rattle.std.specs.Prelude.{◌≡◌, ◌≢◌, ◌+◌, ◌≤◌, ◌<◌, true, length, Some, None, IfSome, IfOk, IfErr};
 ghost use Rattle.model_card.specs.Card as machine;
-ghost use Rattle.model_card.specs.Happening.{comes, failed, goes};
-ghost use Rattle.model_card.specs.Said.{said};
+ghost use Rattle.model_card.specs.Machine.{after, answer};
+ghost use Rattle.lapd_c.specs.Answers.{ShowsAnswer};
 ghost use Rattle.lapd_c.specs.Faults.{fault_in};
 ghost use Rattle.lapd_c.specs.Reports.{ShowsPull};
 ghost use Rattle.lapd_c.specs.Statuses as status;
 ghost use Rattle.lapd_c.specs.Cards.{card_of, kind_in, IsHandle, FramesStand};
-ghost use Rattle.lapd_c.specs.Counted.{CountsHappening, counters_at};
+ghost use Rattle.lapd_c.specs.Counted.{Counts, counters_at};
 ghost use Rattle.lapd_c.specs.Kinds.{FrameCardStands, for_octets};
-ghost use Rattle.lapd_card.specs.Counted.{frame_counters_in};
-ghost use Rattle.lapd_c.specs.Frames.{after_happening, next_at, IsGiven, ShowsSaid};
+ghost use Rattle.lapd_card.specs.Counted.{counters_in};
+ghost use Rattle.lapd_c.specs.Frames.{comes, fails, goes, next_at, IsGiven};
 
 use crate::card::CardHandle;
 use crate::kinds::AnyCard;
@@ -40,10 +40,10 @@ pub extern "C" fn lapd_frame(
     ensures wrong_line { (m : machine.Card) → FramesStand handle.old m → m.config.lines ≤ line
         → (result ≡ status.wrong_line) × FramesStand handle.new m × (report.new ≡ report.old) }
     ensures served { (m : machine.Card) → FramesStand handle.old m → line < m.config.lines
-        → (result ≡ status.ok) × FramesStand handle.new (after_happening (comes line octets.now) m)
-        × ShowsSaid report.new (said m (comes line octets.now)) }
+        → (result ≡ status.ok) × FramesStand handle.new (after (comes line octets.now m) m)
+        × ShowsAnswer report.new (answer (comes line octets.now m) m) }
     ensures counted { (m : machine.Card) → FramesStand handle.old m → line < m.config.lines
-        → CountsHappening (comes line octets.now) m (counters_at handle.old) (counters_at handle.new) }
+        → Counts (comes line octets.now m) m (counters_at handle.old) (counters_at handle.new) }
     ensures uncounted { (m : machine.Card) → FramesStand handle.old m → result ≢ status.ok → counters_at handle.new ≡ counters_at handle.old }
 {
     let Some(mut card) = handle.take(alloc) else {
@@ -67,24 +67,18 @@ fn take_frame(
     ensures wrong_line { (m : machine.Card) → FrameCardStands card.old m → m.config.lines ≤ line
         → (result ≡ status.wrong_line) × FrameCardStands card.new m × (report.new ≡ report.old) }
     ensures served { (m : machine.Card) → FrameCardStands card.old m → line < m.config.lines
-        → (result ≡ status.ok) × FrameCardStands card.new (after_happening (comes line octets.now) m)
-        × ShowsSaid report.new (said m (comes line octets.now)) }
+        → (result ≡ status.ok) × FrameCardStands card.new (after (comes line octets.now m) m)
+        × ShowsAnswer report.new (answer (comes line octets.now m) m) }
     ensures counted { (m : machine.Card) → FrameCardStands card.old m → line < m.config.lines
-        → CountsHappening (comes line octets.now) m (frame_counters_in card.old.lines) (frame_counters_in card.new.lines) }
-    ensures uncounted { (m : machine.Card) → FrameCardStands card.old m → result ≢ status.ok → frame_counters_in card.new.lines ≡ frame_counters_in card.old.lines }
+        → Counts (comes line octets.now m) m (counters_in card.old.lines) (counters_in card.new.lines) }
+    ensures uncounted { (m : machine.Card) → FrameCardStands card.old m → result ≢ status.ok → counters_in card.new.lines ≡ counters_in card.old.lines }
 {
     let line = line as usize;
     if line >= card.lines() {
         return WRONG_LINE;
     }
     let told = card.frame(line, octets);
-    report.show(
-        told.notes(),
-        told.orders(),
-        told.cause,
-        told.lost,
-        told.delivered,
-    );
+    report.show(&told);
     OK
 }
 
@@ -111,10 +105,10 @@ pub extern "C" fn lapd_frame_failed(
         × (report.new ≡ report.old)) }
     ensures served { (m : machine.Card) → FramesStand handle.old m → line < m.config.lines
         → IfOk (fault_in cause) (λ fault. (result ≡ status.ok)
-        × FramesStand handle.new (after_happening (failed line fault) m)
-        × ShowsSaid report.new (said m (failed line fault))) }
+        × FramesStand handle.new (after (fails line fault) m)
+        × ShowsAnswer report.new (answer (fails line fault) m)) }
     ensures counted { (m : machine.Card) → FramesStand handle.old m → line < m.config.lines
-        → IfOk (fault_in cause) (λ fault. CountsHappening (failed line fault) m (counters_at handle.old) (counters_at handle.new)) }
+        → IfOk (fault_in cause) (λ fault. Counts (fails line fault) m (counters_at handle.old) (counters_at handle.new)) }
     ensures uncounted { (m : machine.Card) → FramesStand handle.old m → result ≢ status.ok → counters_at handle.new ≡ counters_at handle.old }
 {
     let Some(mut card) = handle.take(alloc) else {
@@ -136,11 +130,11 @@ fn tell_fault(card: &mut FrameCard<RawShelf>, line: u32, cause: u8, report: &mut
         → IfErr (fault_in cause) (λ wrong. (result ≡ wrong) × (card.new ≡ card.old) × (report.new ≡ report.old)) }
     ensures served { (m : machine.Card) → FrameCardStands card.old m → line < m.config.lines
         → IfOk (fault_in cause) (λ fault. (result ≡ status.ok)
-        × FrameCardStands card.new (after_happening (failed line fault) m)
-        × ShowsSaid report.new (said m (failed line fault))) }
+        × FrameCardStands card.new (after (fails line fault) m)
+        × ShowsAnswer report.new (answer (fails line fault) m)) }
     ensures counted { (m : machine.Card) → FrameCardStands card.old m → line < m.config.lines
-        → IfOk (fault_in cause) (λ fault. CountsHappening (failed line fault) m (frame_counters_in card.old.lines) (frame_counters_in card.new.lines)) }
-    ensures uncounted { (m : machine.Card) → FrameCardStands card.old m → result ≢ status.ok → frame_counters_in card.new.lines ≡ frame_counters_in card.old.lines }
+        → IfOk (fault_in cause) (λ fault. Counts (fails line fault) m (counters_in card.old.lines) (counters_in card.new.lines)) }
+    ensures uncounted { (m : machine.Card) → FrameCardStands card.old m → result ≢ status.ok → counters_in card.new.lines ≡ counters_in card.old.lines }
 {
     let line = line as usize;
     if line >= card.lines() {
@@ -149,13 +143,7 @@ fn tell_fault(card: &mut FrameCard<RawShelf>, line: u32, cause: u8, report: &mut
     match fault_in(cause) {
         Ok(fault) => {
             let told = card.failed(line, fault);
-            report.show(
-                told.notes(),
-                told.orders(),
-                told.cause,
-                told.lost,
-                told.delivered,
-            );
+            report.show(&told);
             OK
         }
         Err(wrong) => wrong,
@@ -194,10 +182,10 @@ pub extern "C" fn lapd_next_frame(
         × (report.new ≡ report.old) }
     ensures given { (m : machine.Card) → FramesStand handle.old m → line < m.config.lines
         → m.config.n201 + 4 ≤ length out.old → IfSome (next_at line m) (λ next.
-        (result ≡ status.ok) × FramesStand handle.new (after_happening (goes line) m)
+        (result ≡ status.ok) × FramesStand handle.new (after (goes line) m)
         × IsGiven next out.old out.new count.new × ShowsPull report.new true next.orders) }
     ensures counted { (m : machine.Card) → FramesStand handle.old m → line < m.config.lines
-        → m.config.n201 + 4 ≤ length out.old → CountsHappening (goes line) m (counters_at handle.old) (counters_at handle.new) }
+        → m.config.n201 + 4 ≤ length out.old → Counts (goes line) m (counters_at handle.old) (counters_at handle.new) }
     ensures uncounted { (m : machine.Card) → FramesStand handle.old m → result ≢ status.ok → counters_at handle.new ≡ counters_at handle.old }
 {
     let Some(mut card) = handle.take(alloc) else {
@@ -232,11 +220,11 @@ fn give_frame(
         × (count.new ≡ count.old) × (report.new ≡ report.old) }
     ensures given { (m : machine.Card) → FrameCardStands card.old m → line < m.config.lines
         → m.config.n201 + 4 ≤ length out.old → IfSome (next_at line m) (λ next.
-        (result ≡ status.ok) × FrameCardStands card.new (after_happening (goes line) m)
+        (result ≡ status.ok) × FrameCardStands card.new (after (goes line) m)
         × IsGiven next out.old out.new count.new × ShowsPull report.new true next.orders) }
     ensures counted { (m : machine.Card) → FrameCardStands card.old m → line < m.config.lines
-        → m.config.n201 + 4 ≤ length out.old → CountsHappening (goes line) m (frame_counters_in card.old.lines) (frame_counters_in card.new.lines) }
-    ensures uncounted { (m : machine.Card) → FrameCardStands card.old m → result ≢ status.ok → frame_counters_in card.new.lines ≡ frame_counters_in card.old.lines }
+        → m.config.n201 + 4 ≤ length out.old → Counts (goes line) m (counters_in card.old.lines) (counters_in card.new.lines) }
+    ensures uncounted { (m : machine.Card) → FrameCardStands card.old m → result ≢ status.ok → counters_in card.new.lines ≡ counters_in card.old.lines }
 {
     let line = line as usize;
     if line >= card.lines() {

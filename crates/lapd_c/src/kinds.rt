@@ -1,20 +1,18 @@
 //! A card of either kind, and what both do alike.
 
-ghost use Rattle.std.specs.Prelude.{◌≡◌, ◌+◌, ◌<◌, get_or, sum_by, Some, None, IfOk, IfErr, OnErr};
+ghost use Rattle.std.specs.Prelude.{◌≡◌, ◌<◌, get_or, Some, None, IfOk, IfErr, OnErr};
 ghost use Rattle.model_card.specs.Card as machine;
 ghost use Rattle.model_card.specs.Event.{at};
-ghost use Rattle.model_card.specs.Machine.{after, answer};
 ghost use Rattle.model_card.specs.Room.{room as machine_room};
-ghost use Rattle.model_card.specs.Stored.{stored, limit};
 ghost use Rattle.model_line.specs.Event as line_event;
 ghost use Rattle.model_line.specs.Event.{told};
 ghost use Rattle.model_line.specs.Refusal.{refusal};
 ghost use Rattle.model_line.specs.Request.{request_of};
-ghost use Rattle.model_line.specs.Stored.{held_sent};
+ghost use Rattle.model_ports.specs.Stored.{limit};
 ghost use Rattle.lapd_count.specs.Counters.{none_counted};
-ghost use Rattle.lapd_card.specs.Reply.{answer_of_result};
+ghost use Rattle.lapd_card.specs.FrameReply.{answer_of_result};
 ghost use Rattle.lapd_line.specs.Reports.{report_told};
-ghost use Rattle.lapd_c.specs.Kinds.{AnyStands, AnyLeads, kind_of, line_count, counters_of, for_octets, for_frames};
+ghost use Rattle.lapd_c.specs.Kinds.{Machine, card_in, answer, stored, AnyStands, AnyLeads, line_count, counters_of};
 
 use lapd_card::{Card, Counters, FrameCard, Report, Request, Room};
 use lapd_frame::{Refusal, Service, Timer};
@@ -31,7 +29,7 @@ impl AnyCard {
     /// How many lines the card has.
     pub(crate) fn lines(&self) -> usize
         ensures count { result ≡ line_count self.now }
-        ensures machine { (m : machine.Card) → AnyStands self.now m → result ≡ m.config.lines }
+        ensures machine { (m : Machine) → AnyStands self.now m → result ≡ (card_in m).config.lines }
     {
         match self {
             AnyCard::Octets(card) => card.lines(),
@@ -42,7 +40,7 @@ impl AnyCard {
     /// A timer of a line expired.
     pub(crate) fn expire(&mut self, line: usize, timer: Timer) -> Report<'static>
         requires { line < line_count self.old }
-        ensures told { (m : machine.Card) → AnyStands self.old m
+        ensures told { (m : Machine) → AnyStands self.old m
             → told (report_told result) ≡ answer (at line (line_event.expiry timer)) m }
         ensures after { AnyLeads (at line (line_event.expiry timer)) self.old self.new }
     {
@@ -59,12 +57,12 @@ impl AnyCard {
         request: Request<'_>,
     ) -> Result<Report<'static>, Refusal>
         requires { line < line_count self.old }
-        ensures refused { IfErr result (λ why. (m : machine.Card) → AnyStands self.old m
-            → refusal m.config (machine.is_full m) (request_of request.entry) (machine.line_at line m) ≡ Some why) }
+        ensures refused { IfErr result (λ why. (m : Machine) → AnyStands self.old m
+            → refusal (card_in m).config (machine.is_full (card_in m)) (request_of request.entry) (machine.line_at line (card_in m)) ≡ Some why) }
         ensures unchanged { OnErr result (self.new ≡ self.old) }
-        ensures accepted { IfOk result (λ report. (m : machine.Card) → AnyStands self.old m
-            → refusal m.config (machine.is_full m) (request_of request.entry) (machine.line_at line m) ≡ None) }
-        ensures told { (m : machine.Card) → AnyStands self.old m
+        ensures accepted { IfOk result (λ report. (m : Machine) → AnyStands self.old m
+            → refusal (card_in m).config (machine.is_full (card_in m)) (request_of request.entry) (machine.line_at line (card_in m)) ≡ None) }
+        ensures told { (m : Machine) → AnyStands self.old m
             → answer_of_result result ≡ answer (at line (line_event.request (request_of request.entry))) m }
         ensures after { AnyLeads (at line (line_event.request (request_of request.entry))) self.old self.new }
     {
@@ -76,7 +74,7 @@ impl AnyCard {
 
     /// The state of the link of a service with this TEI.
     pub(crate) fn state(&self, line: usize, service: Service, tei: u8) -> Option<u8>
-        ensures { (m : machine.Card) → AnyStands self.now m → result ≡ machine.state line service tei m }
+        ensures { (m : Machine) → AnyStands self.now m → result ≡ machine.state line service tei (card_in m) }
     {
         match self {
             AnyCard::Octets(card) => card.state(line, service, tei),
@@ -87,7 +85,7 @@ impl AnyCard {
     /// How much room the link of a service with this TEI has.
     pub(crate) fn room(&self, line: usize, service: Service, tei: u8) -> Result<Room, Refusal>
         requires { line < line_count self.now }
-        ensures { (m : machine.Card) → AnyStands self.now m → result ≡ machine_room line service tei m }
+        ensures { (m : Machine) → AnyStands self.now m → result ≡ machine_room line service tei (card_in m) }
     {
         match self {
             AnyCard::Octets(card) => card.room(line, service, tei),
@@ -106,12 +104,9 @@ impl AnyCard {
         }
     }
 
-    /// How many octets the card stores now; a card for frames has no frames on their way.
+    /// How many octets the card stores now.
     pub(crate) fn stored(&self) -> u32
-        ensures octets { kind_of self.now ≡ for_octets
-            → (m : machine.Card) → AnyStands self.now m → result ≡ stored m }
-        ensures frames { kind_of self.now ≡ for_frames
-            → (m : machine.Card) → AnyStands self.now m → result + sum_by held_sent m.lines ≡ stored m }
+        ensures { (m : Machine) → AnyStands self.now m → result ≡ stored m }
     {
         match self {
             AnyCard::Octets(card) => card.stored(),
@@ -121,7 +116,7 @@ impl AnyCard {
 
     /// How many octets the card stores at most.
     pub(crate) fn limit(&self) -> u32
-        ensures { (m : machine.Card) → AnyStands self.now m → result ≡ limit m.config }
+        ensures { (m : Machine) → AnyStands self.now m → result ≡ limit (card_in m).config }
     {
         match self {
             AnyCard::Octets(card) => card.limit(),

@@ -2,13 +2,13 @@
 //!
 //! A card or a clock lies in memory of the library, at an address that stands in a struct of the caller's. A call takes
 //! it from there, serves, and puts it back; a ghost field says which card it is, so that the contracts speak of the
-//! card's machine (`model_card`) and of the clock's timers (`lapd_clock`).
+//! card's machine (`model_card`, and for octets `model_ports`) and of the clock's timers (`lapd_clock`).
 //!
 //! - `card`: a card in C, how it begins and ends; `kinds`, what a card for octets and one for frames do alike;
-//!   `card_slot`, where it lies. `events`, what happens at it; for octets also `exchange`, octets taken and given in
-//!   turn, `begun`, which frame a pull began, and
-//!   `counters`, what was counted of a line; for frames `frames`, which come and go. `questions`, what it answers
-//!   about itself; `links`, which links it has, and `rooms`, how many contents more one takes.
+//!   `card_slot`, where it lies. `events`, what happens at one of either kind; for octets `octets`, one that comes and
+//!   one that goes, `exchange`, octets taken and given in turn, and `begun`, which frame a pull began; for frames
+//!   `frames`, which come and go. `questions`, what it answers about itself; `counters`, what was counted of a line;
+//!   `links`, which links it has, and `rooms`, how many contents more one takes.
 //! - `clock`: a clock in C, and its exports; `clock_reports`, the orders of a report; `clock_slot`, where it lies.
 //! - `laws`: what holds of the machine's answers, so that a report has room for each.
 //! - `plain`: the structs and numbers of C, and what they mean.
@@ -40,6 +40,7 @@ mod kinds;
 mod laws;
 mod links;
 mod loose;
+mod octets;
 mod plain;
 mod questions;
 mod rooms;

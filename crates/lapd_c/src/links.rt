@@ -1,10 +1,9 @@
 //! Which links a card has.
 
 ghost use Rattle.std.specs.Prelude.{◌≡◌, ◌≤◌, ◌<◌, ◌⊎◌, Some, None, IfSome};
-ghost use Rattle.model_card.specs.Card as machine;
 ghost use Rattle.lapd_c.specs.Statuses as status;
 ghost use Rattle.lapd_c.specs.Cards.{card_of, IsHandle, Stands};
-ghost use Rattle.lapd_c.specs.Kinds.{AnyStands};
+ghost use Rattle.lapd_c.specs.Kinds.{Machine, card_in, AnyStands};
 ghost use Rattle.lapd_c.specs.Links.{FirstFrom, IsNext, NoneFrom};
 
 use crate::card::CardHandle;
@@ -26,15 +25,15 @@ pub extern "C" fn lapd_next_link(
     ensures no_card { card_of handle.old ≡ None → (result ≡ status.no_card) × (handle.new ≡ handle.old)
         × (place.new ≡ place.old) × (link.new ≡ link.old) }
     ensures unchanged { card_of handle.new ≡ card_of handle.old }
-    ensures wrong_line { (m : machine.Card) → Stands handle.old m → m.config.lines ≤ line
+    ensures wrong_line { (m : Machine) → Stands handle.old m → (card_in m).config.lines ≤ line
         → (result ≡ status.wrong_line) × (place.new ≡ place.old) × (link.new ≡ link.old) }
-    ensures either { (m : machine.Card) → Stands handle.old m → line < m.config.lines
+    ensures either { (m : Machine) → Stands handle.old m → line < (card_in m).config.lines
         → (result ≡ status.ok) ⊎ (result ≡ status.no_more_links) }
-    ensures told { (m : machine.Card) → Stands handle.old m → line < m.config.lines
-        → result ≡ status.ok → IsNext line m place.old place.new link.new }
-    ensures none { (m : machine.Card) → Stands handle.old m → line < m.config.lines
+    ensures told { (m : Machine) → Stands handle.old m → line < (card_in m).config.lines
+        → result ≡ status.ok → IsNext line (card_in m) place.old place.new link.new }
+    ensures none { (m : Machine) → Stands handle.old m → line < (card_in m).config.lines
         → result ≡ status.no_more_links
-        → NoneFrom line m place.old × (place.new ≡ place.old) × (link.new ≡ link.old) }
+        → NoneFrom line (card_in m) place.old × (place.new ≡ place.old) × (link.new ≡ link.old) }
 {
     let Some(card) = handle.take(alloc) else {
         return NO_CARD;
@@ -45,15 +44,15 @@ pub extern "C" fn lapd_next_link(
 }
 
 fn tell_next(card: &AnyCard, line: u32, place: &mut u8, link: &mut PlainLink) -> u32
-    ensures wrong_line { (m : machine.Card) → AnyStands card.now m → m.config.lines ≤ line
+    ensures wrong_line { (m : Machine) → AnyStands card.now m → (card_in m).config.lines ≤ line
         → (result ≡ status.wrong_line) × (place.new ≡ place.old) × (link.new ≡ link.old) }
-    ensures either { (m : machine.Card) → AnyStands card.now m → line < m.config.lines
+    ensures either { (m : Machine) → AnyStands card.now m → line < (card_in m).config.lines
         → (result ≡ status.ok) ⊎ (result ≡ status.no_more_links) }
-    ensures told { (m : machine.Card) → AnyStands card.now m → line < m.config.lines
-        → result ≡ status.ok → IsNext line m place.old place.new link.new }
-    ensures none { (m : machine.Card) → AnyStands card.now m → line < m.config.lines
+    ensures told { (m : Machine) → AnyStands card.now m → line < (card_in m).config.lines
+        → result ≡ status.ok → IsNext line (card_in m) place.old place.new link.new }
+    ensures none { (m : Machine) → AnyStands card.now m → line < (card_in m).config.lines
         → result ≡ status.no_more_links
-        → NoneFrom line m place.old × (place.new ≡ place.old) × (link.new ≡ link.old) }
+        → NoneFrom line (card_in m) place.old × (place.new ≡ place.old) × (link.new ≡ link.old) }
 {
     let line = line as usize;
     if line >= card.lines() {
@@ -72,7 +71,7 @@ fn tell_next(card: &AnyCard, line: u32, place: &mut u8, link: &mut PlainLink) ->
 // The place and the state of the first link from a place on.
 fn first_link(card: &AnyCard, line: usize, from: u8) -> Option<(u8, u8)>
     ensures within { IfSome result (λ found. found.0 < 254) }
-    ensures first { (m : machine.Card) → AnyStands card.now m → FirstFrom line m from result }
+    ensures first { (m : Machine) → AnyStands card.now m → FirstFrom line (card_in m) from result }
 {
     for place in from..LINK_PLACES {
         if let Some(state) = card.state(line, service_at(place), place / 2) {

@@ -1,14 +1,13 @@
 //! What a card answers about itself.
 
-ghost use Rattle.std.specs.Prelude.{◌≡◌, ◌+◌, ◌≤◌, ◌<◌, sum_by, Some, None, IfOk, IfErr};
+ghost use Rattle.std.specs.Prelude.{◌≡◌, ◌≤◌, ◌<◌, None, IfOk, IfErr};
 ghost use Rattle.std.specs.Option.{unwrap_or};
 ghost use Rattle.model_card.specs.Card as machine;
-ghost use Rattle.model_card.specs.Stored.{stored, limit};
-ghost use Rattle.model_line.specs.Stored.{held_sent};
+ghost use Rattle.model_ports.specs.Stored.{limit};
 ghost use Rattle.lapd_c.specs.Statuses as status;
 ghost use Rattle.lapd_c.specs.Timers.{link_in};
-ghost use Rattle.lapd_c.specs.Cards.{card_of, kind_in, IsHandle, Stands};
-ghost use Rattle.lapd_c.specs.Kinds.{AnyStands, for_octets, for_frames};
+ghost use Rattle.lapd_c.specs.Cards.{card_of, IsHandle, Stands};
+ghost use Rattle.lapd_c.specs.Kinds.{Machine, card_in, stored, AnyStands};
 
 use crate::card::CardHandle;
 use crate::kinds::AnyCard;
@@ -33,13 +32,13 @@ pub extern "C" fn lapd_state(
     ensures no_card { card_of handle.old ≡ None
         → (result ≡ status.no_card) × (handle.new ≡ handle.old) × (state.new ≡ state.old) }
     ensures unchanged { card_of handle.new ≡ card_of handle.old }
-    ensures wrong_line { (m : machine.Card) → Stands handle.old m → m.config.lines ≤ line
+    ensures wrong_line { (m : Machine) → Stands handle.old m → (card_in m).config.lines ≤ line
         → (result ≡ status.wrong_line) × (state.new ≡ state.old) }
-    ensures wrong_link { (m : machine.Card) → Stands handle.old m → line < m.config.lines
+    ensures wrong_link { (m : Machine) → Stands handle.old m → line < (card_in m).config.lines
         → IfErr (link_in service tei) (λ wrong. (result ≡ wrong) × (state.new ≡ state.old)) }
-    ensures told { (m : machine.Card) → Stands handle.old m → line < m.config.lines
+    ensures told { (m : Machine) → Stands handle.old m → line < (card_in m).config.lines
         → IfOk (link_in service tei) (λ link. (result ≡ status.ok)
-        × (state.new ≡ unwrap_or (machine.state line link.0 link.1 m) 0)) }
+        × (state.new ≡ unwrap_or (machine.state line link.0 link.1 (card_in m)) 0)) }
 {
     let Some(card) = handle.take(alloc) else {
         return NO_CARD;
@@ -50,13 +49,13 @@ pub extern "C" fn lapd_state(
 }
 
 fn tell_state(card: &AnyCard, line: u32, service: u8, tei: u8, state: &mut u8) -> u32
-    ensures wrong_line { (m : machine.Card) → AnyStands card.now m → m.config.lines ≤ line
+    ensures wrong_line { (m : Machine) → AnyStands card.now m → (card_in m).config.lines ≤ line
         → (result ≡ status.wrong_line) × (state.new ≡ state.old) }
-    ensures wrong_link { (m : machine.Card) → AnyStands card.now m → line < m.config.lines
+    ensures wrong_link { (m : Machine) → AnyStands card.now m → line < (card_in m).config.lines
         → IfErr (link_in service tei) (λ wrong. (result ≡ wrong) × (state.new ≡ state.old)) }
-    ensures told { (m : machine.Card) → AnyStands card.now m → line < m.config.lines
+    ensures told { (m : Machine) → AnyStands card.now m → line < (card_in m).config.lines
         → IfOk (link_in service tei) (λ link. (result ≡ status.ok)
-        × (state.new ≡ unwrap_or (machine.state line link.0 link.1 m) 0)) }
+        × (state.new ≡ unwrap_or (machine.state line link.0 link.1 (card_in m)) 0)) }
 {
     let line = line as usize;
     if line >= card.lines() {
@@ -79,10 +78,7 @@ pub extern "C" fn lapd_stored(alloc: Global, handle: &mut CardHandle, octets: &m
     ensures no_card { card_of handle.old ≡ None
         → (result ≡ status.no_card) × (handle.new ≡ handle.old) × (octets.new ≡ octets.old) }
     ensures unchanged { card_of handle.new ≡ card_of handle.old }
-    ensures told { (m : machine.Card) → Stands handle.old m → kind_in handle.old ≡ Some for_octets
-        → (result ≡ status.ok) × (octets.new ≡ stored m) }
-    ensures for_frames { (m : machine.Card) → Stands handle.old m → kind_in handle.old ≡ Some for_frames
-        → (result ≡ status.ok) × (octets.new + sum_by held_sent m.lines ≡ stored m) }
+    ensures told { (m : Machine) → Stands handle.old m → (result ≡ status.ok) × (octets.new ≡ stored m) }
 {
     let Some(card) = handle.take(alloc) else {
         return NO_CARD;
@@ -100,7 +96,7 @@ pub extern "C" fn lapd_limit(alloc: Global, handle: &mut CardHandle, octets: &mu
     ensures no_card { card_of handle.old ≡ None
         → (result ≡ status.no_card) × (handle.new ≡ handle.old) × (octets.new ≡ octets.old) }
     ensures unchanged { card_of handle.new ≡ card_of handle.old }
-    ensures told { (m : machine.Card) → Stands handle.old m → (result ≡ status.ok) × (octets.new ≡ limit m.config) }
+    ensures told { (m : Machine) → Stands handle.old m → (result ≡ status.ok) × (octets.new ≡ limit (card_in m).config) }
 {
     let Some(card) = handle.take(alloc) else {
         return NO_CARD;
@@ -118,7 +114,7 @@ pub extern "C" fn lapd_lines(alloc: Global, handle: &mut CardHandle, lines: &mut
     ensures no_card { card_of handle.old ≡ None
         → (result ≡ status.no_card) × (handle.new ≡ handle.old) × (lines.new ≡ lines.old) }
     ensures unchanged { card_of handle.new ≡ card_of handle.old }
-    ensures told { (m : machine.Card) → Stands handle.old m → (result ≡ status.ok) × (lines.new ≡ m.config.lines) }
+    ensures told { (m : Machine) → Stands handle.old m → (result ≡ status.ok) × (lines.new ≡ (card_in m).config.lines) }
 {
     let Some(card) = handle.take(alloc) else {
         return NO_CARD;
@@ -129,7 +125,7 @@ pub extern "C" fn lapd_lines(alloc: Global, handle: &mut CardHandle, lines: &mut
 }
 
 fn line_count(card: &AnyCard) -> u32
-    ensures { (m : machine.Card) → AnyStands card.now m → result ≡ m.config.lines }
+    ensures { (m : Machine) → AnyStands card.now m → result ≡ (card_in m).config.lines }
 {
     card.lines().min(MOST_LINES) as u32
 }

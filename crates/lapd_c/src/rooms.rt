@@ -1,14 +1,13 @@
 //! How many contents more a link of a card takes.
 
 ghost use Rattle.std.specs.Prelude.{◌≡◌, ◌≤◌, ◌<◌, None, IfOk, IfErr};
-ghost use Rattle.model_card.specs.Card as machine;
 ghost use Rattle.model_card.specs.Room.{room as machine_room};
 ghost use Rattle.lapd_c.specs.Rooms.{plain_room};
 ghost use Rattle.lapd_c.specs.Statuses as status;
 ghost use Rattle.lapd_c.specs.Statuses.{refusal_status};
 ghost use Rattle.lapd_c.specs.Timers.{link_in};
 ghost use Rattle.lapd_c.specs.Cards.{card_of, IsHandle, Stands};
-ghost use Rattle.lapd_c.specs.Kinds.{AnyStands};
+ghost use Rattle.lapd_c.specs.Kinds.{Machine, card_in, AnyStands};
 
 use crate::card::CardHandle;
 use crate::kinds::AnyCard;
@@ -30,15 +29,15 @@ pub extern "C" fn lapd_room(
     ensures no_card { card_of handle.old ≡ None
         → (result ≡ status.no_card) × (handle.new ≡ handle.old) × (room.new ≡ room.old) }
     ensures unchanged { card_of handle.new ≡ card_of handle.old }
-    ensures wrong_line { (m : machine.Card) → Stands handle.old m → m.config.lines ≤ line
+    ensures wrong_line { (m : Machine) → Stands handle.old m → (card_in m).config.lines ≤ line
         → (result ≡ status.wrong_line) × (room.new ≡ room.old) }
-    ensures wrong_link { (m : machine.Card) → Stands handle.old m → line < m.config.lines
+    ensures wrong_link { (m : Machine) → Stands handle.old m → line < (card_in m).config.lines
         → IfErr (link_in service tei) (λ wrong. (result ≡ wrong) × (room.new ≡ room.old)) }
-    ensures no_link { (m : machine.Card) → Stands handle.old m → line < m.config.lines
-        → IfOk (link_in service tei) (λ link. IfErr (machine_room line link.0 link.1 m) (λ why.
+    ensures no_link { (m : Machine) → Stands handle.old m → line < (card_in m).config.lines
+        → IfOk (link_in service tei) (λ link. IfErr (machine_room line link.0 link.1 (card_in m)) (λ why.
         (result ≡ refusal_status why) × (room.new ≡ room.old))) }
-    ensures told { (m : machine.Card) → Stands handle.old m → line < m.config.lines
-        → IfOk (link_in service tei) (λ link. IfOk (machine_room line link.0 link.1 m) (λ is.
+    ensures told { (m : Machine) → Stands handle.old m → line < (card_in m).config.lines
+        → IfOk (link_in service tei) (λ link. IfOk (machine_room line link.0 link.1 (card_in m)) (λ is.
         (result ≡ status.ok) × (room.new ≡ plain_room is))) }
 {
     let Some(card) = handle.take(alloc) else {
@@ -50,15 +49,15 @@ pub extern "C" fn lapd_room(
 }
 
 fn tell_room(card: &AnyCard, line: u32, service: u8, tei: u8, room: &mut PlainRoom) -> u32
-    ensures wrong_line { (m : machine.Card) → AnyStands card.now m → m.config.lines ≤ line
+    ensures wrong_line { (m : Machine) → AnyStands card.now m → (card_in m).config.lines ≤ line
         → (result ≡ status.wrong_line) × (room.new ≡ room.old) }
-    ensures wrong_link { (m : machine.Card) → AnyStands card.now m → line < m.config.lines
+    ensures wrong_link { (m : Machine) → AnyStands card.now m → line < (card_in m).config.lines
         → IfErr (link_in service tei) (λ wrong. (result ≡ wrong) × (room.new ≡ room.old)) }
-    ensures no_link { (m : machine.Card) → AnyStands card.now m → line < m.config.lines
-        → IfOk (link_in service tei) (λ link. IfErr (machine_room line link.0 link.1 m) (λ why.
+    ensures no_link { (m : Machine) → AnyStands card.now m → line < (card_in m).config.lines
+        → IfOk (link_in service tei) (λ link. IfErr (machine_room line link.0 link.1 (card_in m)) (λ why.
         (result ≡ refusal_status why) × (room.new ≡ room.old))) }
-    ensures told { (m : machine.Card) → AnyStands card.now m → line < m.config.lines
-        → IfOk (link_in service tei) (λ link. IfOk (machine_room line link.0 link.1 m) (λ is.
+    ensures told { (m : Machine) → AnyStands card.now m → line < (card_in m).config.lines
+        → IfOk (link_in service tei) (λ link. IfOk (machine_room line link.0 link.1 (card_in m)) (λ is.
         (result ≡ status.ok) × (room.new ≡ plain_room is))) }
 {
     let line = line as usize;

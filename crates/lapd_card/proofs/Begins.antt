@@ -1,6 +1,5 @@
 -- A card as it begins.
-use Rattle.lapd_card.proofs.Vocabulary.{◌≡◌, ◌≤◌, List, [], ◌∷◌, map, ◌++◌, length, replicate, refl, sym, ap, subst, ◌∙◌, arith, None, Some, Option, Bool, true, false, if◌then◌else◌, none-some, nat_lt, ◌||◌, or_parts, ltb-false, length-replicate, append-nil, All-nil, All-cons, All, AllByRecursion, flat_map, zip, Config, first_fault, fresh_line, fresh, reached-fresh, Holds, Store, used_slots, Holds-unused, used_slots-held, none_counted, LineKind, IsFit, owned, IsFresh, AreFresh, StandsOf, is_too_small, start_fault, fault_by, Field, BadConfig, ShelfTooSmall}
-use Rattle.lapd_card.proofs.OneLine.{IsKind}
+use Rattle.lapd_card.proofs.Vocabulary.{◌≡◌, ◌≤◌, List, [], ◌∷◌, map, ◌++◌, length, replicate, refl, sym, ap, subst, ◌∙◌, arith, None, Some, Option, Bool, true, false, if◌then◌else◌, none-some, nat_lt, ◌||◌, or_parts, ltb-false, length-replicate, append-nil, All-nil, All-cons, All, AllByRecursion, flat_map, zip, Config, first_fault, fresh_line, fresh, reached-fresh, Holds, Store, used_slots, Holds-unused, used_slots-held, none_counted, counters_of, FrameLine, pairs_of, held_of, IsFit, owned, IsFresh, AreFresh, Stands, is_too_small, start_fault, fault_by, Field, BadConfig, ShelfTooSmall}
 
 empty_list : {X : Type 0} (xs : List X) → length xs ≡ 0 → xs ≡ []
 empty_list [] none = refl
@@ -38,33 +37,33 @@ has_room_for c s room =
     let unused : used_slots s ≡ 0 = omega (arith, none_used) in
     (ltb-false s.width c.n201 second.1, ltb-false s.slots c.slots second.0, Holds-unused unused)
 
-module _ {L : Type 0} {k : LineKind L} (kind : IsKind k) (c : Config) (ls : List L) (all : AreFresh k c ls) where
+module _ (c : Config) (ls : List FrameLine) (all : AreFresh c ls) where
   -- nothing is counted of lines as they begin
-  pub none_is_counted : map k.counters_of ls ≡ replicate c.lines none_counted
-  none_is_counted = each_is (IsFresh k c) none_counted k.counters_of (λ l one. one.counters) ls all.each ∙ ap (λ n. replicate n none_counted) all.count
+  pub none_is_counted : map counters_of ls ≡ replicate c.lines none_counted
+  none_is_counted = each_is (IsFresh c) none_counted counters_of (λ l one. one.counters) ls all.each ∙ ap (λ n. replicate n none_counted) all.count
 
   -- a line owns nothing
-  owns_nothing : (s : Store) → c.n201 ≤ s.width → Holds s [] → (l : L) → IsFresh k c l → k.pairs_of l (fresh_line c) ≡ []
+  owns_nothing : (s : Store) → c.n201 ≤ s.width → Holds s [] → (l : FrameLine) → IsFresh c l → pairs_of l (fresh_line c) ≡ []
   owns_nothing s wide none l fresh =
-      let pairs = k.pairs_of l (fresh_line c) in
-      let held = kind.held l s [] (fresh_line c) (fresh.stands s [] wide none) in
+      let pairs = pairs_of l (fresh_line c) in
+      let held = held_of l s [] (fresh_line c) (fresh.stands s [] wide none) in
       empty_list pairs (ap length (sym (append-nil pairs)) ∙ sym (used_slots-held (pairs ++ []) held) ∙ used_slots-held [] none)
 
   -- and they stand, on a shelf that is not too small
-  pub fresh_stands : {S : Type 0} (store : S → Store) (shelf : S) → start_fault c (store shelf) ≡ None → StandsOf k store (record { config = c; lines = ls; shelf = shelf }) (fresh c)
+  pub fresh_stands : {S : Type 0} (store : S → Store) (shelf : S) → start_fault c (store shelf) ≡ None → Stands store (record { config = c; lines = ls; shelf = shelf }) (fresh c)
   fresh_stands store shelf none =
       let s = store shelf in
       let (range, room) = no_fault c s none in
       let (wide, slots, unused) = has_room_for c s room in
-      let fits : (l : L) → IsFresh k c l → IsFit k c (l, fresh_line c) = λ l one. record { config = one.config; store = s; others = []; stands = one.stands s [] wide unused } in
+      let fits : (l : FrameLine) → IsFresh c l → IsFit c (l, fresh_line c) = λ l one. record { config = one.config; store = s; others = []; stands = one.stands s [] wide unused } in
       record {
         config = refl;
         lines = record {
           width = wide;
           count = all.count ∙ sym (length-replicate c.lines (fresh_line c));
-          fit = subst (λ n. All (IsFit k c) (zip ls (replicate n (fresh_line c)))) all.count (each_fits (IsFresh k c) (fresh_line c) (IsFit k c) fits ls all.each);
-          held = subst (λ n. Holds s (flat_map (owned k) (zip ls (replicate n (fresh_line c))) ++ [])) all.count
-              (subst (λ ps. Holds s (ps ++ [])) (sym (none_owned (IsFresh k c) (fresh_line c) (owned k) (owns_nothing s wide unused) ls all.each)) unused);
+          fit = subst (λ n. All (IsFit c) (zip ls (replicate n (fresh_line c)))) all.count (each_fits (IsFresh c) (fresh_line c) (IsFit c) fits ls all.each);
+          held = subst (λ n. Holds s (flat_map owned (zip ls (replicate n (fresh_line c))) ++ [])) all.count
+              (subst (λ ps. Holds s (ps ++ [])) (sym (none_owned (IsFresh c) (fresh_line c) owned (owns_nothing s wide unused) ls all.each)) unused);
         };
         slots = slots;
         reached = reached-fresh c range;

@@ -1,15 +1,15 @@
--- What is counted over a run, and over a list of happenings.
-use Rattle.lapd_card.proofs.Vocabulary.{◌≡◌, ℕ, ◌<◌, ◌==◌, Bool, true, false, cond, List, [], ◌∷◌, ◌++◌, length, length-set, get_or, set, refl, sym, ap, subst, ◌∙◌, eqb-true, eqb-false, get_or-set_same, get_or-set_other, fold-append, Counters, More, none_counted, value_in, with_more, with_all, counters_are_numbers, shown, Card, line_at, Event, after, Moment, moments, after_all, moment_counted, all_counted, moment_of, shown_at, all_shown, CountersAreNumbers, Happening, line_of, events_of, happening_shown, happening_counted, happenings_counted, shown_of, happenings_shown, FrameCountersAreNumbers}
+-- What is counted over a run.
+use Rattle.lapd_card.proofs.Vocabulary.{◌≡◌, ℕ, ◌<◌, ◌==◌, Bool, true, false, cond, List, [], ◌∷◌, ◌++◌, length, length-set, get_or, set, refl, sym, ap, subst, ◌∙◌, eqb-true, eqb-false, get_or-set_same, get_or-set_other, fold-append, Counters, More, none_counted, value_in, with_more, with_all, counters_are_numbers, shown, Card, Event, after, Moment, moments, after_all, moment_counted, all_counted, moment_of, shown_at, all_shown, CountersAreNumbers}
 
 -- what is shown at a line is counted there, and at no other
-pub at_place : (all : List Counters) (line : ℕ) (shows : ℕ → List More) (number : ℕ) → number < length all
-    → get_or (set all line (with_all (get_or all line none_counted) (shows line))) number none_counted ≡ with_all (get_or all number none_counted) (cond (line == number) (shows number) [])
+at_place : (all : List Counters) (line : ℕ) (shows : List More) (number : ℕ) → number < length all
+    → get_or (set all line (with_all (get_or all line none_counted) shows)) number none_counted ≡ with_all (get_or all number none_counted) (cond (line == number) shows [])
 at_place all line shows number within = go (line == number) refl
   where
     here : ℕ → Counters
-    here n = with_all (get_or all n none_counted) (shows n)
+    here n = with_all (get_or all n none_counted) shows
 
-    go : (b : Bool) → (line == number) ≡ b → get_or (set all line (here line)) number none_counted ≡ with_all (get_or all number none_counted) (cond b (shows number) [])
+    go : (b : Bool) → (line == number) ≡ b → get_or (set all line (here line)) number none_counted ≡ with_all (get_or all number none_counted) (cond b shows [])
     go true is =
         ap (λ n. get_or (set all n (here n)) number none_counted) (eqb-true line number is)
         ∙ get_or-set_same all number (here number) none_counted within
@@ -21,7 +21,7 @@ at_places : (all : List Counters) (ms : List Moment) (number : ℕ) → number <
 at_places all [] number within = refl
 at_places all (m ∷ ms) number within =
     at_places (moment_counted all m) ms number (subst (λ n. number < n) (sym (length-set all m.event.line _)) within)
-    ∙ ap (λ k. with_all k (all_shown number ms)) (at_place all m.event.line (λ n. shown m.card.config m.event.what (line_at n m.card) m.answer) number within)
+    ∙ ap (λ k. with_all k (all_shown number ms)) (at_place all m.event.line (shown m.card.config m.event.what m.answer) number within)
     ∙ sym (fold-append with_more (get_or all number none_counted) (shown_at number m) (all_shown number ms))
 
 pub numbers_in_runs : CountersAreNumbers
@@ -34,18 +34,3 @@ pub moments-more : (card : Card) (es : List Event) (e : Event) → moments card 
 unfolding moments after_all
 moments-more card [] e = refl
 moments-more card (x ∷ es) e = ap (λ ms. moment_of card x ∷ ms) (moments-more (after x card) es e)
-
--- so it is of happenings
-frame_places : (all : List Counters) (m : Card) (hs : List Happening) (number : ℕ) → number < length all
-    → get_or (happenings_counted all m hs) number none_counted ≡ with_all (get_or all number none_counted) (happenings_shown number m hs)
-frame_places all m [] number within = refl
-frame_places all m (h ∷ hs) number within =
-    let next = after_all m (events_of m h) in
-    frame_places (happening_counted all m h) next hs number (subst (λ n. number < n) (sym (length-set all (line_of h) _)) within)
-    ∙ ap (λ k. with_all k (happenings_shown number next hs)) (at_place all (line_of h) (λ n. happening_shown m h) number within)
-    ∙ sym (fold-append with_more (get_or all number none_counted) (shown_of number m h) (happenings_shown number next hs))
-
-pub numbers_in_lists : FrameCountersAreNumbers
-numbers_in_lists all m hs number counter within are =
-    ap (λ k. value_in k counter) (frame_places all m hs number within)
-    ∙ counters_are_numbers (get_or all number none_counted) (happenings_shown number m hs) counter are.whole (are.few counter)

@@ -1,11 +1,17 @@
--- Lemmas: one line of a card in a call; what drive and frames_drive have done and counted; rooms.
+-- Lemmas: one line of a card in a call; one port of a card of octets; what drive has done and counted; rooms.
 pub mod Vocabulary
+pub mod Served
 pub mod OneLine
 pub mod OneEvent
 pub mod Begins
 pub mod Headline
 pub mod Amounts
-pub mod OneHappening
 pub mod Counting
 pub mod Taken
+pub mod OnePort
+pub mod OneOctet
+pub mod OctetsBegin
+pub mod OctetHeadline
+pub mod OctetAmounts
+pub mod OctetsTaken
 pub mod Keeping

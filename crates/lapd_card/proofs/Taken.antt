@@ -1,7 +1,6 @@
--- A list of events or happenings, one by one, and what a sink has taken of it.
-use Rattle.lapd_card.proofs.Vocabulary.{◌≡◌, ℕ, ◌+◌, zero, suc, List, [], ◌∷◌, ◌++◌, map, take, refl, sym, ap, subst, ◌∙◌, Some, slice_get, arith, false≢true, none-some, same_Some, is_err, OnOk, append-nil, fold-append, Card, Event, one_more, run, moments, moment_of, moment_counted, all_counted, run_is_moments, after_all, Happening, events_of, spelled, said, replies, after_all-append, Counters, happening_counted, happenings_counted, after_happenings, Taken}
+-- A list of events, one by one, and what a sink has taken of it.
+use Rattle.lapd_card.proofs.Vocabulary.{◌≡◌, ℕ, ◌+◌, zero, suc, List, [], ◌∷◌, ◌++◌, map, take, refl, sym, ap, subst, ◌∙◌, Some, slice_get, arith, false≢true, none-some, same_Some, is_err, OnOk, fold-append, Card, Event, one_more, run, moments, moment_of, moment_counted, all_counted, run_is_moments, after_all, Counters, Taken}
 use Rattle.std.specs.Prelude.{Result, Ok, Err, OnErr, true, false}
-use Rattle.model_card.specs.Happening as happenings
 use Rattle.lapd_card.proofs.Counting.{moments-more}
 
 -- one reply more
@@ -40,35 +39,6 @@ moments-count all m es e =
     ap (all_counted all) (moments-more m es e)
     ∙ fold-append moment_counted all (moments m es) (moment_of (after_all m es) e ∷ [])
     ∙ ap (λ card. moment_counted (all_counted all (moments m es)) (moment_of card e)) (sym (run_is_moments.card m es))
-
--- a list with one happening more leads there,
-pub after-more : (m : Card) (hs : List Happening) (h : Happening) → after_happenings m (hs ++ h ∷ []) ≡ after_all (after_happenings m hs) (events_of (after_happenings m hs) h)
-unfolding after_all
-after-more m [] h = ap (after_all m) (append-nil (events_of m h))
-after-more m (x ∷ hs) h =
-    let next = after_all m (events_of m x) in
-    after_all-append m (events_of m x) (spelled next (hs ++ h ∷ []))
-    ∙ after-more next hs h
-    ∙ ap (λ c. after_all c (events_of c h)) (sym (after_all-append m (events_of m x) (spelled next hs)))
-
--- is answered so,
-pub replies-more : (m : Card) (hs : List Happening) (h : Happening) → replies m (hs ++ h ∷ []) ≡ replies m hs ++ (happenings.line_of h, said (after_happenings m hs) h) ∷ []
-unfolding after_all
-replies-more m [] h = refl
-replies-more m (x ∷ hs) h =
-    let next = after_all m (events_of m x) in
-    ap (λ l. (happenings.line_of x, said m x) ∷ l)
-    (replies-more next hs h ∙ ap (λ c. replies next hs ++ (happenings.line_of h, said c h) ∷ []) (sym (after_all-append m (events_of m x) (spelled next hs))))
-
--- and what it shows is counted
-pub counts-more : (all : List Counters) (m : Card) (hs : List Happening) (h : Happening) → happenings_counted all m (hs ++ h ∷ []) ≡ happening_counted (happenings_counted all m hs) (after_happenings m hs) h
-unfolding after_all
-counts-more all m [] h = refl
-counts-more all m (x ∷ hs) h =
-    let next = after_all m (events_of m x) in
-    let one = happening_counted all m x in
-    counts-more one next hs h
-    ∙ ap (λ c. happening_counted (happenings_counted one next hs) c h) (sym (after_all-append m (events_of m x) (spelled next hs)))
 
 -- what holds where a reply was taken, and where it was not
 pub at_ok : {T E : Type 0} (r : Result T E) (P : Type 0) → is_err r ≡ false → OnOk r P → P

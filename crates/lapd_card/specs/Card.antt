@@ -1,32 +1,22 @@
--- What a card holds.
+-- What a card of octets holds: a card, and a port for each of its lines.
 use Rattle.std.specs.Prelude.{ℕ, List, refl}
 use Rattle.std.specs.Coded.{Coded, code_by, coded×, coded_list}
-use Rattle.model_line.specs.declared.config.Config.{Config}
-use Rattle.model_line.specs.contracts.config.Config as config
-use Rattle.lapd_line.specs.declared.line.Line.{Line}
-use Rattle.lapd_line.specs.contracts.line.Line as line
+use Rattle.lapd_line.specs.declared.port.Port.{Port}
+use Rattle.lapd_line.specs.contracts.port.Port as port
+use Rattle.lapd_card.specs.FrameCard as frame
 
--- Lines of one kind.
-pub record HeldOf (L S : Type 0) : Type 0 where
-  pub config : Config
-  pub lines : List L
-  pub shelf : S
+pub record Held (S : Type 0) : Type 0 where
+  pub frames : frame.Held S
+  pub ports : List Port
 
 -- the same as the tuple of its fields
-abbrev pub code_of : {L S : Type 0} → Coded L → Coded S → Coded (HeldOf L S)
-code_of {L} {S} line shelf =
-    code_by (Config × (List L × S))
-    (coded× config.the_row.coded (coded× (coded_list line) shelf))
-    (λ h. (h.config, (h.lines, h.shelf)))
-    (λ p. record { config = p.0; lines = p.1.0; shelf = p.1.1 })
+abbrev pub held_code : {S : Type 0} → Coded S → Coded (Held S)
+held_code {S} shelf =
+    code_by (frame.Held S × List Port)
+    (coded× (frame.held_code shelf) (coded_list port.the_row.coded))
+    (λ h. (h.frames, h.ports))
+    (λ p. record { frames = p.0; ports = p.1 })
     (λ _. refl)
 
--- A card of octets.
-abbrev pub Held : Type 0 → Type 0
-Held S = HeldOf Line S
-
-abbrev pub held_code : {S : Type 0} → Coded S → Coded (Held S)
-held_code shelf = code_of line.the_row.coded shelf
-
-abbrev pub line_count : {L S : Type 0} → HeldOf L S → ℕ
-line_count card = card.config.lines
+abbrev pub line_count : {S : Type 0} → Held S → ℕ
+line_count card = card.frames.config.lines

@@ -1,18 +1,21 @@
--- Whole lists of events, and what a sink takes of them.
---
--- `drive` comes to its clauses in four steps. One line: its contract speaks of every past and of every list of what
--- others own on the shelf, so it is taken out of the list of lines, changed, and put back (`proofs/OneLine.antt`).
--- One event: it is one of its line; where it finds the pool full, the slots in use on the shelf are those that the
--- machine counts (`proofs/OneEvent.antt`). A list: the loop keeps that the configuration stays, that the sink has
--- not failed, that the card stands for the machine of the run so far, and that the sink has taken the replies of
--- that run. The laws: they speak of the machine alone, and the card stands for it.
-use Rattle.std.specs.Prelude.{◌≡◌, ℕ, List, [], ◌∷◌, map, take, slice_get, Option, Some, None}
-use Rattle.model_line.specs.Event.{Answer}
-use Rattle.model_card.specs.declared.events.Event as rust
-use Rattle.model_card.specs.Card.{Card}
-use Rattle.model_card.specs.Event.{Event, event_of}
-use Rattle.model_card.specs.Machine.{answer}
-use Rattle.model_card.specs.Run.{run}
+-- Whole lists of events at a card of octets, and what a sink takes of them. What is promised of frames is said of what the
+-- events mean to the card of frames inside (`Codec` of `model_ports`); here are the words of what is left.
+use Rattle.std.specs.Prelude.{◌≡◌, ◌↔◌, ℕ, ◌<◌, List, map, take, slice_get, Option, Some, None, IsSome}
+use Rattle.lapd_frame.specs.declared.refusals.Refusal.{Refusal}
+use Rattle.model_card.specs.Card as frames
+use Rattle.model_card.specs.ByEvent as frames_by
+use Rattle.model_card.specs.Counted.{moment_of}
+use Rattle.model_card.specs.Counts.{may_send}
+use Rattle.model_card.specs.Event as frame_event
+use Rattle.model_line.specs.Refusal.{refusal}
+use Rattle.model_line.specs.Request.{Request}
+use Rattle.model_ports.specs.declared.events.Event as rust
+use Rattle.model_ports.specs.Card.{OctetCard, port_at, meant, after, answer}
+use Rattle.model_ports.specs.Codec.{IsTextOf, PortGoesOn}
+use Rattle.model_ports.specs.Event.{Event, at, event_of}
+use Rattle.model_ports.specs.Port.{Answer, request, refused}
+use Rattle.model_ports.specs.Run.{run, after_all}
+use Rattle.lapd_card.specs.Sink.{Taken}
 
 abbrev pub line_of : rust.Event → ℕ
 line_of event = (event_of event).line
@@ -20,17 +23,38 @@ line_of event = (event_of event).line
 abbrev pub events_of : List rust.Event → List Event
 events_of events = map event_of events
 
--- A sink has taken these replies, one after the other.
-abbrev pub Taken : {R K : Type 0} → (K → ℕ → R → K → Type 0) → K → List (ℕ × R) → K → Type 0
-Taken takes old [] new = new ≡ old
-Taken {R} {K} takes old ((line, reply) ∷ replies) new = (next : K) × takes old line reply next × Taken takes next replies new
-
 -- It has taken the replies to the events before one, and has missed the reply to that event.
-abbrev pub MissesReply : {K : Type 0} → (K → ℕ → Answer → K → Type 0) → Card → Option Event → K → K → Type 0
+abbrev pub MissesReply : {K : Type 0} → (K → ℕ → Answer → K → Type 0) → OctetCard → Option Event → K → K → Type 0
 MissesReply misses m None old new = ⊥
 MissesReply misses m (Some event) old new = misses old event.line (answer event m) new
 
-pub record MissesAt {K : Type 0} (takes misses : K → ℕ → Answer → K → Type 0) (m : Card) (events : List Event) (at : ℕ) (old new : K) : Type 0 where
+pub record MissesAt {K : Type 0} (takes misses : K → ℕ → Answer → K → Type 0) (m : OctetCard) (events : List Event) (at : ℕ) (old new : K) : Type 0 where
   pub before : K
   pub taken : Taken takes old (run m (take at events)).replies before
   pub missed : MissesReply misses (run m (take at events)).card (slice_get events at) before new
+
+-- An event costs what its meaning does (`IsPriced` of `model_card`); what means nothing costs nothing.
+abbrev pub CostsAs : Event → OctetCard → Option frame_event.Event → Type 0
+CostsAs e m None = may_send (after e m).card ≡ may_send m.card
+CostsAs e m (Some f) = frames_by.IsPriced (moment_of m.card f)
+
+abbrev pub IsPriced : Event → OctetCard → Type 0
+IsPriced e m = CostsAs e m (meant e m)
+
+-- A request is refused exactly where a row of the table of refusals holds, for the reason of the first that does; and then
+-- nothing changes.
+pub record RefusedByTheTable : Type 0 where
+  pub refused_exactly : (m : OctetCard) (number : ℕ) (r : Request) (why : Refusal) →
+      (answer (at number (request r)) m ≡ refused why)
+      ↔ (refusal m.card.config (frames.is_full m.card) r (frames.line_at number m.card) ≡ Some why)
+  pub unchanged : (m : OctetCard) (number : ℕ) (r : Request) →
+      IsSome (refusal m.card.config (frames.is_full m.card) r (frames.line_at number m.card)) → after (at number (request r)) m ≡ m
+
+-- The octets pulled of each line, after those given before, are a beginning of one text of flags and whole frames, whose
+-- frames are those that the card of frames gave there, in order; and what was heard is what stands in the octets received.
+pub record IsTextualAt (m : OctetCard) (events : List Event) (number : ℕ) : Type 0 where
+  pub goes_on : PortGoesOn m events number
+  pub text : IsTextOf (port_at number (after_all m events))
+
+abbrev pub IsTextual : OctetCard → List Event → Type 0
+IsTextual m events = (number : ℕ) → number < m.card.config.lines → IsTextualAt m events number

@@ -1,32 +1,34 @@
--- What a card for frames holds.
-use Rattle.std.specs.Prelude.{◌≡◌, ℕ, ◌+◌, ◌*◌, refl}
-use Rattle.std.specs.Coded.{Coded}
+-- What a card holds.
+use Rattle.std.specs.Prelude.{◌≡◌, ℕ, ◌+◌, List, refl}
+use Rattle.std.specs.Coded.{Coded, code_by, coded×, coded_list}
 use Rattle.lapd_frame.specs.declared.addresses.Side.TheVariants.{Network}
+use Rattle.model_card.specs.Stored.{limit}
 use Rattle.model_line.specs.declared.config.Config.{Config}
+use Rattle.model_line.specs.contracts.config.Config as config
 use Rattle.lapd_line.specs.declared.frame_line.FrameLine.{FrameLine}
 use Rattle.lapd_line.specs.contracts.frame_line.FrameLine as line
-use Rattle.lapd_card.specs.Card.{HeldOf, code_of}
-pub use Rattle.lapd_card.specs.Card.{line_count}
 
-abbrev pub Held : Type 0 → Type 0
-Held S = HeldOf FrameLine S
+pub record Held (S : Type 0) : Type 0 where
+  pub config : Config
+  pub lines : List FrameLine
+  pub shelf : S
 
+-- the same as the tuple of its fields
 abbrev pub held_code : {S : Type 0} → Coded S → Coded (Held S)
-held_code shelf = code_of line.the_row.coded shelf
+held_code {S} shelf =
+    code_by (Config × (List FrameLine × S))
+    (coded× config.the_row.coded (coded× (coded_list line.the_row.coded) shelf))
+    (λ h. (h.config, (h.lines, h.shelf)))
+    (λ p. record { config = p.0; lines = p.1.0; shelf = p.1.1 })
+    (λ _. refl)
+
+abbrev pub line_count : {S : Type 0} → Held S → ℕ
+line_count card = card.config.lines
 
 -- Room for every frame of the card: a header, and N201 octets.
 abbrev pub room_for_frames : {S : Type 0} → Held S → ℕ
 room_for_frames card = card.config.n201 + 4
 
--- The most octets that it stores (profile). For each line: four octets for each control frame that waits, of two links for
--- each TEI; eight for each of four management messages; and three for each of four assignments that are remembered. For
--- each slot: the contents. It is the limit of a card of octets without the frames on their way.
-abbrev pub frame_limit_in : Config → ℕ
-frame_limit_in c = 8 * c.control * c.terminals + 32 + 12
-
-abbrev pub frame_limit : Config → ℕ
-frame_limit c = c.lines * frame_limit_in c + c.slots * c.n201
-
--- Eight terminals, four control frames, N201 of 260 and 64 slots.
-few_octets : frame_limit (record { lines = 1; terminals = 8; k = 7; k16 = 7; queue = 8; unit_queue = 4; control = 4; slots = 64; n201 = 260; n200 = 3; side = Network }) ≡ 16940
+-- What a card may store, of eight terminals, four control frames, N201 of 260 and 64 slots.
+few_octets : limit (record { lines = 1; terminals = 8; k = 7; k16 = 7; queue = 8; unit_queue = 4; control = 4; slots = 64; n201 = 260; n200 = 3; side = Network }) ≡ 16940
 few_octets = refl

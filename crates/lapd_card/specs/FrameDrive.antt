@@ -1,38 +1,37 @@
--- Whole lists of happenings at a card for frames, and what a sink takes of them.
+-- Whole lists of events at a card, and what a sink takes of them.
+--
+-- `drive` comes to its clauses in four steps. One line: its contract speaks of every past and of every list of what
+-- others own on the shelf, so it is taken out of the list of lines, changed, and put back (`proofs/OneLine.antt`).
+-- One event: it is one of its line; where it finds the pool full, the slots in use on the shelf are those that the
+-- machine counts (`proofs/OneEvent.antt`). A list: the loop keeps that the configuration stays, that the sink has
+-- not failed, that the card stands for the machine of the run so far, and that the sink has taken the replies of
+-- that run. The laws: they speak of the machine alone, and the card stands for it.
 use Rattle.std.specs.Prelude.{ℕ, List, map, take, slice_get, Option, Some, None}
-use Rattle.model_line.specs.Request.{request_of}
+use Rattle.model_line.specs.Event.{Answer}
+use Rattle.model_card.specs.declared.events.FrameEvent as rust
 use Rattle.model_card.specs.Card.{Card}
-use Rattle.model_card.specs.Run.{after_all}
-use Rattle.model_card.specs.Happening as happenings
-use Rattle.model_card.specs.Happening.{Happening, spelled}
-use Rattle.model_card.specs.Said.{Said, said, replies}
-use Rattle.lapd_card.specs.declared.happenings.Happening as rust
-pub use Rattle.lapd_card.specs.Drive.{Taken}
+use Rattle.model_card.specs.Event.{Event, event_of}
+use Rattle.model_card.specs.Machine.{answer}
+use Rattle.model_card.specs.Run.{run}
+use Rattle.lapd_card.specs.Sink.{Taken}
 
--- A happening, its octets and contents seen without references.
-abbrev pub happening_of : rust.Happening → Happening
-happening_of (rust.TheVariants.Comes line octets) = happenings.comes line octets.now
-happening_of (rust.TheVariants.Failed line fault) = happenings.failed line fault
-happening_of (rust.TheVariants.Goes line) = happenings.goes line
-happening_of (rust.TheVariants.Expires line timer) = happenings.expires line timer
-happening_of (rust.TheVariants.Asks line request) = happenings.asks line (request_of request)
+abbrev pub line_of : rust.FrameEvent → ℕ
+line_of (rust.TheVariants.Frame line octets) = line
+line_of (rust.TheVariants.Failed line fault) = line
+line_of (rust.TheVariants.Next line) = line
+line_of (rust.TheVariants.Expire line timer) = line
+line_of (rust.TheVariants.Request line request) = line
 
-abbrev pub line_of : rust.Happening → ℕ
-line_of h = happenings.line_of (happening_of h)
+-- At a card whose information fields have at most `n201` octets.
+abbrev pub events_of : ℕ → List rust.FrameEvent → List Event
+events_of n201 events = map (event_of n201) events
 
-abbrev pub all_of : List rust.Happening → List Happening
-all_of hs = map happening_of hs
-
--- The card after a list of happenings.
-abbrev pub after_happenings : Card → List Happening → Card
-after_happenings m hs = after_all m (spelled m hs)
-
--- It has taken the replies to the happenings before one, and has missed the reply to that.
-abbrev pub MissesReply : {K : Type 0} → (K → ℕ → Said → K → Type 0) → Card → Option Happening → K → K → Type 0
+-- It has taken the replies to the events before one, and has missed the reply to that event.
+abbrev pub MissesReply : {K : Type 0} → (K → ℕ → Answer → K → Type 0) → Card → Option Event → K → K → Type 0
 MissesReply misses m None old new = ⊥
-MissesReply misses m (Some h) old new = misses old (happenings.line_of h) (said m h) new
+MissesReply misses m (Some event) old new = misses old event.line (answer event m) new
 
-pub record MissesAt {K : Type 0} (takes misses : K → ℕ → Said → K → Type 0) (m : Card) (hs : List Happening) (at : ℕ) (old new : K) : Type 0 where
+pub record MissesAt {K : Type 0} (takes misses : K → ℕ → Answer → K → Type 0) (m : Card) (events : List Event) (at : ℕ) (old new : K) : Type 0 where
   pub before : K
-  pub taken : Taken takes old (replies m (take at hs)) before
-  pub missed : MissesReply misses (after_happenings m (take at hs)) (slice_get hs at) before new
+  pub taken : Taken takes old (run m (take at events)).replies before
+  pub missed : MissesReply misses (run m (take at events)).card (slice_get events at) before new

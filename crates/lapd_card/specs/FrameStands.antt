@@ -1,22 +1,30 @@
--- What a card for frames holds of its past, which is that of a card of octets: those that its frames and faults mean.
+-- What a card holds of its past.
+use Rattle.std.specs.Prelude.{◌≡◌, ◌≤◌}
 use Rattle.model_card.specs.Card as machine
-use Rattle.model_card.specs.Run.{after_all}
-use Rattle.model_card.specs.Happening.{Happening, events_of}
+use Rattle.model_card.specs.Counted.{moment_counted, moment_of}
+use Rattle.model_card.specs.Event.{Event}
+use Rattle.model_card.specs.Machine.{after}
+use Rattle.model_card.specs.Reached.{IsReached}
+use Rattle.lapd_card.specs.Counted.{counters_in}
 use Rattle.lapd_card.specs.FrameCard.{Held}
-use Rattle.model_card.specs.HappeningsCounted.{happening_counted}
-use Rattle.lapd_card.specs.Lines.{of_frames}
-use Rattle.lapd_card.specs.Stands.{StandsOf, HasPastOf, LeadsOf}
+use Rattle.lapd_card.specs.Lines.{LinesStand}
 use Rattle.lapd_store.specs.Store.{Store}
 
--- A card stands for a machine, each of whose lines is idle (`FrameStands` of `lapd_line`), as a card of octets does.
-abbrev pub Stands : {S : Type 0} → (S → Store) → Held S → machine.Card → Type 0
-Stands store card m = StandsOf of_frames store card m
+-- A card stands for a machine: it has its configuration, and its lines stand for the machine's over its shelf, which
+-- has as many slots as the configuration says, or more; and the machine is one that a list of events reaches.
+pub record Stands {S : Type 0} (store : S → Store) (card : Held S) (m : machine.Card) : Type 0 where
+  pub config : m.config ≡ card.config
+  pub lines : LinesStand card.config card.lines (store card.shelf) m.lines
+  pub slots : card.config.slots ≤ (store card.shelf).slots
+  pub reached : IsReached m
 
 -- There is a machine for which it stands.
 abbrev pub HasPast : {S : Type 0} → (S → Store) → Held S → Type 0
-HasPast store card = HasPastOf of_frames store card
+HasPast store card = (m : machine.Card) × Stands store card m
 
--- What happens leads a card from one value to another: for every machine for which the card stood, it stands for that
--- machine after the events that this means. At its line what it shows is counted, and on no other line anything.
-abbrev pub Leads : {S : Type 0} → (S → Store) → Happening → Held S → Held S → Type 0
-Leads store h old new = LeadsOf of_frames store (λ m. after_all m (events_of m h)) (λ all m. happening_counted all m h) old new
+-- An event leads a card from one value to another: for every machine for which the card stood, it stands for that machine
+-- after the event. At its line what it shows is counted, and on no other line anything.
+pub record Leads {S : Type 0} (store : S → Store) (event : Event) (old new : Held S) : Type 0 where
+  pub config : new.config ≡ old.config
+  pub stands : (m : machine.Card) → Stands store old m → Stands store new (after event m)
+  pub counted : (m : machine.Card) → Stands store old m → counters_in new.lines ≡ moment_counted (counters_in old.lines) (moment_of m event)

@@ -4,7 +4,7 @@
 -- `keep_replies` of `test_card` hands it to `drive` and concludes from the contracts alone: after `Ok` it keeps the
 -- answers of all moments of the run, in order, and after a fault exactly those before the one that it missed.
 use Rattle.std.specs.Prelude.{◌≡◌, ℕ, ◌<◌, ◌≤◌, List, [], ◌∷◌, ◌++◌, length, map, Option, option_map, IfSome, vec_capacity, ⊤}
-use Rattle.model_line.specs.Event.{Answer, told, refused, pulled}
+use Rattle.model_ports.specs.Port.{Answer, told, refused, pulled}
 use Rattle.lapd_card.specs.declared.kept.Kept.{Kept}
 use Rattle.lapd_card.specs.declared.kept.KeptReply.{KeptReply}
 use Rattle.lapd_card.specs.Reply.{answer_of}

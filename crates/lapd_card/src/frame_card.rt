@@ -1,27 +1,34 @@
-//! The card for frames: one call a happening.
+//! The card: one call an event.
 
-ghost use Rattle.std.specs.Prelude.{◌≡◌, ◌+◌, ◌≤◌, ◌<◌, ◌↔◌, length, drop, sum_by, Some, None, IfOk, IfErr, IfSome, IfNone, Err, IsErr, IsOkUnless, OnOk, OnErr, get_or};
+ghost use Rattle.std.specs.Prelude.{◌≡◌, ◌+◌, ◌≤◌, ◌<◌, ◌↔◌, length, drop, Some, None, IsSome, IsTrue, IfOk, IfErr, IfSome, IsErr, OnOk, OnErr, get_or};
 ghost use Rattle.lapd_count.specs.Counters.{none_counted};
-ghost use Rattle.model_card.specs.ByEvent.{ArePriced, RisesByExpiry, RisesByRequest};
+ghost use Rattle.lapd_line.specs.Reports.{report_told, told_in, octets_of, gave_in, written};
+ghost use Rattle.model_bits.specs.Heard.{heard_of};
+ghost use Rattle.model_bits.specs.Stream as stream;
+ghost use Rattle.model_card.specs.ByEvent.{RisesByHeard, RisesByExpiry, RisesByRequest, FallsByNext};
 ghost use Rattle.model_card.specs.Card as machine;
+ghost use Rattle.model_card.specs.Event.{at};
+ghost use Rattle.model_card.specs.Machine.{answer};
 ghost use Rattle.model_card.specs.Room.{room, RefusesBy};
-ghost use Rattle.model_card.specs.Stored.{stored, limit};
-ghost use Rattle.model_line.specs.Event.{told};
-ghost use Rattle.model_line.specs.Pull.{taken};
+ghost use Rattle.model_card.specs.Stored.{stored};
+ghost use Rattle.model_card.specs.Stored as frame_limits;
+ghost use Rattle.model_line.specs.Came.{came, cause_of};
+ghost use Rattle.model_line.specs.Event as line_event;
+ghost use Rattle.model_line.specs.Event.{told, hears, expiry, next};
 ghost use Rattle.model_line.specs.Refusal.{refusal};
 ghost use Rattle.model_line.specs.Request.{request_of};
-ghost use Rattle.model_line.specs.Stored.{held_sent};
+ghost use Rattle.model_line.specs.Taken.{taken};
 ghost use Rattle.model_link.specs.Told.{starts};
-ghost use Rattle.model_card.specs.Happening.{comes, failed, goes, expires, asks, events_of};
-ghost use Rattle.model_card.specs.Said.{says, said};
-ghost use Rattle.lapd_line.specs.FrameStands.{IsNext, written};
-ghost use Rattle.lapd_line.specs.Reports.{report_told};
+ghost use Rattle.model_ports.specs.Stored.{limit};
+ghost use Rattle.lapd_line.specs.Ports.{IsLoaded};
+ghost use Rattle.lapd_line.specs.Pulls.{orders_taken};
 
 use crate::stored::frame_limit;
 use lapd_count::Counters;
-use lapd_frame::{Refusal, Service, Timer};
-use lapd_line::{Config, FrameLine, NextFrame, Report, Request, Room};
+use lapd_frame::{Order, Refusal, Service, ShortList, Timer};
+use lapd_line::{BareReport, Config, FrameLine, NextFrame, Port, Report, Request, Room};
 use lapd_store::Shelf;
+use model_bits::Heard;
 use model_line::Fault;
 use std::marker::Model;
 use thiserror::Error;
@@ -34,12 +41,11 @@ pub struct RoomTooSmall {
     pub room: usize,
 }
 
-/// A line card over a shelf for the contents that wait, whose lines' flags, stuffed 0s and checks are a controller's:
-/// it takes and gives whole frames, from the address to the information.
+/// A line card over a shelf for the contents that wait: it takes and gives whole frames, from the address to the information.
 ///
-/// It is a card of octets, [`crate::Card`], at whose lines no other octets come than those which frames and faults
-/// mean. All memory is taken by [`FrameCard::start`]; no other call takes any. Lines are counted from 0, and each call
-/// but `state` needs one that the card has.
+/// Flags, stuffed 0s and checks are a controller's, or those of the ports of a [`Card`](crate::Card). All memory is taken by
+/// [`FrameCard::start`]; no other call takes any. Lines are counted from 0, and each call but `state` needs one that the card
+/// has.
 #[derive(Debug, Drop)]
 pub struct FrameCard<S: Shelf> {
     pub(crate) config: Config,
@@ -62,10 +68,10 @@ impl<S: Shelf> Model for FrameCard<S> {
 }
 
 impl<S: Shelf> FrameCard<S> {
-    ghost use Rattle.lapd_card.specs.Counted.{frame_counters_in};
-    ghost use Rattle.lapd_card.specs.FrameCard.{line_count, room_for_frames, frame_limit};
+    ghost use Rattle.lapd_card.specs.Counted.{counters_in};
+    ghost use Rattle.lapd_card.specs.FrameCard.{line_count, room_for_frames};
+    ghost use Rattle.lapd_card.specs.FrameReply.{answer_of_result};
     ghost use Rattle.lapd_card.specs.FrameStands.{Stands, Leads};
-    ghost use Rattle.lapd_card.specs.Reply.{answer_of_result};
 
     /// How many lines the card has: 1 to 64.
     pub fn lines(&self) -> usize
@@ -87,10 +93,10 @@ impl<S: Shelf> FrameCard<S> {
     pub fn frame<'a>(&mut self, line: usize, octets: &'a [u8]) -> Report<'a>
         requires { line < line_count self.old }
         ensures told { (m : machine.Card) → Stands S.store self.old m
-            → says (told (report_told result)) ≡ said m (comes line octets.now) }
-        ensures after { Leads S.store (comes line octets.now) self.old self.new }
+            → told (report_told result) ≡ answer (at line (hears (came self.old.config.n201 octets.now))) m }
+        ensures after { Leads S.store (at line (hears (came self.old.config.n201 octets.now))) self.old self.new }
         // What may be sent rises by two at most for the frame, and by k more where that is an REJ with a valid N(R).
-        ensures frames { (m : machine.Card) → Stands S.store self.old m → ArePriced m (events_of m (comes line octets.now)) }
+        ensures frames { (m : machine.Card) → Stands S.store self.old m → RisesByHeard line (came self.old.config.n201 octets.now) m }
     {
         self.lines[line].frame(octets, &mut self.shelf)
     }
@@ -100,10 +106,22 @@ impl<S: Shelf> FrameCard<S> {
     pub fn failed(&mut self, line: usize, fault: Fault) -> Report<'static>
         requires { line < line_count self.old }
         ensures told { (m : machine.Card) → Stands S.store self.old m
-            → says (told (report_told result)) ≡ said m (failed line fault) }
-        ensures after { Leads S.store (failed line fault) self.old self.new }
+            → told (report_told result) ≡ answer (at line (hears (stream.dropped (cause_of fault)))) m }
+        ensures after { Leads S.store (at line (hears (stream.dropped (cause_of fault)))) self.old self.new }
     {
         self.lines[line].failed(fault)
+    }
+
+    /// Takes what the port of a line has heard, and answers without references.
+    #[inline(always)]
+    pub(crate) fn heard(&mut self, line: usize, heard: Heard<'_>) -> BareReport
+        requires within { line < line_count self.old }
+        requires something { IsSome (heard_of heard) }
+        ensures told { IfSome (heard_of heard.entry) (λ e. (m : machine.Card) → Stands S.store self.old m
+            → told (told_in (octets_of (heard_of heard.entry)) result) ≡ answer (at line (hears e)) m) }
+        ensures after { IfSome (heard_of heard.entry) (λ e. Leads S.store (at line (hears e)) self.old self.new) }
+    {
+        self.lines[line].heard(heard, &mut self.shelf)
     }
 
     /// Writes the next frame to be sent on a line in front of `out`, from its address to its information, without its
@@ -124,13 +142,14 @@ impl<S: Shelf> FrameCard<S> {
         ensures room { IfErr result (λ fault. fault.room ≡ room_for_frames self.old) }
         ensures unchanged { OnErr result (self.new ≡ self.old) }
         ensures unwritten { OnErr result (out.new ≡ out.old) }
-        ensures gives { IfOk result (λ next. (m : machine.Card) → Stands S.store self.old m
-            → IsNext (taken m.config (machine.line_at line m)) next out.new) }
-        ensures rest { IfOk result (λ next. drop (written next) out.new ≡ drop (written next) out.old) }
+        ensures gave { IfOk result (λ given. (m : machine.Card) → Stands S.store self.old m
+            → gave_in out.new given ≡ answer (at line next) m) }
+        ensures fits { IfOk result (λ given. written given ≤ length out.new) }
+        ensures rest { IfOk result (λ given. drop (written given) out.new ≡ drop (written given) out.old) }
         ensures length { length out.new ≡ length out.old }
-        ensures after { OnOk result (Leads S.store (goes line) self.old self.new) }
-        // Where it takes a frame, what may be sent falls by one or two; else it stays.
-        ensures frames { (m : machine.Card) → Stands S.store self.old m → ArePriced m (events_of m (goes line)) }
+        ensures after { OnOk result (Leads S.store (at line next) self.old self.new) }
+        // Where it gives a frame, what may be sent falls by one or two; else it stays.
+        ensures frames { (m : machine.Card) → Stands S.store self.old m → FallsByNext line m }
     {
         let room = self.frame_room();
         if out.len() < room {
@@ -143,21 +162,43 @@ impl<S: Shelf> FrameCard<S> {
     pub(crate) fn give(&mut self, line: usize, out: &mut [u8]) -> Option<NextFrame>
         requires within { line < line_count self.old }
         requires room { room_for_frames self.old ≤ length out.old }
-        ensures gives { (m : machine.Card) → Stands S.store self.old m
-            → IsNext (taken m.config (machine.line_at line m)) result out.new }
+        ensures gave { (m : machine.Card) → Stands S.store self.old m → gave_in out.new result ≡ answer (at line next) m }
+        ensures fits { written result ≤ length out.new }
         ensures rest { drop (written result) out.new ≡ drop (written result) out.old }
         ensures length { length out.new ≡ length out.old }
-        ensures after { Leads S.store (goes line) self.old self.new }
+        ensures after { Leads S.store (at line next) self.old self.new }
     {
         self.lines[line].next_frame(out, &mut self.shelf)
+    }
+
+    /// Loads the next frame of a line into its port, and answers its orders for timers; none where no frame waits.
+    #[inline(always)]
+    pub(crate) fn load_next(&mut self, line: usize, port: &mut Port) -> Option<ShortList<Order>>
+        requires within { line < line_count self.old }
+        requires few { length port.old.framer.left < 8 }
+        requires room { port.old.framer.room ≡ self.old.config.n201 }
+        ensures loaded { (m : machine.Card) → Stands S.store self.old m
+            → IsLoaded (answer (at line next) m) (orders_taken result) port.old port.new }
+        ensures after { Leads S.store (at line next) self.old self.new }
+    {
+        self.lines[line].load_next(port, &mut self.shelf)
+    }
+
+    /// Whether it is known that no frame of a line waits. Where it is not, there may be none, too.
+    #[inline(always)]
+    pub(crate) fn is_quiet(&self, line: usize) -> bool
+        requires { line < line_count self.now }
+        ensures { (m : machine.Card) → Stands S.store self.now m → IsTrue result → taken m.config (machine.line_at line m) ≡ None }
+    {
+        self.lines[line].is_quiet()
     }
 
     /// A timer of a line expired. One that does not run has no effect, and nothing is reported.
     pub fn expire(&mut self, line: usize, timer: Timer) -> Report<'static>
         requires { line < line_count self.old }
         ensures told { (m : machine.Card) → Stands S.store self.old m
-            → says (told (report_told result)) ≡ said m (expires line timer) }
-        ensures after { Leads S.store (expires line timer) self.old self.new }
+            → told (report_told result) ≡ answer (at line (expiry timer)) m }
+        ensures after { Leads S.store (at line (expiry timer)) self.old self.new }
         // It starts one timer at most, so applying the orders of what falls due comes to an end.
         ensures starts { starts (report_told result).orders ≤ 1 }
         // What may be sent rises by k + 1 where the timer was running, else by nothing.
@@ -180,8 +221,8 @@ impl<S: Shelf> FrameCard<S> {
         ensures accepted { IfOk result (λ report. (m : machine.Card) → Stands S.store self.old m
             → refusal m.config (machine.is_full m) (request_of request.entry) (machine.line_at line m) ≡ None) }
         ensures told { (m : machine.Card) → Stands S.store self.old m
-            → says (answer_of_result result) ≡ said m (asks line (request_of request.entry)) }
-        ensures after { Leads S.store (asks line (request_of request.entry)) self.old self.new }
+            → answer_of_result result ≡ answer (at line (line_event.request (request_of request.entry))) m }
+        ensures after { Leads S.store (at line (line_event.request (request_of request.entry))) self.old self.new }
         // What may be sent rises by one where it is accepted, else by nothing.
         ensures frames { (m : machine.Card) → Stands S.store self.old m → RisesByRequest line (request_of request.entry) m }
     {
@@ -200,7 +241,9 @@ impl<S: Shelf> FrameCard<S> {
         }
     }
 
-    /// How much room the link of a service with this TEI has for contents, as [`Card::room`] tells it.
+    /// How much room the link of a service with this TEI has for contents: the places of its queue that are left, and the
+    /// slots that are free for all; and its V(A). Whoever was refused for want of room asks again once there is some. Each
+    /// contents that is acknowledged gives its place and its slot back, and moves V(A) on by one.
     ///
     /// # Errors
     ///
@@ -208,28 +251,30 @@ impl<S: Shelf> FrameCard<S> {
     pub fn room(&self, line: usize, service: Service, tei: u8) -> Result<Room, Refusal>
         requires { line < line_count self.now }
         ensures told { (m : machine.Card) → Stands S.store self.now m → result ≡ room line service tei m }
-        // A request to send contents that are not too long is refused for room exactly by it.
+        // In state 7 or 8 a request to send contents that are not too long is refused for a full queue exactly where no place
+        // is left, and else for a full pool exactly where no slot is.
         ensures refuses { (m : machine.Card) → Stands S.store self.now m
             → IfOk result (λ room. RefusesBy room line service tei m) }
     {
         self.lines[line].room(service, tei, &self.shelf, u32::from(self.config.slots))
     }
 
-    /// What was counted of a line since the card's start, as [`Card::counters`] has it: a frame as it is heard when it
-    /// comes, a fault under its cause, and a frame that was given as begun.
+    /// What was counted of a line since the card's start: frames each way, drops by their causes, what was told, and what was
+    /// lost. A request that is refused is not counted. All memory for it was taken at the start, and none of it is among the
+    /// octets that [`FrameCard::stored`] tells.
     pub fn counters(&self, line: usize) -> &Counters
         requires { line < line_count self.now }
-        ensures { result.now ≡ get_or (frame_counters_in self.now.lines) line none_counted }
+        ensures { result.now ≡ get_or (counters_in self.now.lines) line none_counted }
     {
         self.lines[line].counters()
     }
 
     /// How many octets the card stores now: of control frames and messages that wait, of assignments that are
-    /// remembered, and of contents in slots. It keeps nothing of the frames that come and go: it is a card of octets
-    /// except for what that holds of frames on their way. They are never more than [`FrameCard::frame_limit`] says.
+    /// remembered, and of contents in slots. It keeps nothing of the frames that come and go. They are never more than
+    /// [`FrameCard::frame_limit`] says.
     pub fn stored(&self) -> u32
-        ensures octets { (m : machine.Card) → Stands S.store self.now m → result + sum_by held_sent m.lines ≡ stored m }
-        ensures few { result ≤ frame_limit self.now.config }
+        ensures octets { (m : machine.Card) → Stands S.store self.now m → result ≡ stored m }
+        ensures few { result ≤ frame_limits.limit self.now.config }
     {
         let mut held = 0;
         for line in &self.lines {
@@ -247,7 +292,7 @@ impl<S: Shelf> FrameCard<S> {
 
     /// How many octets the card stores at most, whatever happens: [`frame_limit`] of its configuration.
     pub fn frame_limit(&self) -> u32
-        ensures { result ≡ frame_limit self.now.config }
+        ensures { result ≡ frame_limits.limit self.now.config }
     {
         frame_limit(&self.config)
     }

@@ -1,150 +1,141 @@
-//! A whole list of happenings at a card for frames, with the replies handed to a sink.
+//! A whole list of events at a card, with the replies handed to a sink.
 
 ghost use Rattle.std.specs.Prelude.{◌≡◌, ◌<◌, ◌+◌, ℕ, length, take, All, IfOk, IfErr, OnOk, OnErr};
 ghost use Rattle.model_card.specs.Card as machine;
 ghost use Rattle.model_card.specs.ByEvent.{ArePriced};
+ghost use Rattle.model_card.specs.Counted.{all_counted, CountersAreNumbers};
 ghost use Rattle.model_card.specs.Drops.{AreDropsWithoutCost, AreDropsWithoutEffect};
+ghost use Rattle.model_card.specs.Event.{at, event_of};
 ghost use Rattle.model_card.specs.Laws.{RefusedByTheTable, RunIsMoments};
-ghost use Rattle.model_card.specs.Promises.{IsWithinLimit, IsAmortised, IsAmortisedFromZero, HasSixOctetsAFrame, HasSevenOctetsAReject, IsLinear, IsIsolated, IsNeverFull, IsNumbered, IsNumberedFromZero, IsTextual};
+ghost use Rattle.model_card.specs.Machine.{answer};
+ghost use Rattle.model_card.specs.Promises.{IsWithinLimit, IsAmortised, IsAmortisedFromZero, AreRejectsLong, IsIsolated, IsNeverFull, IsNumbered, IsNumberedFromZero};
+ghost use Rattle.model_card.specs.Run.{run, moments};
+ghost use Rattle.model_line.specs.Event as line_event;
 ghost use Rattle.model_line.specs.Request.{request_of};
-ghost use Rattle.model_card.specs.HappeningLaws.{AnswersSayIt};
-ghost use Rattle.model_card.specs.Happening.{spelled, goes, asks, AreIdle};
-ghost use Rattle.model_card.specs.Said.{said, replies};
+ghost use Rattle.lapd_card.specs.Counted.{counters_in};
 ghost use Rattle.lapd_card.specs.FrameCard.{line_count};
-ghost use Rattle.lapd_card.specs.Counted.{frame_counters_in};
-ghost use Rattle.model_card.specs.HappeningsCounted.{happenings_counted, FrameCountersAreNumbers};
-ghost use Rattle.lapd_card.specs.FrameDrive.{happening_of, line_of, all_of, after_happenings, Taken, MissesAt};
+ghost use Rattle.lapd_card.specs.FrameDrive.{line_of, events_of, MissesAt};
 ghost use Rattle.lapd_card.specs.FrameStands.{Stands, Leads};
-ghost use Rattle.lapd_card.specs.Sink.{one_failure_more};
+ghost use Rattle.lapd_card.specs.Sink.{Taken, one_failure_more};
 
 use crate::frame_card::FrameCard;
 use crate::frame_replies::{FrameReply, SentFrame};
 use crate::frame_sink::FrameSink;
-use crate::happenings::Happening;
 use crate::sink::{SinkFailed, SinkFault};
 use lapd_line::Request;
 use lapd_store::Shelf;
+use model_card::FrameEvent;
 
 /// The octets of the longest frame without its check: four, and the greatest N201 of a configuration.
 const LONGEST: usize = 264;
 
 impl<S: Shelf> FrameCard<S> {
-    /// Runs a list of happenings, and hands each reply to the sink, in order. Answers how many there were.
+    /// Runs a list of events, and hands each reply to the sink, in order. Answers how many events there were.
     ///
-    /// A list of happenings is the list of events that it means, `spelled`: the octets that would have brought the frames,
-    /// and the pulls that would have begun those which go. Its clauses are those of [`crate::Card::drive`], of these
-    /// events; `taken`, `stopped`, `taken_before` and what is counted speak of happenings, of which each has one reply. What
-    /// else is promised, in frames' own terms too, is in the record `FramePromises` of the crate `laws_promises`; its function
-    /// `drive_frames` is this call, with these clauses and that record.
+    /// Its clauses are those of [`crate::Card::drive`], of frames: what is heard is a frame that came or a fault, and what goes is
+    /// a frame that was given. Those that speak of octets are not here; `rejects_are_long` says that each REJ with a valid N(R)
+    /// is one of the frames heard that have four octets or more. What else is promised of the same list is in the record
+    /// `Promises` of the crate `laws_promises`.
     ///
     /// # Errors
     ///
-    /// [`SinkFault`] where the sink failed on a reply: the card stands after that happening, and later ones
+    /// [`SinkFault`] where the sink failed on a reply: the card stands after that event, and later events
     /// have not happened.
     pub fn drive<K: FrameSink>(
         &mut self,
-        happenings: &[Happening<'_>],
+        events: &[FrameEvent<'_>],
         sink: &mut K,
     ) -> Result<usize, SinkFault>
-        requires { All (λ h. line_of h < line_count self.old) happenings.now }
-        ensures ok { IfOk result (λ n. n ≡ length happenings.now) }
-        ensures at { IfErr result (λ fault. fault.at < length happenings.now) }
+        requires { All (λ event. line_of event < line_count self.old) events.now }
+        ensures ok { IfOk result (λ n. n ≡ length events.now) }
+        ensures at { IfErr result (λ fault. fault.at < length events.now) }
         ensures failed { OnErr result (K.failures sink.new ≡ one_failure_more (K.failures sink.old)) }
         ensures not_failed { OnOk result (K.failures sink.new ≡ K.failures sink.old) }
         ensures config { self.new.config ≡ self.old.config }
 
         // All of them, where the sink took every reply.
         ensures ran { OnOk result ((m : machine.Card) → Stands S.store self.old m
-            → Stands S.store self.new (after_happenings m (all_of happenings.now))) }
+            → Stands S.store self.new (run m (events_of self.old.config.n201 events.now)).card) }
         ensures taken { OnOk result ((m : machine.Card) → Stands S.store self.old m
-            → Taken K.takes sink.old (replies m (all_of happenings.now)) sink.new) }
+            → Taken K.takes sink.old (run m (events_of self.old.config.n201 events.now)).replies sink.new) }
         ensures counters { OnOk result ((m : machine.Card) → Stands S.store self.old m
-            → frame_counters_in self.new.lines ≡ happenings_counted (frame_counters_in self.old.lines) m (all_of happenings.now)) }
+            → counters_in self.new.lines ≡ all_counted (counters_in self.old.lines) (moments m (events_of self.old.config.n201 events.now))) }
 
         // Those up to the one whose reply it did not take.
         ensures stopped { IfErr result (λ fault. (m : machine.Card) → Stands S.store self.old m
-            → Stands S.store self.new (after_happenings m (take (fault.at + 1) (all_of happenings.now)))) }
+            → Stands S.store self.new (run m (take (fault.at + 1) (events_of self.old.config.n201 events.now))).card) }
         ensures taken_before { IfErr result (λ fault. (m : machine.Card) → Stands S.store self.old m
-            → MissesAt K.takes K.misses m (all_of happenings.now) fault.at sink.old sink.new) }
+            → MissesAt K.takes K.misses m (events_of self.old.config.n201 events.now) fault.at sink.old sink.new) }
         ensures counters_before { IfErr result (λ fault. (m : machine.Card) → Stands S.store self.old m
-            → frame_counters_in self.new.lines ≡ happenings_counted (frame_counters_in self.old.lines) m (take (fault.at + 1) (all_of happenings.now))) }
+            → counters_in self.new.lines ≡ all_counted (counters_in self.old.lines) (moments m (take (fault.at + 1) (events_of self.old.config.n201 events.now)))) }
 
-        // The lines are idle between happenings, and at idle lines the answers to the events of a happening say what its
-        // reply says, and nothing else.
-        ensures idle { (m : machine.Card) → Stands S.store self.old m → AreIdle m }
-        ensures answers { AnswersSayIt }
+        // The replies of `run` are the answers of `moments`, and its card is that of `after_all`: all below speaks of
+        // those.
         ensures moments { RunIsMoments }
         ensures refused { RefusedByTheTable }
-        ensures counters_add_up { FrameCountersAreNumbers }
+        ensures counters_add_up { CountersAreNumbers }
 
         // In every moment of the run of all events.
-        ensures by_event { (m : machine.Card) → Stands S.store self.old m → ArePriced m (spelled m (all_of happenings.now)) }
-        ensures drops { (m : machine.Card) → Stands S.store self.old m → AreDropsWithoutCost m (spelled m (all_of happenings.now)) }
-        ensures without_effect { (m : machine.Card) → Stands S.store self.old m
-            → AreDropsWithoutEffect m (spelled m (all_of happenings.now)) }
+        ensures by_event { (m : machine.Card) → Stands S.store self.old m → ArePriced m (events_of self.old.config.n201 events.now) }
+        ensures drops { (m : machine.Card) → Stands S.store self.old m → AreDropsWithoutCost m (events_of self.old.config.n201 events.now) }
+        ensures without_effect { (m : machine.Card) → Stands S.store self.old m → AreDropsWithoutEffect m (events_of self.old.config.n201 events.now) }
 
         // After every front of the list, from every card or, where it says `fresh`, from one that has just begun.
         ensures within_limit { (m : machine.Card) (count : ℕ) → Stands S.store self.old m
-            → IsWithinLimit m (take count (spelled m (all_of happenings.now))) }
+            → IsWithinLimit m (take count (events_of self.old.config.n201 events.now)) }
         ensures amortised { (m : machine.Card) (count : ℕ) → Stands S.store self.old m
-            → IsAmortised m (take count (spelled m (all_of happenings.now))) }
+            → IsAmortised m (take count (events_of self.old.config.n201 events.now)) }
         ensures amortised_from_zero { (count : ℕ) → Stands S.store self.old (machine.fresh self.old.config)
-            → IsAmortisedFromZero self.old.config (take count (spelled (machine.fresh self.old.config) (all_of happenings.now))) }
-        ensures six_octets_a_frame { (count : ℕ) → Stands S.store self.old (machine.fresh self.old.config)
-            → HasSixOctetsAFrame self.old.config (take count (spelled (machine.fresh self.old.config) (all_of happenings.now))) }
-        ensures seven_octets_a_reject { (count : ℕ) → Stands S.store self.old (machine.fresh self.old.config)
-            → HasSevenOctetsAReject self.old.config (take count (spelled (machine.fresh self.old.config) (all_of happenings.now))) }
-        ensures linear { (count : ℕ) → Stands S.store self.old (machine.fresh self.old.config)
-            → IsLinear self.old.config (take count (spelled (machine.fresh self.old.config) (all_of happenings.now))) }
+            → IsAmortisedFromZero self.old.config (take count (events_of self.old.config.n201 events.now)) }
+        ensures rejects_are_long { (m : machine.Card) (count : ℕ) → Stands S.store self.old m
+            → AreRejectsLong m (take count (events_of self.old.config.n201 events.now)) }
         ensures isolated { (count : ℕ) → Stands S.store self.old (machine.fresh self.old.config)
-            → IsIsolated self.old.config (take count (spelled (machine.fresh self.old.config) (all_of happenings.now))) }
+            → IsIsolated self.old.config (take count (events_of self.old.config.n201 events.now)) }
         ensures never_full { (count : ℕ) → Stands S.store self.old (machine.fresh self.old.config)
-            → IsNeverFull self.old.config (take count (spelled (machine.fresh self.old.config) (all_of happenings.now))) }
+            → IsNeverFull self.old.config (take count (events_of self.old.config.n201 events.now)) }
         ensures numbered { (m : machine.Card) (count : ℕ) → Stands S.store self.old m
-            → IsNumbered m (take count (spelled m (all_of happenings.now))) }
+            → IsNumbered m (take count (events_of self.old.config.n201 events.now)) }
         ensures from_zero { (count : ℕ) → Stands S.store self.old (machine.fresh self.old.config)
-            → IsNumberedFromZero self.old.config (take count (spelled (machine.fresh self.old.config) (all_of happenings.now))) }
-        ensures textual { (m : machine.Card) (count : ℕ) → Stands S.store self.old m
-            → IsTextual m (take count (spelled m (all_of happenings.now))) }
+            → IsNumberedFromZero self.old.config (take count (events_of self.old.config.n201 events.now)) }
     {
-        for (at, happening) in happenings.iter().enumerate() {
-            if self.answer(*happening, sink).is_err() {
+        for (at, event) in events.iter().enumerate() {
+            if self.answer(*event, sink).is_err() {
                 return Err(SinkFault { at });
             }
         }
-        Ok(happenings.len())
+        Ok(events.len())
     }
 
-    /// Serves one happening, and hands its reply to the sink.
+    /// Serves one event, and hands its reply to the sink.
     fn answer<K: FrameSink>(
         &mut self,
-        happening: Happening<'_>,
+        event: FrameEvent<'_>,
         sink: &mut K,
     ) -> Result<(), SinkFailed>
-        requires { line_of happening < line_count self.old }
+        requires { line_of event < line_count self.old }
         ensures failed { OnErr result (K.failures sink.new ≡ one_failure_more (K.failures sink.old)) }
         ensures not_failed { OnOk result (K.failures sink.new ≡ K.failures sink.old) }
-        ensures leads { Leads S.store (happening_of happening.entry) self.old self.new }
+        ensures leads { Leads S.store (event_of self.old.config.n201 event.entry) self.old self.new }
         ensures taken { OnOk result ((m : machine.Card) → Stands S.store self.old m
-            → K.takes sink.old (line_of happening.entry) (said m (happening_of happening.entry)) sink.new) }
+            → K.takes sink.old (event_of self.old.config.n201 event.entry).line (answer (event_of self.old.config.n201 event.entry) m) sink.new) }
         ensures not_taken { OnErr result ((m : machine.Card) → Stands S.store self.old m
-            → K.misses sink.old (line_of happening.entry) (said m (happening_of happening.entry)) sink.new) }
+            → K.misses sink.old (event_of self.old.config.n201 event.entry).line (answer (event_of self.old.config.n201 event.entry) m) sink.new) }
     {
-        match happening {
-            Happening::Comes(line, octets) => sink.take(
+        match event {
+            FrameEvent::Frame(line, octets) => sink.take(
                 line,
                 &FrameReply::Report(self.frame(line, octets)),
             ),
-            Happening::Failed(line, fault) => sink.take(
+            FrameEvent::Failed(line, fault) => sink.take(
                 line,
                 &FrameReply::Report(self.failed(line, fault)),
             ),
-            Happening::Goes(line) => self.hand_on(line, sink),
-            Happening::Expires(line, timer) => sink.take(
+            FrameEvent::Next(line) => self.hand_on(line, sink),
+            FrameEvent::Expire(line, timer) => sink.take(
                 line,
                 &FrameReply::Report(self.expire(line, timer)),
             ),
-            Happening::Asks(line, request) => self.grant(line, request, sink),
+            FrameEvent::Request(line, request) => self.grant(line, request, sink),
         }
     }
 
@@ -152,11 +143,11 @@ impl<S: Shelf> FrameCard<S> {
         requires { line < line_count self.old }
         ensures failed { OnErr result (K.failures sink.new ≡ one_failure_more (K.failures sink.old)) }
         ensures not_failed { OnOk result (K.failures sink.new ≡ K.failures sink.old) }
-        ensures leads { Leads S.store (goes line) self.old self.new }
+        ensures leads { Leads S.store (at line line_event.next) self.old self.new }
         ensures taken { OnOk result ((m : machine.Card) → Stands S.store self.old m
-            → K.takes sink.old line (said m (goes line)) sink.new) }
+            → K.takes sink.old line (answer (at line line_event.next) m) sink.new) }
         ensures not_taken { OnErr result ((m : machine.Card) → Stands S.store self.old m
-            → K.misses sink.old line (said m (goes line)) sink.new) }
+            → K.misses sink.old line (answer (at line line_event.next) m) sink.new) }
     {
         let _ = &self.config;
         let mut octets = [0; LONGEST];
@@ -181,11 +172,11 @@ impl<S: Shelf> FrameCard<S> {
         requires { line < line_count self.old }
         ensures failed { OnErr result (K.failures sink.new ≡ one_failure_more (K.failures sink.old)) }
         ensures not_failed { OnOk result (K.failures sink.new ≡ K.failures sink.old) }
-        ensures leads { Leads S.store (asks line (request_of request.entry)) self.old self.new }
+        ensures leads { Leads S.store (at line (line_event.request (request_of request.entry))) self.old self.new }
         ensures taken { OnOk result ((m : machine.Card) → Stands S.store self.old m
-            → K.takes sink.old line (said m (asks line (request_of request.entry))) sink.new) }
+            → K.takes sink.old line (answer (at line (line_event.request (request_of request.entry))) m) sink.new) }
         ensures not_taken { OnErr result ((m : machine.Card) → Stands S.store self.old m
-            → K.misses sink.old line (said m (asks line (request_of request.entry))) sink.new) }
+            → K.misses sink.old line (answer (at line (line_event.request (request_of request.entry))) m) sink.new) }
     {
         match self.request(line, request) {
             Ok(report) => sink.take(line, &FrameReply::Report(report)),

@@ -1,6 +1,4 @@
-//! What happenings at a card for frames are answered with.
-
-ghost use Rattle.std.specs.Prelude.{◌≡◌, ◌≤◌, length};
+//! What events at a card are answered with.
 
 use lapd_frame::Refusal;
 use lapd_line::{NextFrame, Report};
@@ -14,7 +12,7 @@ pub struct SentFrame<'a> {
     pub next: NextFrame,
 }
 
-/// The answer to a happening.
+/// The answer to an event.
 #[derive(Clone, Copy, PartialEq, Eq, Debug)]
 pub enum FrameReply<'a> {
     /// To a frame, to a fault, to an expiry, or to a request that was accepted.

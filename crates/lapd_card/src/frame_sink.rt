@@ -1,29 +1,29 @@
-//! Where the answers of a whole list of happenings go.
+//! Where the answers of a whole list of events at a card go.
 
 ghost use Rattle.std.specs.Prelude.{◌≡◌, ℕ, OnOk, OnErr};
-ghost use Rattle.model_card.specs.Said.{Said};
-ghost use Rattle.lapd_card.specs.FrameReply.{said_of};
+ghost use Rattle.model_line.specs.Event.{Answer};
+ghost use Rattle.lapd_card.specs.FrameReply.{answer_of};
 ghost use Rattle.lapd_card.specs.Sink.{one_failure_more};
 
 use crate::frame_replies::FrameReply;
 use crate::sink::SinkFailed;
 
-/// Takes the answers to a list of happenings at a card for frames, in order, as [`crate::Sink`] takes those of events: one
-/// answer each.
+/// Takes the answers to a list of events at a [`FrameCard`](crate::FrameCard), in order, as [`crate::Sink`] takes those of a
+/// card of octets.
 pub trait FrameSink {
-    /// What a sink is before and after it takes a reply, that of a happening at a line.
-    ghost takes: { Self → ℕ → Said → Self → Type 0 };
+    /// What a sink is before and after it takes a reply, that of an event at a line.
+    ghost takes: { Self → ℕ → Answer → Self → Type 0 };
 
     /// The same of a reply that it does not take.
-    ghost misses: { Self → ℕ → Said → Self → Type 0 };
+    ghost misses: { Self → ℕ → Answer → Self → Type 0 };
 
     /// How many replies were not taken: a number of 64 bits that stays at its greatest value.
     ghost failures: { Self → ℕ };
 
-    /// Takes the reply to a happening at a line.
+    /// Takes the reply to an event at a line.
     fn take(&mut self, line: usize, reply: &FrameReply<'_>) -> Result<(), SinkFailed>
-        ensures taken { OnOk result (takes self.old line (said_of reply.now) self.new) }
+        ensures taken { OnOk result (takes self.old line (answer_of reply.now) self.new) }
         ensures none_failed { OnOk result (failures self.new ≡ failures self.old) }
-        ensures missed { OnErr result (misses self.old line (said_of reply.now) self.new) }
+        ensures missed { OnErr result (misses self.old line (answer_of reply.now) self.new) }
         ensures failed { OnErr result (failures self.new ≡ one_failure_more (failures self.old)) };
 }

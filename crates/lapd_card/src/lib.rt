@@ -22,24 +22,26 @@
 //! }
 //! ```
 //!
-//! - `card`: the card, one call an event, and what it tells of a line: a link's state and room, the frame that a pull began,
-//!   what was counted.
-//! - `drive` with `sink` and `replies`: whole lists of events; `kept`: a sink that keeps the replies.
+//! A [`Card`] is a [`FrameCard`], which takes and gives whole frames, with a port at each line, which hears frames in the octets
+//! that come, and puts those that go on the line. Where a controller keeps flags, stuffed 0s and checks, the frame card is all
+//! that is needed.
+//!
+//! - `frame_card`: the card, one call an event, and what it tells of a line: a link's state and room, what was counted.
+//! - `card`: the card of octets: its octets and pulls; what else happens is passed on to the card of frames.
+//! - `frame_drive` with `frame_sink` and `frame_replies`: whole lists of events at a card of frames; `drive` with `sink` and
+//!   `replies`: of octets; `kept`: a sink that keeps the replies.
 //! - `start` with `fault`: how a card begins, and why it does not.
-//! - `stored`: how many octets it stores, and how many a card of either kind may.
-//! - `frame_card`: [`FrameCard`], a card at whose lines a controller keeps flags, stuffed 0s and checks, and gives and takes
-//!   whole frames. What kind a card is, is said at its start and stays.
-//! - `frame_drive` with `happenings`, `frame_sink` and `frame_replies`: whole lists of what happens at such a card.
+//! - `stored`: how many octets a card of octets stores, and how many a card of either kind may.
 //!
 //! What the card does is defined below: a row of a link's tables (by state, in `specs/`) and its notes in
 //! `model_link`, those of TEI management in `lapd_tei`, the refusals of a line in `model_line`
-//! (`specs/Refusal`) and of a link in `model_link` (`specs/Requests`). The types of notes and refusals stand in
-//! `lapd_frame`, the words of a script in `lapd_script`.
+//! (`specs/Refusal`) and of a link in `model_link` (`specs/Requests`), the port in `model_ports`. The types of notes and
+//! refusals stand in `lapd_frame`, the words of a script in `lapd_script`.
 //!
 //! # Only tested
 //!
-//! Starts, with each fault; an answer that is kept has its contents; long runs; of a card for frames, one list of
-//! happenings, and a room that is too small (`test_card`); frames of each length, and such a card beside one for octets to
+//! Starts, with each fault; an answer that is kept has its contents; long runs; of a card of frames, one list of
+//! events, and a room that is too small (`test_card`); frames of each length, and such a card beside one of octets to
 //! which the same happens, through C (`tests/c/run`).
 #![tactic(auto)]
 
@@ -50,7 +52,6 @@ mod frame_card;
 mod frame_drive;
 mod frame_replies;
 mod frame_sink;
-mod happenings;
 mod kept;
 mod replies;
 mod sink;
@@ -62,14 +63,14 @@ pub use fault::CardFault;
 pub use frame_card::{FrameCard, RoomTooSmall};
 pub use frame_replies::{FrameReply, SentFrame};
 pub use frame_sink::FrameSink;
-pub use happenings::Happening;
 pub use kept::{Kept, KeptReply};
 pub use lapd_count::{Counter, Counters, Kind, Way};
 pub use lapd_frame::Side;
 pub use lapd_line::{BareReport, Config, Field, NextFrame, Pulled, Report, Request, Room};
 pub use model_bits::Head;
-pub use model_card::Event;
+pub use model_card::FrameEvent;
 pub use model_line::Fault;
+pub use model_ports::Event;
 pub use replies::Reply;
 pub use sink::{Sink, SinkFailed, SinkFault};
 pub use stored::{frame_limit, limit};

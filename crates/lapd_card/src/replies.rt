@@ -1,4 +1,4 @@
-//! What events are answered with.
+//! What events at a card of octets are answered with.
 
 use lapd_frame::Refusal;
 use lapd_line::{Pulled, Report};

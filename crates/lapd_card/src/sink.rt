@@ -1,7 +1,7 @@
-//! Where the answers of a whole list of events go.
+//! Where the answers of a whole list of events at a card of octets go.
 
 ghost use Rattle.std.specs.Prelude.{◌≡◌, ℕ, OnOk, OnErr};
-ghost use Rattle.model_line.specs.Event.{Answer};
+ghost use Rattle.model_ports.specs.Port.{Answer};
 ghost use Rattle.lapd_card.specs.Reply.{answer_of};
 ghost use Rattle.lapd_card.specs.Sink.{one_failure_more};
 
@@ -13,7 +13,7 @@ use thiserror::Error;
 #[error("the sink failed")]
 pub struct SinkFailed;
 
-/// Takes the answers to a list of events, in order.
+/// Takes the answers to a list of events at a card of octets, in order.
 ///
 /// A sink says by a relation what it is to take one reply: how the sink is afterwards, beside how it was before. So it
 /// may keep the replies, write them as text, or count them, and [`crate::Card::drive`] says that it has taken one reply

@@ -1,56 +1,28 @@
 //! How a card begins.
 
-ghost use Rattle.std.specs.Prelude.{◌≡◌, replicate, IfOk, IfSome, IfNone, Err, IsOkUnless};
+ghost use Rattle.std.specs.Prelude.{◌≡◌, ◌≤◌, replicate, IfOk, IfSome, IfNone, Err, IsOkUnless};
 ghost use Rattle.model_card.specs.Card as machine;
-ghost use Rattle.lapd_card.specs.declared.fault.CardFault.TheVariants.{OutOfMemory};
-ghost use Rattle.lapd_count.specs.Counters.{none_counted};
-ghost use Rattle.lapd_card.specs.Counted.{counters_in, frame_counters_in};
-ghost use Rattle.lapd_card.specs.Lines.{of_octets, of_frames, AreFresh};
-ghost use Rattle.lapd_card.specs.Start.{start_fault, is_too_small};
 ghost use Rattle.model_line.specs.Sound.{IsInRange};
+ghost use Rattle.model_ports.specs.Card as octets;
+ghost use Rattle.model_ports.specs.Port.{fresh_port};
+ghost use Rattle.lapd_count.specs.Counters.{none_counted};
+ghost use Rattle.lapd_card.specs.declared.fault.CardFault.TheVariants.{OutOfMemory};
+ghost use Rattle.lapd_card.specs.Counted.{counters_in};
+ghost use Rattle.lapd_card.specs.Lines.{AreFresh};
+ghost use Rattle.lapd_card.specs.Ports.{PortsStand};
+ghost use Rattle.lapd_card.specs.Start.{start_fault, is_too_small};
 
 use crate::card::Card;
 use crate::fault::CardFault;
 use crate::frame_card::FrameCard;
-use lapd_line::{Config, FrameLine, Line, StartFault};
+use lapd_line::{Config, FrameLine, Port, StartFault};
 use lapd_store::Shelf;
 use std::alloc::Global;
-
-impl<S: Shelf> Card<S> {
-    ghost use Rattle.lapd_card.specs.Stands.{Stands};
-
-    /// A card with these sizes and limits, over a shelf on which nothing lies. No TEI is on any line.
-    ///
-    /// # Errors
-    ///
-    /// [`CardFault::BadConfig`] names the first field that is out of range. Else [`CardFault::ShelfTooSmall`] where the
-    /// shelf has fewer slots than `slots`, or they are narrower than `n201`, or any is in use. Else
-    /// [`CardFault::OutOfMemory`] where memory is refused. The shelf is dropped then.
-    pub fn start(alloc: Global, config: Config, shelf: S) -> Result<Card<S>, CardFault>
-        ensures fault { IfSome (start_fault config (S.store shelf)) (λ fault. result ≡ Err fault) }
-        ensures otherwise { IfNone (start_fault config (S.store shelf)) (IsOkUnless result OutOfMemory) }
-        ensures config { IfOk result (λ card. card.config ≡ config) }
-        ensures shelf { IfOk result (λ card. card.shelf ≡ shelf) }
-        ensures fresh { IfOk result (λ card. Stands S.store card (machine.fresh config)) }
-        ensures counters { IfOk result (λ card. counters_in card.lines ≡ replicate config.lines none_counted) }
-    {
-        if let Some(fault) = fault_of(&config, &shelf) {
-            return Err(fault);
-        }
-        let lines = lines(alloc, &config)?;
-        Ok(Card {
-            config,
-            lines,
-            shelf,
-        })
-    }
-}
 
 impl<S: Shelf> FrameCard<S> {
     ghost use Rattle.lapd_card.specs.FrameStands.{Stands};
 
-    /// A card for frames with these sizes and limits, over a shelf on which nothing lies, as [`Card::start`] has it.
-    /// No TEI is on any line. That it takes frames is said here, and stays.
+    /// A card with these sizes and limits, over a shelf on which nothing lies. No TEI is on any line.
     ///
     /// # Errors
     ///
@@ -63,12 +35,12 @@ impl<S: Shelf> FrameCard<S> {
         ensures config { IfOk result (λ card. card.config ≡ config) }
         ensures shelf { IfOk result (λ card. card.shelf ≡ shelf) }
         ensures fresh { IfOk result (λ card. Stands S.store card (machine.fresh config)) }
-        ensures counters { IfOk result (λ card. frame_counters_in card.lines ≡ replicate config.lines none_counted) }
+        ensures counters { IfOk result (λ card. counters_in card.lines ≡ replicate config.lines none_counted) }
     {
         if let Some(fault) = fault_of(&config, &shelf) {
             return Err(fault);
         }
-        let lines = frame_lines(alloc, &config)?;
+        let lines = lines(alloc, &config)?;
         Ok(FrameCard {
             config,
             lines,
@@ -77,23 +49,33 @@ impl<S: Shelf> FrameCard<S> {
     }
 }
 
-/// As many lines as the configuration says, each as it begins.
-fn lines(alloc: Global, config: &Config) -> Result<Vec<Line>, StartFault>
-    requires { IsInRange config.now }
-    ensures { IfOk result (λ lines. AreFresh of_octets config.now lines.items) }
-{
-    let count = usize::from(config.lines);
-    let mut lines = Vec::with_capacity(alloc, count).map_err(|_| StartFault::OutOfMemory)?;
-    for _ in 0..count {
-        let line = Line::start(alloc, config)?;
-        lines.push(line).map_err(|_| StartFault::OutOfMemory)?;
+impl<S: Shelf> Card<S> {
+    ghost use Rattle.lapd_card.specs.Stands.{Stands};
+
+    /// A card of octets with these sizes and limits, over a shelf on which nothing lies, as [`FrameCard::start`] has it. No
+    /// octet has come.
+    ///
+    /// # Errors
+    ///
+    /// Those of [`FrameCard::start`].
+    pub fn start(alloc: Global, config: Config, shelf: S) -> Result<Card<S>, CardFault>
+        ensures fault { IfSome (start_fault config (S.store shelf)) (λ fault. result ≡ Err fault) }
+        ensures otherwise { IfNone (start_fault config (S.store shelf)) (IsOkUnless result OutOfMemory) }
+        ensures config { IfOk result (λ card. card.frames.config ≡ config) }
+        ensures shelf { IfOk result (λ card. card.frames.shelf ≡ shelf) }
+        ensures fresh { IfOk result (λ card. Stands S.store card (octets.fresh config)) }
+        ensures counters { IfOk result (λ card. counters_in card.frames.lines ≡ replicate config.lines none_counted) }
+    {
+        let frames = FrameCard::start(alloc, config, shelf)?;
+        let ports = ports(alloc, &config)?;
+        Ok(Card { frames, ports })
     }
-    Ok(lines)
 }
 
-fn frame_lines(alloc: Global, config: &Config) -> Result<Vec<FrameLine>, StartFault>
+/// As many lines as the configuration says, each as it begins.
+fn lines(alloc: Global, config: &Config) -> Result<Vec<FrameLine>, StartFault>
     requires { IsInRange config.now }
-    ensures { IfOk result (λ lines. AreFresh of_frames config.now lines.items) }
+    ensures { IfOk result (λ lines. AreFresh config.now lines.items) }
 {
     let count = usize::from(config.lines);
     let mut lines = Vec::with_capacity(alloc, count).map_err(|_| StartFault::OutOfMemory)?;
@@ -102,6 +84,20 @@ fn frame_lines(alloc: Global, config: &Config) -> Result<Vec<FrameLine>, StartFa
         lines.push(line).map_err(|_| StartFault::OutOfMemory)?;
     }
     Ok(lines)
+}
+
+/// A port for each of them.
+fn ports(alloc: Global, config: &Config) -> Result<Vec<Port>, StartFault>
+    requires { config.now.n201 ≤ 1024 }
+    ensures { IfOk result (λ ports. PortsStand config.now.n201 ports.items (replicate config.now.lines fresh_port)) }
+{
+    let count = usize::from(config.lines);
+    let mut ports = Vec::with_capacity(alloc, count).map_err(|_| StartFault::OutOfMemory)?;
+    for _ in 0..count {
+        let port = Port::start(alloc, config.n201)?;
+        ports.push(port).map_err(|_| StartFault::OutOfMemory)?;
+    }
+    Ok(ports)
 }
 
 fn fault_of<S: Shelf>(config: &Config, shelf: &S) -> Option<CardFault>

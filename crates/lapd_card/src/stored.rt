@@ -1,33 +1,31 @@
-//! How many octets a card stores, and how many a card of either kind may.
+//! How many octets a card may store, and how many a card of octets does.
 
 ghost use Rattle.std.specs.Prelude.{◌≡◌};
-ghost use Rattle.model_card.specs.Card as machine;
-ghost use Rattle.model_card.specs.Stored.{stored, limit};
+ghost use Rattle.model_card.specs.Stored as frames;
+ghost use Rattle.model_ports.specs.Card as machine;
+ghost use Rattle.model_ports.specs.Stored.{stored, limit};
 ghost use Rattle.model_line.specs.Sound.{IsInRange};
-ghost use Rattle.lapd_card.specs.FrameCard.{frame_limit};
 ghost use Rattle.lapd_card.specs.Stands.{Stands};
 
 use crate::card::Card;
 use lapd_line::Config;
 use lapd_store::Shelf;
 
-/// The most octets that a card of this configuration stores. The configuration is in range ([`Config::fault`] is None). It
-/// is for each line a frame that is received, one that is sent, and all control frames, messages and assignments that
-/// may wait; and for each slot, N201.
+/// The most octets that a card of octets of this configuration stores. The configuration is in range ([`Config::fault`] is
+/// None). It is what a card of frames may store ([`frame_limit`]), and for each line a frame that is received, with its check,
+/// and one that is sent.
 pub fn limit(config: &Config) -> u32
     requires { IsInRange config.now }
     ensures { result ≡ limit config.now }
 {
-    let control = 8 * u32::from(config.control) * u32::from(config.terminals);
-    let line = 2 * u32::from(config.n201) + 10 + control + 32 + 12;
-    u32::from(config.lines) * line + u32::from(config.slots) * u32::from(config.n201)
+    frame_limit(config) + u32::from(config.lines) * (2 * u32::from(config.n201) + 10)
 }
 
-/// The most octets that a card for frames of this configuration stores. The configuration is in range ([`Config::fault`] is
+/// The most octets that a card of frames of this configuration stores. The configuration is in range ([`Config::fault`] is
 /// None). It is for each line all control frames, messages and assignments that may wait; and for each slot, N201.
 pub fn frame_limit(config: &Config) -> u32
     requires { IsInRange config.now }
-    ensures { result ≡ frame_limit config.now }
+    ensures { result ≡ frames.limit config.now }
 {
     let control = 8 * u32::from(config.control) * u32::from(config.terminals);
     let line = control + 32 + 12;
@@ -38,19 +36,19 @@ impl<S: Shelf> Card<S> {
     /// How many octets the card stores now: of frames that are received and sent, of control frames and messages that wait,
     /// of assignments that are remembered, and of contents in slots. They are never more than [`limit`] says.
     pub fn stored(&self) -> u32
-        ensures { (m : machine.Card) → Stands S.store self.now m → result ≡ stored m }
+        ensures { (m : machine.OctetCard) → Stands S.store self.now m → result ≡ stored m }
     {
-        let mut held = 0;
-        for line in &self.lines {
-            held += u64::from(line.held());
+        let mut held = self.frames.stored();
+        for port in &self.ports {
+            held += port.held();
         }
-        (held + self.shelf.octets()) as u32
+        held
     }
 
     /// How many octets the card stores at most, whatever happens: [`limit`] of its configuration.
     pub fn limit(&self) -> u32
-        ensures { (m : machine.Card) → Stands S.store self.now m → result ≡ limit m.config }
+        ensures { (m : machine.OctetCard) → Stands S.store self.now m → result ≡ limit m.card.config }
     {
-        limit(&self.config)
+        self.frames.limit()
     }
 }

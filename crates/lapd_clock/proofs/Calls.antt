@@ -1,11 +1,11 @@
 -- What the calls of a clock do to the set that its lines stand for.
-use Rattle.lapd_clock.proofs.Vocabulary.{recursion_from_All, ◌≡◌, ℕ, ◌+◌, ◌<◌, ◌≤◌, Bool, true, false, cond, not, ◌==◌, nat_le, List, [], ◌∷◌, length, drop, get_or, set, Some, None, All, Contains, refl, sym, ap, ◌∙◌, subst, arith, length-set, AllByRecursion, nat_tests, All-from_recursion, length-filter, count_by-le-length, put_in_order, IsInOrder, Timer, Lengths, Start, Stop, duration, is_same, Expiry, Timers, is_before, without, finds_place, with_order, after_first_due, first_due, IsSound, IsLeastDue, Held, Line, held_before, all_but, from_line, in_order, timers_in, IsLineKept, IsKept, Order, vec_len, vec_capacity, due_at, after_due, first_moment, next_moment, expiry_on, IsFirst, IsFirstLine}
+use Rattle.lapd_clock.proofs.Vocabulary.{recursion_from_All, ◌≡◌, ℕ, ◌+◌, ◌^◌, ◌<◌, ◌≤◌, Bool, true, false, cond, not, ◌==◌, nat_le, List, [], ◌∷◌, length, get_or, set, slice_index, Some, None, All, All-nil, Contains, refl, sym, ap, ◌∙◌, subst, arith, inl, inr, cases_lt, eq-eqb, ne_eqb, none-some, same_Some, get_or-map, map-set, length-set, AllByRecursion, nat_tests, All-from_recursion, length-filter, count_by-le-length, put_in_order, IsInOrder, Timer, Lengths, Start, Stop, duration, is_same, Expiry, Timers, is_before, without, finds_place, with_order, after_first_due, first_due, IsSound, IsLeastDue, Held, Line, held_before, all_but, from_line, in_order, timers_in, IsEachOnce, IsWith, IsStarted, IsLineKept, IsKept, Order, vec_len, vec_capacity, due_at, after_due, first_moment, next_moment, expiry_on, never, earliest, earliest_of}
 use Rattle.std.proofs.lemmas.List.Elements as lists
-use Rattle.lapd_clock.proofs.Ordered.{IsInOrder-put_in_order, IsInOrder-filter}
-use Rattle.lapd_clock.proofs.TimerOrder.{held_order}
 use Rattle.lapd_clock.proofs.StandsFor.{in_order-stopped, in_order-restarted, count_on-stopped}
-use Rattle.lapd_clock.proofs.Running.{finds_place-without, without-no_place, with_order_sound, after_due_sound}
-use Rattle.lapd_clock.proofs.First.{Leads, first_leads, none_found, from_line-none, before_itself, no_earlier}
+use Rattle.lapd_clock.proofs.Running.{finds_place-without, without-no_place, with_order_sound, after_due_sound, stop_in_time, start_in_time}
+use Rattle.lapd_clock.proofs.Once.{line-once}
+use Rattle.lapd_clock.proofs.First.{leads_set, length-firsts, from_line-none, before_itself}
+use Rattle.lapd_clock.proofs.Earliest.{moments, earliest_few, earliest-of_set, all_from_earliest, none_earlier, first-in_order}
 
 -- ---- lines one by one
 
@@ -19,10 +19,6 @@ pub length-all_but : (t : Timer) (hs : List Held) → length (all_but t hs) ≤ 
 length-all_but t hs =
     let p = λ (h : Held). not (is_same h.timer t) in omega (arith, length-filter p hs, count_by-le-length p hs)
 
-pub IsInOrder-drop_first : (hs : List Held) → IsInOrder held_before hs → IsInOrder held_before (drop 1 hs)
-IsInOrder-drop_first [] h = tt
-IsInOrder-drop_first (x ∷ xs) h = h.1
-
 -- ---- the clock as a whole
 
 pub same_timers : (ls : Lengths) (lines m places : ℕ) (es fs : List Expiry) → lines ≡ m → es ≡ fs → ◌≡◌ {A = Timers} (record { lines = lines; places = places; lengths = ls; running = es }) (record { lines = m; places = places; lengths = ls; running = fs })
@@ -35,17 +31,23 @@ timers_in-none ls places lines h = same_timers ls _ _ places _ _ refl (ap in_ord
 -- ---- an order
 
 -- What an order leaves of a clock t: one line is v, and the lines stand for t after it.
-pub record Obeys (ls : Lengths) (places k : ℕ) (lines : List Line) (v : Line) (t : Timers) (order : Order) (now : ℕ) : Type 0 where
-  pub kept : IsKept ls places (set lines k v)
+pub record Obeys (ls : Lengths) (places k : ℕ) (firsts : List ℕ) (lines : List Line) (v : Line) (t : Timers) (order : Order) (now : ℕ) : Type 0 where
+  pub kept : IsKept ls places firsts (set lines k v)
   pub after : timers_in ls places (set lines k v) ≡ with_order t k order now
 
-module _ (ls : Lengths) (places k : ℕ) (lines : List Line) (t : Timers) (view : timers_in ls places lines ≡ t) (kept : IsKept ls places lines) (u : Line) (there : k < t.lines) (at : u ≡ get_or lines k u) where
-  -- the line is there, and is kept
+module _ (ls : Lengths) (places k : ℕ) (firsts : List ℕ) (lines : List Line) (t : Timers) (view : timers_in ls places lines ≡ t) (kept : IsKept ls places firsts lines) (u : Line) (there : k < t.lines) (at : u ≡ get_or lines k u) where
+  -- the line is there, is kept, and is one of the firsts
   within : k < length lines
   within = omega (arith, ap (λ (c : Timers). c.lines) view, there)
 
   own : IsLineKept places u
   own = All-at (IsLineKept places) lines k u within at kept.each
+
+  pub is_first : k < length firsts
+  is_first = omega (arith, within, ap length kept.at_hand, length-firsts lines)
+
+  pub each_once : IsEachOnce u.items
+  each_once = line-once lines k u within at kept.sound.one_each
 
   -- whether a timer of line k finds its place
   found : (timer : Timer) → finds_place (timers_in ls places lines) k (Start timer) ≡ not (length (all_but timer u.items) == places)
@@ -54,30 +56,33 @@ module _ (ls : Lengths) (places k : ℕ) (lines : List Line) (t : Timers) (view 
   pub finds_place_is : (timer : Timer) → finds_place t k (Start timer) ≡ not (length (all_but timer u.items) == places)
   finds_place_is timer = ap (λ c. finds_place c k (Start timer)) (sym view) ∙ found timer
 
-  module _ (v : Line) where
+  module _ (v : Line) (after_firsts : List ℕ) (renewed : after_firsts ≡ set firsts k (earliest_of v.items)) where
     -- v after the order
-    obeys : (order : Order) (now : ℕ) → timers_in ls places (set lines k v) ≡ with_order (timers_in ls places lines) k order now → IsLineKept places v → Obeys ls places k lines v t order now
-    obeys order now is one = record {
-      kept = record { each = All-set (IsLineKept places) lines k v one kept.each; sound = subst IsSound (sym is) (with_order_sound (timers_in ls places lines) k order now within kept.sound) };
+    obeys : (order : Order) (now : ℕ) → timers_in ls places (set lines k v) ≡ with_order (timers_in ls places lines) k order now → IsLineKept places v
+        → AllByRecursion (λ e. e.moment < never) (with_order (timers_in ls places lines) k order now).running → Obeys ls places k after_firsts lines v t order now
+    obeys order now is one soon = record {
+      kept = record {
+        each = All-set (IsLineKept places) lines k v one kept.each;
+        at_hand = renewed ∙ ap (λ ms. set ms k (earliest_of v.items)) kept.at_hand ∙ sym (map-set (λ (w : Line). earliest_of w.items) lines k v);
+        in_time = subst (λ (c : Timers). AllByRecursion (λ e. e.moment < never) c.running) (sym is) soon;
+        sound = subst IsSound (sym is) (with_order_sound (timers_in ls places lines) k order now within kept.sound);
+      };
       after = is ∙ ap (λ c. with_order c k order now) view;
     }
 
-    pub stopped : (timer : Timer) (now : ℕ) → v.items ≡ all_but timer u.items → vec_capacity v ≡ vec_capacity u → Obeys ls places k lines v t (Stop timer) now
+    pub stopped : (timer : Timer) (now : ℕ) → v.items ≡ all_but timer u.items → vec_capacity v ≡ vec_capacity u → Obeys ls places k after_firsts lines v t (Stop timer) now
     unfolding with_order
     stopped timer now new room =
         obeys (Stop timer) now (same_timers ls _ _ places _ _ (length-set lines k v) (in_order-stopped k lines within u at v timer new))
-        (record {
-          ordered = subst (IsInOrder held_before) (sym new) (IsInOrder-filter held_before held_order _ u.items own.ordered);
-          fits = omega (arith, own.fits, length-all_but timer u.items, ap length new, v.ok.0, u.ok.0);
-          taken = omega (arith, own.taken, room);
-        })
+        (record { fits = omega (arith, own.fits, length-all_but timer u.items, ap length new, v.ok.0, u.ok.0); taken = omega (arith, own.taken, room) })
+        (stop_in_time (timers_in ls places lines) k timer now never kept.in_time)
 
     restarted_set : (b : Bool) (h : Held) (now : ℕ) → h.moment ≡ now + duration ls h.timer → b ≡ not (length (all_but h.timer u.items) == places)
-        → v.items ≡ cond b (put_in_order held_before h (all_but h.timer u.items)) (all_but h.timer u.items) → timers_in ls places (set lines k v) ≡ with_order (timers_in ls places lines) k (Start h.timer) now
+        → IsStarted b h u.items v.items → timers_in ls places (set lines k v) ≡ with_order (timers_in ls places lines) k (Start h.timer) now
     unfolding with_order
     restarted_set b h now moment placed new =
         rw (found h.timer ∙ sym placed) (
-        elim b as (λ x. b ≡ x → v.items ≡ cond x (put_in_order held_before h (all_but h.timer u.items)) (all_but h.timer u.items) → timers_in ls places (set lines k v)
+        elim b as (λ x. b ≡ x → IsStarted x h u.items v.items → timers_in ls places (set lines k v)
         ≡ cond x (record { lines = length lines; places = places; lengths = ls; running = put_in_order is_before (record { moment = now + duration ls h.timer; line = k; timer = h.timer }) (without k h.timer (in_order (from_line 0 lines))) }) (timers_in ls places lines)) [
           | true ↦ λ _ new. same_timers ls _ _ places _ _ (length-set lines k v) (in_order-restarted k lines within u at v h new
               ∙ ap (λ m. put_in_order is_before (record { moment = m; line = k; timer = h.timer }) (without k h.timer (in_order (from_line 0 lines)))) moment)
@@ -85,19 +90,12 @@ module _ (ls : Lengths) (places k : ℕ) (lines : List Line) (t : Timers) (view 
               ∙ without-no_place (timers_in ls places lines) k h.timer (found h.timer ∙ sym placed ∙ none))
         ] refl new)
 
-    pub restarted : (b : Bool) (h : Held) (now : ℕ) → h.moment ≡ now + duration ls h.timer → b ≡ not (length (all_but h.timer u.items) == places)
-        → v.items ≡ cond b (put_in_order held_before h (all_but h.timer u.items)) (all_but h.timer u.items) → vec_len v ≤ places → vec_capacity u ≤ vec_capacity v → Obeys ls places k lines v t (Start h.timer) now
-    restarted b h now moment placed new fits room =
-        let others = IsInOrder-filter held_before held_order (λ x. not (is_same x.timer h.timer)) u.items own.ordered in
+    pub restarted : (b : Bool) (h : Held) (now : ℕ) → h.moment ≡ now + duration ls h.timer → now ≤ 2 ^ 63 → duration ls h.timer ≤ 3600000 → b ≡ not (length (all_but h.timer u.items) == places)
+        → IsStarted b h u.items v.items → vec_len v ≤ places → vec_capacity u ≤ vec_capacity v → Obeys ls places k after_firsts lines v t (Start h.timer) now
+    restarted b h now moment early short placed new fits room =
         obeys (Start h.timer) now (restarted_set b h now moment placed new)
-        (record {
-          ordered = subst (IsInOrder held_before) (sym new) (elim b as (λ x. IsInOrder held_before (cond x (put_in_order held_before h (all_but h.timer u.items)) (all_but h.timer u.items))) [
-            | true ↦ IsInOrder-put_in_order held_before held_order h (all_but h.timer u.items) others
-            | false ↦ others
-          ]);
-          fits = fits;
-          taken = omega (arith, own.taken, room);
-        })
+        (record { fits = fits; taken = omega (arith, own.taken, room) })
+        (start_in_time (timers_in ls places lines) k h.timer now never (omega (arith, early, short)) kept.in_time)
 
 -- ---- what is due
 
@@ -110,85 +108,129 @@ by_now moment now h = grind (arith, nat_tests)
 pub one_taken : (e : Expiry) (es : List Expiry) (now : ℕ) → e.moment ≤ now → after_first_due (e ∷ es) now ≡ es
 one_taken e es now h = ap (λ b. cond b es (e ∷ es)) (by_now e.moment now h)
 
--- the first of the set is no later than any other
-pub all_no_earlier : (e : Expiry) (es : List Expiry) → IsInOrder is_before (e ∷ es) → All (λ held. e.moment ≤ held.moment) (e ∷ es)
-all_no_earlier e es h = All-from_recursion (λ (held : Expiry). e.moment ≤ held.moment) (e ∷ es) (omega arith, behind es h.0)
-  where
-    behind : (xs : List Expiry) → AllByRecursion (λ x. is_before x e ≡ false) xs → AllByRecursion (λ held. e.moment ≤ held.moment) xs
-    behind [] h = tt
-    behind (x ∷ xs) h = (no_earlier x e h.0, behind xs h.1)
-
+-- where the first falls due later, all do
 pub all_later : (e : Expiry) (es : List Expiry) (now : ℕ) → IsInOrder is_before (e ∷ es) → now < e.moment → All (λ held. now < held.moment) (e ∷ es)
 all_later e es now h k i d within =
-    let from : e.moment ≤ (get_or (e ∷ es) i d).moment = all_no_earlier e es h i d within in
+    let from : e.moment ≤ (get_or (e ∷ es) i d).moment = All-from_recursion (λ (held : Expiry). e.moment ≤ held.moment) (e ∷ es) (omega arith, none_earlier e es h.0) i d within in
     omega (arith, from, k)
 
--- ---- the first of the set, as it was found
+-- where none falls due, or the first does later, none is due, none is taken out, and all are later
+pub record NoneDue (es : List Expiry) (now : ℕ) : Type 0 where
+  pub none : first_due es now ≡ None
+  pub same : after_first_due es now ≡ es
+  pub later : All (λ held. now < held.moment) es
 
-module _ (ls : Lengths) (places : ℕ) (lines : List Line) (t : Timers) (view : timers_in ls places lines ≡ t) (kept : IsKept ls places lines) (seen : List Line) (same : seen ≡ lines) where
-  -- where no line has a timer
-  pub idle : IsFirst (length seen) seen None → t ≡ record { lines = length lines; places = places; lengths = ls; running = [] }
-  idle none = sym view ∙ timers_in-none ls places lines (none_found lines seen same none)
+pub no_first : (es : List Expiry) (now : ℕ) → first_moment es ≡ None → NoneDue es now
+no_first [] now e = record { none = refl; same = refl; later = All-nil (λ (held : Expiry). now < held.moment) }
+no_first (x ∷ xs) now e = absurd (none-some x.moment (sym e))
 
-  module _ (line : ℕ) (held : Held) (first : IsFirstLine (length seen) seen line held) where
-    leads : Leads line held lines
-    leads = first_leads places line held lines kept.each (subst (λ ls. IsFirstLine (length ls) ls line held) same first)
+pub first_later : (es : List Expiry) (now moment : ℕ) → IsInOrder is_before es → first_moment es ≡ Some moment → now < moment → NoneDue es now
+first_later [] now moment ordered e h = absurd (none-some moment e)
+first_later (x ∷ xs) now moment ordered e h =
+    let later : now < x.moment = subst (λ m. now < m) (same_Some moment x.moment (sym e)) h in
+    record {
+      none = ap (λ b. cond b (Some (x.line, x.timer)) None) (not_yet x.moment now later);
+      same = ap (λ b. cond b xs (x ∷ xs)) (not_yet x.moment now later);
+      later = all_later x xs now ordered later;
+    }
 
-    abbrev e : Expiry
-    e = expiry_on line held
+module _ (ls : Lengths) (places : ℕ) (firsts : List ℕ) (lines : List Line) (t : Timers) (view : timers_in ls places lines ≡ t) (kept : IsKept ls places firsts lines) where
+  ordered : IsInOrder is_before t.running
+  ordered = subst (λ (c : Timers). IsInOrder is_before c.running) view kept.sound.in_order
 
-    is : t.running ≡ e ∷ leads.rest
-    is = ap (λ (c : Timers). c.running) (sym view) ∙ leads.all
+  earliest_moment : earliest (moments t.running) ≡ earliest firsts
+  earliest_moment = ap (λ (c : Timers). earliest (moments c.running)) (sym view) ∙ earliest-of_set lines ∙ ap earliest (sym kept.at_hand)
 
-    ordered : IsInOrder is_before (e ∷ leads.rest)
-    ordered = subst (IsInOrder is_before) leads.all kept.sound.in_order
+  -- the earliest of the firsts is when the first timer falls due, if one runs
+  next_by_firsts : next_moment t ≡ cond (earliest firsts == never) None (Some (earliest firsts))
+  next_by_firsts =
+      first-in_order t.running ordered (subst (λ (c : Timers). AllByRecursion (λ e. e.moment < never) c.running) view kept.in_time)
+      ∙ ap (λ m. cond (m == never) None (Some m)) earliest_moment
 
-    pub next_is : next_moment t ≡ Some held.moment
-    next_is = ap first_moment is
+  pub no_next : earliest firsts ≡ never → next_moment t ≡ None
+  no_next h = next_by_firsts ∙ ap (λ b. cond b None (Some (earliest firsts))) (eq-eqb (earliest firsts) never h)
 
-    pub none_earlier : All (λ other. held.moment ≤ other.moment) t.running
-    none_earlier = subst (All (λ other. held.moment ≤ other.moment)) (sym is) (all_no_earlier e leads.rest ordered)
+  pub next_is : (earliest firsts ≡ never → ⊥) → next_moment t ≡ Some (earliest firsts)
+  next_is h = next_by_firsts ∙ ap (λ b. cond b None (Some (earliest firsts))) (ne_eqb (earliest firsts) never h)
 
-    module _ (now : ℕ) where
-      -- it is not due yet,
-      module _ (h : now < held.moment) where
-        pub none_due : due_at t now ≡ None
-        none_due = ap (λ es. first_due es now) is ∙ ap (λ b. cond b (Some (line, held.timer)) None) (not_yet held.moment now h)
+  pub all_no_earlier : All (λ held. earliest firsts ≤ held.moment) t.running
+  all_no_earlier = All-from_recursion (λ held. earliest firsts ≤ held.moment) t.running (all_from_earliest (earliest firsts) t.running (omega (arith, earliest_moment)))
 
-        pub none_taken : after_due t now ≡ t
-        none_taken = ap (λ es. record t { running = es }) (ap (λ es. after_first_due es now) is ∙ ap (λ b. cond b leads.rest (e ∷ leads.rest)) (not_yet held.moment now h) ∙ sym is)
+  pub none_due : (now : ℕ) → next_moment t ≡ None → NoneDue t.running now
+  none_due now h = no_first t.running now h
 
-        pub later : All (λ other. now < other.moment) t.running
-        later = subst (All (λ other. now < other.moment)) (sym is) (all_later e leads.rest now ordered h)
+  pub not_due : (now moment : ℕ) → next_moment t ≡ Some moment → now < moment → NoneDue t.running now
+  not_due now moment h early = first_later t.running now moment ordered h early
 
-      -- or it is, and is taken out
-      module _ (h : held.moment ≤ now) where
-        pub one_due : due_at t now ≡ Some (line, held.timer)
-        one_due = ap (λ es. first_due es now) is ∙ ap (λ b. cond b (Some (line, held.timer)) None) (by_now held.moment now h)
+  -- ---- the first is due
 
-        pub least : IsLeastDue t now line held.timer
-        least = record {
-          moment = held.moment;
-          held = subst (λ xs. Contains xs e) (sym is) (0, omega arith, refl);
-          due = h;
-          least = subst (All (λ other. is_before other e ≡ false)) (sym is) (All-from_recursion (λ other. is_before other e ≡ false) (e ∷ leads.rest) (before_itself e, ordered.0));
-        }
+  module _ (now moment line : ℕ) (next : next_moment t ≡ Some moment) (due : moment ≤ now) (there : line < length firsts) (leads : slice_index firsts line ≡ earliest firsts) (u : Line) (at : u ≡ get_or lines line u) where
+    inside : line < length lines
+    inside = omega (arith, there, ap length kept.at_hand, length-firsts lines)
 
-        module _ (u v : Line) (at : u ≡ get_or lines line u) (new : v.items ≡ drop 1 u.items) where
-          left : timers_in ls places (set lines line v) ≡ after_due (timers_in ls places lines) now
-          left = same_timers ls _ _ places _ _ (length-set lines line v) (leads.taken u v at new ∙ sym (one_taken e leads.rest now h) ∙ ap (λ es. after_first_due es now) (sym leads.all))
+    -- one runs, so the line has one
+    some_time : earliest firsts < never
+    some_time =
+        elim (cases_lt (earliest firsts) never) as (λ _. earliest firsts < never) [
+          | inl less ↦ less
+          | inr more ↦ absurd (none-some moment (sym (no_next (omega (arith, more, earliest_few firsts))) ∙ next))
+        ]
 
-          pub after_first : timers_in ls places (set lines line v) ≡ after_due t now
-          after_first = left ∙ ap (λ c. after_due c now) view
+    pub has_one : 1 ≤ vec_len u
+    has_one = omega (arith, u.ok.0, some_in u.items (omega (arith, some_time, leads, at_line)))
+      where
+        at_line : slice_index firsts line ≡ earliest_of u.items
+        at_line = ap (λ ms. get_or ms line 0) kept.at_hand ∙ get_or-map (λ (w : Line). earliest_of w.items) lines line u 0 inside ∙ ap (λ (w : Line). earliest_of w.items) (sym at)
 
-          pub kept_after : vec_len v ≤ vec_len u → vec_capacity v ≡ vec_capacity u → IsKept ls places (set lines line v)
-          kept_after fewer room =
-              let own = All-at (IsLineKept places) lines line u leads.in_range at kept.each in
-              record {
-                each = All-set (IsLineKept places) lines line v (record {
-                  ordered = subst (IsInOrder held_before) (sym new) (IsInOrder-drop_first u.items own.ordered);
-                  fits = omega (arith, own.fits, fewer);
-                  taken = omega (arith, own.taken, room);
-                }) kept.each;
-                sound = subst IsSound (sym left) (after_due_sound ls (length lines) places _ now kept.sound);
-              }
+        some_in : (hs : List Held) → earliest_of hs < never → 1 ≤ length hs
+        some_in [] h = absurd (omega (arith, h))
+        some_in (x ∷ xs) h = omega arith
+
+    module _ (held : Held) (v : Line) (taken : IsWith held v.items u.items) (first : All (λ h. held_before h held ≡ false) u.items) (before : (k : ℕ) → k < line → earliest firsts < slice_index firsts k) where
+      abbrev e : Expiry
+      e = expiry_on line held
+
+      abbrev rest : List Expiry
+      rest = in_order (from_line 0 (set lines line v))
+
+      set_is : in_order (from_line 0 lines) ≡ e ∷ rest
+      set_is =
+          leads_set lines line held u v inside at taken (recursion_from_All (λ h. held_before h held ≡ false) u.items first)
+          (subst (λ ms. earliest ms < never) kept.at_hand some_time) (subst (λ ms. get_or ms line 0 ≡ earliest ms) kept.at_hand leads)
+          (λ k less. subst (λ ms. earliest ms < get_or ms k 0) kept.at_hand (before k less))
+
+      is : t.running ≡ e ∷ rest
+      is = ap (λ (c : Timers). c.running) (sym view) ∙ set_is
+
+      in_line : IsInOrder is_before (e ∷ rest)
+      in_line = subst (IsInOrder is_before) is ordered
+
+      by_then : held.moment ≤ now
+      by_then = omega (arith, due, same_Some moment held.moment (sym next ∙ ap first_moment is))
+
+      pub one_due : due_at t now ≡ Some (line, held.timer)
+      one_due = ap (λ es. first_due es now) is ∙ ap (λ b. cond b (Some (line, held.timer)) None) (by_now held.moment now by_then)
+
+      pub least : IsLeastDue t now line held.timer
+      least = record {
+        moment = held.moment;
+        held = subst (λ xs. Contains xs e) (sym is) (0, omega arith, refl);
+        due = by_then;
+        least = subst (All (λ other. is_before other e ≡ false)) (sym is) (All-from_recursion (λ other. is_before other e ≡ false) (e ∷ rest) (before_itself e, in_line.0));
+      }
+
+      left : timers_in ls places (set lines line v) ≡ after_due (timers_in ls places lines) now
+      left = same_timers ls _ _ places _ _ (length-set lines line v) (sym (one_taken e rest now by_then) ∙ ap (λ es. after_first_due es now) (sym set_is))
+
+      pub after_first : timers_in ls places (set lines line v) ≡ after_due t now
+      after_first = left ∙ ap (λ c. after_due c now) view
+
+      pub kept_after : (after_firsts : List ℕ) → after_firsts ≡ set firsts line (earliest_of v.items) → vec_len v ≤ vec_len u → vec_capacity v ≡ vec_capacity u → IsKept ls places after_firsts (set lines line v)
+      kept_after after_firsts renewed fewer room =
+          let own = All-at (IsLineKept places) lines line u inside at kept.each in
+          record {
+            each = All-set (IsLineKept places) lines line v (record { fits = omega (arith, own.fits, fewer); taken = omega (arith, own.taken, room) }) kept.each;
+            at_hand = renewed ∙ ap (λ ms. set ms line (earliest_of v.items)) kept.at_hand ∙ sym (map-set (λ (w : Line). earliest_of w.items) lines line v);
+            in_time = (subst (AllByRecursion (λ e. e.moment < never)) set_is kept.in_time).1;
+            sound = subst IsSound (sym left) (after_due_sound ls (length lines) places _ now kept.sound);
+          }

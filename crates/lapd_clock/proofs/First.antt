@@ -1,8 +1,9 @@
 -- The first timer of all lines.
-use Rattle.lapd_clock.proofs.Vocabulary.{All, recursion_from_All, ◌≡◌, ℕ, suc, ◌+◌, ◌==◌, ◌<◌, ◌≤◌, true, false, cond, List, [], ◌∷◌, ◌++◌, length, get_or, set, drop, Option, Some, None, nat_lt, refl, sym, ap, ◌∙◌, subst, arith, get_or_default, Ordering, Less, Equal, Greater, AllByRecursion, nat_cmp, ordering_then, is_lt, false≢true, nat_tests, tied_itself, IsInOrder, timer_cmp, Expiry, is_before, Held, Line, held_before, expiry_on, on_line, from_line, in_order, earlier_of, IsFirst, IsFirstLine, IsLineKept, slice_get, cases_lt, none-some, same_Some, IsAtFront, inl, inr}
+use Rattle.lapd_clock.proofs.Vocabulary.{◌≡◌, ℕ, suc, ◌+◌, ◌==◌, ◌<◌, ◌≤◌, true, false, cond, List, [], ◌∷◌, ◌++◌, length, length-map, replicate, get_or, set, refl, sym, ap, ◌∙◌, subst, arith, inl, inr, cases_lt, cases_order, get_or_default, get_or-map, Ordering, Less, Equal, Greater, AllByRecursion, nat_lt, nat_cmp, ordering_then, is_lt, false≢true, nat_tests, tied_itself, timer_cmp, Expiry, is_before, Held, Line, held_before, expiry_on, on_line, from_line, in_order, IsWith, never, earliest, earliest_of, firsts_of}
 use Rattle.lapd_clock.proofs.Ordered.{All-append, All-put_in_order, All-from_put_in_order, put_in_order-first}
-use Rattle.lapd_clock.proofs.TimerOrder.{before_order, expiry_total}
-use Rattle.lapd_clock.proofs.StandsFor.{same_line, here, in_order-first}
+use Rattle.lapd_clock.proofs.TimerOrder.{expiry_total}
+use Rattle.lapd_clock.proofs.Knockout.{earliest_least}
+use Rattle.lapd_clock.proofs.StandsFor.{same_line, in_order-taken}
 
 -- comparing a greater number with a less one
 greater : (x y : ℕ) → y < x → nat_cmp x y ≡ Greater
@@ -34,119 +35,106 @@ no_earlier a b =
       | false ↦ λ h _. grind (arith, nat_tests)
     ]) refl
 
--- ---- the first of the lines so far, and of one more
+-- ---- what is first on its line, which is the first of all lines, is first in the set
 
-module _ (lines : List Line) (n : ℕ) (v : Line) (within : n < length lines) (at : v ≡ get_or lines n v) where
-  -- its first timer, by the list and by the line
-  at_front : (g : Held) → slice_get v.items 0 ≡ Some g → IsAtFront lines n g
-  at_front g front d = subst (λ w. slice_get w.items 0 ≡ Some g) (at ∙ get_or_default lines n v d within) front
-
-  front_of : (g : Held) → IsAtFront lines n g → slice_get v.items 0 ≡ Some g
-  front_of g front = subst (λ w. slice_get w.items 0 ≡ Some g) (sym at) (front v)
-
-  -- what holds of the fronts of the lines before holds with one more
-  one_more : (P : ℕ → Held → Type 0) → ((k : ℕ) (g : Held) → k < n → IsAtFront lines k g → P k g) → ((g : Held) → slice_get v.items 0 ≡ Some g → P n g)
-      → (k : ℕ) (g : Held) → k < n + 1 → IsAtFront lines k g → P k g
-  one_more P before last k g lt front =
-      elim (cases_lt k n) as (λ _. P k g) [
-        | inl less ↦ before k g less front
-        | inr more ↦
-            let same : n ≡ k = omega (arith, lt, more) in
-            subst (λ j. P j g) same (last g (front_of g (subst (λ j. IsAtFront lines j g) (sym same) front)))
-      ]
-
-  -- the first line stays so where the front of this one goes no earlier,
-  still_first : (k : ℕ) (h : Held) → IsFirstLine n lines k h → ((g : Held) → slice_get v.items 0 ≡ Some g → is_before (expiry_on n g) (expiry_on k h) ≡ false) → IsFirstLine (n + 1) lines k h
-  still_first k h first later = record {
-    in_range = omega (arith, first.in_range);
-    front = first.front;
-    least = one_more (λ j g. is_before (expiry_on j g) (expiry_on k h) ≡ false) first.least later;
-  }
-
-  -- and this one becomes it where those before go no earlier
-  new_first : (h : Held) → slice_get v.items 0 ≡ Some h → ((k : ℕ) (g : Held) → k < n → IsAtFront lines k g → is_before (expiry_on k g) (expiry_on n h) ≡ false) → IsFirstLine (n + 1) lines n h
-  new_first h front before = record {
-    in_range = omega arith;
-    front = at_front h front;
-    least = one_more (λ j g. is_before (expiry_on j g) (expiry_on n h) ≡ false) before (λ g there. subst (λ x. is_before (expiry_on n x) (expiry_on n h) ≡ false) (same_Some h g (sym front ∙ there)) (before_itself (expiry_on n h)));
-  }
-
-  -- by what it has
-  more : (hs : List Held) (first : Option (ℕ × Held)) → v.items ≡ hs → IsFirst n lines first → IsFirst (n + 1) lines (earlier_of first n hs)
-  more [] None e none = λ k d lt.
-      elim (cases_lt k n) as (λ _. (get_or lines k d).items ≡ []) [
-        | inl less ↦ none k d less
-        | inr last ↦ let same : n ≡ k = omega (arith, lt, last) in subst (λ j. (get_or lines j d).items ≡ []) same (ap (λ (w : Line). w.items) (sym (at ∙ get_or_default lines n v d within)) ∙ e)
-      ]
-  more [] (Some first) e h = still_first first.0 first.1 h (λ g there. absurd (none-some g (sym (ap (λ hs. slice_get hs 0) e) ∙ there)))
-  more (g ∷ gs) None e none = new_first g (ap (λ hs. slice_get hs 0) e) (λ k x lt front. absurd (none-some x (sym (ap (λ hs. slice_get hs 0) (none k v lt)) ∙ front v)))
-  more (g ∷ gs) (Some first) e h =
-      let front = ap (λ hs. slice_get hs 0) e in
-      let leader = expiry_on first.0 first.1 in
-      (elim (nat_lt g.moment first.1.moment) as (λ b. nat_lt g.moment first.1.moment ≡ b → IsFirst (n + 1) lines (cond b (Some (n, g)) (Some first))) [
-        | true ↦ λ less.
-            let earlier : g.moment < first.1.moment = grind (arith, nat_tests) in
-            new_first g front (λ k x lt there. before_order.chain (expiry_on k x) leader (expiry_on n g) (h.least k x lt there) (later_moment leader (expiry_on n g) earlier))
-        | false ↦ λ not_less.
-            let later : first.1.moment ≤ g.moment = grind (arith, nat_tests) in
-            still_first first.0 first.1 h (λ x there. subst (λ y. is_before (expiry_on n y) leader ≡ false) (same_Some g x (sym front ∙ there)) (later_line (expiry_on n g) leader later h.in_range))
-      ]) refl
-
-  pub IsFirst-more : (first : Option (ℕ × Held)) → IsFirst n lines first → IsFirst (n + 1) lines (earlier_of first n v.items)
-  IsFirst-more first h = more v.items first refl h
-
--- ---- what is first in the lines is first in the set
-
--- none of a line goes before what its first timer does not go before, and so none of all lines
-all_of_line : (e : Expiry) (i : ℕ) (hs : List Held) → IsInOrder held_before hs → ((g : Held) → slice_get hs 0 ≡ Some g → is_before (expiry_on i g) e ≡ false) → AllByRecursion (λ y. is_before y e ≡ false) (on_line i hs)
+-- what holds of each timer of each line holds of the set
+All-on_line : (P : Expiry → Type 0) (k : ℕ) (hs : List Held) → AllByRecursion (λ h. P (expiry_on k h)) hs → AllByRecursion P (on_line k hs)
 unfolding on_line
-all_of_line e i [] h least = tt
-all_of_line e i (g ∷ gs) h least = (least g refl, behind_first gs h.0)
-  where
-    behind_first : (xs : List Held) → AllByRecursion (λ later. held_before later g ≡ false) xs → AllByRecursion (λ y. is_before y e ≡ false) (on_line i xs)
-    behind_first [] h = tt
-    behind_first (x ∷ xs) h = (before_order.chain (expiry_on i x) (expiry_on i g) e (same_line i x g ∙ h.0) (least g refl), behind_first xs h.1)
+All-on_line P k [] h = tt
+All-on_line P k (x ∷ xs) h = (h.0, All-on_line P k xs h.1)
 
-all_of_lines : (places : ℕ) (e : Expiry) (i : ℕ) (lines : List Line) → AllByRecursion (IsLineKept places) lines
-    → ((k : ℕ) (g : Held) → k < length lines → IsAtFront lines k g → is_before (expiry_on (i + k) g) e ≡ false) → AllByRecursion (λ y. is_before y e ≡ false) (from_line i lines)
+All-from_line : (P : Expiry → Type 0) (i : ℕ) (lines : List Line)
+    → ((k : ℕ) (d : Line) → k < length lines → AllByRecursion (λ h. P (expiry_on (i + k) h)) (get_or lines k d).items) → AllByRecursion P (from_line i lines)
 unfolding from_line
-all_of_lines places e i [] h least = tt
-all_of_lines places e i (v ∷ vs) h least =
-    All-append (λ y. is_before y e ≡ false) (on_line i v.items) (from_line (i + 1) vs)
-    (all_of_line e i v.items h.0.ordered (λ g front. subst (λ k. is_before (expiry_on k g) e ≡ false) (omega arith) (least 0 g (omega arith) (λ d. front))))
-    (all_of_lines places e (i + 1) vs h.1 (λ k g lt front. subst (λ j. is_before (expiry_on j g) e ≡ false) (omega arith) (least (suc k) g (omega arith) front)))
+All-from_line P i [] each = tt
+All-from_line P i (v ∷ vs) each =
+    All-append P (on_line i v.items) (from_line (i + 1) vs)
+    (All-on_line P i v.items (subst (λ k. AllByRecursion (λ h. P (expiry_on k h)) v.items) (omega arith) (each 0 v (omega arith))))
+    (All-from_line P (i + 1) vs (λ k d within. subst (λ j. AllByRecursion (λ h. P (expiry_on j h)) (get_or vs k d).items) (omega arith) (each (suc k) d (omega arith))))
 
--- what holds of all holds of the set
 All-in_order : (P : Expiry → Type 0) (es : List Expiry) → AllByRecursion P es → AllByRecursion P (in_order es)
 unfolding in_order
 All-in_order P [] h = tt
 All-in_order P (e ∷ es) h = All-put_in_order is_before P e (in_order es) h.0 (All-in_order P es h.1)
 
--- the set is the first timer and what stays when it is taken out of its line
-pub record Leads (line : ℕ) (held : Held) (lines : List Line) : Type 0 where
-  pub in_range : line < length lines
-  pub rest : List Expiry
-  pub all : in_order (from_line 0 lines) ≡ expiry_on line held ∷ rest
-  pub taken : (u v : Line) → u ≡ get_or lines line u → v.items ≡ drop 1 u.items → in_order (from_line 0 (set lines line v)) ≡ rest
+-- no timer of a line is earlier than its first
+from_earliest : (m : ℕ) (hs : List Held) → m ≤ earliest_of hs → AllByRecursion (λ h. m ≤ h.moment) hs
+from_earliest m [] h = tt
+from_earliest m (x ∷ xs) h = (omega (arith, h), from_earliest m xs (omega (arith, h)))
 
-pub first_leads : (places line : ℕ) (held : Held) (lines : List Line) → AllByRecursion (IsLineKept places) lines → IsFirstLine (length lines) lines line held → Leads line held lines
-first_leads places line held [] each first = absurd (omega (arith, first.in_range))
-first_leads places line held (l ∷ ls) each first =
-    let lines = l ∷ ls in
-    let e = expiry_on line held in
-    let at_line = here line lines first.in_range in
-    let u = get_or lines line l in
-    let at = get_or_default lines line l u first.in_range in
-    let rest = in_order (at_line.before ++ (on_line line (drop 1 u.items) ++ at_line.behind)) in
-    let all = in_order-first line lines first.in_range u at held (first.front l) in
-    let none_before = All-in_order (λ y. is_before y e ≡ false) (from_line 0 lines) (all_of_lines places e 0 lines each (λ k g lt front. subst (λ j. is_before (expiry_on j g) e ≡ false) (omega arith) (first.least k g lt front))) in
-    record {
-      in_range = first.in_range;
-      rest = rest;
-      all = all ∙ put_in_order-first is_before e rest (All-from_put_in_order is_before (λ y. is_before y e ≡ false) e rest (subst (AllByRecursion (λ y. is_before y e ≡ false)) all none_before));
-      taken = λ v w there new. ap in_order (at_line.with_line w ∙ ap (λ hs. at_line.before ++ (on_line line hs ++ at_line.behind))
-          (new ∙ ap (λ (x : Line). drop 1 x.items) (there ∙ get_or_default lines line v l first.in_range)));
-    }
+-- what no timer of a line goes before is the earliest, if it is of the line
+earliest-at_most : (held : Held) (front back : List Held) → earliest_of (front ++ held ∷ back) ≤ held.moment
+earliest-at_most held [] back = omega arith
+earliest-at_most held (x ∷ xs) back = omega (arith, earliest-at_most held xs back)
+
+earliest-at_least : (k : ℕ) (held : Held) (hs : List Held) → AllByRecursion (λ h. held_before h held ≡ false) hs → earliest_of hs < never → held.moment ≤ earliest_of hs
+earliest-at_least k held [] all soon = absurd (omega (arith, soon))
+earliest-at_least k held (x ∷ xs) all soon =
+    let here : held.moment ≤ x.moment = no_earlier (expiry_on k x) (expiry_on k held) (same_line k x held ∙ all.0) in
+    elim (cases_lt (earliest_of xs) never) as (λ _. held.moment ≤ earliest_of (x ∷ xs)) [
+      | inl some ↦ omega (arith, here, earliest-at_least k held xs all.1 some)
+      | inr none ↦ omega (arith, here, none, soon)
+    ]
+
+pub length-firsts : (lines : List Line) → length (firsts_of lines) ≡ length lines
+length-firsts lines = length-map lines (λ (w : Line). earliest_of w.items)
+
+module _ (lines : List Line) (line : ℕ) (held : Held) (u v : Line) (within : line < length lines) (at : u ≡ get_or lines line u) (taken : IsWith held v.items u.items)
+    (first : AllByRecursion (λ h. held_before h held ≡ false) u.items) (soon : earliest (firsts_of lines) < never)
+    (leads : get_or (firsts_of lines) line 0 ≡ earliest (firsts_of lines)) (before : (k : ℕ) → k < line → earliest (firsts_of lines) < get_or (firsts_of lines) k 0) where
+  abbrev e : Expiry
+  e = expiry_on line held
+
+  of_line : (k : ℕ) (d : Line) → k < length lines → get_or (firsts_of lines) k 0 ≡ earliest_of (get_or lines k d).items
+  of_line k d there = get_or-map (λ (w : Line). earliest_of w.items) lines k d 0 there
+
+  -- its moment is the earliest of all
+  own : earliest_of u.items ≡ earliest (firsts_of lines)
+  own = ap (λ (w : Line). earliest_of w.items) at ∙ sym (of_line line u within) ∙ leads
+
+  pub earliest_is : earliest (firsts_of lines) ≡ held.moment
+  earliest_is =
+      let least : held.moment ≤ earliest_of u.items = earliest-at_least line held u.items first (omega (arith, own, soon)) in
+      let most : earliest_of u.items ≤ held.moment = subst (λ hs. earliest_of hs ≤ held.moment) (sym taken.whole) (earliest-at_most held taken.front taken.back) in
+      omega (arith, own, least, most)
+
+  -- none of a line before goes before it, none of its own, and none of a line behind
+  lower : (k : ℕ) (hs : List Held) → AllByRecursion (λ h. held.moment + 1 ≤ h.moment) hs → AllByRecursion (λ h. is_before (expiry_on k h) e ≡ false) hs
+  lower k [] all = tt
+  lower k (x ∷ xs) all = (later_moment (expiry_on k x) e (omega (arith, all.0)), lower k xs all.1)
+
+  same : (hs : List Held) → AllByRecursion (λ h. held_before h held ≡ false) hs → AllByRecursion (λ h. is_before (expiry_on line h) e ≡ false) hs
+  same [] all = tt
+  same (x ∷ xs) all = (same_line line x held ∙ all.0, same xs all.1)
+
+  higher : (k : ℕ) (hs : List Held) → line < k → AllByRecursion (λ h. held.moment ≤ h.moment) hs → AllByRecursion (λ h. is_before (expiry_on k h) e ≡ false) hs
+  higher k [] above all = tt
+  higher k (x ∷ xs) above all = (later_line (expiry_on k x) e all.0 above, higher k xs above all.1)
+
+  each : (k : ℕ) (d : Line) → k < length lines → AllByRecursion (λ h. is_before (expiry_on k h) e ≡ false) (get_or lines k d).items
+  each k d there =
+      let hs = (get_or lines k d).items in
+      let least : held.moment ≤ earliest_of hs = omega (arith, earliest_is, of_line k d there, earliest_least (firsts_of lines) k (omega (arith, there, length-firsts lines))) in
+      elim (cases_order k line) as (λ _. AllByRecursion (λ h. is_before (expiry_on k h) e ≡ false) hs) [
+        | inl one ↦ subst (λ j. AllByRecursion (λ h. is_before (expiry_on j h) e ≡ false) (get_or lines j d).items) (sym one)
+            (subst (λ (w : Line). AllByRecursion (λ h. is_before (expiry_on line h) e ≡ false) w.items) (at ∙ get_or_default lines line u d within) (same u.items first))
+        | inr other ↦ elim other as (λ _. AllByRecursion (λ h. is_before (expiry_on k h) e ≡ false) hs) [
+          | inl less ↦ lower k hs (from_earliest (held.moment + 1) hs (omega (arith, earliest_is, of_line k d there, before k less)))
+          | inr more ↦ higher k hs more (from_earliest held.moment hs least)
+        ]
+      ]
+
+  none_before : AllByRecursion (λ y. is_before y e ≡ false) (in_order (from_line 0 lines))
+  none_before =
+      All-in_order (λ y. is_before y e ≡ false) (from_line 0 lines)
+      (All-from_line (λ y. is_before y e ≡ false) 0 lines (λ k d there. subst (λ j. AllByRecursion (λ h. is_before (expiry_on j h) e ≡ false) (get_or lines k d).items) (omega arith) (each k d there)))
+
+  -- so the set is it, and what stays when it is taken out of its line
+  pub leads_set : in_order (from_line 0 lines) ≡ e ∷ in_order (from_line 0 (set lines line v))
+  leads_set =
+      let rest = in_order (from_line 0 (set lines line v)) in
+      let all = in_order-taken line lines within u at v held taken in
+      all ∙ put_in_order-first is_before e rest (All-from_put_in_order is_before (λ y. is_before y e ≡ false) e rest (subst (AllByRecursion (λ y. is_before y e ≡ false)) all none_before))
 
 -- lines without a timer stand for the empty set
 pub from_line-none : (i : ℕ) (lines : List Line) → AllByRecursion (λ v. v.items ≡ []) lines → from_line i lines ≡ []
@@ -154,6 +142,7 @@ unfolding from_line on_line
 from_line-none i [] h = refl
 from_line-none i (v ∷ vs) h = ap (λ hs. on_line i hs ++ from_line (i + 1) vs) h.0 ∙ from_line-none (i + 1) vs h.1
 
--- and so do lines in which none was found
-pub none_found : (lines seen : List Line) → seen ≡ lines → IsFirst (length seen) seen None → AllByRecursion (λ v. v.items ≡ []) lines
-none_found lines seen same none = recursion_from_All (λ (v : Line). v.items ≡ []) lines (subst (All (λ (v : Line). v.items ≡ [])) same none)
+-- and each has none that is first
+pub firsts_of-none : (lines : List Line) → AllByRecursion (λ v. v.items ≡ []) lines → firsts_of lines ≡ replicate (length lines) never
+firsts_of-none [] h = refl
+firsts_of-none (v ∷ vs) h = ap (λ hs. earliest_of hs ∷ firsts_of vs) h.0 ∙ ap (λ ms. never ∷ ms) (firsts_of-none vs h.1)

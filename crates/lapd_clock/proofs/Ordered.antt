@@ -45,6 +45,12 @@ module _ {X : Type 0} (before : X → X → Bool) where
   All-from_put_in_order P x (y ∷ ys) =
       by_place x y ys (λ zs. AllByRecursion P zs → AllByRecursion P (y ∷ ys)) (λ _ h. (h.0, All-from_put_in_order P x ys h.1)) (λ _ h. h.1)
 
+  -- so of x itself
+  pub All-own : (P : X → Type 0) (x : X) (ys : List X) → AllByRecursion P (put_in_order before x ys) → P x
+  All-own P x [] = λ h. h.0
+  All-own P x (y ∷ ys) =
+      by_place x y ys (λ zs. AllByRecursion P zs → P x) (λ _ h. All-own P x ys h.1) (λ _ h. h.0)
+
   one_more : (n : ℕ) → 1 + n ≡ suc n
   one_more n = omega arith
 

@@ -60,7 +60,7 @@ IsOneEach-filter p (e ∷ es) h =
 same_line_both_ways : (m n : ℕ) → (m == n) ≡ (n == m)
 same_line_both_ways m n = grind (arith, nat_tests)
 
-other_way : (a b : Expiry) → is_of a.line a.timer b ≡ false → is_of b.line b.timer a ≡ false
+pub other_way : (a b : Expiry) → is_of a.line a.timer b ≡ false → is_of b.line b.timer a ≡ false
 other_way a b h = ap (λ t. (a.line == b.line) && t) (is_same_both_ways a.timer b.timer) ∙ ap (λ t. t && is_same b.timer a.timer) (same_line_both_ways a.line b.line) ∙ h
 
 IsOneEach-put_in_order : (e : Expiry) (es : List Expiry) → AllByRecursion (λ other. is_of e.line e.timer other ≡ false) es → IsOneEach es → IsOneEach (put_in_order is_before e es)
@@ -114,6 +114,20 @@ with_order_sound c line (Start timer) now within h =
       }
       | false ↦ λ _. h
     ]) refl
+
+-- each timer falls due some time, also one that is started
+pub stop_in_time : (c : Timers) (line : ℕ) (timer : Timer) (now end : ℕ) → AllByRecursion (λ e. e.moment < end) c.running → AllByRecursion (λ e. e.moment < end) (with_order c line (Stop timer) now).running
+unfolding with_order
+stop_in_time c line timer now end h = All-filter (λ e. e.moment < end) _ c.running h
+
+pub start_in_time : (c : Timers) (line : ℕ) (timer : Timer) (now end : ℕ) → now + duration c.lengths timer < end → AllByRecursion (λ e. e.moment < end) c.running → AllByRecursion (λ e. e.moment < end) (with_order c line (Start timer) now).running
+unfolding with_order
+start_in_time c line timer now end soon h =
+    let e : Expiry = record { moment = now + duration c.lengths timer; line = line; timer = timer } in
+    elim (finds_place c line (Start timer)) as (λ b. AllByRecursion (λ x. x.moment < end) (cond b (record c { running = put_in_order is_before e (without line timer c.running) }) c).running) [
+      | true ↦ All-put_in_order is_before (λ x. x.moment < end) e _ soon (All-filter (λ x. x.moment < end) _ c.running h)
+      | false ↦ h
+    ]
 
 pub none_sound : (ls : Lengths) (lines places : ℕ) → AreInRange ls → IsSound (record { lines = lines; places = places; lengths = ls; running = [] })
 none_sound ls lines places range = record {

@@ -1,6 +1,6 @@
 -- The set that the lines stand for, when the timers of one line change.
-use Rattle.lapd_clock.proofs.Vocabulary.{◌≡◌, ◌≢◌, ℕ, zero, suc, ◌+◌, ◌<◌, Bool, true, false, cond, not, ◌&&◌, ◌==◌, List, [], ◌∷◌, ◌++◌, length, drop, filter, count_by, Some, slice_get, get_or, set, refl, sym, ap, ◌∙◌, arith, nat_cmp, ordering_then, is_lt, nat_tests, nat_cmp_total, tied_itself, filter-append, sum_by-append, put_in_order, IsInOrder, Timer, timer_cmp, is_same, Expiry, is_before, is_of, without, count_on, Held, Line, held_before, all_but, expiry_on, on_line, from_line, in_order, AllByRecursion, append_assoc, set-get_or}
-use Rattle.lapd_clock.proofs.Ordered.{All-append, put_in_order-after, put_in_order-here, by_place, put_in_order-swap, filter-put_in_order, IsInOrder-put_in_order, count_by-put_in_order, count_by-cons}
+use Rattle.lapd_clock.proofs.Vocabulary.{◌≡◌, ◌≢◌, ℕ, zero, suc, ◌+◌, ◌<◌, Bool, true, false, cond, not, ◌&&◌, ◌==◌, List, [], ◌∷◌, ◌++◌, length, filter, count_by, get_or, set, refl, sym, ap, ◌∙◌, arith, nat_cmp, ordering_then, is_lt, nat_tests, nat_cmp_total, tied_itself, filter-append, sum_by-append, put_in_order, IsInOrder, Timer, timer_cmp, is_same, Expiry, is_before, is_of, without, count_on, Held, Line, held_before, all_but, expiry_on, on_line, from_line, in_order, AllByRecursion, append_assoc, set-get_or, IsWith}
+use Rattle.lapd_clock.proofs.Ordered.{All-append, put_in_order-swap, filter-put_in_order, IsInOrder-put_in_order, count_by-put_in_order, count_by-cons}
 use Rattle.lapd_clock.proofs.TimerOrder.{before_order, same_expiry}
 
 -- a number is itself, and no other
@@ -17,31 +17,32 @@ swap = put_in_order-swap is_before before_order same_expiry
 pub same_line : (k : ℕ) (a b : Held) → is_before (expiry_on k a) (expiry_on k b) ≡ held_before a b
 same_line k a b = ap (λ o. is_lt (ordering_then (nat_cmp a.moment b.moment) (ordering_then o (timer_cmp a.timer b.timer)))) (tied_itself nat_cmp_total k)
 
-on_line-put_in_order : (k : ℕ) (h : Held) (hs : List Held) → on_line k (put_in_order held_before h hs) ≡ put_in_order is_before (expiry_on k h) (on_line k hs)
+-- one more timer somewhere in a line is one more in the set
+on_line-append : (k : ℕ) (xs ys : List Held) → on_line k (xs ++ ys) ≡ on_line k xs ++ on_line k ys
 unfolding on_line
-on_line-put_in_order k h [] = refl
-on_line-put_in_order k h (x ∷ xs) =
-    by_place held_before h x xs (λ zs. on_line k zs ≡ put_in_order is_before (expiry_on k h) (on_line k (x ∷ xs)))
-    (λ e. ap (λ l. expiry_on k x ∷ l) (on_line-put_in_order k h xs) ∙ sym (put_in_order-after is_before (expiry_on k h) (expiry_on k x) (on_line k xs) (same_line k x h ∙ e)))
-    (λ e. sym (put_in_order-here is_before (expiry_on k h) (expiry_on k x) (on_line k xs) (same_line k x h ∙ e)))
+on_line-append k [] ys = refl
+on_line-append k (x ∷ xs) ys = ap (λ l. expiry_on k x ∷ l) (on_line-append k xs ys)
 
--- one more in the first list, or in the second, is one more in the set
-in_order-put_in_order : (e : Expiry) (xs ys : List Expiry) → in_order (put_in_order is_before e xs ++ ys) ≡ put_in_order is_before e (in_order (xs ++ ys))
+in_order-inserted : (e : Expiry) (xs ys zs : List Expiry) → in_order ((xs ++ e ∷ ys) ++ zs) ≡ put_in_order is_before e (in_order ((xs ++ ys) ++ zs))
 unfolding in_order
-in_order-put_in_order e [] ys = refl
-in_order-put_in_order e (x ∷ xs) ys =
-    by_place is_before e x xs (λ zs. in_order (zs ++ ys) ≡ put_in_order is_before e (in_order (x ∷ (xs ++ ys))))
-    (λ _. ap (put_in_order is_before x) (in_order-put_in_order e xs ys) ∙ swap x e (in_order (xs ++ ys)))
-    (λ _. refl)
+in_order-inserted e [] ys zs = refl
+in_order-inserted e (x ∷ xs) ys zs = ap (put_in_order is_before x) (in_order-inserted e xs ys zs) ∙ swap x e (in_order ((xs ++ ys) ++ zs))
 
 in_order-behind : (e : Expiry) (xs ys zs : List Expiry) → in_order zs ≡ put_in_order is_before e (in_order ys) → in_order (xs ++ zs) ≡ put_in_order is_before e (in_order (xs ++ ys))
 unfolding in_order
 in_order-behind e [] ys zs h = h
 in_order-behind e (x ∷ xs) ys zs h = ap (put_in_order is_before x) (in_order-behind e xs ys zs h) ∙ swap x e (in_order (xs ++ ys))
 
-front_is : (hs : List Held) (h : Held) → slice_get hs 0 ≡ Some h → hs ≡ h ∷ drop 1 hs
-front_is [] h e = cc
-front_is (x ∷ xs) h e = ap (λ (y : Held). y ∷ xs) cc
+in_order-with : (k : ℕ) (h : Held) (others all : List Held) (before behind : List Expiry) → IsWith h others all
+    → in_order (before ++ (on_line k all ++ behind)) ≡ put_in_order is_before (expiry_on k h) (in_order (before ++ (on_line k others ++ behind)))
+unfolding on_line
+in_order-with k h others all before behind more =
+    let whole : on_line k all ≡ on_line k more.front ++ expiry_on k h ∷ on_line k more.back = ap (on_line k) more.whole ∙ on_line-append k more.front (h ∷ more.back) in
+    let without : on_line k others ≡ on_line k more.front ++ on_line k more.back = ap (on_line k) more.without ∙ on_line-append k more.front more.back in
+    in_order-behind (expiry_on k h) before (on_line k others ++ behind) (on_line k all ++ behind)
+    (ap (λ es. in_order (es ++ behind)) whole
+    ∙ in_order-inserted (expiry_on k h) (on_line k more.front) (on_line k more.back) behind
+    ∙ ap (λ es. put_in_order is_before (expiry_on k h) (in_order (es ++ behind))) (sym without))
 
 -- one timer of line k is not one of any other line
 on_line-all_but : (k : ℕ) (t : Timer) (hs : List Held) → on_line k (all_but t hs) ≡ without k t (on_line k hs)
@@ -164,15 +165,20 @@ module _ (k : ℕ) (lines : List Line) (within : k < length lines) where
       pub in_order-stopped : (t : Timer) → v.items ≡ all_but t u.items → in_order (from_line 0 (set lines k v)) ≡ without k t (in_order (from_line 0 lines))
       in_order-stopped t new = ap in_order (here.with_line v ∙ ap (λ hs. here.before ++ (on_line k hs ++ here.behind)) new) ∙ sym (without_one t)
 
-      -- and with it started anew
-      pub in_order-restarted : (h : Held) → v.items ≡ put_in_order held_before h (all_but h.timer u.items)
+      -- and with it started anew,
+      pub in_order-restarted : (h : Held) → IsWith h (all_but h.timer u.items) v.items
           → in_order (from_line 0 (set lines k v)) ≡ put_in_order is_before (expiry_on k h) (without k h.timer (in_order (from_line 0 lines)))
       in_order-restarted h new =
-          let others = all_but h.timer u.items in
-          ap in_order (here.with_line v ∙ ap (λ hs. here.before ++ (on_line k hs ++ here.behind)) new)
-          ∙ in_order-behind (expiry_on k h) here.before (on_line k others ++ here.behind) (on_line k (put_in_order held_before h others) ++ here.behind)
-          (ap (λ es. in_order (es ++ here.behind)) (on_line-put_in_order k h others) ∙ in_order-put_in_order (expiry_on k h) (on_line k others) here.behind)
+          ap in_order (here.with_line v)
+          ∙ in_order-with k h (all_but h.timer u.items) v.items here.before here.behind new
           ∙ ap (put_in_order is_before (expiry_on k h)) (sym (without_one h.timer))
+
+      -- and what it is with one that is taken out
+      pub in_order-taken : (h : Held) → IsWith h v.items u.items → in_order (from_line 0 lines) ≡ put_in_order is_before (expiry_on k h) (in_order (from_line 0 (set lines k v)))
+      in_order-taken h old =
+          ap in_order whole
+          ∙ in_order-with k h v.items u.items here.before here.behind old
+          ∙ ap (λ es. put_in_order is_before (expiry_on k h) (in_order es)) (sym (here.with_line v))
 
     -- the timers of a line are those that it keeps
     pub count_on-stopped : (t : Timer) → count_on k (without k t (in_order (from_line 0 lines))) ≡ length (all_but t u.items)
@@ -182,12 +188,3 @@ module _ (k : ℕ) (lines : List Line) (within : k < length lines) where
         ∙ count_by-in_order (λ e. e.line == k) (here.before ++ (others ++ here.behind))
         ∙ count_on-append k here.before (others ++ here.behind)
         ∙ omega (arith, count_on-append k others here.behind, count_on-apart k here.before here.apart_before, count_on-on_line k (all_but t u.items), count_on-apart k here.behind here.apart_behind)
-
-    -- the first timer of a line, and what stays without it
-    pub in_order-first : (h : Held) → slice_get u.items 0 ≡ Some h
-        → in_order (from_line 0 lines) ≡ put_in_order is_before (expiry_on k h) (in_order (here.before ++ (on_line k (drop 1 u.items) ++ here.behind)))
-    unfolding in_order on_line
-    in_order-first h front =
-        let rest = on_line k (drop 1 u.items) ++ here.behind in
-        ap in_order (whole ∙ ap (λ hs. here.before ++ (on_line k hs ++ here.behind)) (front_is u.items h front))
-        ∙ in_order-behind (expiry_on k h) here.before rest (expiry_on k h ∷ rest) refl

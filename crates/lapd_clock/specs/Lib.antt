@@ -3,6 +3,7 @@ pub mod Timer
 pub mod Timers
 pub mod InOrder
 pub mod Sound
+pub mod Firsts
 pub mod Places
 pub mod Moments
 pub mod Given

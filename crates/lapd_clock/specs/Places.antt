@@ -1,25 +1,38 @@
--- How the places of the lines stand for the set of running timers: each line keeps its own, in the order in which they
--- fall due.
-use Rattle.std.specs.Prelude.{◌≡◌, ℕ, ◌+◌, ◌≤◌, Bool, false, not, if◌then◌else◌, List, [], ◌∷◌, ◌++◌, length, filter, Option, None, Some, nat_lt, slice_get, get_or, ◌<◌, Vec, vec_len, vec_capacity}
+-- How the places of the lines stand for the set of running timers: each line keeps its own, in no order.
+use Rattle.std.specs.Prelude.{◌≡◌, ℕ, ◌+◌, ◌<◌, ◌≤◌, Bool, true, false, not, List, [], ◌∷◌, ◌++◌, length, map, filter, Vec, vec_len, vec_capacity}
 use Rattle.std.specs.declared.alloc.Global.{Global}
-use Rattle.std.specs.List.{AllByRecursion, HoldsAt}
+use Rattle.std.specs.List.{AllByRecursion}
 use Rattle.std.specs.Ordering.{nat_cmp, ordering_then, is_lt}
-use Rattle.lapd_clock.specs.InOrder.{put_in_order, IsInOrder}
 use Rattle.lapd_clock.specs.Timer.{Timer, Lengths, timer_cmp, is_same}
-use Rattle.lapd_clock.specs.Timers.{Expiry, Timers, is_before, with_expiry}
+use Rattle.lapd_clock.specs.Timers.{Expiry, Timers, with_expiry}
 use Rattle.lapd_clock.specs.Sound.{IsSound}
+use Rattle.lapd_clock.specs.Firsts.{never, earliest}
 use Rattle.lapd_clock.specs.declared.line.Held.{Held}
 
 -- whether one timer falls due before another of its line
 abbrev pub held_before : Held → Held → Bool
 held_before a b = is_lt (ordering_then (nat_cmp a.moment b.moment) (timer_cmp a.timer b.timer))
 
--- one more in its place, and all but one timer
-abbrev pub with_held : Held → List Held → List Held
-with_held h hs = put_in_order held_before h hs
-
+-- all timers of a line but one
 abbrev pub all_but : Timer → List Held → List Held
 all_but timer hs = filter (λ h. not (is_same h.timer timer)) hs
+
+-- no timer of a line runs twice
+abbrev pub IsEachOnce : List Held → Type 0
+IsEachOnce [] = Unit {0}
+IsEachOnce (h ∷ hs) = AllByRecursion (λ other. is_same other.timer h.timer ≡ false) hs × IsEachOnce hs
+
+-- the timers of a line are these others, and one more in some place
+pub record IsWith (held : Held) (others all : List Held) : Type 0 where
+  pub front : List Held
+  pub back : List Held
+  pub without : others ≡ front ++ back
+  pub whole : all ≡ front ++ held ∷ back
+
+-- A timer that is started has one moment, also where it ran before; where it finds no place, the others are all.
+abbrev pub IsStarted : Bool → Held → List Held → List Held → Type 0
+IsStarted true held old new = IsWith held (all_but held.timer old) new
+IsStarted false held old new = new ≡ all_but held.timer old
 
 -- what a timer is in the set, and the timers of one line and of all lines from one on
 abbrev pub expiry_on : ℕ → Held → Expiry
@@ -44,32 +57,21 @@ in_order (e ∷ es) = with_expiry e (in_order es)
 abbrev pub timers_in : Lengths → ℕ → List Line → Timers
 timers_in lengths places lines = record { lines = length lines; places = places; lengths = lengths; running = in_order (from_line 0 lines) }
 
--- What is first in a line, given what is first in the lines before it.
-abbrev pub earlier_of : Option (ℕ × Held) → ℕ → List Held → Option (ℕ × Held)
-earlier_of first line [] = first
-earlier_of None line (h ∷ hs) = Some (line, h)
-earlier_of (Some first) line (h ∷ hs) = if nat_lt h.moment first.1.moment then Some (line, h) else Some first
+-- when the first timer of a line falls due, and of each line
+abbrev pub earliest_of : List Held → ℕ
+earliest_of hs = earliest (map (λ h. h.moment) hs)
 
--- this timer is the first of a line
-abbrev pub IsAtFront : List Line → ℕ → Held → Type 0
-IsAtFront lines line held = HoldsAt (λ v. slice_get v.items 0 ≡ Some held) lines line
+abbrev pub firsts_of : List Line → List ℕ
+firsts_of lines = map (λ v. earliest_of v.items) lines
 
--- the line of the first n whose first timer, held, is the first of all
-pub record IsFirstLine (n : ℕ) (lines : List Line) (line : ℕ) (held : Held) : Type 0 where
-  pub in_range : line < n
-  pub front : IsAtFront lines line held
-  pub least : (k : ℕ) (other : Held) → k < n → IsAtFront lines k other → is_before (expiry_on k other) (expiry_on line held) ≡ false
-
-abbrev pub IsFirst : ℕ → List Line → Option (ℕ × Held) → Type 0
-IsFirst n lines None = (k : ℕ) (d : Line) → k < n → (get_or lines k d).items ≡ []
-IsFirst n lines (Some first) = IsFirstLine n lines first.0 first.1
-
--- a line keeps its timers in order, and has room for as many as it has places
+-- a line has room for as many timers as it has places
 pub record IsLineKept (places : ℕ) (v : Line) : Type 0 where
-  pub ordered : IsInOrder held_before v.items
   pub fits : vec_len v ≤ places
   pub taken : places ≤ vec_capacity v
 
-pub record IsKept (lengths : Lengths) (places : ℕ) (lines : List Line) : Type 0 where
+pub record IsKept (lengths : Lengths) (places : ℕ) (firsts : List ℕ) (lines : List Line) : Type 0 where
   pub each : AllByRecursion (IsLineKept places) lines
+  -- The firsts are those of the lines, and each timer falls due some time.
+  pub at_hand : firsts ≡ firsts_of lines
+  pub in_time : AllByRecursion (λ e. e.moment < never) (in_order (from_line 0 lines))
   pub sound : IsSound (timers_in lengths places lines)

@@ -5,9 +5,9 @@ ghost use Rattle.lapd_clock.specs.Timers.{idle, idle_with, with_lengths, finds_p
 ghost use Rattle.lapd_clock.specs.Sound.{IsSound, IsLeastDue};
 
 use crate::fault::StartFault;
+use crate::firsts::{Firsts, NEVER};
 use crate::lengths::Lengths;
-use crate::line::{Held, start, stop};
-use crate::lines::first_of;
+use crate::line::{Held, earliest_of, start, stop, take_first};
 use lapd_frame::{Order, Timer};
 use std::alloc::Global;
 use std::marker::Model;
@@ -21,6 +21,7 @@ pub struct Clock {
     places: usize,
     lengths: Lengths,
     lines: Vec<Vec<Held>>,
+    firsts: Firsts,
 }
 
 impl Model for Clock {
@@ -33,7 +34,7 @@ impl Model for Clock {
 
     ghost view = { λ a. timers_in (lengths_of a.lengths) a.places a.lines.items };
 
-    ghost invariant = { λ a. IsKept (lengths_of a.lengths) a.places a.lines.items };
+    ghost invariant = { λ a. IsKept (lengths_of a.lengths) a.places a.firsts a.lines.items };
 }
 
 impl Clock {
@@ -73,6 +74,9 @@ impl Clock {
         ensures sound { IfOk result IsSound }
     {
         let places = 4 * terminals + 1;
+        let Ok(firsts) = Firsts::start(alloc, lines) else {
+            return Err(StartFault::OutOfMemory);
+        };
         let mut all = Vec::with_capacity(alloc, lines).map_err(|_| StartFault::OutOfMemory)?;
         for _ in 0..lines {
             let line = Vec::with_capacity(alloc, places).map_err(|_| StartFault::OutOfMemory)?;
@@ -82,6 +86,7 @@ impl Clock {
             places,
             lengths,
             lines: all,
+            firsts,
         })
     }
 
@@ -122,10 +127,15 @@ impl Clock {
         match order {
             Order::Start(timer) => {
                 let moment = now + self.lengths.of(timer);
-                start(&mut self.lines[line], self.places, Held { moment, timer })
+                let running = &mut self.lines[line];
+                let is_placed = start(running, self.places, Held { moment, timer });
+                self.firsts.set(line, earliest_of(running));
+                is_placed
             }
             Order::Stop(timer) => {
-                stop(&mut self.lines[line], timer);
+                let running = &mut self.lines[line];
+                stop(running, timer);
+                self.firsts.set(line, earliest_of(running));
                 true
             }
         }
@@ -150,11 +160,14 @@ impl Clock {
         ensures lengths { self.new.lengths ≡ self.old.lengths }
         ensures sound { IsSound self.new }
     {
-        let (line, held) = first_of(&self.lines)?;
-        if now < held.moment {
+        let first = self.next()?;
+        if now < first {
             return None;
         }
-        self.lines[line].remove(0);
+        let line = self.firsts.leader();
+        let running = &mut self.lines[line];
+        let held = take_first(running);
+        self.firsts.set(line, earliest_of(running));
         Some((line, held.timer))
     }
 
@@ -165,7 +178,10 @@ impl Clock {
         ensures least { IfSome result (λ moment. All (λ held. moment ≤ held.moment) self.now.running) }
         ensures sound { IsSound self.now }
     {
-        let (_, held) = first_of(&self.lines)?;
-        Some(held.moment)
+        let earliest = self.firsts.earliest();
+        if earliest == NEVER {
+            return None;
+        }
+        Some(earliest)
     }
 }

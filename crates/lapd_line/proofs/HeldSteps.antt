@@ -59,19 +59,17 @@ held_more f number octets result so_far here =
     let same : f (0 + number) ≡ f number = ap f (omega arith) in
     omega (arith, so_far, here, same, sum_next f 0 number)
 
-pub four : (x y z r s m k : ℕ) → x ≡ r → y ≡ s → z ≡ m + k → x + y + z ≡ r + s + m + k
-four x y z r s m k a b d = omega (arith, a, b, d)
+pub both : {x y r s : ℕ} → x ≡ r → y ≡ s → x + y ≡ r + s
+both a b = omega (arith, a, b)
 
 -- a frame that is received is kept as far as there is room
-kept_few : (room n : ℕ) (b : Bool) → nat_lt room n ≡ b → cond b 4 n ≤ room + 4
-kept_few room n true e = omega arith
-kept_few room n false e = omega (arith, ltb-false room n e)
+kept_few : (room n : ℕ) (b : Bool) → 4 ≤ room → nat_lt room n ≡ b → cond b 4 n ≤ room
+kept_few room n true four e = four
+kept_few room n false four e = omega (arith, ltb-false room n e)
 
-gap_few : {G : Type 0} (room : ℕ) (size : G → ℕ) (o : Option G) → option_map_or (λ g. kept_count room (size g)) o 0 ≤ room + 4
-gap_few room size None = omega arith
-gap_few room size (Some g) = kept_few room (size g) (nat_lt room (size g)) refl
+gap_few : {G : Type 0} (room : ℕ) (size : G → ℕ) (o : Option G) → 4 ≤ room → option_map_or (λ g. kept_count room (size g)) o 0 ≤ room
+gap_few room size None four = omega arith
+gap_few room size (Some g) four = kept_few room (size g) (nat_lt room (size g)) four refl
 
-pub received_few : (n201 : ℕ) (octets : List ℕ) → octets_held n201 octets ≤ n201 + 10
-received_few n201 octets =
-    let few : octets_held n201 octets ≤ room_for n201 + 4 = gap_few (room_for n201) (λ g. length (unstuffed (reverse g)) / 8) (open_gap (reverse (bits octets))) in
-    omega (arith, few)
+pub received_few : (n201 : ℕ) (octets : List ℕ) → octets_held n201 octets ≤ n201 + 6
+received_few n201 octets = gap_few (room_for n201) (λ g. length (unstuffed (reverse g)) / 8) (open_gap (reverse (bits octets))) (omega arith)

@@ -1,5 +1,5 @@
 -- What a call on the links does to the entities of a line.
-use Rattle.lapd_line.proofs.Vocabulary.{◌≡◌, ℕ, ◌<◌, ◌≤◌, List, ◌++◌, length, slice_get, Option, Some, refl, sym, ap, subst, ◌∙◌, arith, append_assoc, get_or, None, Owned, Holds, Store, SameLimits, Service, Link, Answer, told_with, state_number, IsAt, place_of, at-within, place_of-is, Line, link_number, link_count, service_at, place_at, tei_at, terms, state_in, state_of, at_link, told_of_link, IsSound, place_at-number, service_at-number, number_within, aim_sound, ranges_of, LinkLayer, BareReport, told_in, unit_pairs, UnitRing, AreFor, Awake, Wakes, NoneMissed, LinksStand, HasTerms, links_pairs, terms_in, machine_at, LinkFits, Stands, Standing, Serves, always, Config, Management, Item, All, zip}
+use Rattle.lapd_line.proofs.Vocabulary.{◌≡◌, ℕ, ◌<◌, ◌≤◌, List, ◌++◌, length, slice_get, Option, Some, refl, sym, ap, subst, ◌∙◌, arith, append_assoc, get_or, None, Owned, Holds, Store, SameLimits, Service, Link, Answer, told_with, state_number, IsAt, place_of, at-within, place_of-is, Line, link_number, link_count, service_at, place_at, tei_at, terms, state_in, state_of, at_link, told_of_link, IsSound, place_at-number, service_at-number, number_within, aim_sound, ranges_of, LinkLayer, BareReport, told_in, unit_pairs, UnitRing, AreFor, Awake, Wakes, NoneMissed, LinksStand, HasTerms, links_pairs, terms_in, machine_at, LinkFits, Stands, Standing, Serves, always, Config, Management, All, zip}
 use Rattle.std.specs.Option.{option_map}
 use Rattle.model_link.specs.Events as event
 use Rattle.model_link.specs.Link as machine
@@ -26,27 +26,6 @@ stands_as {e} st teis units t rest l same wide sound management addressed held =
   asleep = subst (NoneMissed e.awake e.links) (sym same.0) st.asleep;
   held = held;
 }
-
--- the bits of a line concern its entities only as far as it is sound
-pub with_bits : {e : LinkLayer} {s : Store} {others : List Owned} {m : Line} (received : List ℕ) (items : List Item) (given : List ℕ) → Stands e s others m
-    → IsSound e.config (record m { received = received; items = items; given = given }) → Stands e s others (record m { received = received; items = items; given = given })
-with_bits {e} {s} {others} {m} received items given st sound =
-    stands_as st e.teis e.units s others (record m { received = received; items = items; given = given }) (refl, refl, refl, refl) st.wide sound st.management st.addressed st.held
-
--- and they do not know what was received
-pub with_received : {e : LinkLayer} {s : Store} {others : List Owned} {m : Line} (received : List ℕ) → Stands e s others m → Stands e s others (record m { received = received })
-with_received {m = m} received st =
-    with_bits received m.items m.given st (record {
-      management = st.sound.management;
-      places = st.sound.places;
-      count = st.sound.count;
-      links = st.sound.links;
-      units = st.sound.units;
-      few_units = st.sound.few_units;
-      turn = st.sound.turn;
-      sizes = st.sound.sizes;
-      text = st.sound.text;
-    })
 
 -- the links of a line stand beside its units and what others own
 abbrev pub beside_links : LinkLayer → Line → List Owned → List Owned

@@ -1,4 +1,4 @@
--- Lemmas: steps of a line, of its links and of its TEI management; pulls; whole frames; rooms.
+-- Lemmas: steps of a line, of its links and of its TEI management; what is next; ports; rooms.
 pub mod Vocabulary
 pub mod LinkSteps
 pub mod AwakeBits
@@ -6,9 +6,7 @@ pub mod AwakeSteps
 pub mod LayerSteps
 pub mod AddressSteps
 pub mod TeiChangeSteps
-pub mod Quiet
 pub mod LineSteps
-pub mod CountSteps
 pub mod LayerRequests
 pub mod RequestSteps
 pub mod StartSteps
@@ -18,9 +16,8 @@ pub mod PullTakes
 pub mod PullTakesUnits
 pub mod PullTakesLinks
 pub mod Stood
-pub mod PullSteps
-pub mod FrameSteps
-pub mod FrameCounting
-pub mod FrameStood
+pub mod NextSteps
+pub mod PortSteps
+pub mod OctetSteps
 pub mod AnswerLaws
 pub mod RoomSteps

@@ -9,6 +9,7 @@ takes_or {first} {second} {a} {b} {c} {s} {t} {u} {f} {g} {h} {orders} none then
   config = then.config ∙ none.config;
   limits = record { slots = then.limits.slots ∙ none.limits.slots; width = then.limits.width ∙ none.limits.width };
   room = then.room ∙ none.room;
+  reference = then.reference ∙ none.reference;
   took = λ others m st. go others m (first a.config m) (none.took others m st);
 }
   where
@@ -27,6 +28,7 @@ takes_first second {first} {a} {b} {s} {t} {f} {g} {orders} some = record {
   config = some.config;
   limits = some.limits;
   room = some.room;
+  reference = some.reference;
   took = λ others m st. go others m (first a.config m) (some.took others m st);
 }
   where
@@ -42,5 +44,6 @@ takes_as {first} {second} {a} {b} {s} {t} {f} {g} {orders} same h = record {
   config = h.config;
   limits = h.limits;
   room = h.room;
+  reference = h.reference;
   took = λ others m st. subst (λ k. Took k orders m b t others f g) (same others m st) (h.took others m st);
 }

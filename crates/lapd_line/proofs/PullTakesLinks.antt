@@ -1,5 +1,5 @@
 -- What a pull takes of the links.
-use Rattle.lapd_line.proofs.Vocabulary.{◌≡◌, ◌⊎◌, inl, inr, Bool, true, false, cond, ℕ, zero, suc, ◌+◌, ◌-◌, ◌≤◌, ◌<◌, List, [], ◌∷◌, ◌++◌, length, take, drop, get_or, set, slice_get, Option, Some, None, option_map, IfSome, refl, ap, sym, ◌∙◌, subst, arith, set-get_or, none-some, slice_get_cases, slice_get-map, range_with_len, option_or, unwrap_or, Address, Order, IsFrame, spelling, listed, Owned, Store, IsUsed, Link, Offer, contents_in, HasMessage, terms_of, ControlFrame, Terms, address_at, given, given_of, course, offer, Given, may_send_information, offer_among, send_information, send_acknowledgement, give_information, with_one_sent, next_information, first_unsent, is_awaiting_acknowledgement, Course, Sent, ◌then◌, changed, pending_is, start, T200, Config, Line, link_at, link_count, place_at, service_at, tei_at, terms, terms_at, Taken, with_given_frame, link_taken, first_taken, round, IsSoundAt, fresh_gives_nothing, TakesSoundly, link_sound, ranges_of, Awake, LinkLayer, Stands, Standing, IsAwake, IsAsleep, FallsAsleep, LinksStand, HasTerms, IsGiven, Offers, terms_in, Loading, Loads, room_in, IsFree, HasTaken, Took, Takes}
+use Rattle.lapd_line.proofs.Vocabulary.{◌≡◌, ◌⊎◌, inl, inr, Bool, true, false, cond, ℕ, zero, suc, ◌+◌, ◌-◌, ◌≤◌, ◌<◌, List, [], ◌∷◌, ◌++◌, length, take, drop, get_or, set, slice_get, Option, Some, None, option_map, IfSome, refl, ap, sym, ◌∙◌, subst, arith, set-get_or, none-some, slice_get_cases, slice_get-map, range_with_len, option_or, unwrap_or, Address, Order, IsFrame, spelling, listed, Owned, Store, IsUsed, Link, Offer, contents_in, HasMessage, terms_of, ControlFrame, Terms, address_at, given, given_of, course, offer, Given, may_send_information, offer_among, send_information, send_acknowledgement, give_information, with_one_sent, next_information, first_unsent, is_awaiting_acknowledgement, Course, Sent, ◌then◌, changed, pending_is, start, T200, Config, Line, link_at, link_count, place_at, service_at, tei_at, terms, terms_at, Taken, with_given_frame, link_taken, first_taken, round, IsSoundAt, fresh_gives_nothing, TakesSoundly, link_sound, ranges_of, Awake, LinkLayer, Stands, Standing, IsAwake, IsAsleep, FallsAsleep, LinksStand, HasTerms, IsGiven, Offers, terms_in, Loading, Loads, room_in, reference_in, IsFree, HasTaken, Took, Takes}
 use Rattle.model_link.specs.Link as machine
 use Rattle.model_link.specs.Machine.{after}
 use Rattle.model_link.specs.Steps.{begun}
@@ -75,6 +75,7 @@ no_link e s f number new awake few o falls = record {
   config = refl;
   limits = record { slots = refl; width = refl };
   room = refl;
+  reference = refl;
   took = λ others m st.
       let k = known e s others m number few st in
       let part = links_part e s others m st in
@@ -137,13 +138,14 @@ loads e s number new o address info few (others, m, st) offers named is =
 pub link_loaded : (e : LinkLayer) (s : Store) (f g : Loading) (number : ℕ) (new : List Link) (o : Offer) (address : Address) (info : List ℕ) → number < link_count e.config
     → IsAwake e.awake number → Offers number e.links new (Some o)
     → ((t : Terms) → HasTerms new number t → address ≡ address_at t o.frame.command)
-    → info ≡ unwrap_or (contents_in s o.contents) [] → room_in g ≡ room_in f
+    → info ≡ unwrap_or (contents_in s o.contents) [] → room_in g ≡ room_in f → reference_in g ≡ reference_in f
     → Loads (spelling e.config.side (record { address = address; control = o.frame.control; info = info })) f g
     → Takes (λ c m. link_taken c m number) e s f (record e { links = new; turn = number + 1 }) s g (Some (listed o.orders))
-link_loaded e s f g number new o address info few awake offers named is room loaded = record {
+link_loaded e s f g number new o address info few awake offers named is room reference loaded = record {
   config = refl;
   limits = record { slots = refl; width = refl };
   room = room;
+  reference = reference;
   took = λ others m st.
       let gave = gives e s others m number new o few st offers in
       let t = terms_at e.config number m in
@@ -246,6 +248,7 @@ passed from next number {a} {b} {s} {t} {f} {g} order more within asleep h =
       config = refl;
       limits = record { slots = refl; width = refl };
       room = refl;
+      reference = refl;
       took = λ others m st.
           let none = none_of b.config m next (number - next) (λ n low high. asleep_gives_nothing b t others m n (omega (arith, high, more, few)) st (asleep n low (omega (arith, high, more)))) in
           subst (λ o. Took o None m b t others g g) (sym none) (st, refl);

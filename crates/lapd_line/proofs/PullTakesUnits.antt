@@ -1,5 +1,5 @@
 -- What a pull takes of the unit data that waits.
-use Rattle.lapd_line.proofs.Vocabulary.{◌≡◌, ℕ, ◌≤◌, ◌<◌, List, [], ◌∷◌, ◌++◌, length, drop, slice_get, Some, None, option_map, true, false, refl, ap, sym, ◌∙◌, subst, arith, length-drop, All-head, All-drop, none-some, same_Some, Ui, Service, Call, Packet, IsFrame, spelling, sapi_of, Owned, Holds, Keeps, Store, SameLimits, IsUsed, without, Part, second_part, Keeps-used, Keeps-at, Keeps-release, Config, Line, UnitData, with_unit, unit_taken, IsUnitData, LinkLayer, QueuedUnit, Stands, links_pairs, AreFor, messages_of, unit_pairs, without_oldest, Loading, Loads, room_in, HasTaken, Took, Takes}
+use Rattle.lapd_line.proofs.Vocabulary.{◌≡◌, ℕ, ◌≤◌, ◌<◌, List, [], ◌∷◌, ◌++◌, length, drop, slice_get, Some, None, option_map, true, false, refl, ap, sym, ◌∙◌, subst, arith, length-drop, All-head, All-drop, none-some, same_Some, Ui, Service, Call, Packet, IsFrame, spelling, sapi_of, Owned, Holds, Keeps, Store, SameLimits, IsUsed, without, Part, second_part, Keeps-used, Keeps-at, Keeps-release, Config, Line, UnitData, with_unit, unit_taken, IsUnitData, LinkLayer, QueuedUnit, Stands, links_pairs, AreFor, messages_of, unit_pairs, without_oldest, Loading, Loads, room_in, reference_in, HasTaken, Took, Takes}
 use Rattle.std.specs.Prelude.{All}
 use Rattle.lapd_store.specs.Store.{contents_of}
 use Rattle.lapd_line.specs.Units.{slots_of}
@@ -75,8 +75,6 @@ without_unit e s t others m u st is free =
       units = All-drop (IsUnitData e.config) 1 m.units st.sound.units;
       few_units = omega (arith, st.sound.few_units, length-drop 1 m.units);
       turn = st.sound.turn;
-      sizes = st.sound.sizes;
-      text = st.sound.text;
     })
     st.management o.addressed ((beside_units e s others m st).back t (unit_pairs (drop 1 e.units.waiting) (drop 1 m.units)) (o.released t free))
 
@@ -90,19 +88,21 @@ no_unit e s f none = record {
   config = refl;
   limits = record { slots = refl; width = refl };
   room = refl;
+  reference = refl;
   took = λ others m st.
       let same : unit_taken e.config m ≡ None = ap (λ o. option_map (with_unit e.config m) o) (none_for e.units.waiting m.units none st.addressed) in
       subst (λ o. Took o None m e s others f f) (sym same) (st, refl);
 }
 
 pub unit_loaded : (e : LinkLayer) (s t : Store) (f g : Loading) (u : QueuedUnit) (sapi : ℕ) (octets : List ℕ) → slice_get e.units.waiting 0 ≡ Some u
-    → sapi ≡ sapi_of u.service → contents_of s u.slot ≡ Some octets → t ≡ without s u.slot → SameLimits s t → room_in g ≡ room_in f
+    → sapi ≡ sapi_of u.service → contents_of s u.slot ≡ Some octets → t ≡ without s u.slot → SameLimits s t → room_in g ≡ room_in f → reference_in g ≡ reference_in f
     → Loads (spelling e.config.side (record { address = record { sapi = sapi; command = true; tei = u.tei }; control = Ui false; info = octets })) f g
     → Takes (λ c m. unit_taken c m) e s f (record e { units = without_oldest e.units }) t g (Some [])
-unit_loaded e s t f g u sapi octets is sapi_is contents free limits room loaded = record {
+unit_loaded e s t f g u sapi octets is sapi_is contents free limits room reference loaded = record {
   config = refl;
   limits = limits;
   room = room;
+  reference = reference;
   took = λ others m st.
       let o = oldest e s others m u st is in
       let same : unit_taken e.config m ≡ Some (with_unit e.config m o.unit) = ap (λ x. option_map (with_unit e.config m) x) o.is in

@@ -1,18 +1,16 @@
 -- A request of a line: what its arms say as one refusal, and what the line makes of it.
-use Rattle.lapd_line.proofs.Vocabulary.{◌≡◌, ℕ, Bool, true, false, List, [], ◌∷◌, ◌++◌, Option, Some, None, Result, IfOk, IfErr, OnOk, refl, sym, ap, subst, ◌∙◌, cond, Refusal, Service, Owned, Store, Config, told, after, answer, unless_refused, unless_refused_told, Aim, of_aim, Row, first_that_holds, bad_tei, bad_tei_or_group, no_link, no_link_nor_group, wrong_state, too_long, queue_full, unit_queue_full, pool_full, refusal, Request, request_of, Establish, Release, Data, Unit, Assign, Remove, Check, SetBusy, ClearBusy, aim_of_request, at_requested, LinkRequest, link_refusal, LinkLayer, BareReport, Report, Serves, report_told, told_in, Moves, config_of}
+use Rattle.lapd_line.proofs.Vocabulary.{◌≡◌, ℕ, Bool, true, false, List, [], ◌∷◌, ◌++◌, Option, Some, None, Result, IfOk, IfErr, OnOk, refl, sym, ap, subst, ◌∙◌, cond, Refusal, Service, Owned, Store, Config, told, after, answer, unless_refused, unless_refused_told, Aim, of_aim, Row, first_that_holds, bad_tei, bad_tei_or_group, no_link, no_link_nor_group, wrong_state, too_long, queue_full, unit_queue_full, pool_full, refusal, Request, request_of, Establish, Release, Data, Unit, Assign, Remove, Check, SetBusy, ClearBusy, aim_of_request, at_requested, LinkRequest, link_refusal, FrameLine, LinkLayer, BareReport, Report, Serves, bare_shown, report_told, told_in, told_in_answer, told_in_report, Leads, config_of}
 use Rattle.model_line.specs.Event as line_event
 use Rattle.model_line.specs.Line as machine
 use Rattle.model_line.specs.declared.requests.Request as asking
 use Rattle.model_link.specs.Events as link
 use Rattle.lapd_link.specs.declared.requests.LinkRequest as links
 use Rattle.lapd_link.specs.Events.{request_of as link_request_of}
-use Rattle.lapd_line.specs.declared.line.Line.{Line}
 use Rattle.lapd_line.specs.LinkLayer as layer
-use Rattle.lapd_line.specs.Stands.{Stands}
 use Rattle.lapd_line.proofs.LayerRequests.{establish_rows, release_rows, data_rows, set_busy_rows, clear_busy_rows}
 use Rattle.std.proofs.lemmas.Result.{IfErr-weaker}
 use Rattle.lapd_line.proofs.LinkSteps.{on_ok}
-use Rattle.lapd_line.proofs.LineSteps.{with_layer}
+use Rattle.lapd_line.proofs.LineSteps.{gone_on, leads_on}
 
 -- a request that is this one is refused, or granted, as this one
 module _ {X : Type 0} (e : LinkLayer) (s : Store) (full : Bool) {r this : Request} (is : r ≡ this) {f : machine.Line → Option Refusal}
@@ -76,23 +74,7 @@ with_room c full (Check tei) l e = e
 with_room c full (SetBusy service tei) l e = e
 with_room c full (ClearBusy service tei) l e = e
 
--- the entities have served a request that is granted
-module _ (old : Line) (s : Store) (e : LinkLayer) (t : Store) (full : Bool) (r : Request) (o : BareReport)
-    (granted : (others : List Owned) (m : machine.Line) → layer.Stands old.layer s others m → refusal (config_of old) full r m ≡ None)
-    (served : Serves (aim_of_request r) [] old.layer s e t o) where
-  pub requested : Moves (line_event.request r) old s (record old { layer = e; nothing_waits = false }) t
-  unfolding after
-  requested = record {
-    config = served.config;
-    limits = served.limits;
-    stands = λ others m st.
-        let c = config_of old in
-        subst (λ why. Stands (record old { layer = e; nothing_waits = false }) t others (of_aim c (unless_refused why (aim_of_request r m)) m).line) (sym (with_room c full r m (granted others m st.layer)))
-        (with_layer old t others m e (aim_of_request r m) s st served.config (served.stands others m st.layer));
-    uncounted = refl;
-  }
-
--- and tell what the machine answers
+-- the entities tell what the machine answers to a request that is granted
 pub request_told : {e new : LinkLayer} {s t : Store} {o : BareReport} (full : Bool) (r : Request) (report : Report)
     → ((others : List Owned) (m : machine.Line) → layer.Stands e s others m → refusal e.config full r m ≡ None) → Serves (aim_of_request r) [] e s new t o → report_told report ≡ told_in [] o
     → (others : List Owned) (m : machine.Line) → layer.Stands e s others m → told (report_told report) ≡ answer e.config (line_event.request r) m
@@ -100,3 +82,19 @@ unfolding answer
 request_told {e} full r report granted served is others m st =
     ap told (is ∙ served.told others m st)
     ∙ ap (λ why. unless_refused_told why (of_aim e.config (unless_refused why (aim_of_request r m)) m)) (sym (with_room e.config full r m (granted others m st)))
+
+-- and the line goes on
+pub requested : {old new : FrameLine} {s : Store} {e : LinkLayer} {t : Store} {o : BareReport} (full : Bool) (r : Request)
+    → ((others : List Owned) (m : machine.Line) → layer.Stands old.layer s others m → refusal (config_of old) full r m ≡ None)
+    → Serves (aim_of_request r) [] old.layer s e t o → new ≡ gone_on old e (bare_shown o) → Leads (line_event.request r) old s new t
+unfolding after answer
+requested {old} {s = s} {e} {t} {o} full r granted served is =
+    let c = config_of old in
+    leads_on {event = line_event.request r} (bare_shown o) served.config served.limits
+    (λ others m st.
+    subst (λ why. layer.Stands e t others (of_aim c (unless_refused why (aim_of_request r m)) m).line) (sym (with_room c full r m (granted others m st.layer)))
+    (served.stands others m st.layer))
+    (λ others m st.
+    ap (λ why. told_in_answer (unless_refused_told why (of_aim c (unless_refused why (aim_of_request r m)) m))) (with_room c full r m (granted others m st.layer))
+    ∙ ap told_in_report (sym (served.told others m st.layer)))
+    is

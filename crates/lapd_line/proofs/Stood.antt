@@ -1,19 +1,18 @@
 -- What a line owns on the shelf: that it is held there, that the line may stand on another shelf that holds it, and how
 -- many slots and octets it is.
-use Rattle.lapd_line.proofs.Vocabulary.{◌≡◌, ℕ, ◌+◌, ◌≤◌, zero, suc, List, ◌++◌, length, take, get_or, refl, sym, ap, ◌∙◌, arith, length-append, length-map, take_all, fold-map, sum_by_more, sum_by, range_with_len, Owned, Holds, owned_octets, Store, slots-machines, octets-machines, owned_octets-append, length-pairs_of, owned_octets-pairs_of, Link, queue_of, Config, UnitData, slots_of, octets_of, sum_of_links, slots_by_link, octets_by_link, total_length, contents_of, unit_length, LinkLayer, QueuedUnit, LinkFits, link_pairs, links_pairs, config_of, AreFor, unit_pairs, messages_of}
+use Rattle.lapd_line.proofs.Vocabulary.{◌≡◌, ℕ, ◌+◌, ◌≤◌, zero, suc, List, ◌++◌, length, take, get_or, refl, sym, ap, ◌∙◌, arith, length-append, length-map, take_all, fold-map, sum_by_more, sum_by, range_with_len, Owned, Holds, owned_octets, Store, slots-machines, octets-machines, owned_octets-append, length-pairs_of, owned_octets-pairs_of, Link, queue_of, Config, UnitData, slots_of, octets_of, sum_of_links, slots_by_link, octets_by_link, total_length, contents_of, unit_length, LinkLayer, QueuedUnit, FrameLine, LinkFits, link_pairs, links_pairs, config_of, line_pairs, AreFor, unit_pairs, messages_of}
 use Rattle.lapd_link.specs.Stands as link
 use Rattle.model_link.specs.Link as machine
 use Rattle.model_line.specs.Line as machine_line
-use Rattle.lapd_line.specs.declared.line.Line.{Line}
 use Rattle.lapd_line.specs.LinkLayer as layer
-use Rattle.lapd_line.specs.Stands.{Stands, pairs_of}
+use Rattle.lapd_line.specs.Stands.{Stands}
 use Rattle.lapd_line.specs.Units as units
 use Rattle.lapd_line.proofs.HeldSteps.{sum_next}
 use Rattle.lapd_line.proofs.LayerSteps.{stands_as}
 use Rattle.lapd_line.proofs.PullTakesUnits.{as_many}
 
 -- what a line owns is held beside what others own
-pub held_of : (x : Line) (s : Store) (others : List Owned) (m : machine_line.Line) → Stands x s others m → Holds s (pairs_of x m ++ others)
+pub held_of : (x : FrameLine) (s : Store) (others : List Owned) (m : machine_line.Line) → Stands x s others m → Holds s (line_pairs x m ++ others)
 held_of x s others m st = st.layer.held
 
 -- and where another shelf holds it, the entities stand there too,
@@ -22,10 +21,9 @@ pub on_shelf : {e : LinkLayer} {s t : Store} {others rest : List Owned} {m : mac
 on_shelf {e} {t = t} {rest = rest} {m} st wide held = stands_as st e.teis e.units t rest m (refl, refl, refl, refl) wide st.sound st.management st.addressed held
 
 -- and so does the line
-pub stands_on : (x : Line) (s : Store) (others : List Owned) (m : machine_line.Line) → Stands x s others m → (t : Store) (rest : List Owned) → (config_of x).n201 ≤ t.width → Holds t (pairs_of x m ++ rest)
+pub stands_on : (x : FrameLine) (s : Store) (others : List Owned) (m : machine_line.Line) → Stands x s others m → (t : Store) (rest : List Owned) → (config_of x).n201 ≤ t.width → Holds t (line_pairs x m ++ rest)
     → Stands x t rest m
-stands_on x s others m st t rest wide held =
-    record { received = st.received; sent = st.sent; room = st.room; layer = on_shelf st.layer wide held; nothing_waits = st.nothing_waits }
+stands_on x s others m st t rest wide held = record { layer = on_shelf st.layer wide held; quiet = st.quiet }
 
 -- a sum over the places of a list is the sum over its elements
 sum_taken : {X : Type 0} (f : X → ℕ) (xs : List X) (d : X) (n : ℕ) → n ≤ length xs → sum_by (λ i. f (get_or xs i d)) (range_with_len 0 n) ≡ sum_by f (take n xs)
@@ -80,8 +78,8 @@ octets_owned {e} {s} {others} {m} st =
     omega (arith, octets_of_links e s others m st, octets_of_units e.units.waiting m.units st.addressed, owned_octets-append (links_pairs e.links m.links) (unit_pairs e.units.waiting m.units))
 
 -- and so does a line
-pub slots-pairs : (x : Line) (s : Store) (others : List Owned) (m : machine_line.Line) → Stands x s others m → length (pairs_of x m) ≡ slots_of (config_of x) m
+pub slots-pairs : (x : FrameLine) (s : Store) (others : List Owned) (m : machine_line.Line) → Stands x s others m → length (line_pairs x m) ≡ slots_of (config_of x) m
 slots-pairs x s others m st = slots_owned st.layer
 
-pub octets-pairs : (x : Line) (s : Store) (others : List Owned) (m : machine_line.Line) → Stands x s others m → owned_octets (pairs_of x m) ≡ octets_of (config_of x) m
+pub octets-pairs : (x : FrameLine) (s : Store) (others : List Owned) (m : machine_line.Line) → Stands x s others m → owned_octets (line_pairs x m) ≡ octets_of (config_of x) m
 octets-pairs x s others m st = octets_owned st.layer

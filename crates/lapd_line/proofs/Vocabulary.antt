@@ -1,13 +1,13 @@
 -- The words with which the proofs of this crate speak, from where they are defined.
-pub use Rattle.std.proofs.Common.{Bool, Err, IfErr, IfOk, IfSome, IsSome, List, None, Ok, OnOk, Option, Result, Some, [], ap, append_assoc, arith, cond, drop, eqb-true, false, get_or, if◌then◌else◌, inl, inr, is_some, length, length-append, length-drop, map, nat_le, nat_lt, not, option_map, option_to_list, refl, replicate, reverse, set, slice_get, subst, suc, sym, take, true, vec_len, w32, zero, ℕ, ⊎_elim, ◌%◌, ◌&&◌, ◌*◌, ◌++◌, ◌+◌, ◌-◌, ◌/◌, ◌<◌, ◌==◌, ◌^◌, ◌||◌, ◌∙◌, ◌∷◌, ◌≡◌, ◌≢◌, ◌≤◌, ◌⊎◌}
+pub use Rattle.std.proofs.Common.{Bool, Err, IfErr, IfOk, IfSome, IsSome, List, None, Ok, OnOk, Option, Result, Some, [], ap, append_assoc, arith, cond, drop, eqb-true, false, get_or, inl, inr, is_some, length, length-append, length-drop, nat_le, nat_lt, not, option_map, option_to_list, refl, replicate, reverse, set, slice_get, subst, suc, sym, take, true, vec_len, w32, zero, ℕ, ⊎_elim, ◌%◌, ◌&&◌, ◌*◌, ◌++◌, ◌+◌, ◌-◌, ◌/◌, ◌<◌, ◌==◌, ◌^◌, ◌||◌, ◌∙◌, ◌∷◌, ◌≡◌, ◌≢◌, ◌≤◌, ◌⊎◌}
 pub use Rattle.std.proofs.Math.ListN.{drop_of_length-le}
 pub use Rattle.std.proofs.Math.Nat.{div-le_self}
-pub use Rattle.std.proofs.Math.Seq.{map-set_same}
+pub use Rattle.std.proofs.Math.Seq.{map-set_same, take-append_seam}
 pub use Rattle.std.proofs.lemmas.Bool.{cases_eq, false≢true, le-ltb, leb-false, lt-ltb, ltb-false, ne_eqb}
 pub use Rattle.std.proofs.lemmas.List.{get_or-replicate, get_or-set_other, get_or-set_same, get_or_default, length-map, length-set, map-append, map-set, set-get_or, take_all}
 pub use Rattle.std.proofs.lemmas.List.Elements.{All-append, All-cons, All-drop, All-head, All-nil, All-tail}
 pub use Rattle.std.proofs.lemmas.List.Folds.{fold-map}
-pub use Rattle.std.proofs.lemmas.List.Sums.{fold-append, sum_by-cons, sum_by_more}
+pub use Rattle.std.proofs.lemmas.List.Sums.{sum_by-cons, sum_by_more}
 pub use Rattle.std.proofs.lemmas.Nat.{shr-shr}
 pub use Rattle.std.proofs.lemmas.Nat.Bits.{bit_at-trailing_zeros, bit_at-zero, bit_at_clear_other, bit_at_clear_same, bit_at_set_other, bit_at_set_same}
 pub use Rattle.std.proofs.lemmas.Option.{none-some, same_Some, slice_get-get_or, slice_get-map, slice_get_cases}
@@ -17,11 +17,9 @@ pub use Rattle.std.specs.Option.{ok_or, option_map_or, option_or, unwrap_or}
 pub use Rattle.std.specs.Prelude.{vec_capacity}
 pub use Rattle.circular_buffer.proofs.Places.{slice_get-set_other, slice_get-set_same}
 pub use Rattle.lapd_bits.specs.Ended.{without_octets}
-pub use Rattle.lapd_bits.specs.declared.deframer.Deframer.{Deframer}
-pub use Rattle.lapd_count.specs.Counters.{More, with_all, with_more}
+pub use Rattle.lapd_count.specs.Counters.{More, with_all}
 pub use Rattle.lapd_count.specs.Shown.{head_shown, heard_shown}
 pub use Rattle.lapd_count.specs.declared.counters.Counters.{Counters}
-pub use Rattle.lapd_frame.proofs.Spelling.{are-octets}
 pub use Rattle.lapd_frame.specs.Grammar.{IsFrame, Parts, parts_of, spelling}
 pub use Rattle.lapd_frame.specs.Reading.{long_reading}
 pub use Rattle.lapd_frame.specs.Services.{sapi_of, service_of}
@@ -43,16 +41,16 @@ pub use Rattle.lapd_frame.specs.declared.timers.Order.{Order}
 pub use Rattle.lapd_frame.specs.declared.timers.Timer.{Timer}
 pub use Rattle.lapd_line.specs.Addressing.{addressee, aim_at, group_service, is_ui, message_at, of_service}
 pub use Rattle.lapd_line.specs.Awake.{FallsAsleep, IsAsleep, IsAwake, IsLowestFrom, NoneFrom, NoneMissed, Wakes}
-pub use Rattle.lapd_line.specs.Begins.{Begins, with_frame}
 pub use Rattle.lapd_line.specs.Counted.{bare_shown, with_counted}
-pub use Rattle.lapd_line.specs.FrameStands.{Counts, IsNext, Leads, with_frames_counted}
 pub use Rattle.lapd_line.specs.LinkLayer.{Serves, Standing, Stands, aim_of_event, always}
 pub use Rattle.lapd_line.specs.Links.{GoesOn, HasTerms, IsGiven, LinkFits, LinksStand, Offers, Refuses, link_pairs, links_pairs, machine_at, terms_in}
-pub use Rattle.lapd_line.specs.Loading.{IsFree, Loading, Loads, in_bits, in_octets, room_in}
-pub use Rattle.lapd_line.specs.Pulls.{HasTaken, Takes, Took, orders_taken}
-pub use Rattle.lapd_line.specs.Reports.{report_told, told_in}
+pub use Rattle.lapd_line.specs.Loading.{IsFree, IsNext, Loading, Loads, in_bits, in_octets, room_in, reference_in}
+pub use Rattle.lapd_line.specs.Octets.{OctetsLead, OctetsStand, octets_config}
+pub use Rattle.lapd_line.specs.Ports.{IsLoaded, IsSaid, PortStands, Pulls, latest_frame, with_frame}
+pub use Rattle.lapd_line.specs.Pulls.{HasTaken, Takes, TakesNext, Took, orders_taken}
+pub use Rattle.lapd_line.specs.Reports.{gave_in, report_told, told_if, told_in}
 pub use Rattle.lapd_line.specs.Requests.{event_of, link_refusal, management_refusal, may_ask}
-pub use Rattle.lapd_line.specs.Stands.{Moves, config_of, latest_frame}
+pub use Rattle.lapd_line.specs.Stands.{Leads, LeadsIfHeard, answer_if_heard, config_of, pairs_of as line_pairs}
 pub use Rattle.lapd_line.specs.Starts.{AreBegun, IsBegun}
 pub use Rattle.lapd_line.specs.TeiChanges.{Changing, IsAnswerTo, with_management}
 pub use Rattle.lapd_line.specs.Units.{AreFor, UnitRing, empty_ring, messages_of, slot_of, unit_pairs, with_newest, without_oldest}
@@ -83,7 +81,6 @@ pub use Rattle.lapd_tei.specs.Machine.{Management, empty}
 pub use Rattle.lapd_tei.specs.Outcome.{told_of}
 pub use Rattle.lapd_tei.specs.Sound.{IsAt}
 pub use Rattle.lapd_tei.specs.Table.{Places, has, is_on, place_of}
-pub use Rattle.lapd_tei.specs.declared.outcome.Change.{Change}
 pub use Rattle.lapd_tei.specs.declared.outcome.Change.TheVariants.{Gained, Left}
 pub use Rattle.lapd_tei.specs.declared.outcome.TeiOutcome.{TeiOutcome}
 pub use Rattle.model_bits.proofs.BitLemmas.{bits-push}
@@ -94,48 +91,39 @@ pub use Rattle.model_bits.specs.OpenGap.{kept_count, octets_held, open_gap}
 pub use Rattle.model_bits.specs.Sent.{Item, frame, idle, line_text}
 pub use Rattle.model_bits.specs.Stream.{heard_in, room_for}
 pub use Rattle.model_bits.specs.Stuffing.{unstuffed}
-pub use Rattle.model_bits.specs.StuffingLaws.{AreOctets}
 pub use Rattle.model_bits.specs.declared.heads.Head.{Head}
 pub use Rattle.model_bits.specs.declared.heard.Cause.{Cause}
 pub use Rattle.model_bits.specs.declared.heard.Cause.TheVariants.{Tei, Unserved}
 pub use Rattle.model_line.proofs.AimsSound.{IsProper, aim_sound, management_event_sound}
-pub use Rattle.model_line.proofs.Begun.{latest_is_begun}
 pub use Rattle.model_line.proofs.Drops.{drop_costs_nothing}
-pub use Rattle.model_line.proofs.FramesCome.{frames_come_whole}
-pub use Rattle.model_line.proofs.FramesGo.{frames_go_whole}
-pub use Rattle.model_line.proofs.FramesHeard.{frames_are_heard}
-pub use Rattle.model_line.proofs.FramesReceived.{nothing_else_is_received}
-pub use Rattle.model_line.proofs.LineSound.{after_sound, fresh_sound, with_due_given}
+pub use Rattle.model_line.proofs.LineSound.{fresh_sound}
 pub use Rattle.model_line.proofs.Numbers.{number_within, other_place, place_at-number, place_within, service_at-number}
 pub use Rattle.model_line.proofs.Offered.{fresh_gives_nothing}
-pub use Rattle.model_line.proofs.PullSound.{TakesSoundly, link_sound, taken_sound}
+pub use Rattle.model_line.proofs.TakenSound.{TakesSoundly, link_sound, taken_sound}
 pub use Rattle.model_line.proofs.Ranges.{ranges_of}
 pub use Rattle.model_line.proofs.Sides.{unit_tei}
 pub use Rattle.model_line.proofs.Starts.{expiry_starts}
-pub use Rattle.model_line.proofs.TextGoesOn.{left_is, one_item}
-pub use Rattle.model_line.specs.Begun.{frame_taken}
-pub use Rattle.model_line.specs.Counted.{heard_counted, shown, taken_shown, told_in_answer, told_in_report}
+pub use Rattle.model_line.specs.Counted.{counted, given_shown, shown, told_in_answer, told_in_report}
 pub use Rattle.model_line.specs.Counts.{may_send}
 pub use Rattle.model_line.specs.Effect.{Aim, at_link, at_management, at_none, at_units, of_aim, of_change, of_management, told_of_link, told_of_management, with_cleared, with_opened}
-pub use Rattle.model_line.specs.Event.{Event, LineTold, dropped, expiry, nothing, octet, pull, pulled, told}
+pub use Rattle.model_line.specs.Event.{Event, LineTold, dropped, expiry, nothing, hears, next, gave, told}
 pub use Rattle.model_line.specs.Expiry.{aim_of_expiry, at_timer}
 pub use Rattle.model_line.specs.Laws.{cause_in, orders_in}
 pub use Rattle.model_line.specs.Line.{Line, UnitData, fresh_line, has_tei, link_at, link_count, link_in, link_number, link_of, place_at, place_in, service_at, state_in, state_of, tei_at, terms, terms_at, window, with_link}
 pub use Rattle.model_line.specs.Machine.{unless_refused, unless_refused_told}
 unfoldable pub use Rattle.model_line.specs.Machine.{after, answer}
-pub use Rattle.model_line.specs.Octet.{addressed, aim_of_long, aim_of_reading, at_place, drop_for, gained, group_tei, management_sapi, message_of, to_service, unless_at_link}
-pub use Rattle.model_line.specs.Pull.{Taken, begun, first_taken, is_due, link_taken, message_taken, next_octet, orders_of, round, taken, unit_taken, with_due, with_given_frame, with_item, with_message, with_octet, with_unit}
+pub use Rattle.model_line.specs.Heard.{addressed, aim_of_long, aim_of_reading, at_place, drop_for, group_tei, management_sapi, message_of, to_service, unless_at_link}
+pub use Rattle.model_line.specs.Taken.{Taken, first_taken, line_of, link_taken, message_taken, next_of, round, taken, unit_taken, with_given_frame, with_unit}
 pub use Rattle.model_line.specs.Refusal.{Row, bad_tei, bad_tei_or_group, first_that_holds, no_link, no_link_nor_group, pool_full, queue_full, refusal, too_long, unit_queue_full, wrong_state}
 pub use Rattle.model_line.specs.Request.{Assign, Check, ClearBusy, Data, Establish, Release, Remove, Request, SetBusy, Unit, request_of}
 pub use Rattle.model_line.specs.Requested.{aim_of_request, at_requested}
 pub use Rattle.model_line.specs.Room.{unless}
 pub use Rattle.model_line.specs.Sides.{at_side, group_told, has_management, last_unit_tei, managed_at, told_at, told_of_group, told_of_ui}
-pub use Rattle.model_line.specs.Sound.{IsInRange, IsSound, IsSoundAt, IsTextOf, IsUnitData}
-pub use Rattle.model_line.specs.Stored.{contents_of, held_by_link, held_received, held_sent, octets_by_link, octets_of, slots_by_link, slots_of, sum_of_links, total_length, unit_length}
-pub use Rattle.model_line.specs.Whole.{IsIdle, came, cause_of, fault_octets, line_octets}
-pub use Rattle.model_line.specs.WholeAtLine.{after_events, pulls_for, pulls_to_begin}
+pub use Rattle.model_line.specs.Sound.{IsInRange, IsSound, IsSoundAt, IsUnitData}
+pub use Rattle.model_line.specs.Stored.{contents_of, held_by_link, octets_by_link, octets_of, slots_by_link, slots_of, sum_of_links, total_length, unit_length}
 pub use Rattle.model_line.specs.declared.config.Config.{Config}
-pub use Rattle.model_line.specs.declared.faults.Fault.{Fault}
+pub use Rattle.model_ports.proofs.TextGoesOn.{left_is, one_item, text_of}
+pub use Rattle.model_ports.specs.Port.{fresh_port}
 pub use Rattle.model_link.proofs.TellRows.{cleared-orders, cleared-tells}
 pub use Rattle.model_link.specs.Events.{offer}
 pub use Rattle.model_link.specs.Link.{address_at, frame_of, fresh, queue_of, state_number}

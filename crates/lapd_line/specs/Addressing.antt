@@ -13,7 +13,7 @@ use Rattle.lapd_tei.specs.Events as teis
 use Rattle.lapd_tei.specs.Machine.{Management, place}
 use Rattle.lapd_tei.specs.Sound.{IsAt}
 use Rattle.model_line.specs.declared.config.Config.{Config}
-use Rattle.model_line.specs.Octet.{management_sapi, group_tei, drop_for}
+use Rattle.model_line.specs.Heard.{management_sapi, group_tei, drop_for}
 use Rattle.model_line.specs.Sides.{managed_at, has_management}
 use Rattle.model_line.specs.Effect.{Aim, at_link}
 use Rattle.lapd_line.specs.declared.addressing.Addressee.{Addressee}

@@ -3,12 +3,12 @@ use Rattle.std.specs.Prelude.{List}
 use Rattle.lapd_count.specs.Counters.{More, with_all}
 use Rattle.lapd_count.specs.Shown.{told_shown}
 use Rattle.lapd_frame.specs.ShortLists.{listed}
-use Rattle.lapd_line.specs.declared.line.Line.{Line}
+use Rattle.lapd_line.specs.declared.frame_line.FrameLine.{FrameLine}
 use Rattle.lapd_line.specs.declared.reports.BareReport.{BareReport}
 
 -- What a report without references tells.
 abbrev pub bare_shown : BareReport → List More
 bare_shown bare = told_shown (listed bare.notes) bare.cause bare.lost
 
-abbrev pub with_counted : Line → List More → Line
+abbrev pub with_counted : FrameLine → List More → FrameLine
 with_counted line all = record line { counters = with_all line.counters all }

@@ -8,7 +8,7 @@ use Rattle.lapd_store.specs.Store.{Store, SameLimits}
 use Rattle.model_line.specs.declared.config.Config.{Config}
 use Rattle.model_line.specs.Event.{nothing}
 use Rattle.model_line.specs.Line.{Line, link_count, place_at, service_at, tei_at, terms}
-use Rattle.model_line.specs.Octet.{aim_of_heard}
+use Rattle.model_line.specs.Heard.{aim_of_heard}
 use Rattle.model_line.specs.Effect.{Aim, at_none, of_aim}
 use Rattle.model_line.specs.Sound.{IsInRange, IsSound}
 use Rattle.lapd_line.specs.declared.link_layer.LinkLayer.{LinkLayer}

@@ -3,11 +3,14 @@
 -- An answer has room for four notes and four orders, by value. No clause needs to speak of that room: an answer
 -- equals what the machine tells, so a list that was cut would break the clause. That four suffice is
 -- `answers_are_short` of `laws_line`.
-use Rattle.std.specs.Prelude.{ℕ, List, [], drop, Option, Some, None, option_map}
+use Rattle.std.specs.Prelude.{ℕ, List, [], take, drop, Option, Some, None, option_map}
 use Rattle.std.specs.Option.{option_copied}
 use Rattle.model_bits.specs.Stream as stream
 use Rattle.lapd_frame.specs.ShortLists.{listed}
-use Rattle.model_line.specs.Event.{LineTold, Answer, pulled, nothing}
+use Rattle.model_line.specs.Event.{LineTold, Answer, gave, nothing}
+use Rattle.model_line.specs.Event as line
+use Rattle.model_ports.specs.Port as port
+use Rattle.lapd_line.specs.declared.next_frame.NextFrame.{NextFrame}
 use Rattle.lapd_line.specs.declared.reports.BareReport.{BareReport}
 use Rattle.lapd_line.specs.declared.reports.Report.{Report}
 use Rattle.lapd_line.specs.declared.pulled.Pulled.{Pulled}
@@ -35,5 +38,16 @@ abbrev pub octets_of : Option stream.Event → List ℕ
 octets_of (Some (stream.frame octets)) = octets
 octets_of other = []
 
-abbrev pub pulled_of : Pulled → Answer
-pulled_of p = pulled p.octet p.begun (listed p.orders)
+-- The next frame, which lies in front of these octets, with its orders; and how many octets it has.
+abbrev pub next_in : List ℕ → NextFrame → line.NextFrame
+next_in out next = record { octets = take next.length out; orders = listed next.orders }
+
+abbrev pub gave_in : List ℕ → Option NextFrame → Answer
+gave_in out next = gave (option_map (next_in out) next)
+
+abbrev pub written : Option NextFrame → ℕ
+written None = 0
+written (Some next) = next.length
+
+abbrev pub pulled_of : Pulled → port.Answer
+pulled_of p = port.pulled p.octet p.begun (listed p.orders)

@@ -7,7 +7,7 @@ ghost use Rattle.lapd_frame.specs.Reading.{reading, long_reading, start_of};
 ghost use Rattle.model_bits.specs.declared.heard.Cause.TheVariants.{Unserved};
 ghost use Rattle.model_link.specs.Events as link;
 ghost use Rattle.model_line.specs.Event.{dropped};
-ghost use Rattle.model_line.specs.Octet.{addressed, aim_of_long, aim_of_reading, drop_for, heard_side, unless_at_link};
+ghost use Rattle.model_line.specs.Heard.{addressed, aim_of_long, aim_of_reading, drop_for, heard_side, unless_at_link};
 ghost use Rattle.model_line.specs.Sides.{has_management, told_at};
 ghost use Rattle.lapd_line.specs.Addressing.{is_ui};
 

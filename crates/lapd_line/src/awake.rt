@@ -4,7 +4,7 @@ ghost use Rattle.std.specs.Prelude.{◌<◌, ◌≤◌, ℕ, IfSome, MatchOption
 ghost use Rattle.std.specs.Option.{unwrap_or};
 ghost use Rattle.lapd_line.specs.Awake.{NoneFrom, IsLowestFrom};
 
-/// The links that may have something to give, by their numbers. A pull need not ask the others: they are asleep.
+/// The links that may have something to give, by their numbers. A call for the next frame need not ask the others: they are asleep.
 #[derive(Clone, Copy, Debug)]
 pub(crate) struct Awake {
     /// A bit for each link, which is 1 where the link is awake.

@@ -26,7 +26,7 @@ pub(crate) struct LinkLayer {
     pub(crate) teis: Teis,
     pub(crate) links: Links,
     pub(crate) units: Units,
-    /// The link at which the next round of pulls begins.
+    /// The link at which the next round begins.
     pub(crate) turn: usize,
     /// The links that may have something to give. No other has.
     pub(crate) awake: Awake,
@@ -67,6 +67,8 @@ impl LinkLayer {
 
     /// Something came from the terminal for a link of the TEI at a place. Its information begins at `start` of the
     /// octets that came.
+    // It is compiled into its callers, so that what it answers is not copied on its way.
+    #[inline(always)]
     pub(crate) fn receive<S: Shelf>(
         &mut self,
         service: Service,

@@ -1,22 +1,31 @@
 //! What a line tells of itself: looks at it, which change nothing.
 
-ghost use Rattle.std.specs.Prelude.{◌≡◌, ◌-◌, List};
+ghost use Rattle.std.specs.Prelude.{◌≡◌, ◌≤◌, ◌-◌, List, IsTrue, None};
 ghost use Rattle.lapd_store.specs.Ownership.{Owned};
 ghost use Rattle.lapd_store.specs.Store.{Store, used_slots};
-ghost use Rattle.model_line.specs.Begun.{head_begun};
 ghost use Rattle.model_line.specs.Line as machine;
 ghost use Rattle.model_line.specs.Room.{room_in};
 ghost use Rattle.model_line.specs.Stored.{held_in};
+ghost use Rattle.model_line.specs.Taken.{taken};
 
-use crate::line::Line;
+use crate::frame_line::FrameLine;
 use lapd_count::Counters;
 use lapd_frame::{Refusal, Service};
 use lapd_link::Room;
 use lapd_store::Shelf;
-use model_bits::Head;
 
-impl Line {
+impl FrameLine {
     ghost use Rattle.lapd_line.specs.Stands.{Stands, config_of};
+
+    /// Whether it is known that no frame waits, as nothing has happened since one was called for in vain. Where it is not,
+    /// there may be none, too.
+    #[inline(always)]
+    pub fn is_quiet(&self) -> bool
+        ensures { (store : Store) (others : List Owned) (m : machine.Line) → Stands self.now store others m
+            → IsTrue result → taken (config_of self.now) m ≡ None }
+    {
+        self.quiet
+    }
 
     /// The state of the link of a service with this TEI, by its number in Q.921 (annex B): 4 to 8. None where the TEI is
     /// not on the line.
@@ -45,15 +54,6 @@ impl Line {
         self.layer.room(service, tei, shelf, slots)
     }
 
-    /// How the frame that a pull began last begins, and how long it is; none where none was begun yet. So after a pull that
-    /// has [`begun`](Pulled::begun) a frame, this is that frame, until a pull begins another.
-    pub fn begun(&self) -> Option<Head>
-        ensures { (store : Store) (others : List Owned) (m : machine.Line) → Stands self.now store others m
-            → result ≡ head_begun m }
-    {
-        self.framer.begun()
-    }
-
     /// What was counted of the line since its start.
     pub fn counters(&self) -> &Counters
         ensures { result.now ≡ self.now.counters }
@@ -61,13 +61,14 @@ impl Line {
         &self.counters
     }
 
-    /// How many octets the line stores beside those in slots of the shelf: of the frame that is received, of the frame
-    /// that is sent, of control frames and messages that wait, and of assignments that are remembered.
+    /// How many octets the line stores beside those in slots of the shelf: of control frames and messages that wait, and of
+    /// assignments that are remembered. It keeps nothing of the frames that come and go.
     pub fn held(&self) -> u32
         requires { (store : Store) × (others : List Owned) × (m : machine.Line) × Stands self.now store others m }
-        ensures { (store : Store) (others : List Owned) (m : machine.Line) → Stands self.now store others m
+        ensures held { (store : Store) (others : List Owned) (m : machine.Line) → Stands self.now store others m
             → result ≡ held_in (config_of self.now) m }
+        ensures few { result ≤ 1068 }
     {
-        self.deframer.held() + self.framer.held() + self.layer.held()
+        self.layer.held()
     }
 }

@@ -1,7 +1,7 @@
 //! What a frame that is taken is loaded into.
 
 ghost use Rattle.std.specs.Prelude.{◌≡◌, ◌+◌, ◌≤◌, ◌++◌, length};
-ghost use Rattle.lapd_line.specs.Loading.{Loading, in_bits, IsFree, Loads, room_in};
+ghost use Rattle.lapd_line.specs.Loading.{Loading, in_bits, IsFree, Loads, room_in, reference_in};
 
 use lapd_bits::Framer;
 
@@ -17,7 +17,8 @@ pub(crate) trait Outlet {
         requires info { length info.now ≤ room_in (loading self.old) }
         requires a_frame { 3 ≤ length head.now + length info.now }
         ensures loaded { Loads (head.now ++ info.now) (loading self.old) (loading self.new) }
-        ensures room { room_in (loading self.new) ≡ room_in (loading self.old) };
+        ensures room { room_in (loading self.new) ≡ room_in (loading self.old) }
+        ensures reference { reference_in (loading self.new) ≡ reference_in (loading self.old) };
 }
 
 /// A framer gives the octets of the line.

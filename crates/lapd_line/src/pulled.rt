@@ -1,7 +1,6 @@
 //! What a pull is answered with.
 
-ghost use Rattle.std.specs.Prelude.{◌≡◌, false, []};
-ghost use Rattle.model_line.specs.Event.{pulled};
+ghost use Rattle.std.specs.Prelude.{◌≡◌};
 
 use lapd_frame::{Order, ShortList};
 
@@ -17,18 +16,6 @@ pub struct Pulled {
 
 impl Pulled {
     ghost use Rattle.lapd_frame.specs.ShortLists.{listed};
-    ghost use Rattle.lapd_line.specs.Reports.{pulled_of};
-
-    /// An octet with which no frame is begun.
-    pub(crate) fn octet_alone(octet: u8) -> Pulled
-        ensures { pulled_of result ≡ pulled octet false [] }
-    {
-        Pulled {
-            octet,
-            begun: false,
-            orders: ShortList::none(),
-        }
-    }
 
     /// What is to be done with timers of the link whose frame was taken, in order: at most two orders
     /// (`answers_are_short` of `laws_line`).

@@ -1,15 +1,15 @@
-//! What a pull takes: a message of TEI management, unit data, or a frame of a link.
+//! What a call for the next frame takes: a message of TEI management, unit data, or a frame of a link.
 
-ghost use Rattle.std.specs.Prelude.{◌≡◌, ℕ, ◌-◌, ◌<◌, ◌≤◌, List, [], ◌∷◌, ◌++◌, length, IfSome};
+ghost use Rattle.std.specs.Prelude.{◌≡◌, ◌-◌, ◌<◌, ◌≤◌, [], length, IfSome};
 ghost use Rattle.std.specs.List.{range_with_len};
 ghost use Rattle.std.specs.Option.{unwrap_or};
 ghost use Rattle.lapd_frame.specs.Grammar.{IsFrame, spelling};
 ghost use Rattle.lapd_store.specs.Store.{Store, IsUsed};
 ghost use Rattle.lapd_link.specs.Outcome.{contents_in};
 ghost use Rattle.model_line.specs.Line.{link_count};
-ghost use Rattle.model_line.specs.Pull.{message_taken, unit_taken, link_taken, first_taken, taken};
+ghost use Rattle.model_line.specs.Taken.{message_taken, unit_taken, link_taken, first_taken, taken};
 ghost use Rattle.lapd_line.specs.Awake.{IsAwake};
-ghost use Rattle.lapd_line.specs.Loading.{IsFree, Loads, room_in};
+ghost use Rattle.lapd_line.specs.Loading.{IsFree, Loads, room_in, reference_in};
 ghost use Rattle.lapd_line.specs.Pulls.{Takes, orders_taken};
 
 use crate::link_layer::LinkLayer;
@@ -18,11 +18,13 @@ use lapd_frame::{Address, Control, Frame, Order, ShortList, Side, write};
 use lapd_store::{Shelf, Slot};
 
 /// Loads a frame of a side, whose information is apart from it.
+#[inline(always)]
 fn load<O: Outlet>(out: &mut O, side: Side, address: Address, control: Control, info: &[u8])
     requires free { IsFree (O.loading out.old) }
     requires frame { IsFrame (record { address = address; control = control; info = [] }) }
     requires info { length info.now ≤ room_in (O.loading out.old) }
     ensures room { room_in (O.loading out.new) ≡ room_in (O.loading out.old) }
+    ensures reference { reference_in (O.loading out.new) ≡ reference_in (O.loading out.old) }
     ensures loaded { Loads (spelling side (record { address = address; control = control; info = info.now })) (O.loading out.old) (O.loading out.new) }
 {
     let mut head = [0; 4];
@@ -102,7 +104,8 @@ impl LinkLayer {
     }
 
     /// What a link that is awake has to give. It falls asleep where it has nothing.
-    #[inline(never)]
+    // It is compiled into the rounds, so that what it answers is not copied on its way.
+    #[inline(always)]
     fn take_link<O: Outlet, S: Shelf>(
         &mut self,
         number: usize,

@@ -21,7 +21,7 @@ pub struct Report<'a> {
 }
 
 /// The same without references: where in the frame that the latest octet ended the delivered contents begin, in place
-/// of the contents. [`Line::lend`](crate::Line::lend) makes the report of it.
+/// of the contents. [`Port::lend`](crate::Port::lend) makes the report of it.
 #[derive(Clone, Copy, PartialEq, Eq, Debug)]
 pub struct BareReport {
     pub(crate) notes: ShortList<Note>,
@@ -83,7 +83,7 @@ impl BareReport {
     ghost use Rattle.lapd_line.specs.Reports.{report_told, told_in};
 
     /// Nothing happened.
-    pub(crate) fn nothing() -> BareReport
+    pub fn nothing() -> BareReport
         ensures { (octets : List ℕ) → told_in octets result ≡ nothing }
     {
         BareReport {

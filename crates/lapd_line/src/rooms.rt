@@ -2,7 +2,7 @@
 
 ghost use Rattle.std.specs.Prelude.{◌≡◌, ◌-◌, List};
 ghost use Rattle.lapd_store.specs.Ownership.{Owned};
-ghost use Rattle.lapd_store.specs.Store.{Store, used_slots};
+ghost use Rattle.lapd_store.specs.Store.{used_slots};
 ghost use Rattle.model_line.specs.Line as machine;
 ghost use Rattle.model_line.specs.Room.{room_in};
 

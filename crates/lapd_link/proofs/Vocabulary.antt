@@ -12,10 +12,9 @@ pub use Rattle.lapd_frame.specs.declared.refusals.Refusal.TheVariants.{WrongStat
 pub use Rattle.lapd_frame.specs.declared.services.Service.{Service}
 pub use Rattle.lapd_frame.specs.declared.services.Service.TheVariants.{Call, Packet}
 pub use Rattle.lapd_frame.specs.declared.timers.Order.{Order}
-pub use Rattle.lapd_link.specs.Events.{event_of, info_at, info_of, received_of, request_of}
+pub use Rattle.lapd_link.specs.Events.{info_of, received_of, request_of}
 pub use Rattle.lapd_link.specs.Outcome.{HasMessage, contents_in, told_with}
 pub use Rattle.lapd_link.specs.Stands.{HasPlace, HasRoom, Reaches, Stands, Stays, slots_of, terms_of}
-pub use Rattle.lapd_link.specs.declared.events.Happening.{Happening}
 pub use Rattle.lapd_link.specs.declared.link.Link.{Link}
 pub use Rattle.lapd_link.specs.declared.outcome.Answer.{Answer}
 pub use Rattle.lapd_link.specs.declared.received.Received.{Received}

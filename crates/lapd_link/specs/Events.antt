@@ -2,8 +2,6 @@
 use Rattle.std.specs.Prelude.{ℕ, List, []}
 use Rattle.lapd_frame.specs.Grammar.{parts_of}
 use Rattle.model_link.specs.Events as machine
-use Rattle.lapd_link.specs.declared.events.Happening.{Happening}
-use Rattle.lapd_link.specs.declared.events.Happening.TheVariants.{Received, Expired, Cleared}
 use Rattle.lapd_link.specs.declared.received.Received as received
 use Rattle.lapd_link.specs.declared.received.Received.TheVariants.{Frame, Undefined, WrongSize, Overlong}
 use Rattle.lapd_link.specs.declared.requests.LinkRequest.{LinkRequest}
@@ -19,17 +17,6 @@ received_of Overlong = machine.overlong
 abbrev pub info_of : received.Received → List ℕ
 info_of (Frame frame) = frame.info.now
 info_of other = []
-
--- what happens except for requests and offers
-abbrev pub event_of : Happening → machine.Event
-event_of (Received received) = machine.received (received_of received)
-event_of (Expired timer) = machine.expired timer
-event_of Cleared = machine.cleared
-
-abbrev pub info_at : Happening → List ℕ
-info_at (Received received) = info_of received
-info_at (Expired timer) = []
-info_at Cleared = []
 
 abbrev pub request_of : LinkRequest → machine.Request
 request_of Establish = machine.Establish

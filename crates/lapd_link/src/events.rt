@@ -7,12 +7,11 @@ ghost use Rattle.lapd_frame.specs.ShortLists.{listed};
 ghost use Rattle.model_link.specs.Link as machine;
 ghost use Rattle.model_link.specs.Events as event;
 ghost use Rattle.model_link.specs.Steps.{Course};
-ghost use Rattle.model_link.specs.Machine.{after, told, step, received_step};
+ghost use Rattle.model_link.specs.Machine.{after, told, received_step};
 ghost use Rattle.model_link.specs.Told.{starts};
 ghost use Rattle.model_link.specs.Rises.{RisesByEvent};
 ghost use Rattle.lapd_link_steps.specs.Does.{Agrees, Does, HasRoom};
-ghost use Rattle.lapd_link_steps.specs.Done.{Took};
-ghost use Rattle.lapd_link.specs.Events.{info_of, received_of, info_at, event_of};
+ghost use Rattle.lapd_link.specs.Events.{info_of, received_of};
 
 use crate::link::Link;
 use crate::orders::orders;
@@ -22,14 +21,6 @@ use lapd_frame::ErrorCode;
 use lapd_link_steps::{Entity, Told};
 use lapd_store::Shelf;
 use model_link::{LinkTimer, Terms};
-
-// What happens to a link except for requests and offers.
-#[derive(Clone, Copy)]
-enum Happening<'a> {
-    Received(Received<'a>),
-    Expired(LinkTimer),
-    Cleared,
-}
 
 impl Link {
     ghost use Rattle.lapd_link.specs.Stands.{Stands, Stays, Reaches, terms_of};
@@ -54,6 +45,8 @@ impl Link {
     }
 
     /// The same without lending anything: the answer says whether the frame's information is delivered.
+    // As `settle` is.
+    #[inline(always)]
     pub fn receive<S: Shelf>(&mut self, received: Received<'_>, shelf: &mut S) -> Answer
         requires { (others : List Owned) × (m : machine.Link) × Stands self.old (S.store shelf.old) others m }
         ensures stands { (others : List Owned) (m : machine.Link) → Stands self.old (S.store shelf.old) others m →
@@ -68,7 +61,10 @@ impl Link {
         ensures terms { terms_of self.new ≡ terms_of self.old }
         ensures limits { SameLimits (S.store shelf.old) (S.store shelf.new) }
     {
-        self.undergo(Happening::Received(received), shelf)
+        let before = self.entity.running();
+        let mut told = Told::nothing();
+        hear(&mut self.entity, self.terms, &mut told, received);
+        self.settle(before, told, shelf)
     }
 
     /// A timer expires. One that does not run changes nothing.
@@ -85,7 +81,10 @@ impl Link {
         ensures terms { terms_of self.new ≡ terms_of self.old }
         ensures limits { SameLimits (S.store shelf.old) (S.store shelf.new) }
     {
-        self.undergo(Happening::Expired(timer), shelf)
+        let before = self.entity.running();
+        let mut told = Told::nothing();
+        self.entity.expire(self.terms, &mut told, timer);
+        self.settle(before, told, shelf)
     }
 
     /// The link's TEI leaves the line: its contents are released, and it is as one that begins.
@@ -101,24 +100,9 @@ impl Link {
         ensures terms { terms_of self.new ≡ terms_of self.old }
         ensures limits { SameLimits (S.store shelf.old) (S.store shelf.new) }
     {
-        self.undergo(Happening::Cleared, shelf)
-    }
-
-    // What happens has its effect.
-    fn undergo<S: Shelf>(&mut self, what: Happening<'_>, shelf: &mut S) -> Answer
-        requires { (others : List Owned) × (m : machine.Link) × Stands self.old (S.store shelf.old) others m }
-        ensures stands { (others : List Owned) (m : machine.Link) → Stands self.old (S.store shelf.old) others m →
-            Stands self.new (S.store shelf.new) others (after (terms_of self.old) (event_of what.entry) m) }
-        ensures told { (others : List Owned) (m : machine.Link) → Stands self.old (S.store shelf.old) others m →
-            told_with (info_at what.entry) result ≡ told (terms_of self.old) (event_of what.entry) m }
-        ensures frames { (others : List Owned) (m : machine.Link) → Stands self.old (S.store shelf.old) others m →
-            RisesByEvent (terms_of self.old) (event_of what.entry) m }
-        ensures starts { starts (listed result.orders) ≤ 1 }
-        ensures terms { terms_of self.new ≡ terms_of self.old }
-        ensures limits { SameLimits (S.store shelf.old) (S.store shelf.new) }
-    {
         let before = self.entity.running();
-        let told = take(&mut self.entity, self.terms, what);
+        let mut told = Told::nothing();
+        self.entity.clear(self.terms, &mut told);
         self.settle(before, told, shelf)
     }
 
@@ -151,20 +135,7 @@ impl Link {
     }
 }
 
-// What happens goes to its rows.
-#[inline(always)]
-fn take(entity: &mut Entity, terms: Terms, what: Happening<'_>) -> Told
-    ensures { Took terms (info_at what.entry) (step terms (event_of what.entry)) entity.old entity.new result }
-{
-    let mut told = Told::nothing();
-    match what {
-        Happening::Received(received) => hear(entity, terms, &mut told, received),
-        Happening::Expired(timer) => entity.expire(terms, &mut told, timer),
-        Happening::Cleared => entity.clear(terms, &mut told),
-    }
-    told
-}
-
+// What came goes to its rows.
 #[inline(always)]
 fn hear(entity: &mut Entity, terms: Terms, told: &mut Told, received: Received<'_>)
     requires { HasRoom 2 2 told.old }

@@ -8,10 +8,7 @@ pub mod Ending
 pub mod Wholes
 pub mod Playing
 pub mod Paging
-pub mod Exchanges
 pub mod Boards
-pub mod Happened
-pub mod Refusing
 pub mod Waits
 pub mod Octets
 pub mod Pulls

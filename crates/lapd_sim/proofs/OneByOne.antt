@@ -1,7 +1,6 @@
 -- What comes from a line and what a line takes, one octet more.
-use Rattle.lapd_sim.proofs.Vocabulary.{◌≡◌, ℕ, List, [], ◌∷◌, ◌++◌, map, Result, Ok, Err, refl, ap, sym, ◌∙◌, subst, append_assoc, append-nil, map-append, Event, at, answer, WriteFailed, Output, IsPut, IsStuck, puts_then, stuck_more, puts_nothing, Setup, happened, Scene, with_event, with_events, answer_text, octets_at, after_rx, scene, Tells}
+use Rattle.lapd_sim.proofs.Vocabulary.{◌≡◌, ℕ, List, [], ◌∷◌, ◌++◌, map, Result, Ok, Err, refl, ap, sym, ◌∙◌, subst, append_assoc, append-nil, map-append, Event, at, octet, reply, WriteFailed, Output, IsPut, IsStuck, puts_then, stuck_more, puts_nothing, Setup, happened, Scene, with_event, with_events, reply_text, octets_at, after_rx, scene, Tells}
 use Rattle.std.proofs.lemmas.List.Sums.{fold-append}
-use Rattle.model_line.specs.Event as line_event
 
 -- ---- what is said after what was said before
 
@@ -9,14 +8,14 @@ use Rattle.model_line.specs.Event as line_event
 bench_onto : (events : List Event) (m : Setup) (x y : List ℕ) → (with_events events (record { setup = m; text = x })).setup ≡ (with_events events (record { setup = m; text = y })).setup
 bench_onto [] m x y = refl
 bench_onto (e ∷ events) m x y =
-    let said = answer_text e.line (answer e m.card) in
+    let said = reply_text e.line (reply e m.board) in
     bench_onto events (happened m e) (x ++ said) (y ++ said)
 
 -- and what is said follows it
 text_onto : (events : List Event) (m : Setup) (x : List ℕ) → (with_events events (record { setup = m; text = x })).text ≡ x ++ (with_events events (scene m)).text
 text_onto [] m x = sym (append-nil x)
 text_onto (e ∷ events) m x =
-    let said = answer_text e.line (answer e m.card) in
+    let said = reply_text e.line (reply e m.board) in
     text_onto events (happened m e) (x ++ said)
     ∙ append_assoc x said (with_events events (scene (happened m e))).text
     ∙ ap (λ l. x ++ l) (sym (text_onto events (happened m e) said))
@@ -33,7 +32,7 @@ tells_onto (Err e) a b c P events s before told =
 
 pub after_rx-append : (line : ℕ) (octets more : List ℕ) (s : Scene) → after_rx line (octets ++ more) s ≡ after_rx line more (after_rx line octets s)
 after_rx-append line octets more s =
-    let event : ℕ → Event = λ value. at line (line_event.octet value) in
+    let event : ℕ → Event = λ value. at line (octet value) in
     ap (λ events. with_events events s) (map-append event octets more) ∙ fold-append with_event s (map event octets) (map event more)
 
 -- some octets, and then more

@@ -1,5 +1,5 @@
 -- What a line has taken, octet by octet.
-use Rattle.lapd_sim.proofs.Vocabulary.{◌≡◌, ℕ, zero, suc, ◌+◌, List, [], ◌∷◌, ◌++◌, refl, sym, ap, ◌∙◌, subst, suc-eq-add-one, at, answer, pull, Holds, Exchange, Setup, happened, Pulls, octet_in, one_pull, pulls}
+use Rattle.lapd_sim.proofs.Vocabulary.{◌≡◌, ℕ, zero, suc, ◌+◌, List, [], ◌∷◌, ◌++◌, refl, sym, ap, ◌∙◌, subst, suc-eq-add-one, at, reply, pull, Holds, Exchange, Setup, happened, Pulls, octet_in, one_pull, pulls}
 
 -- one more is the last
 pulls_more : (n line : ℕ) (p : Pulls) → pulls (suc n) line p ≡ one_pull line (pulls n line p)
@@ -12,7 +12,7 @@ pub record Pulled (e : Exchange) (line count : ℕ) (taken : List ℕ) (m : Setu
   pub stands : Holds e (pulls count line (record { setup = m; octets = [] })).setup
 
 pub pulled_on : (e new : Exchange) (line count value : ℕ) (taken : List ℕ) (m : Setup) → Pulled e line count taken m
-    → ((b : Setup) → Holds e b → value ≡ octet_in (answer (at line pull) b.card))
+    → ((b : Setup) → Holds e b → value ≡ octet_in (reply (at line pull) b.board))
     → ((b : Setup) → Holds e b → Holds new (happened b (at line pull)))
     → Pulled new line (count + 1) (taken ++ value ∷ []) m
 pulled_on e new line count value taken m p is after =

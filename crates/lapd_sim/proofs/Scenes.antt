@@ -15,15 +15,15 @@ obeyed_by _ before P Q _ s f h = h
 
 -- events leave the terminals, what was taken, and the card's configuration
 abbrev pub Keeps : Setup → Setup → Type 0
-Keeps m n = (n.terminals ≡ m.terminals) × (n.taken ≡ m.taken) × (n.card.config ≡ m.card.config)
+Keeps m n = (n.terminals ≡ m.terminals) × (n.taken ≡ m.taken) × (n.board.config ≡ m.board.config)
 
 pub events_keep : (es : List Event) (s : Scene) → Keeps s.setup (with_events es s).setup
 events_keep [] s = (refl, refl, refl)
 events_keep (e ∷ es) s = events_keep es (with_event s e)
 
 -- where the line is there
-pub at_line_is : (line : ℕ) (s after : Scene) → line < s.setup.card.config.lines → at_line line s after ≡ Ok after
-at_line_is line s after h = rw (lt-ltb line s.setup.card.config.lines h) refl
+pub at_line_is : (line : ℕ) (s after : Scene) → line < s.setup.board.config.lines → at_line line s after ≡ Ok after
+at_line_is line s after h = rw (lt-ltb line s.setup.board.config.lines h) refl
 
 pub expiries_keep : (n end : ℕ) (s : Scene) → Keeps s.setup (expiries n end s).setup
 expiries_keep zero end s = (refl, refl, refl)
@@ -42,26 +42,26 @@ obeyed_at (Err Write) a b P Q true t kind f h = h
 obeyed_at _ a b P Q _ t kind f h = absurd h
 
 -- what is said at a line that is there, on a card of the right kind
-pub there : {at_it line : ℕ} → line ≡ at_it → (word : ℕ → Scene → Scene) (m : Setup) → line < m.card.config.lines
+pub there : {at_it line : ℕ} → line ≡ at_it → (word : ℕ → Scene → Scene) (m : Setup) → line < m.board.config.lines
     → at_line at_it (scene m) (word at_it (scene m)) ≡ Ok (word line (scene m))
 there {at_it} {line} e word m within =
     subst (λ n. at_line n (scene m) (word n (scene m)) ≡ Ok (word line (scene m))) e (at_line_is line (scene m) (word line (scene m)) within)
 
-pub there_octets : {at_it line : ℕ} → line ≡ at_it → (word : ℕ → Scene → Scene) (m : Setup) → m.kind ≡ Octets → line < m.card.config.lines
-    → for_octets m.kind (at_line at_it (scene m) (word at_it (scene m))) ≡ Ok (word line (scene m))
+pub there_octets : {at_it line : ℕ} → line ≡ at_it → (word : ℕ → Scene → Scene) (m : Setup) → m.board.kind ≡ Octets → line < m.board.config.lines
+    → for_octets m.board.kind (at_line at_it (scene m) (word at_it (scene m))) ≡ Ok (word line (scene m))
 there_octets {at_it} e word m kind within = ap (λ k. for_octets k (at_line at_it (scene m) (word at_it (scene m)))) kind ∙ there e word m within
 
-pub there_frames : {at_it line : ℕ} → line ≡ at_it → (word : ℕ → Scene → Scene) (m : Setup) → m.kind ≡ Frames → line < m.card.config.lines
-    → for_frames m.kind (at_line at_it (scene m) (word at_it (scene m))) ≡ Ok (word line (scene m))
+pub there_frames : {at_it line : ℕ} → line ≡ at_it → (word : ℕ → Scene → Scene) (m : Setup) → m.board.kind ≡ Frames → line < m.board.config.lines
+    → for_frames m.board.kind (at_line at_it (scene m) (word at_it (scene m))) ≡ Ok (word line (scene m))
 there_frames {at_it} e word m kind within = ap (λ k. for_frames k (at_line at_it (scene m) (word at_it (scene m)))) kind ∙ there e word m within
 
 -- a frame comes that can
-pub into_is : {at_it line : ℕ} → line ≡ at_it → (kind : CardKind) (frame : List ℕ) (m : Setup) → m.kind ≡ kind → line < m.card.config.lines → can_come kind frame ≡ true
+pub into_is : {at_it line : ℕ} → line ≡ at_it → (kind : CardKind) (frame : List ℕ) (m : Setup) → m.board.kind ≡ kind → line < m.board.config.lines → can_come kind frame ≡ true
     → with_card (meaning.into at_it frame) (scene m) ≡ Ok (after_coming kind line frame (scene m))
 into_is {at_it} {line} e kind frame m is within can =
     subst (λ n. with_card (meaning.into n frame) (scene m) ≡ Ok (after_coming kind line frame (scene m))) e
-    (subst (λ k. cond (nat_lt line m.card.config.lines) (cond (can_come k frame) (Ok (after_coming k line frame (scene m))) (Err BadFrame)) (Err BadLine) ≡ Ok (after_coming kind line frame (scene m))) (sym is)
-    (rw (lt-ltb line m.card.config.lines within) (rw can refl)))
+    (subst (λ k. cond (nat_lt line m.board.config.lines) (cond (can_come k frame) (Ok (after_coming k line frame (scene m))) (Err BadFrame)) (Err BadLine) ≡ Ok (after_coming kind line frame (scene m))) (sym is)
+    (rw (lt-ltb line m.board.config.lines within) (rw can refl)))
 
 pub is_frame_is : (frame : List ℕ) → 3 ≤ length frame → length frame ≤ 1028 → can_come Octets frame ≡ true
 is_frame_is frame short long = rw (le-leb 3 (length frame) short) (le-leb (length frame) 1028 long)
@@ -91,7 +91,7 @@ pulls_keep zero line p = (refl, refl, refl)
 pulls_keep (suc n) line p = pulls_keep n line (one_pull line p)
 
 -- the line of an exchange is there
-pub within : (e : Exchange) (m : Setup) (line : ℕ) → Holds e m → line < e.plan.config.lines → line < m.card.config.lines
+pub within : (e : Exchange) (m : Setup) (line : ℕ) → Holds e m → line < e.plan.config.lines → line < m.board.config.lines
 within e m line h less = subst (λ (c : Config). line < c.lines) (sym h.config) less
 
 -- what leaves terminals and listeners at the setup

@@ -1,11 +1,11 @@
 -- What a terminal gives, octet by octet, up to the octets of a frame that it sends.
 use Rattle.lapd_sim.proofs.Vocabulary.{◌≡◌, ℕ, zero, suc, ◌+◌, ◌*◌, ◌<◌, ◌≤◌, Bool, if◌then◌else◌, List, [], ◌∷◌, ◌++◌, length, drop, Result, Ok, Err, OnOk, ap, sym, ◌∙◌, subst, arith, append_assoc, length-append, le-ltb, append-nil, All-append, octets_of, Framing, with_idle, Item, idle, frame, line_text, AreOctets, at, WriteFailed, Output, IsStuck, Setup, with_frame, sending, octets_sent, after_sending, with_event, after_rx, Gives, scene, Tells, Sends}
 use Rattle.model_bits.specs.Framer as framing
-use Rattle.model_line.specs.Event as line_event
 use Rattle.lapd_transcript.specs.Terminal.{Terminal}
 use Rattle.lapd_transcript.specs.declared.terminal.Terminal as rust
 use Rattle.lapd_transcript.proofs.Sending.{octets_of-few, octets_since, whole_where, rest_where}
 use Rattle.lapd_sim.proofs.OneByOne.{tells_then, broken_then, tells_none}
+use Rattle.model_sim.specs.Board as events
 
 -- ---- what is given
 
@@ -18,7 +18,7 @@ gives_none a P line items given framer s = record {
 }
 
 pub gives_one : (r : Result Unit WriteFailed) (a b : Output) (P Q : Setup → Type 0) (line octet : ℕ) (items : List Item) (given : List ℕ) (framer : Framing) → octet < 256 → framing.Stands framer items (given ++ octet ∷ [])
-    → ((m : Setup) → P m → Tells r a b Q (with_event (scene m) (at line (line_event.octet octet)))) → Gives r a b P Q line items given framer
+    → ((m : Setup) → P m → Tells r a b Q (with_event (scene m) (at line (events.octet octet)))) → Gives r a b P Q line items given framer
 gives_one r a b P Q line octet items given framer small s told = record {
   octets = octet ∷ [];
   are_octets = All-one octet small;
@@ -47,7 +47,7 @@ gives_then r u a b c P Q R line items later given old new first next = record {
 pub gives_more : (r : Result Unit WriteFailed) (u : Unit {0}) (a b c : Output) (P Q R : Setup → Type 0) (line octet : ℕ) (items : List Item) (given : List ℕ) (old new : Framing)
     → Gives (Ok u) a b P Q line items given old → 8 ≤ length old.left → octet < 256
     → ((items : List Item) (given : List ℕ) → framing.Stands old items given → framing.Stands new (with_idle old.left items) (given ++ octet ∷ []))
-    → ((m : Setup) → Q m → Tells r b c R (with_event (scene m) (at line (line_event.octet octet)))) → Gives r a c P R line items given new
+    → ((m : Setup) → Q m → Tells r b c R (with_event (scene m) (at line (events.octet octet)))) → Gives r a c P R line items given new
 gives_more r u a b c P Q R line octet items given old new first busy small steps told =
     let stands : framing.Stands new items ((given ++ first.octets) ++ octet ∷ []) =
     subst (λ b. framing.Stands new (if b then items ++ idle ∷ [] else items) ((given ++ first.octets) ++ octet ∷ [])) (le-ltb (length old.left) 8 busy)
@@ -75,7 +75,7 @@ gives_whole r a b P Q line octets t given framer none gives =
 pub gives_rest : (r : Result Unit WriteFailed) (u : Unit {0}) (a b c : Output) (P Q R : Setup → Type 0) (line octet : ℕ) (octets : List ℕ) (t : Terminal) (given : List ℕ) (old new : Framing)
     → Gives (Ok u) a b P Q line (with_frame octets t.items) given old → 0 < length old.left → length old.left < 8 → octet < 256
     → ((items : List Item) (given : List ℕ) → framing.Stands old items given → framing.Stands new (with_idle old.left items) (given ++ octet ∷ []))
-    → ((m : Setup) → Q m → Tells r b c R (with_event (scene m) (at line (line_event.octet octet)))) → Gives r a c P R line (sending octets t) given new
+    → ((m : Setup) → Q m → Tells r b c R (with_event (scene m) (at line (events.octet octet)))) → Gives r a c P R line (sending octets t) given new
 gives_rest r u a b c P Q R line octet octets t given old new first some few small steps told =
     let items = with_frame octets t.items in
     let before = given ++ first.octets in

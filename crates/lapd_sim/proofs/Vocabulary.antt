@@ -16,13 +16,9 @@ pub use Rattle.lapd_clock.specs.Timer.{AreInRange, Lengths, Timer, first_out_of_
 pub use Rattle.lapd_clock.specs.Timers.{Timers, due_at, time_until}
 pub use Rattle.lapd_clock.specs.declared.fault.LengthFault.{LengthFault}
 pub use Rattle.lapd_count.specs.Counters.{none_counted}
-pub use Rattle.lapd_frame.proofs.Spelling.{are-octets}
-pub use Rattle.lapd_frame.specs.ShortLists.{listed}
 pub use Rattle.lapd_frame.specs.declared.refusals.Refusal.{Refusal}
-pub use Rattle.lapd_frame.specs.declared.timers.Order.{Order}
-pub use Rattle.lapd_line.specs.FrameStands.{IsNext}
 pub use Rattle.lapd_line.specs.Reports.{report_told}
-pub use Rattle.lapd_line.specs.declared.frame_line.NextFrame.{NextFrame}
+pub use Rattle.lapd_line.specs.declared.reports.Report.{Report}
 pub use Rattle.lapd_script.specs.Faults.{fault_at, reads_failed, reads_failed_by, writes_failed, writes_failed_by}
 pub use Rattle.lapd_script.specs.Meaning.{Meaning, meant}
 pub use Rattle.lapd_script.specs.Pieces.{line_in, pieces_of, with_octet}
@@ -36,7 +32,7 @@ pub use Rattle.lapd_script.specs.declared.faults.PlayFault.TheVariants.{OutOfMem
 pub use Rattle.lapd_script.specs.declared.kind.FaultKind.{FaultKind}
 pub use Rattle.lapd_script.specs.declared.kind.FaultKind.TheVariants.{BadFrame, BadLine, BadNumber, TimeOver, TooLong}
 pub use Rattle.lapd_script.specs.declared.lines.ScriptLines.{ScriptLines}
-pub use Rattle.lapd_sim.specs.Boards.{IsTaken, Leads, LeadsBy, OnBoard, as_store, counters_on, line_count}
+pub use Rattle.lapd_sim.specs.Boards.{Leads, OnBoard, as_store, config_of, counters_on, kind_of, reply_of_result}
 pub use Rattle.lapd_sim.specs.Gives.{Gives}
 pub use Rattle.lapd_sim.specs.Obeyed.{Does, Obeys, Said, StartsBy, Tells, said, said_by, said_of, said_with, said_without, scene, written}
 pub use Rattle.lapd_sim.specs.Pages.{PutsNone, PutsSome, Reaches, is_cut}
@@ -53,28 +49,19 @@ pub use Rattle.lapd_transcript.specs.Counted.{counters_text}
 pub use Rattle.lapd_transcript.specs.Listened.{Hears, pulled_text}
 pub use Rattle.lapd_transcript.specs.Streams.{IsBroken, IsPut, IsStuck, IsWritten, Output, Puts, Taken, Writes, one_failure_more, output}
 pub use Rattle.lapd_transcript.specs.Terminal.{Sends, after_sending, octets_sent, sending, with_frame}
-pub use Rattle.lapd_transcript.specs.Text.{frame_text, nothing_text}
 pub use Rattle.lapd_transcript.specs.declared.streams.WriteFailed.{WriteFailed}
 pub use Rattle.model_bits.specs.Bits.{octets_of}
 pub use Rattle.model_bits.specs.Framer.{Framing, with_idle}
+pub use Rattle.model_bits.specs.Stream.{dropped}
 pub use Rattle.model_bits.specs.Sent.{Item, frame, idle, line_text}
 pub use Rattle.model_bits.specs.StuffingLaws.{AreOctets}
-pub use Rattle.model_card.specs.Card.{line_at}
-pub use Rattle.model_card.specs.Counted.{moment_counted, moment_of}
-pub use Rattle.model_card.specs.Event.{Event, at}
-pub use Rattle.model_card.specs.Happening.{Happening, HappensAt, asks, comes, events_of, expires, failed, goes, line_of}
-pub use Rattle.model_card.specs.HappeningsCounted.{happening_counted}
-pub use Rattle.model_card.specs.Machine.{after, answer}
-unfoldable pub use Rattle.model_card.specs.Run.{after_all}
 pub use Rattle.model_line.proofs.Ranges.{ranges_of}
-pub use Rattle.model_line.specs.Event.{expiry, pull, refused, request, told}
-pub use Rattle.model_line.specs.Laws.{orders_in}
-pub use Rattle.model_line.specs.Pull.{taken}
-pub use Rattle.model_line.specs.Request.{Request, request_of}
+pub use Rattle.model_line.specs.Came.{came, cause_of}
+pub use Rattle.model_line.specs.Request.{request_of}
 pub use Rattle.model_line.specs.declared.config.Config.{Config}
-pub use Rattle.model_sim.proofs.AtOnce.{at_once, fault_at_once, frame_at_once, idle_after, next_at_once, orders_of}
 pub use Rattle.model_sim.proofs.Expiries.{expiry_lowers, text_grows, until-expired, until-over}
-pub use Rattle.model_sim.proofs.Runs.{config_stays}
+pub use Rattle.model_sim.specs.Board.{Event, Reply, What, after, at, card_after, expiry, hears, meant_by, next, octet, of_frames, of_octets, orders_in, pull, refused, reply_in, reply_of_frames, reply_of_octets, request, told}
+unfoldable pub use Rattle.model_sim.specs.Board.{reply}
 pub use Rattle.model_sim.specs.Script.{Fault, Played, after_bench, after_meaning, after_piece, after_reading, after_scene, counted, faulty, first_fault, is_too_long, not_begun, one_more, played, transcript, unless_faulty}
 pub use Rattle.model_sim.specs.Setup.{Setup, happened, ordered, taken_at, terminal_at, with_terminal}
-pub use Rattle.model_sim.specs.Steps.{Pulls, Scene, after_coming, after_counters, after_next, after_pull, after_rx, after_timers, after_wait, answer_text, at_expiry, at_line, can_come, expired, expiries, for_frames, for_octets, last_moment, next_text, octet_in, octets_at, one_pull, pulls, until, with_card, with_event, with_events, without_card}
+pub use Rattle.model_sim.specs.Steps.{Pulls, Scene, after_coming, after_counters, after_next, after_pull, after_rx, after_timers, after_wait, reply_text, at_expiry, at_line, can_come, expired, expiries, for_frames, for_octets, last_moment, octet_in, octets_at, one_pull, pulls, until, with_card, with_event, with_events, without_card}

@@ -1,6 +1,5 @@
 -- What has been written, and what an exchange stands for, while it waits.
-use Rattle.lapd_sim.proofs.Vocabulary.{◌≡◌, ℕ, ◌<◌, List, [], ◌++◌, Some, None, Ok, Err, refl, sym, ap, ◌∙◌, subst, ∥∥₁_elim, props, at, answer, AreInRange, Timer, Timers, due_at, time_until, Setup, happened, Scene, answer_text, with_event, at_expiry, expired, until, scene, Tells, OnBoard, counters_on, Holds, Plan, Board, Exchange, puts_nothing, puts_then, stuck_more, Output, IsPut, IsStuck, WriteFailed, expiry_lowers, until-expired, until-over, text_grows}
-use Rattle.model_line.specs.Event as line_event
+use Rattle.lapd_sim.proofs.Vocabulary.{◌≡◌, ℕ, ◌<◌, List, [], ◌++◌, Some, None, Ok, Err, refl, sym, ap, ◌∙◌, subst, ∥∥₁_elim, props, at, expiry, reply, AreInRange, Timer, Timers, due_at, time_until, Setup, happened, Scene, reply_text, with_event, at_expiry, expired, until, scene, Tells, OnBoard, counters_on, Holds, Plan, Board, Exchange, puts_nothing, puts_then, stuck_more, Output, IsPut, IsStuck, WriteFailed, expiry_lowers, until-expired, until-over, text_grows}
 
 -- From a setup, some timers have expired, and what they say has been written; what falls due until the end is the same.
 pub record Waits (e : Exchange) (before after : Output) (end : ℕ) (m : Setup) : Type 0 where
@@ -25,9 +24,9 @@ module _ (e new : Exchange) (before after last : Output) (end : ℕ) (m : Setup)
   in_range = subst (λ (c : Timers). AreInRange c.lengths) w.holds.clock e.lengths
 
   abbrev said_then : List ℕ
-  said_then = answer_text due.0 (answer (at due.0 (line_event.expiry due.1)) w.by_now.setup.card)
+  said_then = reply_text due.0 (reply (at due.0 (expiry due.1)) w.by_now.setup.board)
 
-  pub waits_on : (u : Unit {0}) → Tells {E = WriteFailed} (Ok u) after last (Holds new) (with_event (scene (at_expiry end w.by_now.setup)) (at due.0 (line_event.expiry due.1))) → Waits new before last end m
+  pub waits_on : (u : Unit {0}) → Tells {E = WriteFailed} (Ok u) after last (Holds new) (with_event (scene (at_expiry end w.by_now.setup)) (at due.0 (expiry due.1))) → Waits new before last end m
   waits_on u told = record {
     by_now = expired end due.0 due.1 w.by_now;
     written = puts_then (Ok u) before after last w.by_now.text said_then w.written told.0;
@@ -35,7 +34,7 @@ module _ (e new : Exchange) (before after last : Output) (end : ℕ) (m : Setup)
     same = w.same ∙ until-expired end w.by_now due in_range due_by_now;
   }
 
-  pub waits_in_vain : (why : WriteFailed) → Tells (Err why) after last (Holds new) (with_event (scene (at_expiry end w.by_now.setup)) (at due.0 (line_event.expiry due.1))) → Tells (Err why) before last (Holds new) (until end (scene m))
+  pub waits_in_vain : (why : WriteFailed) → Tells (Err why) after last (Holds new) (with_event (scene (at_expiry end w.by_now.setup)) (at due.0 (expiry due.1))) → Tells (Err why) before last (Holds new) (until end (scene m))
   waits_in_vain why told =
       let next = expired end due.0 due.1 w.by_now in
       let later = text_grows (time_until end next.setup.clock) end next (due_at next.setup.clock end) refl in
@@ -45,15 +44,15 @@ module _ (e new : Exchange) (before after last : Output) (end : ℕ) (m : Setup)
 -- each expiry lowers what is left, whatever the past
 pub wait_lowers : (e middle new : Exchange) (end : ℕ) (due : ℕ × Timer) → Some due ≡ due_at e.clock end
     → ((m : Setup) → Holds e m → Holds middle (at_expiry end m))
-    → ((m : Setup) → Holds middle m → Holds new (happened m (at due.0 (line_event.expiry due.1))))
+    → ((m : Setup) → Holds middle m → Holds new (happened m (at due.0 (expiry due.1))))
     → time_until end new.clock < time_until end e.clock
 wait_lowers e middle new end due is out event =
     let prop : IsProp (time_until end new.clock < time_until end e.clock) = hlevel props in
     ∥∥₁_elim e.past prop (λ p.
-    let (now, config, stands) = p in
-    let m : Setup = record { kind = e.plan.kind; card = now; counters = counters_on e.board; clock = e.clock; now = e.moment; terminals = []; taken = [] } in
-    let held : Holds new (happened (at_expiry end m) (at due.0 (line_event.expiry due.1))) =
-    event (at_expiry end m) (out m (record { kind = refl; config = config; card = stands; counters = refl; clock = refl; now = refl })) in
+    let (now, stands) = p in
+    let m : Setup = record { board = now; counters = counters_on e.board; clock = e.clock; now = e.moment; terminals = []; taken = [] } in
+    let held : Holds new (happened (at_expiry end m) (at due.0 (expiry due.1))) =
+    event (at_expiry end m) (out m (record { kind = stands.kind ∙ e.same_kind; config = stands.config ∙ e.same_config; board = stands; counters = refl; clock = refl; now = refl })) in
     subst (λ c. time_until end c < time_until end e.clock) (sym held.clock) (expiry_lowers end due.0 due.1 due m e.lengths (sym is)))
 
 -- at the end, the moment is the end
@@ -67,7 +66,7 @@ waits_over e new before after end m u is w plan board clock now =
       record {
         kind = w.holds.kind ∙ ap (λ (p : Plan). p.kind) (sym plan);
         config = w.holds.config ∙ ap (λ (p : Plan). p.config) (sym plan);
-        card = subst (λ (b : Board). OnBoard b w.by_now.setup.card) (sym board) w.holds.card;
+        board = subst (λ (b : Board). OnBoard b w.by_now.setup.board) (sym board) w.holds.board;
         counters = ap counters_on board ∙ w.holds.counters;
         clock = clock ∙ w.holds.clock;
         now = now;

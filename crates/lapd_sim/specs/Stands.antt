@@ -12,9 +12,9 @@ use Rattle.lapd_sim.specs.declared.exchange.Exchange.{Exchange}
 
 -- The card, its counters, its clock and the moment.
 pub record Holds (e : Exchange) (m : machine.Setup) : Type 0 where
-  pub kind : m.kind ≡ e.plan.kind
-  pub config : m.card.config ≡ e.plan.config
-  pub card : OnBoard e.board m.card
+  pub kind : m.board.kind ≡ e.plan.kind
+  pub config : m.board.config ≡ e.plan.config
+  pub board : OnBoard e.board m.board
   pub counters : counters_on e.board ≡ m.counters
   pub clock : e.clock ≡ m.clock
   pub now : e.moment ≡ m.now

@@ -1,14 +1,11 @@
 //! The card of an exchange, of either kind.
 
 ghost use Rattle.std.specs.Prelude.{◌≡◌, ◌<◌, get_or, IfOk};
-ghost use Rattle.model_card.specs.Card as machine;
-ghost use Rattle.model_card.specs.Event.{at};
-ghost use Rattle.model_card.specs.Machine.{answer};
-ghost use Rattle.model_line.specs.Event as line_event;
 ghost use Rattle.model_line.specs.Request.{request_of};
+ghost use Rattle.model_sim.specs.Board as machine;
+ghost use Rattle.model_sim.specs.Board.{at, told, expiry, reply};
 ghost use Rattle.model_sim.specs.Steps.{held};
 ghost use Rattle.lapd_count.specs.Counters.{none_counted};
-ghost use Rattle.lapd_card.specs.Reply.{answer_of_result};
 ghost use Rattle.lapd_line.specs.Reports.{report_told};
 
 use lapd_card::{Card, CardFault, Config, Counters, FrameCard, Report, Request};
@@ -32,13 +29,13 @@ pub(crate) enum Board {
 }
 
 impl Board {
-    ghost use Rattle.lapd_sim.specs.Boards.{kind_of, line_count, counters_on, OnBoard, Leads};
+    ghost use Rattle.lapd_sim.specs.Boards.{kind_of, config_of, line_count, counters_on, OnBoard, Leads, reply_of_result};
     ghost use Rattle.lapd_sim.specs.Obeyed.{Begins};
 
     pub(crate) fn start(alloc: Global, plan: Plan) -> Result<Board, LineFault>
         ensures kind { IfOk result (λ board. kind_of board ≡ plan.kind) }
-        ensures lines { IfOk result (λ board. line_count board ≡ plan.config.lines) }
-        ensures begun { Begins result plan.kind plan.config (λ board m. OnBoard board m.card × (counters_on board ≡ m.counters)) }
+        ensures config { IfOk result (λ board. config_of board ≡ plan.config) }
+        ensures begun { Begins result plan.kind plan.config (λ board m. OnBoard board m.board × (counters_on board ≡ m.counters)) }
     {
         let config = plan.config;
         if config.fault().is_some() {
@@ -74,9 +71,9 @@ impl Board {
     /// A timer of a line expires.
     pub(crate) fn expire(&mut self, line: usize, timer: Timer) -> Report<'static>
         requires { line < line_count self.old }
-        ensures told { (m : machine.Card) → OnBoard self.old m
-            → line_event.told (report_told result) ≡ answer (at line (line_event.expiry timer)) m }
-        ensures after { Leads (at line (line_event.expiry timer)) self.old self.new }
+        ensures told { (b : machine.Board) → OnBoard self.old b
+            → told (report_told result) ≡ reply (at line (expiry timer)) b }
+        ensures after { Leads (at line (expiry timer)) self.old self.new }
     {
         match self {
             Board::Octets(card) => card.expire(line, timer),
@@ -91,9 +88,9 @@ impl Board {
         request: Request<'_>,
     ) -> Result<Report<'static>, Refusal>
         requires { line < line_count self.old }
-        ensures told { (m : machine.Card) → OnBoard self.old m
-            → answer_of_result result ≡ answer (at line (line_event.request (request_of request.entry))) m }
-        ensures after { Leads (at line (line_event.request (request_of request.entry))) self.old self.new }
+        ensures told { (b : machine.Board) → OnBoard self.old b
+            → reply_of_result result ≡ reply (at line (machine.request (request_of request.entry))) b }
+        ensures after { Leads (at line (machine.request (request_of request.entry))) self.old self.new }
     {
         match self {
             Board::Octets(card) => card.request(line, request),
@@ -114,7 +111,7 @@ impl Board {
 
     /// How many octets the card holds.
     pub(crate) fn stored(&self) -> u32
-        ensures { (m : machine.Card) → OnBoard self.now m → result ≡ held (kind_of self.now) m }
+        ensures { (b : machine.Board) → OnBoard self.now b → result ≡ held b }
     {
         match self {
             Board::Octets(card) => card.stored(),

@@ -1,27 +1,24 @@
 //! The card that a script is played on, with the clock of its lines.
 
-ghost use Rattle.std.specs.Prelude.{◌≡◌, ◌<◌, ◌≤◌, ◌^◌, length, fold, Ok, IfOk, IfSome, IfNone};
-ghost use Rattle.lapd_card.specs.Reply.{answer_of_result};
-ghost use Rattle.model_card.specs.Event.{at};
-ghost use Rattle.model_card.specs.Machine.{answer};
+ghost use Rattle.std.specs.Prelude.{◌≡◌, ◌<◌, ◌≤◌, ◌^◌, length, fold, IfOk, IfSome, IfNone};
 ghost use Rattle.lapd_clock.specs.Timer.{AreInRange};
 ghost use Rattle.lapd_clock.specs.Timers as clocks;
-ghost use Rattle.model_line.specs.Event as line_event;
-ghost use Rattle.model_line.specs.Laws.{orders_in};
+ghost use Rattle.lapd_line.specs.Reports.{report_told, gave_in, written};
+ghost use Rattle.model_bits.specs.Stream.{dropped};
+ghost use Rattle.model_line.specs.Came.{came, cause_of};
 ghost use Rattle.model_line.specs.Request.{request_of};
 ghost use Rattle.model_line.specs.Sound.{IsInRange};
 ghost use Rattle.lapd_script.specs.declared.command.CardKind.TheVariants.{Octets, Frames};
-ghost use Rattle.lapd_sim.specs.Boards.{kind_of, line_count, IsTaken};
+ghost use Rattle.lapd_sim.specs.Boards.{kind_of, config_of};
 ghost use Rattle.lapd_sim.specs.Past.{HasPast};
+ghost use Rattle.model_sim.specs.Board as event;
+ghost use Rattle.model_sim.specs.Board.{at, told, pull, hears, next, expiry, reply, reply_of_frames, orders_in};
 ghost use Rattle.model_sim.specs.Setup as machine;
-ghost use Rattle.model_sim.specs.Steps.{answer_text, with_event, octet_in, at_expiry, until, in_time, with_timers, after_stored, after_counters, after_happening};
-ghost use Rattle.model_card.specs.Card.{line_at};
-ghost use Rattle.model_card.specs.Happening.{comes, failed, goes};
-ghost use Rattle.model_line.specs.Pull.{taken};
+ghost use Rattle.model_sim.specs.Steps.{reply_text, with_event, octet_in, at_expiry, until, in_time, with_timers, after_stored, after_counters};
 ghost use Rattle.lapd_transcript.specs.Streams.{Output, Puts, output};
 
 use crate::board::{Board, Plan};
-use lapd_card::{Fault, Report, Request, limit};
+use lapd_card::{Fault, NextFrame, Report, Request, limit};
 use lapd_clock::{Clock, Lengths};
 use lapd_frame::{Order, Timer};
 use lapd_script::{CardKind, FaultKind, LineFault};
@@ -41,9 +38,9 @@ pub(crate) struct Exchange {
     clock: Clock,
     moment: u64,
     ghost in_range: { IsInRange plan.config },
-    ghost same_lines: { line_count board ≡ plan.config.lines },
+    ghost same_config: { config_of board ≡ plan.config },
     ghost same_kind: { kind_of board ≡ plan.kind },
-    ghost past: { ∥ HasPast plan.config board ∥₁ },
+    ghost past: { ∥ HasPast board ∥₁ },
     ghost clock_lines: { clock.lines ≡ plan.config.lines },
     ghost lengths: { AreInRange clock.lengths },
     ghost in_time: { moment < 2 ^ 63 },
@@ -96,7 +93,7 @@ impl Exchange {
         requires line { line < self.old.plan.config.lines }
         ensures plan { self.new.plan ≡ self.old.plan }
         ensures told { (m : machine.Setup) → Holds self.old m
-            → Tells result (output (T.taken target.old) page.old.items) (output (T.taken target.new) page.new.items) (Holds self.new) (with_event (scene m) (at line (line_event.octet octet))) }
+            → Tells result (output (T.taken target.old) page.old.items) (output (T.taken target.new) page.new.items) (Holds self.new) (with_event (scene m) (at line (event.octet octet))) }
     {
         match &mut self.board {
             Board::Octets(card) => {
@@ -112,8 +109,8 @@ impl Exchange {
         requires kind { self.old.plan.kind ≡ Octets }
         requires line { line < self.old.plan.config.lines }
         ensures plan { self.new.plan ≡ self.old.plan }
-        ensures pulled { (m : machine.Setup) → Holds self.old m → result ≡ octet_in (answer (at line line_event.pull) m.card) }
-        ensures after { (m : machine.Setup) → Holds self.old m → Holds self.new (machine.happened m (at line line_event.pull)) }
+        ensures pulled { (m : machine.Setup) → Holds self.old m → result ≡ octet_in (reply (at line pull) m.board) }
+        ensures after { (m : machine.Setup) → Holds self.old m → Holds self.new (machine.happened m (at line pull)) }
     {
         match &mut self.board {
             Board::Octets(card) => {
@@ -137,7 +134,7 @@ impl Exchange {
         requires line { line < self.old.plan.config.lines }
         ensures plan { self.new.plan ≡ self.old.plan }
         ensures told { (m : machine.Setup) → Holds self.old m
-            → Tells result (output (T.taken target.old) page.old.items) (output (T.taken target.new) page.new.items) (Holds self.new) (after_happening (comes line octets.now) (scene m)) }
+            → Tells result (output (T.taken target.old) page.old.items) (output (T.taken target.new) page.new.items) (Holds self.new) (with_event (scene m) (at line (hears (came self.old.plan.config.n201 octets.now)))) }
     {
         match &mut self.board {
             Board::Frames(card) => {
@@ -160,7 +157,7 @@ impl Exchange {
         requires line { line < self.old.plan.config.lines }
         ensures plan { self.new.plan ≡ self.old.plan }
         ensures told { (m : machine.Setup) → Holds self.old m
-            → Tells result (output (T.taken target.old) page.old.items) (output (T.taken target.new) page.new.items) (Holds self.new) (after_happening (failed line fault) (scene m)) }
+            → Tells result (output (T.taken target.old) page.old.items) (output (T.taken target.new) page.new.items) (Holds self.new) (with_event (scene m) (at line (hears (dropped (cause_of fault))))) }
     {
         match &mut self.board {
             Board::Frames(card) => {
@@ -172,21 +169,21 @@ impl Exchange {
     }
 
     /// A line of a card for frames takes the next one, which is put into the beginning of `room`: there is room for each
-    /// frame that a card has. It tells how many octets the frame has, or that none waits.
-    pub(crate) fn next(&mut self, line: usize, room: &mut [u8]) -> Option<usize>
+    /// frame that a card has.
+    pub(crate) fn next(&mut self, line: usize, room: &mut [u8]) -> Option<NextFrame>
         requires kind { self.old.plan.kind ≡ Frames }
         requires line { line < self.old.plan.config.lines }
         requires room { 264 ≤ length room.old }
         ensures plan { self.new.plan ≡ self.old.plan }
-        ensures fits { IfSome result (λ count. count ≤ length room.new) }
-        ensures next { (m : machine.Setup) → Holds self.old m → IsTaken (taken m.card.config (line_at line m.card)) result room.new }
-        ensures after { (m : machine.Setup) → Holds self.old m → Holds self.new (after_happening (goes line) (scene m)).setup }
+        ensures fits { written result ≤ length room.new }
+        ensures gave { (m : machine.Setup) → Holds self.old m → reply_of_frames (gave_in room.new result) ≡ reply (at line next) m.board }
+        ensures after { (m : machine.Setup) → Holds self.old m → Holds self.new (machine.happened m (at line next)) }
     {
         match &mut self.board {
             Board::Frames(card) => match card.next_frame(line, room) {
                 Ok(Some(next)) => {
                     order(&mut self.clock, line, next.orders(), self.moment);
-                    Some(next.length)
+                    Some(next)
                 }
                 Ok(None) => None,
                 Err(_) => unreachable!(),
@@ -207,7 +204,7 @@ impl Exchange {
         ensures plan { self.new.plan ≡ self.old.plan }
         ensures told { (m : machine.Setup) → Holds self.old m
             → Tells result (output (T.taken target.old) page.old.items) (output (T.taken target.new) page.new.items) (Holds self.new)
-            (with_event (scene m) (at line (line_event.request (request_of request.entry)))) }
+            (with_event (scene m) (at line (event.request (request_of request.entry)))) }
     {
         match self.board.request(line, request) {
             Ok(report) => carry_out(&mut self.clock, line, &report, self.moment, target, page),
@@ -299,7 +296,7 @@ impl Exchange {
         requires { line < self.old.plan.config.lines }
         ensures plan { self.new.plan ≡ self.old.plan }
         ensures told { (m : machine.Setup) → Holds self.old m
-            → Tells result (output (T.taken target.old) page.old.items) (output (T.taken target.new) page.new.items) (Holds self.new) (with_event (scene m) (at line (line_event.expiry timer))) }
+            → Tells result (output (T.taken target.old) page.old.items) (output (T.taken target.new) page.new.items) (Holds self.new) (with_event (scene m) (at line (expiry timer))) }
     {
         let report = self.board.expire(line, timer);
         carry_out(&mut self.clock, line, &report, self.moment, target, page)
@@ -346,8 +343,8 @@ fn carry_out<T: Target>(
     requires now { now < 2 ^ 63 }
     ensures lines { clock.new.lines ≡ clock.old.lines }
     ensures lengths { clock.new.lengths ≡ clock.old.lengths }
-    ensures ordered { clock.new ≡ fold (machine.ordered line now) clock.old (orders_in (answer_of_result (Ok report.now))) }
-    ensures written { Puts result (output (T.taken target.old) page.old.items) (output (T.taken target.new) page.new.items) (answer_text line (answer_of_result (Ok report.now))) }
+    ensures ordered { clock.new ≡ fold (machine.ordered line now) clock.old (orders_in (told (report_told report.now))) }
+    ensures written { Puts result (output (T.taken target.old) page.old.items) (output (T.taken target.new) page.new.items) (reply_text line (told (report_told report.now))) }
 {
     order(clock, line, report.orders(), now);
     put_report(

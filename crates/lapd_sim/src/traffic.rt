@@ -1,6 +1,6 @@
 //! What comes from a line, and what a line takes.
 
-ghost use Rattle.std.specs.Prelude.{◌≡◌, ◌<◌, ◌≤◌, ℕ, List, [], length, Option, IfSome, OnOk};
+ghost use Rattle.std.specs.Prelude.{◌≡◌, ◌<◌, ◌≤◌, ℕ, List, [], length, OnOk};
 ghost use Rattle.model_bits.specs.Framer as framing;
 ghost use Rattle.model_bits.specs.Sent.{Item};
 ghost use Rattle.lapd_transcript.specs.Streams.{Puts, output};
@@ -8,14 +8,16 @@ ghost use Rattle.lapd_transcript.specs.Terminal as sending;
 ghost use Rattle.lapd_transcript.specs.Terminal.{Sends};
 ghost use Rattle.lapd_script.specs.declared.command.CardKind.TheVariants.{Octets};
 ghost use Rattle.model_sim.specs.Setup as machine;
-ghost use Rattle.model_line.specs.Pull.{Taken};
-ghost use Rattle.model_sim.specs.Steps.{after_rx, pulls, next_text};
-ghost use Rattle.lapd_sim.specs.Boards.{IsTaken};
+ghost use Rattle.lapd_line.specs.Reports as reports;
+ghost use Rattle.lapd_line.specs.Reports.{gave_in};
+ghost use Rattle.model_sim.specs.Board.{reply_of_frames};
+ghost use Rattle.model_sim.specs.Steps.{after_rx, pulls, reply_text};
 ghost use Rattle.lapd_sim.specs.Gives.{Gives};
 ghost use Rattle.lapd_sim.specs.Obeyed.{scene, written, Tells};
 ghost use Rattle.lapd_sim.specs.Stands.{Holds};
 
 use crate::exchange::Exchange;
+use lapd_card::NextFrame;
 use lapd_script::LineFault;
 use lapd_transcript::{Page, Target, Terminal, WriteFailed, put_frame, put_nothing};
 
@@ -112,21 +114,20 @@ pub(crate) fn pull(exchange: &mut Exchange, line: usize, room: &mut [u8])
     }
 }
 
-/// Tells the frame that a line took, of so many octets in the beginning of `room`, or that none waited.
+/// Tells the frame that a line took, which lies in the beginning of `room`, or that none waited.
 pub(crate) fn tell_next<T: Target>(
     line: usize,
-    next: Option<usize>,
+    next: Option<NextFrame>,
     room: &[u8],
     target: &mut T,
     page: &mut Page,
 ) -> Result<(), WriteFailed>
     requires line { line < 65536 }
-    requires fits { IfSome next (λ count. count ≤ length room.now) }
-    ensures { (o : Option Taken) → IsTaken o next room.now
-        → Puts result (output (T.taken target.old) page.old.items) (output (T.taken target.new) page.new.items) (next_text line o) }
+    requires fits { reports.written next ≤ length room.now }
+    ensures { Puts result (output (T.taken target.old) page.old.items) (output (T.taken target.new) page.new.items) (reply_text line (reply_of_frames (gave_in room.now next))) }
 {
     match next {
-        Some(count) => put_frame(target, page, line as u16, &room[..count]),
+        Some(next) => put_frame(target, page, line as u16, &room[..next.length]),
         None => put_nothing(target, page, line as u16),
     }
 }

@@ -1,34 +1,34 @@
--- A control frame that waits at a line of a card is begun by one of so many pulls also where other events of that line are
+-- A control frame that waits at a line of a card is taken by one of so many calls also where other events of that line are
 -- between them.
-use Rattle.std.proofs.Common.{◌≡◌, ℕ, ◌+◌, ◌-◌, ◌*◌, ◌<◌, ◌≤◌, ◌==◌, ◌&&◌, Bool, true, false, cond, List, [], ◌∷◌, ◌++◌, length, get_or, set, Some, refl, sym, ap, subst, ◌∙◌, ◌⊎◌, inl, inr, arith}
+use Rattle.std.proofs.Common.{◌≡◌, ℕ, ◌+◌, ◌-◌, ◌<◌, ◌≤◌, ◌==◌, ◌&&◌, Bool, true, false, cond, List, [], ◌∷◌, ◌++◌, length, get_or, set, Some, refl, sym, ap, subst, ◌∙◌, ◌⊎◌, inl, inr, arith}
 use Rattle.std.proofs.lemmas.Bool.{eqb-true, eqb-false, and_parts}
 use Rattle.std.proofs.lemmas.List.{get_or-set_same}
 use Rattle.std.proofs.lemmas.List.Elements.{All-head, All-tail}
 use Rattle.model_link.specs.declared.frames.ControlFrame.{ControlFrame}
 use Rattle.model_line.specs.Event as line_event
-use Rattle.model_line.specs.Event.{octet, expiry, request, pull}
+use Rattle.model_line.specs.Event.{hears, expiry, request, next}
 use Rattle.model_line.specs.Line.{Line, fresh_line, link_count, place_at, tei_at, link_at}
 use Rattle.model_line.specs.Machine as lines
-use Rattle.model_line.specs.Pull.{Taken, begun}
-use Rattle.laws_line.specs.Among.{is_pull, go_first}
-use Rattle.laws_line.specs.Drains.{longest_text, bits_before, control_text}
+use Rattle.model_line.specs.Taken.{Taken, taken}
+use Rattle.laws_line.specs.Among.{is_take, go_first}
+use Rattle.laws_line.specs.Drains.{frames_before, control_text}
 use Rattle.laws_line.proofs.Among.{no-farther-off, other-waits}
-use Rattle.laws_line.proofs.Ordered.{pull-goes}
+use Rattle.laws_line.proofs.Ordered.{next-goes}
 use Rattle.model_card.specs.Card.{Card, line_at}
 use Rattle.model_card.specs.Event.{Event, at}
 use Rattle.model_card.specs.Machine.{wants_room, after}
 use Rattle.model_card.specs.Run.{IsAtLine, AreAtLines, after_all}
 use Rattle.model_card.specs.Sound.{IsSound}
 use Rattle.model_card.proofs.CardSound.{after_is_sound}
-use Rattle.laws_card.specs.Among.{IsBegunAmong}
-use Rattle.laws_card.specs.PromisesOfPulls.{come_first_at, pulls_of, StaysAt}
-use Rattle.laws_card.proofs.Meanwhile.{at-another, at-pull, few-lines, line-sound}
+use Rattle.laws_card.specs.Among.{IsTakenAmong}
+use Rattle.laws_card.specs.PromisesOfTakes.{come_first_at, takes_of, StaysAt}
+use Rattle.laws_card.proofs.Meanwhile.{at-another, at-next, few-lines, line-sound}
 
-is-the-pull : (w : line_event.Event) → is_pull w ≡ true → w ≡ pull
-is-the-pull (octet value) is = absurd (cc)
-is-the-pull (expiry timer) is = absurd (cc)
-is-the-pull (request r) is = absurd (cc)
-is-the-pull pull is = refl
+is-the-next : (w : line_event.Event) → is_take w ≡ true → w ≡ next
+is-the-next (hears e) is = absurd (cc)
+is-the-next (expiry timer) is = absurd (cc)
+is-the-next (request r) is = absurd (cc)
+is-the-next next is = refl
 
 module _ (number link tei : ℕ) (f : ControlFrame) where
   -- an event at the line finds room, or changes nothing
@@ -49,7 +49,7 @@ module _ (number link tei : ℕ) (f : ControlFrame) where
   abbrev Farther : Card → List ControlFrame → Line → Line → Type 0
   Farther card before l l' =
       ((behind' : List ControlFrame) × Waits l' before behind')
-      × (bits_before card.config l' link (length before) ≤ bits_before card.config l link (length before) + (go_first l' - go_first l) * longest_text card.config)
+      × (frames_before card.config l' link (length before) ≤ frames_before card.config l link (length before) + (go_first l' - go_first l))
 
   unmoved : (card : Card) (before behind : List ControlFrame) (l l' : Line) → l' ≡ l → Waits l before behind → Farther card before l l'
   unmoved card before behind l l' same waits =
@@ -61,13 +61,13 @@ module _ (number link tei : ℕ) (f : ControlFrame) where
   on-first card [] on = on
   on-first card (e ∷ events) on = on.0
 
-  -- what is no pull of the line
-  other-event : (card : Card) (e : Event) → IsSound card → number < card.config.lines → link < link_count card.config → (e.line == number && is_pull e.what) ≡ false
+  -- what is no next of the line
+  other-event : (card : Card) (e : Event) → IsSound card → number < card.config.lines → link < link_count card.config → (e.line == number && is_take e.what) ≡ false
       → On (line_at number card) → On (line_at number (after e card)) → (before behind : List ControlFrame) → Waits (line_at number card) before behind
       → Farther card before (line_at number card) (line_at number (after e card))
   other-event card e s few some apart at at' before behind waits = go (e.line == number) refl apart
     where
-      by-own : is_pull e.what ≡ false
+      by-own : is_take e.what ≡ false
           → ((line_at number (after e card) ≡ line_at number card) ⊎ (line_at number (after e card) ≡ lines.after card.config e.what (line_at e.line card))) → e.line ≡ number
           → Farther card before (line_at number card) (line_at number (after e card))
       by-own other (inl same) here = unmoved card before behind (line_at number card) (line_at number (after e card)) same waits
@@ -78,7 +78,7 @@ module _ (number link tei : ℕ) (f : ControlFrame) where
             no-farther-off card.config s.config link tei some e.what (line_at number card) (length before) other,
           )
 
-      go : (b : Bool) → (e.line == number) ≡ b → (b && is_pull e.what) ≡ false → Farther card before (line_at number card) (line_at number (after e card))
+      go : (b : Bool) → (e.line == number) ≡ b → (b && is_take e.what) ≡ false → Farther card before (line_at number card) (line_at number (after e card))
       go true is other =
           by-own other (own-line card e (lines.after card.config e.what (line_at e.line card)) (wants_room e card) (few-lines number card s few) (eqb-true e.line number is)) (eqb-true e.line number is)
       go false is other =
@@ -87,48 +87,48 @@ module _ (number link tei : ℕ) (f : ControlFrame) where
 
   abbrev Less : Card → List Event → List ControlFrame → Type 0
   Less card events before =
-      bits_before card.config (line_at number card) link (length before) + come_first_at number card events * longest_text card.config < 8 * pulls_of number events
+      frames_before card.config (line_at number card) link (length before) + come_first_at number card events < takes_of number events
 
   Rest : Card → Event → List Event → Type 0
   Rest card e events =
       (before behind : List ControlFrame) → Waits (line_at number (after e card)) before behind → Less (after e card) events before
-      → IsBegunAmong (after e card) number events (control_text card.config link tei f)
+      → IsTakenAmong (after e card) number events (control_text card.config link tei f)
 
-  sooner : (card : Card) (e : Event) (events : List Event) (frame : List ℕ) → IsBegunAmong (after e card) number events frame → IsBegunAmong card number (e ∷ events) frame
+  sooner : (card : Card) (e : Event) (events : List Event) (frame : List ℕ) → IsTakenAmong (after e card) number events frame → IsTakenAmong card number (e ∷ events) frame
   unfolding after_all
   sooner card e events frame x =
-      record { front = e ∷ x.front; back = x.back; split = ap (λ es. e ∷ es) x.split; taken = x.taken; begins = x.begins; is = x.is }
+      record { front = e ∷ x.front; back = x.back; split = ap (λ es. e ∷ es) x.split; one = x.one; taken_is = x.taken_is; is = x.is }
 
-  by-pull : (card : Card) (events : List Event) → IsSound card → number < card.config.lines → link < link_count card.config → On (line_at number card)
+  by-call : (card : Card) (events : List Event) → IsSound card → number < card.config.lines → link < link_count card.config → On (line_at number card)
       → (before behind : List ControlFrame) → Waits (line_at number card) before behind
-      → bits_before card.config (line_at number card) link (length before) + come_first_at number (after (at number pull) card) events * longest_text card.config < 8 * (1 + pulls_of number events)
-      → Rest card (at number pull) events → IsBegunAmong card number (at number pull ∷ events) (control_text card.config link tei f)
+      → frames_before card.config (line_at number card) link (length before) + come_first_at number (after (at number next) card) events < 1 + takes_of number events
+      → Rest card (at number next) events → IsTakenAmong card number (at number next ∷ events) (control_text card.config link tei f)
   unfolding Rest after_all
-  by-pull card events s few some at' before behind waits less more =
-      go (pull-goes card.config s.config link tei some (line_at number card) (line-sound card number s few) at' f behind before waits)
+  by-call card events s few some at' before behind waits less more =
+      go (next-goes card.config s.config link tei some (line_at number card) (line-sound card number s few) at' f behind before waits)
     where
-      is : line_at number (after (at number pull) card) ≡ lines.after card.config pull (line_at number card)
-      is = at-pull card number (few-lines number card s few)
+      is : line_at number (after (at number next) card) ≡ lines.after card.config next (line_at number card)
+      is = at-next card number (few-lines number card s few)
 
-      go : ((t : Taken) × (begun card.config (line_at number card) ≡ Some t) × (t.frame ≡ control_text card.config link tei f))
-          ⊎ ((before' : List ControlFrame) × Waits (lines.after card.config pull (line_at number card)) before' behind
-          × (bits_before card.config (lines.after card.config pull (line_at number card)) link (length before') + 8 ≤ bits_before card.config (line_at number card) link (length before)))
-          → IsBegunAmong card number (at number pull ∷ events) (control_text card.config link tei f)
-      go (inl (t, begins, same)) = record { front = []; back = events; split = refl; taken = t; begins = begins; is = same }
+      go : ((t : Taken) × (taken card.config (line_at number card) ≡ Some t) × (t.frame ≡ control_text card.config link tei f))
+          ⊎ ((before' : List ControlFrame) × Waits (lines.after card.config next (line_at number card)) before' behind
+          × (frames_before card.config (lines.after card.config next (line_at number card)) link (length before') + 1 ≤ frames_before card.config (line_at number card) link (length before)))
+          → IsTakenAmong card number (at number next ∷ events) (control_text card.config link tei f)
+      go (inl (t, begins, same)) = record { front = []; back = events; split = refl; one = t; taken_is = begins; is = same }
       go (inr (before', waits', nearer)) =
-          let near : bits_before card.config (line_at number (after (at number pull) card)) link (length before') + 8 ≤ bits_before card.config (line_at number card) link (length before) =
-          subst (λ l. bits_before card.config l link (length before') + 8 ≤ bits_before card.config (line_at number card) link (length before)) (sym is) nearer in
-          sooner card (at number pull) events (control_text card.config link tei f)
+          let near : frames_before card.config (line_at number (after (at number next) card)) link (length before') + 1 ≤ frames_before card.config (line_at number card) link (length before) =
+          subst (λ l. frames_before card.config l link (length before') + 1 ≤ frames_before card.config (line_at number card) link (length before)) (sym is) nearer in
+          sooner card (at number next) events (control_text card.config link tei f)
           (more before' behind (subst (λ l. Waits l before' behind) (sym is) waits') (omega (arith, less, near)))
 
-  pub begun-amid : (events : List Event) (card : Card) → IsSound card → number < card.config.lines → link < link_count card.config → AreAtLines card events → StaysAt number link tei card events
-      → (before behind : List ControlFrame) → Waits (line_at number card) before behind → Less card events before → IsBegunAmong card number events (control_text card.config link tei f)
+  pub taken-amid : (events : List Event) (card : Card) → IsSound card → number < card.config.lines → link < link_count card.config → AreAtLines card events → StaysAt number link tei card events
+      → (before behind : List ControlFrame) → Waits (line_at number card) before behind → Less card events before → IsTakenAmong card number events (control_text card.config link tei f)
   unfolding StaysAt come_first_at Rest
-  begun-amid [] card s few some lines on before behind waits less = absurd (omega (arith, less))
-  begun-amid (e ∷ events) card s few some lines on before behind waits less =
+  taken-amid [] card s few some lines on before behind waits less = absurd (omega (arith, less))
+  taken-amid (e ∷ events) card s few some lines on before behind waits less =
       let here = All-head (IsAtLine card) e events lines in
-      by-kind (e.line == number && is_pull e.what) refl
-      (λ before' behind' waits' less'. begun-amid events (after e card) (after_is_sound card e s here) few some (All-tail (IsAtLine card) e events lines) on.1 before' behind' waits' less')
+      by-kind (e.line == number && is_take e.what) refl
+      (λ before' behind' waits' less'. taken-amid events (after e card) (after_is_sound card e s here) few some (All-tail (IsAtLine card) e events lines) on.1 before' behind' waits' less')
     where
       come : ℕ
       come = go_first (line_at number (after e card)) - go_first (line_at number card)
@@ -136,31 +136,30 @@ module _ (number link tei : ℕ) (f : ControlFrame) where
       rest : ℕ
       rest = come_first_at number (after e card) events
 
-      with-kind : (b : Bool) → (e.line == number && is_pull e.what) ≡ b
-          → bits_before card.config (line_at number card) link (length before) + (cond b 0 come + rest) * longest_text card.config < 8 * (cond b 1 0 + pulls_of number events)
+      with-kind : (b : Bool) → (e.line == number && is_take e.what) ≡ b
+          → frames_before card.config (line_at number card) link (length before) + (cond b 0 come + rest) < cond b 1 0 + takes_of number events
       with-kind b is =
-          subst (λ x. bits_before card.config (line_at number card) link (length before) + (cond x 0 come + rest) * longest_text card.config < 8 * (cond x 1 0 + pulls_of number events)) is less
+          subst (λ x. frames_before card.config (line_at number card) link (length before) + (cond x 0 come + rest) < cond x 1 0 + takes_of number events) is less
 
-      by-kind : (b : Bool) → (e.line == number && is_pull e.what) ≡ b
+      by-kind : (b : Bool) → (e.line == number && is_take e.what) ≡ b
           → ((before' behind' : List ControlFrame) → Waits (line_at number (after e card)) before' behind' → Less (after e card) events before'
-          → IsBegunAmong (after e card) number events (control_text card.config link tei f))
-          → IsBegunAmong card number (e ∷ events) (control_text card.config link tei f)
+          → IsTakenAmong (after e card) number events (control_text card.config link tei f))
+          → IsTakenAmong card number (e ∷ events) (control_text card.config link tei f)
       by-kind true is more =
-          let parts = and_parts (e.line == number) (is_pull e.what) is in
+          let parts = and_parts (e.line == number) (is_take e.what) is in
           let line-is = eqb-true e.line number parts.0 in
-          let what-is = is-the-pull e.what parts.1 in
-          let same : e ≡ at number pull = λ i. record { line = line-is i; what = what-is i } in
+          let what-is = is-the-next e.what parts.1 in
+          let same : e ≡ at number next = λ i. record { line = line-is i; what = what-is i } in
           let none : cond true 0 come + rest ≡ rest = omega arith in
-          let sum : (cond true 0 come + rest) * longest_text card.config ≡ rest * longest_text card.config = ap (λ i. i * longest_text card.config) none in
-          let fewer : bits_before card.config (line_at number card) link (length before) + (cond true 0 come + rest) * longest_text card.config < 8 * (cond true 1 0 + pulls_of number events) = with-kind true is in
-          let now : bits_before card.config (line_at number card) link (length before) + rest * longest_text card.config < 8 * (1 + pulls_of number events) = omega (arith, fewer, sum) in
-          subst (λ x. IsBegunAmong card number (x ∷ events) (control_text card.config link tei f)) (sym same)
-          (by-pull card events s few some on.0 before behind waits
-          (subst (λ x. bits_before card.config (line_at number card) link (length before) + come_first_at number (after x card) events * longest_text card.config < 8 * (1 + pulls_of number events)) same now)
+          let fewer : frames_before card.config (line_at number card) link (length before) + (cond true 0 come + rest) < cond true 1 0 + takes_of number events = with-kind true is in
+          let now : frames_before card.config (line_at number card) link (length before) + rest < 1 + takes_of number events = omega (arith, fewer, none) in
+          subst (λ x. IsTakenAmong card number (x ∷ events) (control_text card.config link tei f)) (sym same)
+          (by-call card events s few some on.0 before behind waits
+          (subst (λ x. frames_before card.config (line_at number card) link (length before) + come_first_at number (after x card) events < 1 + takes_of number events) same now)
           (subst (λ x. Rest card x events) same more))
       by-kind false is more =
           let x = other-event card e s few some is on.0 (on-first (after e card) events on.1) before behind waits in
           let farther = x.1 in
-          let fewer : bits_before card.config (line_at number card) link (length before) + (cond false 0 come + rest) * longest_text card.config < 8 * (cond false 1 0 + pulls_of number events) = with-kind false is in
-          let sum : (cond false 0 come + rest) * longest_text card.config ≡ come * longest_text card.config + rest * longest_text card.config = omega arith in
+          let fewer : frames_before card.config (line_at number card) link (length before) + (cond false 0 come + rest) < cond false 1 0 + takes_of number events = with-kind false is in
+          let sum : (cond false 0 come + rest) ≡ come + rest = omega arith in
           sooner card e events (control_text card.config link tei f) (more before x.0.0 x.0.1 (omega (arith, fewer, farther, sum)))

@@ -32,10 +32,10 @@ use Rattle.laws_card.specs.Promises.{IsKept, IsCountedIn}
 
 -- a request that finds the pool full asks for nothing that is granted
 refused-asks : (number : ℕ) (e : line_event.Event) (l : Line) → asked_by number e l (refused PoolFull) ≡ []
-refused-asks number (line_event.octet value) l = refl
+refused-asks number (line_event.hears e) l = refl
 refused-asks number (line_event.expiry timer) l = refl
 refused-asks number (line_event.request r) l = refl
-refused-asks number line_event.pull l = refl
+refused-asks number line_event.next l = refl
 
 -- What a moment is to a link: what its share leads to, what it accepts, and what is told.
 pub record Seen (share : Share) (at : Bool) (name : LinkName) (e : line_event.Event) (before after : Line) (a : Answer) : Type 0 where

@@ -28,7 +28,6 @@ on-known card events s all line tei within =
 
 new-line : (c : Config) → IsNew c (fresh_line c)
 new-line c = record {
-  unheard = refl;
   empty = λ number few.
       let link : link_at number (fresh_line c) ≡ fresh_link = get_or-replicate (link_count c) number fresh_link fresh_link few in
       (ap (λ (x : Link). x.contents) link, ap (λ (x : Link). x.a) link);

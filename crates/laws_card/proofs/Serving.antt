@@ -1,12 +1,12 @@
--- What a pull begins after a list of events.
+-- What is taken after a list of events.
 use Rattle.std.proofs.Common.{◌≡◌, ℕ, ◌<◌, cond, slice_get, List, [], ◌∷◌, Option, Some, None, refl, sym, subst, inl, inr}
 use Rattle.model_link.specs.Sound.{is_information}
 use Rattle.model_line.specs.declared.config.Config.{Config}
-use Rattle.model_line.specs.Event.{pull}
+use Rattle.model_line.specs.Event.{next}
 use Rattle.model_line.specs.Line.{Line, link_at, link_count}
 use Rattle.model_line.specs.Machine as lines
-use Rattle.model_line.specs.Pull.{Taken, begun}
-use Rattle.laws_line.specs.Pulls.{IsOfLink, IsOwed, IsIdle, contents_of, IsServed}
+use Rattle.model_line.specs.Taken.{Taken, taken}
+use Rattle.laws_line.specs.Served.{IsOfLink, IsOwed, IsIdle, contents_of, IsServed}
 use Rattle.laws_line.proofs.Serving.{served}
 use Rattle.model_card.specs.Event.{Event}
 use Rattle.model_card.specs.Card.{Card, line_at}
@@ -21,8 +21,8 @@ use Rattle.laws_card.proofs.Keeping.{run-counted}
 
 -- the same of other lists of contents that are the same
 module _ (c : Config) (one other : ℕ → List (List ℕ)) (same : (number : ℕ) → number < link_count c → one number ≡ other number) (l : Line) where
-  of-link : (next : Line) (frame : List ℕ) → IsOfLink c one l next frame → IsOfLink c other l next frame
-  of-link next frame x = record {
+  of-link : (then : Line) (frame : List ℕ) → IsOfLink c one l then frame → IsOfLink c other l then frame
+  of-link then frame x = record {
     number = x.number;
     few = x.few;
     its_turn = x.its_turn;
@@ -38,19 +38,19 @@ module _ (c : Config) (one other : ℕ → List (List ℕ)) (same : (number : �
     line = x.line;
   }
 
-  owed : (next : Line) (frame : List ℕ) → IsOwed c one l next frame → IsOwed c other l next frame
-  owed next frame (inl x) = inl x
-  owed next frame (inr (inl x)) = inr (inl x)
-  owed next frame (inr (inr x)) = inr (inr (of-link next frame x))
+  owed : (then : Line) (frame : List ℕ) → IsOwed c one l then frame → IsOwed c other l then frame
+  owed then frame (inl x) = inl x
+  owed then frame (inr (inl x)) = inr (inl x)
+  owed then frame (inr (inr x)) = inr (inr (of-link then frame x))
 
   serves : IsServed c one l → IsServed c other l
-  serves h = go (begun c l) h
+  serves h = go (taken c l) h
     where
       go : (o : Option Taken)
-          → elim o as (λ o. Type 0) [ None ↦ IsIdle c l (lines.after c pull l) | Some t ↦ IsOwed c one l (lines.after c pull l) t.frame ]
-          → elim o as (λ o. Type 0) [ None ↦ IsIdle c l (lines.after c pull l) | Some t ↦ IsOwed c other l (lines.after c pull l) t.frame ]
+          → elim o as (λ o. Type 0) [ None ↦ IsIdle c l (lines.after c next l) | Some t ↦ IsOwed c one l (lines.after c next l) t.frame ]
+          → elim o as (λ o. Type 0) [ None ↦ IsIdle c l (lines.after c next l) | Some t ↦ IsOwed c other l (lines.after c next l) t.frame ]
       go None x = x
-      go (Some t) x = owed (lines.after c pull l) t.frame x
+      go (Some t) x = owed (lines.after c next l) t.frame x
 
 pub after-config : (card : Card) (events : List Event) → (after_all card events).config ≡ card.config
 unfolding after_all

@@ -1,9 +1,9 @@
 -- What is promised of a list of events, from a card on.
-use Rattle.std.specs.Prelude.{◌≡◌, ◌<◌, ℕ, false, List, [], ◌++◌, Some, All}
+use Rattle.std.specs.Prelude.{◌≡◌, ◌<◌, ℕ, false, List, [], Some, All}
 use Rattle.lapd_frame.specs.declared.services.Service.{Service}
 use Rattle.lapd_frame.specs.declared.timers.Timer.{Timer}
 use Rattle.laws_link.specs.History.{IsCounted}
-use Rattle.laws_line.specs.Pulls.{IsServed}
+use Rattle.laws_line.specs.Served.{IsServed}
 use Rattle.laws_line.specs.Knowledge.{is_up_of}
 use Rattle.laws_line.specs.Timers.{is_needed}
 use Rattle.model_line.specs.declared.config.Config.{Config}
@@ -16,9 +16,7 @@ use Rattle.model_card.specs.Run.{moments, after_all}
 use Rattle.laws_card.specs.Contents.{link_named, history, accepted_at}
 use Rattle.laws_card.specs.Faithful.{IsFaithful, IsOneEventIn}
 use Rattle.laws_card.specs.Heard.{IsHeardIn}
-use Rattle.laws_card.specs.Begun.{IsBegunIn}
 use Rattle.laws_card.specs.Knowledge.{up_by_notes, on_by_notes}
-use Rattle.laws_card.specs.Received.{octets_at}
 use Rattle.laws_card.specs.Timers.{runs_at_callers}
 
 -- In every moment nothing that was accepted is lost silently.
@@ -31,7 +29,7 @@ abbrev pub IsCountedIn : Card → List Event → Type 0
 IsCountedIn m events =
     (name : LinkName) → HasLink m name → IsCounted (history name m (moments m events)) (link_named name (after_all m events))
 
--- What a pull of a line begins after these events: a message, the oldest unit data, or a frame of a link, whose
+-- What is taken of a line after these events: a message, the oldest unit data, or a frame of a link, whose
 -- information, if it is an I-frame, is contents number V(S) of those that the link has accepted since its numbers began;
 -- or nothing waits.
 abbrev pub IsServedIn : Card → List Event → Type 0
@@ -45,13 +43,6 @@ HasOneEvent m events = All IsOneEventIn (moments m events)
 -- and what was heard is delivered, once, and from whom, and nothing else.
 abbrev pub IsDelivered : Card → List Event → Type 0
 IsDelivered m events = All IsHeardIn (moments m events)
-
--- The octets that each line has received are those that it had received before, and behind them its octets of these events,
--- in order, and no other (Q.921 clause 2).
-abbrev pub AreReceived : Card → List Event → Type 0
-AreReceived m events =
-    (line : ℕ) → line < m.config.lines →
-    (line_at line (after_all m events)).received ≡ (line_at line m).received ++ octets_at line events
 
 -- A caller that runs exactly the timers that are needed before a run, and obeys, does so after it.
 abbrev pub RunsWhatIsNeeded : Card → List Event → Type 0
@@ -71,9 +62,8 @@ TeisAreTold m events =
     (line tei : ℕ) → line < m.config.lines →
     on_by_notes line tei (has_tei tei (line_at line m)) (moments m events) ≡ has_tei tei (line_at line (after_all m events))
 
--- As a line begins it has received nothing, its links keep nothing, no timer is needed, no link is up, and no TEI is on it.
+-- As a line begins its links keep nothing, no timer is needed, no link is up, and no TEI is on it.
 pub record IsNew (c : Config) (l : Line) : Type 0 where
-  pub unheard : l.received ≡ []
   pub empty : (number : ℕ) → number < link_count c → ((link_at number l).contents ≡ []) × ((link_at number l).a ≡ 0)
   pub quiet : (timer : Timer) → is_needed timer l ≡ false
   pub down : (service : Service) (tei : ℕ) → is_up_of service tei l ≡ false
@@ -87,7 +77,3 @@ abbrev pub TeisHaveOnePlace : Card → List Event → Type 0
 TeisHaveOnePlace m events =
     (line one other tei : ℕ) → line < m.config.lines →
     tei_at one (line_at line (after_all m events)) ≡ Some tei → tei_at other (line_at line (after_all m events)) ≡ Some tei → one ≡ other
-
--- In every moment the answer says that a frame was begun exactly where one was: the octet pulled has its first bit.
-abbrev pub BegunIsTold : Card → List Event → Type 0
-BegunIsTold m events = All IsBegunIn (moments m events)

@@ -1,6 +1,6 @@
 -- Worked values of a card: each computes.
-use Rattle.std.specs.Prelude.{◌≡◌, ℕ, true, false, List, [], ◌∷◌, ◌++◌, map, Some, refl}
-use Rattle.model_bits.specs.Bits.{low_bits}
+use Rattle.std.specs.Prelude.{None, ◌≡◌, ℕ, List, [], ◌∷◌, ◌++◌, map, Some, refl}
+use Rattle.model_bits.specs.Stream.{frame}
 use Rattle.lapd_frame.specs.declared.addresses.Side.TheVariants.{Network}
 use Rattle.lapd_frame.specs.declared.refusals.Refusal.TheVariants.{QueueFull, PoolFull}
 use Rattle.lapd_frame.specs.declared.services.Service.TheVariants.{Call}
@@ -9,7 +9,7 @@ use Rattle.lapd_tei.specs.Events as teis
 use Rattle.model_line.specs.declared.config.Config.{Config}
 use Rattle.model_line.specs.declared.config.Field.TheVariants as field
 use Rattle.model_line.specs.Config.{first_fault}
-use Rattle.model_line.specs.Event.{Answer, octet, request, pull, told, refused, pulled, nothing}
+use Rattle.model_line.specs.Event.{Answer, told, refused, gave, hears, next, request, nothing}
 use Rattle.model_line.specs.Request.{Request, Assign, Data, Unit}
 use Rattle.model_line.specs.Machine as lines
 use Rattle.model_card.specs.Event.{Event, at}
@@ -23,9 +23,6 @@ usual = record { lines = 1; terminals = 8; k = 7; k16 = 7; queue = 8; unit_queue
 abbrev on_0 : Request → Event
 on_0 r = at 0 (request r)
 
-abbrev octet_on_0 : ℕ → Event
-octet_on_0 value = at 0 (octet value)
-
 abbrev card_after : Config → List Event → Card
 card_after c events = (run (fresh c) events).card
 
@@ -35,27 +32,21 @@ answer_of reply = reply.1
 abbrev answers_after : Config → List Event → List Event → List Answer
 answers_after c before events = map answer_of (run (card_after c before) events).replies
 
--- TEI 64 on line 0, and its SABME: a flag, the frame, its check, and a flag that ends in the first bit of the last
--- octet
+-- TEI 64 on line 0, and its SABME
 abbrev up : List Event
-up =
-    on_0 (Assign 64) ∷ octet_on_0 0x7E ∷ octet_on_0 0x00 ∷ octet_on_0 0x81 ∷ octet_on_0 0xEF ∷ octet_on_0 0x50
-    ∷ octet_on_0 0xB1 ∷ octet_on_0 0xFD ∷ octet_on_0 0xFC ∷ []
+up = on_0 (Assign 64) ∷ at 0 (hears (frame (0x00 ∷ 0x81 ∷ 0x7F ∷ []))) ∷ []
 
 up_is_established : state 0 Call 64 (card_after usual up) ≡ Some 7
-unfolding lines.after lines.takes_slot reading header_of control_of unnumbered_of teis.course teis.refusal low_bits
+unfolding lines.after lines.takes_slot reading header_of control_of unnumbered_of teis.course teis.refusal
 up_is_established = refl
 
--- seven pulls then give the opening flag, UA with its check, and a flag; the second begins the frame
-abbrev pull_on_0 : Event
-pull_on_0 = at 0 pull
+-- two calls for the next frame then give UA, and nothing
+abbrev next_on_0 : Event
+next_on_0 = at 0 next
 
-ua_is_pulled :
-    answers_after usual up (pull_on_0 ∷ pull_on_0 ∷ pull_on_0 ∷ pull_on_0 ∷ pull_on_0 ∷ pull_on_0 ∷ pull_on_0 ∷ [])
-    ≡ pulled 0x7E false [] ∷ pulled 0x00 true [] ∷ pulled 0x81 false [] ∷ pulled 0x73 false [] ∷ pulled 0xC4 false []
-    ∷ pulled 0x12 false [] ∷ pulled 0x7E false [] ∷ []
-unfolding lines.after lines.answer lines.takes_slot reading header_of control_of unnumbered_of teis.course teis.refusal low_bits
-ua_is_pulled = refl
+ua_is_given : answers_after usual up (next_on_0 ∷ next_on_0 ∷ []) ≡ gave (Some (record { octets = 0x00 ∷ 0x81 ∷ 0x73 ∷ []; orders = [] })) ∷ gave None ∷ []
+unfolding lines.after lines.answer lines.takes_slot reading header_of control_of unnumbered_of teis.course teis.refusal
+ua_is_given = refl
 
 -- a queue of two contents takes two, and the third is refused; UA waits all the while
 abbrev small_queue : Config
@@ -67,22 +58,22 @@ data_on line value = at line (request (Data Call 64 (value ∷ [])))
 full_queue :
     answers_after small_queue up (data_on 0 0x01 ∷ data_on 0 0x02 ∷ data_on 0 0x03 ∷ [])
     ≡ told nothing ∷ told nothing ∷ refused QueueFull ∷ []
-unfolding lines.after lines.answer lines.takes_slot reading header_of control_of unnumbered_of teis.course teis.refusal low_bits
+unfolding lines.after lines.answer lines.takes_slot reading header_of control_of unnumbered_of teis.course teis.refusal
 full_queue = refl
 
 stored_before_refusal : stored (card_after small_queue (up ++ data_on 0 0x01 ∷ data_on 0 0x02 ∷ [])) ≡ 5
-unfolding lines.after lines.takes_slot reading header_of control_of unnumbered_of teis.course teis.refusal low_bits
+unfolding lines.after lines.takes_slot reading header_of control_of unnumbered_of teis.course teis.refusal
 stored_before_refusal = refl
 
 stored_after_refusal : stored (card_after small_queue (up ++ data_on 0 0x01 ∷ data_on 0 0x02 ∷ data_on 0 0x03 ∷ [])) ≡ 5
-unfolding lines.after lines.takes_slot reading header_of control_of unnumbered_of teis.course teis.refusal low_bits
+unfolding lines.after lines.takes_slot reading header_of control_of unnumbered_of teis.course teis.refusal
 stored_after_refusal = refl
 
 -- a pool of one slot
 full_pool :
     answers_after (record usual { slots = 1 }) up (data_on 0 0x01 ∷ data_on 0 0x02 ∷ [])
     ≡ told nothing ∷ refused PoolFull ∷ []
-unfolding lines.after lines.answer lines.takes_slot reading header_of control_of unnumbered_of teis.course teis.refusal low_bits
+unfolding lines.after lines.answer lines.takes_slot reading header_of control_of unnumbered_of teis.course teis.refusal
 full_pool = refl
 
 -- whichever line uses it
@@ -95,11 +86,8 @@ full_pool_of_two_lines :
 unfolding lines.after lines.answer lines.takes_slot
 full_pool_of_two_lines = refl
 
--- the limits of two configurations
-limit_of_eight_lines : limit (record usual { lines = 8 }) ≡ 23280
-limit_of_eight_lines = refl
-
-limit_of_one_line : limit usual ≡ 17470
+-- the limit of a configuration
+limit_of_one_line : limit usual ≡ 16940
 limit_of_one_line = refl
 
 -- a window of 128, and a queue that is also too small: the window is told

@@ -1,6 +1,5 @@
 -- Worked values: what is known by notes and granted requests.
 use Rattle.std.specs.Prelude.{◌≡◌, Bool, true, false, List, [], ◌∷◌, ◌++◌, refl}
-use Rattle.model_bits.specs.Bits.{low_bits}
 use Rattle.lapd_frame.specs.declared.services.Service.TheVariants.{Call, Packet}
 use Rattle.lapd_frame.specs.declared.timers.Timer.TheVariants.{T201}
 use Rattle.lapd_frame.specs.Reading.{reading, header_of, control_of, unnumbered_of}
@@ -23,18 +22,18 @@ known_after events =
 
 -- The TEI is assigned, and its terminal establishes the link of call control; then the TEI is removed.
 known_on : known_after (on_0 (Assign 64) ∷ []) ≡ false ∷ false ∷ true ∷ []
-unfolding moments lines.after lines.answer lines.takes_slot reading header_of control_of unnumbered_of teis.course teis.refusal low_bits
+unfolding moments lines.after lines.answer lines.takes_slot reading header_of control_of unnumbered_of teis.course teis.refusal
 known_on = refl
 
 known_up : known_after up ≡ true ∷ false ∷ true ∷ []
-unfolding moments lines.after lines.answer lines.takes_slot reading header_of control_of unnumbered_of teis.course teis.refusal low_bits
+unfolding moments lines.after lines.answer lines.takes_slot reading header_of control_of unnumbered_of teis.course teis.refusal
 known_up = refl
 
 known_gone : known_after (up ++ on_0 (Remove 64) ∷ []) ≡ false ∷ false ∷ false ∷ []
-unfolding moments lines.after lines.answer lines.takes_slot reading header_of control_of unnumbered_of teis.course teis.refusal low_bits
+unfolding moments lines.after lines.answer lines.takes_slot reading header_of control_of unnumbered_of teis.course teis.refusal
 known_gone = refl
 
 -- No terminal answers its check: it is removed, and noted.
 known_removed : known_after (up ++ on_0 (Check 64) ∷ at 0 (expiry T201) ∷ at 0 (expiry T201) ∷ []) ≡ false ∷ false ∷ false ∷ []
-unfolding moments lines.after lines.answer lines.takes_slot reading header_of control_of unnumbered_of teis.course teis.refusal low_bits
+unfolding moments lines.after lines.answer lines.takes_slot reading header_of control_of unnumbered_of teis.course teis.refusal
 known_removed = refl

@@ -1,14 +1,12 @@
 //! What the notes of a card tell. The law is the contract of a call that does nothing.
 
-ghost use Rattle.laws_card.specs.Laws.{Known, BegunIsTrue};
+ghost use Rattle.laws_card.specs.Laws.{Known};
 
-/// By notes layer 3 knows which links are up, and management which TEIs are on each line: `notes_tell`, `teis_are_told`,
-/// `begins` and `one_place`.
+/// By notes layer 3 knows which links are up, and management which TEIs are on each line. By the notes in the answers
+/// alone layer 3 knows of each link whether it is up. An indication or a confirm of an establishment says that it is,
+/// one of a release that it is not (`up`; clauses 4.1.1.1, 4.1.1.2, 5.5 and 5.7.1). On a card that has just begun no
+/// link keeps contents or is up, no TEI is on any line, and no timer is needed (`begins`). The rest are `teis_are_told`
+/// and `one_place`.
 pub fn notes_tell()
     ensures { Known }
-{}
-
-/// The answer to a pull says that a frame was begun exactly where one was: `begun_is_told`.
-pub fn begun_is_true()
-    ensures { BegunIsTrue }
 {}

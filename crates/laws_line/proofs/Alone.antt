@@ -8,50 +8,42 @@ use Rattle.model_link.specs.declared.timers.LinkTimer.TheVariants.{T200, T203}
 use Rattle.model_link.specs.Events as link
 use Rattle.model_link.specs.Machine as links
 use Rattle.model_line.specs.declared.config.Config.{Config}
-use Rattle.model_line.specs.Event.{Event, octet, expiry, request, pull, told}
+use Rattle.model_line.specs.Event.{Event, hears, expiry, request, next, told}
 use Rattle.model_line.specs.Effect.{at_link, told_of_link, of_aim}
 use Rattle.model_line.specs.Expiry.{at_timer, aim_of_expiry}
 use Rattle.model_line.specs.Line.{Line, place_in, link_in, terms}
 use Rattle.model_line.specs.Machine.{after, answer, unless_refused, unless_refused_told, of_request}
-use Rattle.model_line.specs.Octet.{message_of, aim_of_reading, aim_of_octet}
 use Rattle.model_line.specs.Refusal.{refusal}
 use Rattle.model_line.specs.Requested.{at_requested, aim_of_request}
-use Rattle.model_line.specs.Sides.{at_side}
-use Rattle.laws_line.specs.Heard.{IsTo, IsOneEvent as IsOneOctet}
+use Rattle.laws_line.specs.Heard.{IsTo, IsOneEvent as IsOneHeard}
 use Rattle.laws_line.specs.OneEvent.{IsAlone}
 use Rattle.laws_line.specs.Requests.{of_link}
 use Rattle.laws_line.specs.Share.{is_granted}
 use Rattle.laws_line.specs.Steady.{Brings, BringsMalformed, timer_of, IsBy}
-use Rattle.laws_line.proofs.Ending.{gained-is}
 use Rattle.laws_line.proofs.Granting.{not-refused}
-use Rattle.laws_line.proofs.Hearing.{sapi-is, addressed-is, heard-aim, by-aim, malformed-event, overlong-event}
+use Rattle.laws_line.proofs.Hearing.{sapi-is, read-event, malformed-event, overlong-event}
 
 module _ (c : Config) (l : Line) (service : Service) (tei place : ℕ) (on : place_in l tei ≡ Some place) where
   abbrev Alone : Event → link.Event → Type 0
-  Alone e event = IsAlone c e l (after c e l) (answer c e l) service tei place event
+  Alone e event = IsAlone c l (after c e l) (answer c e l) service tei place event
 
-  by-octet : (value : ℕ) (event : link.Event) → IsOneOctet c l (after c (octet value) l) (answer c (octet value) l) value service tei place event → Alone (octet value) event
-  by-octet value event one = record { line = one.line; answer_is = one.answer_is }
+  heard-alone : (e : stream.Event) (event : link.Event) → IsOneHeard c l (after c (hears e) l) (answer c (hears e) l) service tei place event → Alone (hears e) event
+  heard-alone e event one = record { line = one.line; answer_is = one.answer_is }
 
-  by-frame : (e : Event) (parts : Parts) → Brings c l e service tei parts → Alone e (link.received (link.frame parts))
+  by-frame : (e : Event) (parts : Parts) → Brings c e service tei parts → Alone e (link.received (link.frame parts))
   by-frame e parts b =
-      let address = parts.address in
-      let aim : aim_of_octet c b.value l ≡ at_link service tei place (link.received (link.frame parts)) =
-      heard-aim c l b.value (Some (stream.frame b.octets)) (gained-is c l b.value (Some (stream.frame b.octets)) b.ends)
-      ∙ ap (aim_of_reading c l) b.read
-      ∙ ap (at_side c parts)
-      (addressed-is l address service tei place (link.frame parts) (message_of parts.control parts.info) (sapi-is address.sapi service b.sapi) b.tei_is on) in
+      let whose : IsTo l service tei place parts.address = record { sapi = sapi-is parts.address.sapi service b.sapi; tei_is = b.tei_is; on_line = on } in
       subst (λ e. Alone e (link.received (link.frame parts))) (sym b.by)
-      (by-octet b.value (link.received (link.frame parts)) (by-aim c l b.value service tei place (link.frame parts) aim))
+      (heard-alone (stream.frame b.octets) (link.received (link.frame parts)) (read-event c l service tei place parts b.octets b.read whose))
 
-  by-malformed : (e : Event) (what : link.Received) → BringsMalformed c l e service tei what → Alone e (link.received what)
+  by-malformed : (e : Event) (what : link.Received) → BringsMalformed c e service tei what → Alone e (link.received what)
   by-malformed e what b =
       let whose : IsTo l service tei place b.address = record { sapi = sapi-is b.address.sapi service b.sapi; tei_is = b.tei_is; on_line = on } in
-      subst (λ e. Alone e (link.received what)) (sym b.by)
-      (by-octet b.value (link.received what)
-      (⊎_elim
-      (λ x. malformed-event c l b.value service tei place b.address b.octets what x.0 whose x.1)
-      (λ x. overlong-event c l b.value service tei place b.address b.octets what x.0 whose x.1) b.ends))
+      ⊎_elim
+      (λ x. subst (λ e. Alone e (link.received what)) (sym x.0)
+      (heard-alone (stream.frame b.octets) (link.received what) (malformed-event c l service tei place b.address b.octets what whose x.1)))
+      (λ x. subst (λ e. Alone e (link.received what)) (sym x.0)
+      (heard-alone (stream.overlong b.octets) (link.received what) (overlong-event c l service tei place b.address b.octets what whose x.1))) b.by
 
   timer-aim : (timer : LinkTimer) → aim_of_expiry (timer_of service tei timer) l ≡ at_link service tei place (link.expired timer)
   timer-aim T200 = ap (at_timer service tei T200) on
@@ -100,7 +92,7 @@ module _ (c : Config) (l : Line) (service : Service) (tei place : ℕ) (on : pla
         };
       }
 
-  pub is-alone : (e : Event) (event : link.Event) → e ≢ pull → IsBy c l e (answer c e l) service tei event → Alone e event
+  pub is-alone : (e : Event) (event : link.Event) → e ≢ next → IsBy c e (answer c e l) service tei event → Alone e event
   is-alone e (link.received (link.frame parts)) other by = by-frame e parts by
   is-alone e (link.received link.undefined) other by = by-malformed e link.undefined by
   is-alone e (link.received link.wrong_size) other by = by-malformed e link.wrong_size by

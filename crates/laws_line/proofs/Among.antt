@@ -1,6 +1,5 @@
--- A control frame that waits is begun by one of so many pulls also where other events of its line are between them.
-use Rattle.std.proofs.Common.{◌≡◌, ℕ, ◌+◌, ◌-◌, ◌*◌, ◌<◌, ◌≤◌, Bool, true, false, cond, List, [], ◌∷◌, ◌++◌, length, take, Option, Some, None, refl, sym, ap, subst, ◌∙◌, ◌⊎◌, inl, inr, arith, append_assoc, append-nil, length-append}
-use Rattle.std.proofs.Math.Nat.{mul-le-mul_right}
+-- A control frame that waits is taken by one of so many calls also where other events of its line are between them.
+use Rattle.std.proofs.Common.{◌≡◌, ℕ, ◌+◌, ◌-◌, ◌<◌, ◌≤◌, Bool, true, false, cond, List, [], ◌∷◌, ◌++◌, length, take, Option, Some, None, refl, sym, ap, subst, ◌∙◌, ◌⊎◌, inl, inr, arith, append_assoc, append-nil, length-append}
 use Rattle.lapd_frame.specs.declared.services.Service.{Service}
 use Rattle.lapd_frame.specs.Grammar.{Parts}
 use Rattle.model_link.specs.declared.frames.ControlFrame.{ControlFrame}
@@ -17,64 +16,56 @@ use Rattle.lapd_tei.specs.declared.outcome.Change.{Change}
 use Rattle.lapd_tei.specs.declared.outcome.Change.TheVariants.{Gained, Left}
 use Rattle.lapd_tei.proofs.LawLemmas.{one_more_waits}
 use Rattle.model_line.specs.declared.config.Config.{Config}
-use Rattle.model_line.specs.Event.{Event, octet, expiry, request, pull, LineTold, Answer}
+use Rattle.model_line.specs.Event.{Event, hears, expiry, request, next, LineTold, Answer}
 use Rattle.model_line.specs.Effect.{Aim, at_none, at_link, at_management, at_units, told_of_management, of_change, of_aim}
 use Rattle.model_line.specs.Expiry.{aim_of_expiry}
 use Rattle.model_line.specs.Line.{Line, link_count, service_at, place_at, tei_at, terms, link_at}
 use Rattle.model_line.specs.Machine.{after, answer, unless_refused}
-use Rattle.model_line.specs.Octet.{aim_of_octet, with_received}
-use Rattle.model_line.specs.Pull.{Taken, left_of, begun}
+use Rattle.model_line.specs.Heard.{aim_of_heard}
+use Rattle.model_line.specs.Taken.{Taken, taken}
 use Rattle.model_line.specs.Refusal.{refusal}
 use Rattle.model_line.specs.Requested.{aim_of_request}
 use Rattle.model_line.specs.Sound.{IsInRange, IsSound}
 use Rattle.model_line.proofs.LineSound.{after_sound}
-use Rattle.laws_line.specs.Heard.{Adds}
 use Rattle.laws_line.specs.Steady.{IsBy}
 use Rattle.laws_line.proofs.Happening.{Happens, event-happens}
-use Rattle.laws_line.proofs.Hearing.{no-event}
-use Rattle.laws_line.specs.Drains.{longest_text, way_round, frames_before, bits_before, control_text}
-use Rattle.laws_line.specs.Among.{after_events, is_pull, pulls_in, go_first, comes_first, come_first, StaysOnLine, IsBegunIn}
-use Rattle.laws_line.proofs.Ordered.{pull-goes}
+use Rattle.laws_line.specs.Drains.{way_round, frames_before, frames_before, control_text}
+use Rattle.laws_line.specs.Among.{after_events, is_take, takes_in, go_first, comes_first, come_first, StaysOnLine, IsTakenIn}
+use Rattle.laws_line.proofs.Ordered.{next-goes}
 
--- What an event that is no pull leaves of the line's sender, and what it brings.
+-- What an event that is no call for the next frame leaves of whose turn it is, and what it brings.
 record Meanwhile (l l' : Line) : Type 0 where
-  text : left_of l' ≡ left_of l
   turn : l'.turn ≡ l.turn
   few : go_first l' ≤ go_first l + 1
 
-by-change : (c : Config) (o : Option Change) (t : LineTold) (l : Line) → (left_of (of_change c o t l).line ≡ left_of l) × ((of_change c o t l).line.turn ≡ l.turn) × (go_first (of_change c o t l).line ≡ go_first l)
-by-change c None t l = (refl, refl, refl)
-by-change c (Some (Gained tei place)) t l = (refl, refl, refl)
-by-change c (Some (Left tei place)) t l = (refl, refl, refl)
+by-change : (c : Config) (o : Option Change) (t : LineTold) (l : Line) → ((of_change c o t l).line.turn ≡ l.turn) × (go_first (of_change c o t l).line ≡ go_first l)
+by-change c None t l = (refl, refl)
+by-change c (Some (Gained tei place)) t l = (refl, refl)
+by-change c (Some (Left tei place)) t l = (refl, refl)
 
 by-aim : (c : Config) (l : Line) (aim : Aim) → Meanwhile l (of_aim c aim l).line
-by-aim c l (at_none what) = record { text = refl; turn = refl; few = omega arith }
-by-aim c l (at_link service tei place e) = record { text = refl; turn = refl; few = omega arith }
+by-aim c l (at_none what) = record { turn = refl; few = omega arith }
+by-aim c l (at_link service tei place e) = record { turn = refl; few = omega arith }
 by-aim c l (at_management e) =
     let x = by-change c (teis.told e l.management).change (told_of_management (teis.told e l.management)) (record l { management = teis.after e l.management }) in
     let more : length (teis.after e l.management).waiting ≤ length l.management.waiting + 1 = one_more_waits e l.management in
-    let same = x.2 in
-    record { text = x.0; turn = x.1; few = omega (arith, more, same) }
-by-aim c l (at_units unit) = let n = length-append l.units (unit ∷ []) in record { text = refl; turn = refl; few = omega (arith, n) }
+    let same = x.1 in
+    record { turn = x.0; few = omega (arith, more, same) }
+by-aim c l (at_units unit) = let n = length-append l.units (unit ∷ []) in record { turn = refl; few = omega (arith, n) }
 
-meanwhile : (c : Config) (e : Event) (l : Line) → is_pull e ≡ false → Meanwhile l (after c e l)
+meanwhile : (c : Config) (e : Event) (l : Line) → is_take e ≡ false → Meanwhile l (after c e l)
 unfolding after
-meanwhile c (octet value) l other = let x = by-aim c (with_received value l) (aim_of_octet c value l) in record { text = x.text; turn = x.turn; few = x.few }
+meanwhile c (hears e) l other = by-aim c l (aim_of_heard c l e)
 meanwhile c (expiry timer) l other = by-aim c l (aim_of_expiry timer l)
 meanwhile c (request r) l other = by-aim c l (unless_refused (refusal c false r l) (aim_of_request r l))
-meanwhile c pull l other = absurd (cc)
+meanwhile c next l other = absurd (cc)
 
 pub one-at-most : (c : Config) (e : Event) (l : Line) → comes_first c e l ≤ 1
-one-at-most c e l = go (is_pull e) refl
+one-at-most c e l = go (is_take e) refl
   where
-    go : (b : Bool) → is_pull e ≡ b → cond b 0 (go_first (after c e l) - go_first l) ≤ 1
+    go : (b : Bool) → is_take e ≡ b → cond b 0 (go_first (after c e l) - go_first l) ≤ 1
     go true is = omega arith
     go false is = let few = (meanwhile c e l is).few in omega (arith, few)
-
-pub none-of-octet : (c : Config) (l : Line) (value : ℕ) → Adds c l value [] → comes_first c (octet value) l ≡ 0
-none-of-octet c l value ends =
-    let same : go_first (after c (octet value) l) ≡ go_first l = ap go_first (no-event c l value ends).line in
-    omega (arith, same)
 
 -- What waits of a link stays before what comes.
 Waits : List ControlFrame → List ControlFrame → Type 0
@@ -103,14 +94,14 @@ module _ (c : Config) (ranged : IsInRange c) (number tei : ℕ) (few : number < 
   abbrev frames : Line → List ControlFrame
   frames l = (link_at number l).waiting
 
-  no-offer : (e : Event) (l : Line) (a : Answer) (service : Service) (other : ℕ) (event : link.Event) → is_pull e ≡ false → IsBy c l e a service other event → IsOffer event → ⊥
-  no-offer e l a service other event apart by (inl is) =
-      let same : e ≡ pull = subst (IsBy c l e a service other) is by in
-      let pulled : is_pull e ≡ true = ap is_pull same in
-      let two : true ≡ false = sym pulled ∙ apart in cc
-  no-offer e l a service other event apart by (inr is) = subst (IsBy c l e a service other) is by
+  no-offer : (e : Event) (a : Answer) (service : Service) (other : ℕ) (event : link.Event) → is_take e ≡ false → IsBy c e a service other event → IsOffer event → ⊥
+  no-offer e a service other event apart by (inl is) =
+      let same : e ≡ next = subst (IsBy c e a service other) is by in
+      let take : is_take e ≡ true = ap is_take same in
+      let two : true ≡ false = sym take ∙ apart in cc
+  no-offer e a service other event apart by (inr is) = subst (IsBy c e a service other) is by
 
-  stays : (e : Event) (l : Line) → is_pull e ≡ false → tei_at (place_at number) l ≡ Some tei → tei_at (place_at number) (after c e l) ≡ Some tei
+  stays : (e : Event) (l : Line) → is_take e ≡ false → tei_at (place_at number) l ≡ Some tei → tei_at (place_at number) (after c e l) ≡ Some tei
       → Happens c number e l (after c e l) (answer c e l) → Waits (frames l) (frames (after c e l))
   unfolding Waits
   stays e l apart at at' (inl same) = ([], ap (λ (x : Link). x.waiting) same ∙ sym (append-nil (frames l)))
@@ -118,7 +109,7 @@ module _ (c : Config) (ranged : IsInRange c) (number tei : ℕ) (few : number < 
   stays e l apart at at' (inr (inr one)) =
       let t = terms c (service_at number) one.tei in
       let own = links.after t one.event (link_at number l) in
-      let w = left-waiting t one.event (link_at number l) own.state (no-offer e l (answer c e l) (service_at number) one.tei one.event apart one.by) in
+      let w = left-waiting t one.event (link_at number l) own.state (no-offer e (answer c e l) (service_at number) one.tei one.event apart one.by) in
       (w.0, ap (λ (x : Link). x.waiting) one.is ∙ (event-follows t one.event (link_at number l)).leaves.waiting ∙ w.1)
 
   abbrev Waiting : Line → List ControlFrame → ControlFrame → List ControlFrame → Type 0
@@ -130,86 +121,81 @@ module _ (c : Config) (ranged : IsInRange c) (number tei : ℕ) (few : number < 
   still-waits e l w before f behind waits = (behind ++ w.0, w.1 ∙ ap (λ ws. ws ++ w.0) waits ∙ append_assoc before (f ∷ behind) w.0)
 
   -- so it comes no nearer, and no farther than by what comes first
-  no-farther : (e : Event) (l : Line) (others : ℕ) → is_pull e ≡ false → bits_before c (after c e l) number others ≤ bits_before c l number others + comes_first c e l * longest_text c
+  no-farther : (e : Event) (l : Line) (others : ℕ) → is_take e ≡ false → frames_before c (after c e l) number others ≤ frames_before c l number others + comes_first c e l
   no-farther e l others apart =
       let x = meanwhile c e l apart in
       let comes : comes_first c e l ≡ go_first (after c e l) - go_first l = ap (λ b. cond b 0 (go_first (after c e l) - go_first l)) apart in
-      let text : length (left_of (after c e l)) ≡ length (left_of l) = ap length x.text in
       let way : way_round (link_count c) (after c e l).turn number ≡ way_round (link_count c) l.turn number = ap (λ i. way_round (link_count c) i number) x.turn in
-      let more : frames_before c (after c e l) number others ≤ frames_before c l number others + comes_first c e l = omega (arith, comes, way) in
-      let most : frames_before c (after c e l) number others * longest_text c ≤ (frames_before c l number others + comes_first c e l) * longest_text c = mul-le-mul_right (longest_text c) more in
-      let sum : (frames_before c l number others + comes_first c e l) * longest_text c ≡ frames_before c l number others * longest_text c + comes_first c e l * longest_text c = omega arith in
-      omega (arith, text, most, sum)
+      omega (arith, comes, way)
 
-  pub no-farther-off : (e : Event) (l : Line) (others : ℕ) → is_pull e ≡ false
-      → bits_before c (after c e l) number others ≤ bits_before c l number others + (go_first (after c e l) - go_first l) * longest_text c
+  pub no-farther-off : (e : Event) (l : Line) (others : ℕ) → is_take e ≡ false
+      → frames_before c (after c e l) number others ≤ frames_before c l number others + (go_first (after c e l) - go_first l)
   no-farther-off e l others apart =
-      subst (λ i. bits_before c (after c e l) number others ≤ bits_before c l number others + i * longest_text c) (ap (λ b. cond b 0 (go_first (after c e l) - go_first l)) apart) (no-farther e l others apart)
+      let comes : comes_first c e l ≡ go_first (after c e l) - go_first l = ap (λ b. cond b 0 (go_first (after c e l) - go_first l)) apart in
+      omega (arith, no-farther e l others apart, comes)
 
-  pub other-waits : (e : Event) (l : Line) → is_pull e ≡ false → IsSound c l → tei_at (place_at number) l ≡ Some tei → tei_at (place_at number) (after c e l) ≡ Some tei
+  pub other-waits : (e : Event) (l : Line) → is_take e ≡ false → IsSound c l → tei_at (place_at number) l ≡ Some tei → tei_at (place_at number) (after c e l) ≡ Some tei
       → (before : List ControlFrame) (f : ControlFrame) (behind : List ControlFrame) → Waiting l before f behind → (behind' : List ControlFrame) × Waiting (after c e l) before f behind'
   other-waits e l apart s at at' before f behind waits = still-waits e l (stays e l apart at at' (event-happens c e l number s few)) before f behind waits
 
-  sooner : (e : Event) (es : List Event) (l : Line) (frame : List ℕ) → IsBegunIn c es (after c e l) frame → IsBegunIn c (e ∷ es) l frame
+  sooner : (e : Event) (es : List Event) (l : Line) (frame : List ℕ) → IsTakenIn c es (after c e l) frame → IsTakenIn c (e ∷ es) l frame
   unfolding after_events
-  sooner e es l frame x = record { front = e ∷ x.front; back = x.back; split = ap (λ es. e ∷ es) x.split; taken = x.taken; begins = x.begins; is = x.is }
+  sooner e es l frame x = record { front = e ∷ x.front; back = x.back; split = ap (λ es. e ∷ es) x.split; one = x.one; taken_is = x.taken_is; is = x.is }
 
-  at-once : (es : List Event) (l : Line) (t : Taken) (frame : List ℕ) → begun c l ≡ Some t → t.frame ≡ frame → IsBegunIn c (pull ∷ es) l frame
+  at-once : (es : List Event) (l : Line) (t : Taken) (frame : List ℕ) → taken c l ≡ Some t → t.frame ≡ frame → IsTakenIn c (next ∷ es) l frame
   unfolding after_events
-  at-once es l t frame some is = record { front = []; back = es; split = refl; taken = t; begins = some; is = is }
+  at-once es l t frame some is = record { front = []; back = es; split = refl; one = t; taken_is = some; is = is }
 
   Rest : ControlFrame → Event → List Event → Line → Type 0
   Rest f e es l =
       (before behind : List ControlFrame) → Waiting (after c e l) before f behind
-      → bits_before c (after c e l) number (length before) + come_first c es (after c e l) * longest_text c < 8 * pulls_in es → IsBegunIn c es (after c e l) (control_text c number tei f)
+      → frames_before c (after c e l) number (length before) + come_first c es (after c e l) < takes_in es → IsTakenIn c es (after c e l) (control_text c number tei f)
 
-  by-pull : (f : ControlFrame) (es : List Event) (l : Line) → IsSound c l → tei_at (place_at number) l ≡ Some tei → (before behind : List ControlFrame) → Waiting l before f behind
-      → bits_before c l number (length before) + come_first c (pull ∷ es) l * longest_text c < 8 * pulls_in (pull ∷ es) → Rest f pull es l → IsBegunIn c (pull ∷ es) l (control_text c number tei f)
+  by-take : (f : ControlFrame) (es : List Event) (l : Line) → IsSound c l → tei_at (place_at number) l ≡ Some tei → (before behind : List ControlFrame) → Waiting l before f behind
+      → frames_before c l number (length before) + come_first c (next ∷ es) l < takes_in (next ∷ es) → Rest f next es l → IsTakenIn c (next ∷ es) l (control_text c number tei f)
   unfolding come_first Rest
-  by-pull f es l s at before behind waits less more = go (pull-goes c ranged number tei few l s at f behind before waits)
+  by-take f es l s at before behind waits less more = go (next-goes c ranged number tei few l s at f behind before waits)
     where
-      fewer : (before' : List ControlFrame) → bits_before c (after c pull l) number (length before') + 8 ≤ bits_before c l number (length before)
-          → bits_before c (after c pull l) number (length before') + come_first c es (after c pull l) * longest_text c < 8 * pulls_in es
+      fewer : (before' : List ControlFrame) → frames_before c (after c next l) number (length before') + 1 ≤ frames_before c l number (length before)
+          → frames_before c (after c next l) number (length before') + come_first c es (after c next l) < takes_in es
       fewer before' nearer =
-          let count : pulls_in (pull ∷ es) ≡ 1 + pulls_in es = refl in
-          let none : come_first c (pull ∷ es) l ≡ come_first c es (after c pull l) = omega arith in
-          let sum : come_first c (pull ∷ es) l * longest_text c ≡ come_first c es (after c pull l) * longest_text c = ap (λ i. i * longest_text c) none in
-          omega (arith, less, nearer, count, sum)
+          let count : takes_in (next ∷ es) ≡ 1 + takes_in es = refl in
+          let none : come_first c (next ∷ es) l ≡ come_first c es (after c next l) = omega arith in
+          omega (arith, less, nearer, count, none)
 
-      go : ((t : Taken) × (begun c l ≡ Some t) × (t.frame ≡ control_text c number tei f))
-          ⊎ ((before' : List ControlFrame) × (frames (after c pull l) ≡ before' ++ f ∷ behind) × (bits_before c (after c pull l) number (length before') + 8 ≤ bits_before c l number (length before)))
-          → IsBegunIn c (pull ∷ es) l (control_text c number tei f)
+      go : ((t : Taken) × (taken c l ≡ Some t) × (t.frame ≡ control_text c number tei f))
+          ⊎ ((before' : List ControlFrame) × (frames (after c next l) ≡ before' ++ f ∷ behind) × (frames_before c (after c next l) number (length before') + 1 ≤ frames_before c l number (length before)))
+          → IsTakenIn c (next ∷ es) l (control_text c number tei f)
       go (inl (t, some, is)) = at-once es l t (control_text c number tei f) some is
-      go (inr (before', waits', nearer)) = sooner pull es l (control_text c number tei f) (more before' behind waits' (fewer before' nearer))
+      go (inr (before', waits', nearer)) = sooner next es l (control_text c number tei f) (more before' behind waits' (fewer before' nearer))
 
-  by-other : (f : ControlFrame) (e : Event) (es : List Event) (l : Line) → is_pull e ≡ false → IsSound c l → tei_at (place_at number) l ≡ Some tei → tei_at (place_at number) (after c e l) ≡ Some tei
+  by-other : (f : ControlFrame) (e : Event) (es : List Event) (l : Line) → is_take e ≡ false → IsSound c l → tei_at (place_at number) l ≡ Some tei → tei_at (place_at number) (after c e l) ≡ Some tei
       → (before behind : List ControlFrame) → Waiting l before f behind
-      → bits_before c l number (length before) + come_first c (e ∷ es) l * longest_text c < 8 * pulls_in (e ∷ es) → Rest f e es l → IsBegunIn c (e ∷ es) l (control_text c number tei f)
+      → frames_before c l number (length before) + come_first c (e ∷ es) l < takes_in (e ∷ es) → Rest f e es l → IsTakenIn c (e ∷ es) l (control_text c number tei f)
   unfolding come_first Rest
   by-other f e es l apart s at at' before behind waits less more =
       let w = other-waits e l apart s at at' before f behind waits in
       let farther = no-farther e l (length before) apart in
-      let count : pulls_in (e ∷ es) ≡ 0 + pulls_in es = ap (λ b. cond b 1 0 + pulls_in es) apart in
-      let sum : (comes_first c e l + come_first c es (after c e l)) * longest_text c ≡ comes_first c e l * longest_text c + come_first c es (after c e l) * longest_text c = omega arith in
-      sooner e es l (control_text c number tei f) (more before w.0 w.1 (omega (arith, less, farther, count, sum)))
+      let count : takes_in (e ∷ es) ≡ 0 + takes_in es = ap (λ b. cond b 1 0 + takes_in es) apart in
+      sooner e es l (control_text c number tei f) (more before w.0 w.1 (omega (arith, less, farther, count)))
 
   on-first : (es : List Event) (l : Line) → StaysOnLine c number tei es l → tei_at (place_at number) l ≡ Some tei
   unfolding StaysOnLine
   on-first [] l on = on
   on-first (e ∷ es) l on = on.0
 
-  pub begun-in : (f : ControlFrame) (es : List Event) (l : Line) → IsSound c l → StaysOnLine c number tei es l → (before behind : List ControlFrame) → Waiting l before f behind
-      → bits_before c l number (length before) + come_first c es l * longest_text c < 8 * pulls_in es → IsBegunIn c es l (control_text c number tei f)
+  pub taken-in : (f : ControlFrame) (es : List Event) (l : Line) → IsSound c l → StaysOnLine c number tei es l → (before behind : List ControlFrame) → Waiting l before f behind
+      → frames_before c l number (length before) + come_first c es l < takes_in es → IsTakenIn c es l (control_text c number tei f)
   unfolding StaysOnLine Rest
-  begun-in f [] l s on before behind waits less = absurd (omega (arith, less))
-  begun-in f (pull ∷ es) l s on before behind waits less =
-      by-pull f es l s on.0 before behind waits less (λ before' behind' waits' less'. begun-in f es (after c pull l) (after_sound c ranged pull l s) on.1 before' behind' waits' less')
-  begun-in f (octet value ∷ es) l s on before behind waits less =
-      by-other f (octet value) es l refl s on.0 (on-first es (after c (octet value) l) on.1) before behind waits less
-      (λ before' behind' waits' less'. begun-in f es (after c (octet value) l) (after_sound c ranged (octet value) l s) on.1 before' behind' waits' less')
-  begun-in f (expiry timer ∷ es) l s on before behind waits less =
+  taken-in f [] l s on before behind waits less = absurd (omega (arith, less))
+  taken-in f (next ∷ es) l s on before behind waits less =
+      by-take f es l s on.0 before behind waits less (λ before' behind' waits' less'. taken-in f es (after c next l) (after_sound c ranged next l s) on.1 before' behind' waits' less')
+  taken-in f (hears e ∷ es) l s on before behind waits less =
+      by-other f (hears e) es l refl s on.0 (on-first es (after c (hears e) l) on.1) before behind waits less
+      (λ before' behind' waits' less'. taken-in f es (after c (hears e) l) (after_sound c ranged (hears e) l s) on.1 before' behind' waits' less')
+  taken-in f (expiry timer ∷ es) l s on before behind waits less =
       by-other f (expiry timer) es l refl s on.0 (on-first es (after c (expiry timer) l) on.1) before behind waits less
-      (λ before' behind' waits' less'. begun-in f es (after c (expiry timer) l) (after_sound c ranged (expiry timer) l s) on.1 before' behind' waits' less')
-  begun-in f (request r ∷ es) l s on before behind waits less =
+      (λ before' behind' waits' less'. taken-in f es (after c (expiry timer) l) (after_sound c ranged (expiry timer) l s) on.1 before' behind' waits' less')
+  taken-in f (request r ∷ es) l s on before behind waits less =
       by-other f (request r) es l refl s on.0 (on-first es (after c (request r) l) on.1) before behind waits less
-      (λ before' behind' waits' less'. begun-in f es (after c (request r) l) (after_sound c ranged (request r) l s) on.1 before' behind' waits' less')
+      (λ before' behind' waits' less'. taken-in f es (after c (request r) l) (after_sound c ranged (request r) l s) on.1 before' behind' waits' less')

@@ -1,5 +1,5 @@
 -- An event accepts for a link what its request asks and its answer grants.
-use Rattle.std.proofs.Common.{◌≡◌, ℕ, Bool, true, false, not, cond, ◌==◌, List, [], ◌∷◌, length, Option, Some, None, is_some, refl, sym, ap, ◌∙◌}
+use Rattle.std.proofs.Common.{◌≡◌, ℕ, Bool, true, false, cond, ◌==◌, List, [], ◌∷◌, length, Option, Some, None, is_some, refl, sym, ap, ◌∙◌}
 use Rattle.std.specs.Prelude.{nat_lt}
 use Rattle.std.specs.Option.{option_map_or}
 use Rattle.model_bits.specs.Stream as stream
@@ -17,17 +17,17 @@ use Rattle.laws_link.specs.Accepted.{accepted, contents_of}
 use Rattle.laws_link.specs.History.{share}
 use Rattle.lapd_tei.proofs.Tables.{not_not}
 use Rattle.model_line.specs.declared.config.Config.{Config}
-use Rattle.model_line.specs.Event.{Event, octet, expiry, request, pull, nothing}
-use Rattle.model_line.specs.Effect.{Aim, at_none, at_link, at_management, at_units}
+use Rattle.model_line.specs.Event.{Event, hears, expiry, request, next}
+use Rattle.model_line.specs.Effect.{Aim, at_link}
 use Rattle.model_line.specs.Expiry.{at_timer, aim_of_expiry}
 use Rattle.model_line.specs.Line.{Line, link_number, place_in, link_in, link_of, terms}
 use Rattle.model_line.specs.Machine.{answer, unless_refused, unless_refused_told, of_request}
-use Rattle.model_line.specs.Octet.{gained, aim_of_heard, aim_of_octet}
+use Rattle.model_line.specs.Heard.{aim_of_heard}
 use Rattle.model_line.specs.Refusal.{Row, first_that_holds, bad_tei, no_link, wrong_state, too_long, queue_full, pool_full, refusal}
 use Rattle.model_line.specs.Request.{Request, Establish, Release, Data, Unit, Assign, Remove, Check, SetBusy, ClearBusy}
 use Rattle.model_line.specs.Requested.{at_requested, aim_of_request}
 use Rattle.model_line.proofs.ProperAims.{heard_aims}
-use Rattle.laws_line.specs.Share.{no_share, ending, share_aimed, share_of, is_link, is_of, is_granted, asked_for, asked_by}
+use Rattle.laws_line.specs.Share.{no_share, ending, share_aimed, share_of, is_link, is_granted, asked_for, asked_by}
 
 -- a row that does not hold is passed over
 pub passed : (row : Row) (rows : List Row) → first_that_holds (row ∷ rows) ≡ None → (row.holds ≡ false) × (first_that_holds rows ≡ None)
@@ -76,12 +76,8 @@ module _ (c : Config) (l : Line) (number : ℕ) where
   ends true = refl
   ends false = refl
 
-  by-octet : (value : ℕ) → Accepts [] (aim_of_octet c value l)
-  by-octet value = go (gained c.n201 l.received value)
-    where
-      go : (o : Option stream.Event) → Accepts [] (option_map_or (aim_of_heard c l) o (at_none nothing))
-      go None = refl
-      go (Some e) = heard_aims c l (Accepts []) (λ cause. refl) (λ service tei place what at. at-link service tei place (link.received what) refl) (λ info. ends _) (λ parts service to. refl) e
+  by-heard : (e : stream.Event) → Accepts [] (aim_of_heard c l e)
+  by-heard = heard_aims c l (Accepts []) (λ cause. refl) (λ service tei place what at. at-link service tei place (link.received what) refl) (λ info. ends _) (λ parts service to. refl)
 
   by-timer : (service : Service) (tei : ℕ) (timer : LinkTimer) (o : Option ℕ) → Accepts [] (at_timer service tei timer o)
   by-timer service tei timer None = refl
@@ -125,7 +121,7 @@ module _ (c : Config) (l : Line) (number : ℕ) where
 
 pub asked-is : (c : Config) (e : Event) (l : Line) (number : ℕ) → (share_of c number e l).accepted ≡ asked_by number e l (answer c e l)
 unfolding answer
-asked-is c (octet value) l number = by-octet c l number value
+asked-is c (hears e) l number = by-heard c l number e
 asked-is c (expiry timer) l number = by-expiry c l number timer
 asked-is c (request r) l number = go (refusal c false r l) refl
   where
@@ -133,4 +129,4 @@ asked-is c (request r) l number = go (refusal c false r l) refl
         → (share_aimed c number l (unless_refused o (aim_of_request r l))).accepted ≡ cond (is_granted (unless_refused_told o (of_request c r l))) (asked_for number r l) []
     go None e = granted c l number r e
     go (Some why) e = refl
-asked-is c pull l number = refl
+asked-is c next l number = refl

@@ -1,5 +1,6 @@
 -- Why a message of TEI management comes to wait: each event of a line.
-use Rattle.std.proofs.Common.{◌≡◌, ◌⊎◌, inl, inr, ℕ, ◌<◌, ◌==◌, Bool, true, false, cond, List, [], ◌∷◌, length, Option, Some, None, IfSome, refl, sym, ap, ◌∙◌, subst, arith}
+use Rattle.std.proofs.Common.{◌≡◌, ◌⊎◌, inl, inr, ℕ, ◌<◌, ◌==◌, true, false, cond, List, [], ◌∷◌, length, Option, Some, None, refl, sym, ap, ◌∙◌, subst, arith}
+use Rattle.model_bits.specs.Stream as stream
 use Rattle.std.specs.Option.{option_map_or}
 use Rattle.model_bits.specs.declared.heard.Cause.TheVariants.{Tei}
 use Rattle.lapd_frame.specs.declared.addresses.Address.{Address}
@@ -19,18 +20,19 @@ use Rattle.lapd_tei.specs.Words as words
 use Rattle.lapd_tei.specs.declared.outcome.Change.{Change}
 use Rattle.lapd_tei.specs.declared.outcome.Change.TheVariants.{Gained, Left}
 use Rattle.model_line.specs.declared.config.Config.{Config}
-use Rattle.model_line.specs.Event.{Event, octet, expiry, request, pull, Answer, nothing}
-use Rattle.model_line.specs.Effect.{Aim, at_none, at_management, told_of_management, of_change, of_aim}
+use Rattle.model_line.specs.Event.{Event, hears, expiry, request, next, Answer}
+use Rattle.model_line.specs.Effect.{Aim, at_management, told_of_management, of_change, of_aim}
 use Rattle.model_line.specs.Expiry.{at_timer}
 use Rattle.model_line.specs.Line.{Line, place_in, has_tei}
 use Rattle.model_line.specs.Machine.{after, answer, unless_refused, unless_refused_told}
-use Rattle.model_line.specs.Octet.{management_sapi, group_tei, drop_for, to_service, addressed, message_of, aim_of_reading, aim_of_heard, aim_of_octet, with_received}
-use Rattle.model_line.specs.Pull.{Taken, taken, is_due, with_item, after_pull}
+use Rattle.model_line.specs.Heard.{management_sapi, group_tei, drop_for, to_service, addressed, message_of, aim_of_reading, aim_of_heard}
+use Rattle.model_line.specs.Taken.{Taken, taken, line_of}
 use Rattle.model_line.specs.Refusal.{wrong_side, bad_tei, no_link, tei_taken, table_full, check_running, control_full, refusal}
 use Rattle.model_line.specs.Sides.{at_side, managed_at}
 use Rattle.model_line.specs.Request.{Request, Establish, Release, Data, Unit, Assign, Remove, Check, SetBusy, ClearBusy}
 use Rattle.model_line.specs.Requested.{at_requested, aim_of_request}
 use Rattle.model_line.specs.Sound.{IsInRange, IsSound}
+use Rattle.model_line.proofs.TakenWalk.{next_walk}
 use Rattle.model_line.proofs.Ranges.{ranges_of}
 use Rattle.laws_line.specs.Causes.{Hears, HasCause, IsTaken, HaveCauses}
 use Rattle.laws_line.specs.Frames.{lost_in}
@@ -39,7 +41,7 @@ use Rattle.laws_line.specs.Share.{is_granted}
 use Rattle.laws_line.specs.Steady.{BringsMessage}
 use Rattle.laws_line.proofs.Asked.{passed}
 use Rattle.laws_line.proofs.Granting.{not-refused}
-use Rattle.laws_line.proofs.GroupAims.{brings, IsUi, hears, octet-aims}
+use Rattle.laws_line.proofs.GroupAims.{IsUi, hears-said, heard-aims-at}
 use Rattle.laws_line.proofs.LinkMoves.{IsOne, taken-one}
 use Rattle.laws_line.proofs.Managing.{by-two, by-three, managed}
 use Rattle.laws_line.proofs.Messaging.{serves, told-or-not, expires, puts-on, takes-off, begins-asked}
@@ -62,21 +64,19 @@ module _ (c : Config) (l : Line) where
       ap (λ n. cond (n == management_sapi) (cond (address.tei == group_tei) m (drop_for Tei)) (to_service l address.tei what (service_of n))) sapi
       ∙ ap (λ n. cond (n == group_tei) m (drop_for Tei)) group
 
-  pub message-aim : (e : Event) (info : List ℕ) (h : BringsMessage c l e info) → aim_of_octet c h.value l ≡ at_management (teis.message info)
+  pub message-aim : (e : Event) (info : List ℕ) (h : BringsMessage c e info) → aim_of_heard c l (stream.frame h.heard.octets) ≡ at_management (teis.message info)
   message-aim e info h =
-      ap (λ o. option_map_or (aim_of_heard c l) o (at_none nothing)) (brings c l h.value h.heard.octets h.heard.ends)
-      ∙ ap (aim_of_reading c l) h.heard.read
+      ap (aim_of_reading c l) h.heard.read
       ∙ ap (at_side c h.parts) (to-group h.parts.address (link.frame h.parts) (message_of h.parts.control h.parts.info) h.sapi h.group)
       ∙ ap (λ k. at_side c h.parts (message_of k h.parts.info)) h.control
       ∙ ap (λ side. managed_at side (teis.message h.parts.info)) h.network
       ∙ ap (λ i. at_management (teis.message i)) h.info_is
 
-  heard-aim : (e : Event) (said : Said) (h : Hears c l e said) → aim_of_octet c h.value l ≡ at_management (teis.message h.parts.info)
+  heard-aim : (e : Event) (said : Said) (h : Hears c e said) → aim_of_heard c l (stream.frame h.octets) ≡ at_management (teis.message h.parts.info)
   heard-aim e said h = message-aim e h.parts.info (record {
     network = h.network;
-    value = h.value;
     parts = h.parts;
-    heard = record { by = h.by; octets = h.octets; ends = h.ends; read = h.read };
+    heard = record { octets = h.octets; by = h.by; read = h.read };
     sapi = h.sapi;
     group = h.group;
     poll = h.poll;
@@ -84,14 +84,14 @@ module _ (c : Config) (l : Line) where
     info_is = refl;
   })
 
-  served : (e : Event) (said : Said) → IsSound c l → length l.management.places < 63 → Hears c l e said
+  served : (e : Event) (said : Said) → IsSound c l → length l.management.places < 63 → Hears c e said
       → Serves said l.management (after c e l).management (lost_in (answer c e l))
   unfolding after answer teis.course teis.refusal
   served e said s few h =
       subst (λ x. Serves said l.management (after c x l).management (lost_in (answer c x l))) (sym h.by)
-      (subst (λ aim. let f = of_aim c aim (with_received h.value l) in Serves said l.management f.line.management f.told.lost) (sym (heard-aim e said h))
-      (subst (λ (m : Management). Serves said l.management m (of_aim c (at_management (teis.message h.parts.info)) (with_received h.value l)).told.lost) (sym (managed c (with_received h.value l) (teis.message h.parts.info)))
-      (subst (λ n. Serves said l.management (teis.after (teis.message h.parts.info) l.management) n) (sym (lost-is c (with_received h.value l) (teis.message h.parts.info)))
+      (subst (λ aim. let f = of_aim c aim l in Serves said l.management f.line.management f.told.lost) (sym (heard-aim e said h))
+      (subst (λ (m : Management). Serves said l.management m (of_aim c (at_management (teis.message h.parts.info)) l).told.lost) (sym (managed c l (teis.message h.parts.info)))
+      (subst (λ n. Serves said l.management (teis.after (teis.message h.parts.info) l.management) n) (sym (lost-is c l (teis.message h.parts.info)))
       (serves l.management said h.parts.info s.management few h.says))))
 
   -- So is the expiry of T201,
@@ -148,26 +148,26 @@ module _ (c : Config) (l : Line) where
   granted e r is = subst (λ x. is_granted (answer c x l) ≡ true → Granted r (after c x l).management (lost_in (answer c x l))) (sym is) (λ g. grants r (not-refused c r l g))
 
 -- Without a cause TEI management stays.
-module _ (c : Config) (l : Line) (value : ℕ) where
+module _ (c : Config) (l : Line) (e : stream.Event) where
   abbrev Caused : Aim → Type 0
-  Caused aim = ((of_aim c aim (with_received value l)).line.management ≡ l.management) ⊎ ((said : Said) × Hears c l (octet value) said)
+  Caused aim = ((of_aim c aim l).line.management ≡ l.management) ⊎ ((said : Said) × Hears c (hears e) said)
 
   -- a UI to the group brings a message, or one that is not served
-  by-message : (parts : Parts) → IsUi c l value parts → Caused (at_management (teis.message parts.info))
+  by-message : (parts : Parts) → IsUi c e parts → Caused (at_management (teis.message parts.info))
   unfolding teis.course teis.refusal
   by-message parts ui = go (told-or-not l.management parts.info)
     where
       go : ((rows.serve (heard_in parts.info) (words.begun l.management)).now ≡ l.management) ⊎ ((said : Said) × Says parts.info said) → Caused (at_management (teis.message parts.info))
-      go (inl stays) = inl (managed c (with_received value l) (teis.message parts.info) ∙ stays)
-      go (inr (said, says)) = inr (said, hears c l value parts said ui says)
+      go (inl stays) = inl (managed c l (teis.message parts.info) ∙ stays)
+      go (inr (said, says)) = inr (said, hears-said c e parts said ui says)
 
-  octet-caused : Caused (aim_of_octet c value l)
-  octet-caused = octet-aims c l value Caused (inl refl) (λ cause. inl refl) (λ service tei place what. inl refl) (λ parts ui. by-message parts ui)
-      (λ parts octets ends read service to. inl refl)
+  heard-caused : Caused (aim_of_heard c l e)
+  heard-caused = heard-aims-at c l e Caused (λ cause. inl refl) (λ service tei place what. inl refl) (λ parts ui. by-message parts ui)
+      (λ parts octets by read service to. inl refl)
 
 module _ (c : Config) (l : Line) where
   abbrev FromCause : Event → Line → Answer → Type 0
-  FromCause e next a = (next.management ≡ l.management) ⊎ IsTaken e l.management next.management ⊎ HasCause c l e a
+  FromCause e l' a = (l'.management ≡ l.management) ⊎ IsTaken e l.management l'.management ⊎ HasCause c e a
 
   by-timer : (service : Service) (tei : ℕ) (timer : LinkTimer) (o : Option ℕ) → (of_aim c (at_timer service tei timer o) l).line.management ≡ l.management
   by-timer service tei timer None = refl
@@ -188,25 +188,20 @@ module _ (c : Config) (l : Line) where
   asked-caused (Remove tei) a g = inr (inr (inr (inr (record { asked = Remove tei; by = refl; granted = g; its = refl }))))
   asked-caused (Check tei) a g = inr (inr (inr (inr (record { asked = Check tei; by = refl; granted = g; its = refl }))))
 
-  -- A pull takes a message, or leaves all of TEI management.
-  took : (a : Answer) (t : Taken) → IsOne c l t → FromCause pull t.line a
+  -- A call for the next frame takes a message, or leaves all of TEI management.
+  took : (a : Answer) (t : Taken) → IsOne c l t → FromCause next t.line a
   took a t (inl x) = inr (inl (record { by = refl; rest = ap (λ (u : Taken). u.line.management) x.1 }))
   took a t (inr (inl x)) = inl (ap (λ (u : Taken). u.line.management) x.1)
   took a t (inr (inr x)) = inl (ap (λ (u : Taken). u.line.management) x.is)
 
-  pull-caused : IsSound c l → (a : Answer) → FromCause pull (after_pull c l) a
-  pull-caused s a = go (is_due l) (taken c l) (taken-one c l s)
-    where
-      go : (due : Bool) (o : Option Taken) → IfSome o (IsOne c l) → FromCause pull (cond due (with_item o l) l) a
-      go false o x = inl refl
-      go true None x = inl refl
-      go true (Some t) x = took a t x
+  next-caused : IsSound c l → (a : Answer) → FromCause next (option_map_or line_of (taken c l) l) a
+  next-caused s a = next_walk c l (IsOne c l) (λ o m. FromCause next m a) (taken-one c l s) (inl refl) (took a)
 
   caused : (e : Event) → IsSound c l → FromCause e (after c e l) (answer c e l)
   unfolding after answer
-  caused (octet value) s = go (octet-caused c l value)
+  caused (hears e) s = go (heard-caused c l e)
     where
-      go : Caused c l value (aim_of_octet c value l) → FromCause (octet value) (of_aim c (aim_of_octet c value l) (with_received value l)).line (answer c (octet value) l)
+      go : Caused c l e (aim_of_heard c l e) → FromCause (hears e) (of_aim c (aim_of_heard c l e) l).line (answer c (hears e) l)
       go (inl stays) = inl stays
       go (inr h) = inr (inr (inl h))
   caused (expiry (T200 service tei)) s = inl (by-timer service tei link_timer.T200 (place_in l tei))
@@ -217,7 +212,7 @@ module _ (c : Config) (l : Line) where
       go : (o : Option Refusal) → FromCause (request r) (of_aim c (unless_refused o (aim_of_request r l)) l).line (unless_refused_told o (of_aim c (unless_refused o (aim_of_request r l)) l))
       go None = asked-caused r _ refl
       go (Some why) = inl refl
-  caused pull s = pull-caused s (answer c pull l)
+  caused next s = next-caused s (answer c next l)
 
 pub have-causes : (c : Config) (e : Event) (l : Line) → IsInRange c → IsSound c l → HaveCauses c e l (after c e l) (answer c e l)
 have-causes c e l ranged s =

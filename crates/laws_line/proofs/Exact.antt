@@ -11,7 +11,7 @@ use Rattle.laws_two_links.specs.Waits.{HasNothingToSend}
 use Rattle.model_line.specs.declared.config.Config.{Config}
 use Rattle.model_line.specs.Line.{Line, link_count, service_at, place_at, tei_at, terms, link_at}
 use Rattle.model_line.specs.Sound.{IsSoundAt, IsSound}
-use Rattle.laws_line.specs.Pulls.{HasNothing}
+use Rattle.laws_line.specs.Served.{HasNothing}
 use Rattle.laws_line.proofs.Silence.{silent, sends-none}
 use Rattle.laws_line.specs.Drains.{link_to_go, to_go_at_link, frames_to_go}
 

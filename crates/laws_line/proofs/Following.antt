@@ -17,7 +17,7 @@ use Rattle.model_link.specs.Machine as links
 use Rattle.laws_link.specs.Timed.{is_same, obeyed}
 use Rattle.model_link.specs.Told.{runs, timer_at}
 use Rattle.lapd_tei.specs.Laws as tei_laws
-use Rattle.lapd_tei.specs.Laws.{Follows, Moves}
+use Rattle.lapd_tei.specs.Laws.{Follows}
 use Rattle.lapd_tei.specs.Machine.{Management}
 use Rattle.lapd_tei.specs.Sound.{IsAt, IsSoundTable}
 use Rattle.lapd_tei.specs.Table.{place_of}

@@ -1,10 +1,8 @@
--- A frame that a pull takes is no longer among those to go.
-use Rattle.std.proofs.Common.{◌≡◌, ℕ, zero, suc, ◌+◌, ◌-◌, ◌≤◌, ◌<◌, min, Bool, true, false, cond, not, ◌&&◌, List, [], ◌∷◌, length, drop, get_or, set, slice_get, Option, Some, None, is_some, option_map, IfSome, refl, sym, ap, subst, ◌⊎◌, inl, inr, arith}
-use Rattle.std.specs.Prelude.{All, nat_lt}
-use Rattle.std.specs.Option.{option_or}
+-- A frame that is taken is no longer among those to go.
+use Rattle.std.proofs.Common.{◌≡◌, ℕ, zero, suc, ◌+◌, ◌-◌, ◌≤◌, ◌<◌, min, Bool, true, false, cond, not, ◌&&◌, List, [], ◌∷◌, length, drop, get_or, set, Some, IfSome, refl, ap, ◌⊎◌, inl, inr, arith}
+use Rattle.std.specs.Prelude.{nat_lt}
 use Rattle.std.proofs.lemmas.Bool.{ltb-true, and_parts}
 use Rattle.std.proofs.lemmas.List.{get_or-set_same, get_or-set_other}
-use Rattle.std.proofs.lemmas.List.Elements.{All-head, All-tail}
 use Rattle.model_link.specs.declared.frames.ControlFrame.{ControlFrame}
 use Rattle.model_link.specs.declared.terms.Terms.{Terms}
 use Rattle.model_link.specs.Events as link
@@ -18,13 +16,14 @@ use Rattle.laws_two_links.proofs.Waiting.{nothing-to_send}
 use Rattle.lapd_tei.specs.Messages.{frame_of}
 use Rattle.lapd_tei.specs.declared.messages.Message.{Message}
 use Rattle.model_line.specs.declared.config.Config.{Config}
-use Rattle.model_line.specs.Counts.{one}
-use Rattle.model_line.specs.Line.{Line, UnitData, link_count, service_at, place_at, tei_at, terms, terms_at, link_at}
-use Rattle.model_line.specs.Pull.{Taken, with_message, message_taken, with_unit, unit_taken, with_given_frame, link_taken, first_taken, round, taken, is_due, begun, with_item, after_pull}
-use Rattle.model_line.specs.Sound.{IsSoundAt, IsSound}
+use Rattle.model_line.specs.Line.{Line, UnitData, link_count, service_at, place_at, terms, link_at}
+use Rattle.model_line.specs.Taken.{Taken, with_message, with_unit, with_given_frame, taken}
+use Rattle.model_line.specs.Sound.{IsSound}
 use Rattle.model_line.specs.Stored.{sum_of_links}
 use Rattle.model_line.proofs.Numbers.{sum_changed}
-use Rattle.model_line.proofs.PullSound.{round_below}
+use Rattle.model_link.specs.Sound as link_sounds
+use Rattle.lapd_tei.specs.Sound.{IsAt}
+use Rattle.model_line.proofs.TakenWalk.{taken_walk}
 use Rattle.laws_line.specs.Drains.{link_to_go, frames_to_go}
 
 -- An offer takes one of a link's frames to go, or nothing is left there.
@@ -85,55 +84,28 @@ one-changed c all n x size few =
     omega (arith, here, sums)
 
 -- One frame fewer is to go.
-abbrev TakesOne : Config → Line → Taken → Type 0
+abbrev pub TakesOne : Config → Line → Taken → Type 0
 TakesOne c l t = 1 + frames_to_go c t.line ≤ frames_to_go c l
 
 module _ (c : Config) (l : Line) (s : IsSound c l) where
-  by-message : (ms : List Message) → l.management.waiting ≡ ms → IfSome (option_map (with_message l) (option_map (frame_of c.side) (slice_get ms 0))) (TakesOne c l)
-  by-message [] e = tt
-  by-message (m ∷ ms) e =
+  by-message : (m : Message) (ms : List Message) → l.management.waiting ≡ m ∷ ms → TakesOne c l (with_message l (frame_of c.side m))
+  by-message m ms e =
       let rest : length (drop 1 l.management.waiting) ≡ length ms = ap (λ (x : List Message). length (drop 1 x)) e in
       let all : length l.management.waiting ≡ suc (length ms) = ap (λ (x : List Message). length x) e in
       omega (arith, rest, all)
 
-  by-unit : (us : List UnitData) → l.units ≡ us → IfSome (option_map (with_unit c l) (slice_get us 0)) (TakesOne c l)
-  by-unit [] e = tt
-  by-unit (u ∷ us) e =
+  by-unit : (u : UnitData) (us : List UnitData) → l.units ≡ u ∷ us → TakesOne c l (with_unit c l u)
+  by-unit u us e =
       let rest : length (drop 1 l.units) ≡ length us = ap (λ (x : List UnitData). length (drop 1 x)) e in
       let all : length l.units ≡ suc (length us) = ap (λ (x : List UnitData). length x) e in
       omega (arith, rest, all)
 
-  ordered-at : (n : ℕ) (o : Option ℕ) → IsSoundAt c n (link_at n l) o → (link_at n l).a ≤ (link_at n l).s
-  ordered-at n None is_fresh = subst (λ (x : Link). x.a ≤ x.s) (sym is_fresh) (omega arith)
-  ordered-at n (Some tei) sound = sound.ordered
-
-  by-link : (n : ℕ) → n < link_count c → (o : Option Given) → links.given (terms_at c n l) (link_at n l) ≡ o → IfSome (option_map (with_given_frame c l n (terms_at c n l)) o) (TakesOne c l)
-  by-link n few None e = tt
-  by-link n few (Some g) e =
-      let own = given-falls (terms_at c n l) (link_at n l) (ordered-at n (tei_at (place_at n) l) (s.links n few)) g e in
-      let sums = one-changed c l.links n (links.after (terms_at c n l) link.offer (link_at n l)) s.count few in
+  by-link : (n tei : ℕ) → n < link_count c → IsAt l.management.places (place_at n) tei → link_sounds.IsSound (terms c (service_at n) tei) (link_at n l)
+      → (g : Given) → links.given (terms c (service_at n) tei) (link_at n l) ≡ Some g → TakesOne c l (with_given_frame c l n (terms c (service_at n) tei) g)
+  by-link n tei few at sound g e =
+      let own = given-falls (terms c (service_at n) tei) (link_at n l) sound.ordered g e in
+      let sums = one-changed c l.links n (links.after (terms c (service_at n) tei) link.offer (link_at n l)) s.count few in
       omega (arith, own, sums)
 
-  either : (o o' : Option Taken) → IfSome o (TakesOne c l) → IfSome o' (TakesOne c l) → IfSome (option_or o o') (TakesOne c l)
-  either None o' x y = y
-  either (Some t) o' x y = x
-
-  by-round : (ns : List ℕ) → All (λ n. n < link_count c) ns → IfSome (first_taken c l ns) (TakesOne c l)
-  by-round [] all = tt
-  by-round (n ∷ ns) all =
-      either (link_taken c l n) (first_taken c l ns) (by-link n (All-head (λ n. n < link_count c) n ns all) (links.given (terms_at c n l) (link_at n l)) refl)
-      (by-round ns (All-tail (λ n. n < link_count c) n ns all))
-
-  taken-falls : IfSome (taken c l) (TakesOne c l)
-  taken-falls =
-      either (message_taken c l) (option_or (unit_taken c l) (first_taken c l (round c l))) (by-message l.management.waiting refl)
-      (either (unit_taken c l) (first_taken c l (round c l)) (by-unit l.units refl) (by-round (round c l) (round_below c l)))
-
-  -- so it is with a pull that begins a frame, and any other leaves what is to go
-  pub going-falls : one (is_some (begun c l)) + frames_to_go c (after_pull c l) ≤ frames_to_go c l
-  going-falls = go (is_due l) (taken c l) taken-falls
-    where
-      go : (due : Bool) (o : Option Taken) → IfSome o (TakesOne c l) → one (is_some (cond due o None)) + frames_to_go c (cond due (with_item o l) l) ≤ frames_to_go c l
-      go false o h = omega arith
-      go true None h = omega arith
-      go true (Some t) h = omega (arith, h)
+  pub taken-falls : IfSome (taken c l) (TakesOne c l)
+  taken-falls = taken_walk c l s (TakesOne c l) by-message by-unit by-link

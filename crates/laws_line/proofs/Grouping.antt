@@ -1,41 +1,36 @@
 -- What the user's side hears of the network for the group: unit data, and messages of TEI management.
-use Rattle.std.proofs.Common.{◌≡◌, ℕ, ◌==◌, ◌≤◌, cond, List, length, Option, Some, None, refl, ap, ◌∙◌, arith}
-use Rattle.std.specs.Prelude.{nat_le}
-use Rattle.std.specs.Option.{option_map_or}
+use Rattle.std.proofs.Common.{◌≡◌, ℕ, ◌==◌, cond, List, length, Option, Some, None, Ok, refl, ap, ◌∙◌, arith}
 use Rattle.std.proofs.lemmas.Bool.{le-leb}
 use Rattle.model_bits.specs.Stream as stream
 use Rattle.model_bits.specs.declared.heard.Cause.TheVariants.{Tei, Unserved}
 use Rattle.lapd_frame.specs.declared.addresses.Address.{Address}
-use Rattle.lapd_frame.specs.declared.addresses.Side.TheVariants.{User}
 use Rattle.lapd_frame.specs.declared.controls.Control.{Control}
 use Rattle.lapd_frame.specs.declared.controls.Control.TheVariants as control
 use Rattle.lapd_frame.specs.declared.services.Service.{Service}
 use Rattle.lapd_frame.specs.declared.services.Service.TheVariants.{Call, Packet}
 use Rattle.lapd_frame.specs.Grammar.{Parts, Spells}
+use Rattle.lapd_frame.specs.Reading.{reading}
 use Rattle.lapd_frame.specs.Services.{service_of, sapi_of}
 use Rattle.lapd_frame.proofs.Spelling.{reading-again}
 use Rattle.lapd_tei.proofs.Tables.{place_of-is}
 use Rattle.lapd_tei.specs.Events as teis
 use Rattle.model_link.specs.Events as link
 use Rattle.model_line.specs.declared.config.Config.{Config}
-use Rattle.model_line.specs.Event.{LineTold, octet, told, nothing, dropped}
-use Rattle.model_line.specs.Effect.{Aim, at_none, of_aim}
+use Rattle.model_line.specs.Event.{LineTold, hears, dropped}
+use Rattle.model_line.specs.Effect.{Aim, at_none}
 use Rattle.model_line.specs.Line.{Line, place_in}
 use Rattle.model_line.specs.Machine.{after, answer}
-use Rattle.model_line.specs.Octet.{drop_for, management_sapi, at_place, to_service, addressed, message_of, aim_of_reading, heard_side, aim_of_heard, aim_of_octet, with_received}
+use Rattle.model_line.specs.Heard.{drop_for, management_sapi, at_place, to_service, addressed, message_of, aim_of_reading, heard_side, aim_of_heard}
 use Rattle.model_line.specs.Sides.{group_tei, group_told, told_of_ui, told_of_group, told_at, at_side, IsToGroup}
 use Rattle.model_line.specs.Sound.{IsSound}
-use Rattle.laws_line.specs.Heard.{Ends, OnlyTells, IsToManagement}
+use Rattle.laws_line.specs.Heard.{OnlyTells, IsToManagement}
 use Rattle.laws_line.proofs.Causing.{to-group}
-use Rattle.laws_line.proofs.GroupAims.{brings}
-use Rattle.laws_line.proofs.Hearing.{sapi-is}
+use Rattle.laws_line.proofs.Hearing.{sapi-is, by-none}
 
 -- a frame that is read is this to the line
-read-aim : (c : Config) (l : Line) (value : ℕ) (parts : Parts) (octets : List ℕ) → Ends c l value octets → Spells (heard_side c) parts octets
-    → aim_of_octet c value l ≡ at_side c parts (addressed l parts.address (link.frame parts) (message_of parts.control parts.info))
-read-aim c l value parts octets ends spelled =
-    ap (λ o. option_map_or (aim_of_heard c l) o (at_none nothing)) (brings c l value octets ends)
-    ∙ ap (aim_of_reading c l) (reading-again (heard_side c) parts octets spelled)
+of-reading : (c : Config) (l : Line) (parts : Parts) (octets : List ℕ) → reading (heard_side c) octets ≡ Ok parts
+    → aim_of_heard c l (stream.frame octets) ≡ at_side c parts (addressed l parts.address (link.frame parts) (message_of parts.control parts.info))
+of-reading c l parts octets read = ap (aim_of_reading c l) read
 
 -- no TEI of a line is the group's
 none-there : (c : Config) (l : Line) → IsSound c l → place_in l group_tei ≡ None
@@ -65,19 +60,17 @@ group-is c parts service t to =
     ∙ ap (λ n. cond (n == group_tei) (told_of_ui c service parts.control parts.info t) t) to.group ∙ ap (λ k. told_of_ui c service k parts.info t) to.control
     ∙ ap (λ b. cond b (group_told service parts.info) t) (le-leb (length parts.info) c.n201 to.size)
 
-pub group-unit : (c : Config) (l : Line) (value : ℕ) (parts : Parts) (octets : List ℕ) (service : Service) → IsSound c l → Ends c l value octets
-    → Spells (heard_side c) parts octets → IsToGroup c parts service
-    → OnlyTells (group_told service parts.info) l (after c (octet value) l) (answer c (octet value) l) value
-unfolding after answer
-group-unit c l value parts octets service s ends spelled to =
-    let aim : aim_of_octet c value l ≡ at_none (group_told service parts.info) =
-    read-aim c l value parts octets ends spelled
+pub group-read : (c : Config) (l : Line) (parts : Parts) (octets : List ℕ) (service : Service) → IsSound c l → reading (heard_side c) octets ≡ Ok parts
+    → IsToGroup c parts service → OnlyTells (group_told service parts.info) l (after c (hears (stream.frame octets)) l) (answer c (hears (stream.frame octets)) l)
+group-read c l parts octets service s read to =
+    by-none c l (stream.frame octets) (group_told service parts.info)
+    (of-reading c l parts octets read
     ∙ ap (at_side c parts) (for-nobody c l parts.address service (link.frame parts) (message_of parts.control parts.info) s to.sapi to.group)
-    ∙ ap at_none (group-is c parts service (dropped Tei) to) in
-    record {
-      line = ap (λ a. (of_aim c a (with_received value l)).line) aim;
-      answer_is = ap (λ a. told (of_aim c a (with_received value l)).told) aim;
-    }
+    ∙ ap at_none (group-is c parts service (dropped Tei) to))
+
+pub group-unit : (c : Config) (l : Line) (parts : Parts) (octets : List ℕ) (service : Service) → IsSound c l → Spells (heard_side c) parts octets
+    → IsToGroup c parts service → OnlyTells (group_told service parts.info) l (after c (hears (stream.frame octets)) l) (answer c (hears (stream.frame octets)) l)
+group-unit c l parts octets service s spelled to = group-read c l parts octets service s (reading-again (heard_side c) parts octets spelled) to
 
 -- What is for TEI management is not served.
 module _ (c : Config) (parts : Parts) (to : IsToManagement c parts) where
@@ -99,15 +92,14 @@ module _ (c : Config) (parts : Parts) (to : IsToManagement c parts) where
   by-control (control.Frmr f) = no-unit
   by-control (control.Xid pf) = no-unit
 
-pub managed-dropped : (c : Config) (l : Line) (value : ℕ) (parts : Parts) (octets : List ℕ) → Ends c l value octets
-    → Spells (heard_side c) parts octets → IsToManagement c parts → OnlyTells (dropped Unserved) l (after c (octet value) l) (answer c (octet value) l) value
-unfolding after answer
-managed-dropped c l value parts octets ends spelled to =
-    let aim : aim_of_octet c value l ≡ drop_for Unserved =
-    read-aim c l value parts octets ends spelled
+pub managed-read : (c : Config) (l : Line) (parts : Parts) (octets : List ℕ) → reading (heard_side c) octets ≡ Ok parts
+    → IsToManagement c parts → OnlyTells (dropped Unserved) l (after c (hears (stream.frame octets)) l) (answer c (hears (stream.frame octets)) l)
+managed-read c l parts octets read to =
+    by-none c l (stream.frame octets) (dropped Unserved)
+    (of-reading c l parts octets read
     ∙ ap (at_side c parts) (to-group c l parts.address (link.frame parts) (message_of parts.control parts.info) to.sapi to.group)
-    ∙ by-control c parts to parts.control in
-    record {
-      line = ap (λ a. (of_aim c a (with_received value l)).line) aim;
-      answer_is = ap (λ a. told (of_aim c a (with_received value l)).told) aim;
-    }
+    ∙ by-control c parts to parts.control)
+
+pub managed-dropped : (c : Config) (l : Line) (parts : Parts) (octets : List ℕ) → Spells (heard_side c) parts octets
+    → IsToManagement c parts → OnlyTells (dropped Unserved) l (after c (hears (stream.frame octets)) l) (answer c (hears (stream.frame octets)) l)
+managed-dropped c l parts octets spelled to = managed-read c l parts octets (reading-again (heard_side c) parts octets spelled) to

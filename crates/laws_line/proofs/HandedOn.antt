@@ -1,8 +1,8 @@
--- What is handed on of what an octet brings.
-use Rattle.std.proofs.Common.{◌≡◌, ℕ, Bool, true, false, cond, ◌==◌, List, [], ◌∷◌, ◌++◌, Option, Some, None, Result, Ok, Err, is_some, refl, sym, ap, ◌∙◌, ◌⊎◌, inl, inr}
-use Rattle.std.specs.Prelude.{All, IfSome}
+-- What is handed on of what is heard.
+use Rattle.std.proofs.Common.{◌≡◌, ℕ, Bool, true, false, cond, ◌==◌, List, [], ◌∷◌, Option, Some, None, Result, Ok, Err, is_some, refl, sym, ap, ◌∙◌, ◌⊎◌, inl, inr}
+use Rattle.std.specs.Prelude.{All}
 use Rattle.std.specs.List.{list_any}
-use Rattle.std.specs.Option.{option_or, option_map_or, unwrap_or}
+use Rattle.std.specs.Option.{option_or, unwrap_or}
 use Rattle.std.proofs.lemmas.List.Elements.{All-head, All-tail}
 use Rattle.std.proofs.lemmas.Option.{none-some}
 use Rattle.model_bits.specs.Stream as stream
@@ -22,7 +22,7 @@ use Rattle.lapd_frame.specs.declared.services.Service.{Service}
 use Rattle.lapd_frame.specs.declared.services.Service.TheVariants.{Call, Packet}
 use Rattle.lapd_frame.specs.declared.timers.Timer.{Timer}
 use Rattle.lapd_frame.specs.declared.timers.Timer.TheVariants.{T200, T203, T201}
-use Rattle.lapd_frame.specs.Grammar.{Parts, Spells, AreOctets}
+use Rattle.lapd_frame.specs.Grammar.{Parts}
 use Rattle.lapd_frame.specs.Reading.{reading, long_reading}
 use Rattle.lapd_frame.specs.Services.{service_of}
 use Rattle.lapd_frame.proofs.Spelling.{reading-found}
@@ -46,12 +46,12 @@ use Rattle.lapd_tei.specs.declared.outcome.Change.{Change}
 use Rattle.lapd_tei.specs.declared.outcome.Change.TheVariants.{Gained, Left}
 use Rattle.lapd_tei.proofs.Tables.{place_of-is}
 use Rattle.model_line.specs.declared.config.Config.{Config}
-use Rattle.model_line.specs.Event.{Event, octet, expiry, request, pull, nothing}
+use Rattle.model_line.specs.Event.{Event, hears, expiry, request, next, nothing}
 use Rattle.model_line.specs.Effect.{Aim, at_none, at_link, at_management, at_units, told_of_management, of_change, of_aim}
 use Rattle.model_line.specs.Expiry.{at_timer, aim_of_expiry}
 use Rattle.model_line.specs.Line.{Line, place_in, link_in, terms}
 use Rattle.model_line.specs.Machine.{answer, unless_refused, unless_refused_told}
-use Rattle.model_line.specs.Octet.{gained, drop_for, management_sapi, group_tei, at_place, to_service, addressed, message_of, aim_of_reading, unless_at_link, aim_of_long, heard_side, aim_of_heard}
+use Rattle.model_line.specs.Heard.{drop_for, management_sapi, group_tei, at_place, to_service, addressed, message_of, aim_of_reading, unless_at_link, aim_of_long, heard_side, aim_of_heard}
 use Rattle.model_line.specs.Sides.{group_told, IsToGroup}
 use Rattle.model_line.proofs.Sides.{side_aims}
 use Rattle.model_line.specs.Refusal.{refusal}
@@ -59,23 +59,28 @@ use Rattle.model_line.specs.Request.{Request, Establish, Release, Data, Unit, As
 use Rattle.model_line.specs.Requested.{at_requested, aim_of_request}
 use Rattle.model_line.specs.Sound.{IsInRange, IsSound}
 use Rattle.model_line.proofs.LinksSound.{sound_in}
-use Rattle.laws_line.specs.Heard.{Ends, IsFor, contents_in, due, is_data_of, is_unit_of, IsHeard}
-use Rattle.laws_line.proofs.Ending.{HasOctets, gained-octets, gained-adds}
+use Rattle.laws_line.specs.Heard.{IsFor, IsTo, contents_in, due, is_data_of, is_unit_of, IsHeard}
 use Rattle.laws_line.proofs.Told.{its-own}
-use Rattle.laws_line.proofs.Hearing.{sapi-is, one-event}
+use Rattle.laws_line.proofs.Hearing.{sapi-is, spelled-for, read-event}
 
 -- What a frame brings to layer 3 is handed on.
-pub due-is : (c : Config) (l : Line) (value : ℕ) (service : Service) (tei place : ℕ) (parts : Parts) (octets : List ℕ) → IsInRange c → IsSound c l
-    → Ends c l value octets → IsFor c l service tei place parts octets
-    → contents_in (answer c (octet value) l) ≡ due (terms c service tei) parts (link_in l service place)
-due-is c l value service tei place parts octets ranged s ends f =
+pub due-read : (c : Config) (l : Line) (service : Service) (tei place : ℕ) (parts : Parts) (octets : List ℕ) → IsInRange c → IsSound c l
+    → reading (heard_side c) octets ≡ Ok parts → IsTo l service tei place parts.address
+    → contents_in (answer c (hears (stream.frame octets)) l) ≡ due (terms c service tei) parts (link_in l service place)
+due-read c l service tei place parts octets ranged s read f =
     let t = terms c service tei in
     let e = link.received (link.frame parts) in
-    let says = (one-event c l value service tei place parts octets ends f).answer_is in
+    let says = (read-event c l service tei place parts octets read f).answer_is in
     let sound = sound_in c ranged l s service tei place (place_of-is l.management.places tei place f.on_line).1 in
     ap contents_in says.is ∙ says.contents
     ∙ ap (λ d. option_or d (links.told t e (link_in l service place)).unit) (data-is t (link_in l service place) e)
     ∙ ap (option_or (data_due t e (link_in l service place))) (event-unit t (link_in l service place) sound e)
+
+pub due-is : (c : Config) (l : Line) (service : Service) (tei place : ℕ) (parts : Parts) (octets : List ℕ) → IsInRange c → IsSound c l
+    → IsFor c l service tei place parts octets
+    → contents_in (answer c (hears (stream.frame octets)) l) ≡ due (terms c service tei) parts (link_in l service place)
+due-is c l service tei place parts octets ranged s f =
+    let x = spelled-for c l service tei place parts octets f in due-read c l service tei place parts octets ranged s x.0 x.1
 
 -- Notes of data, and of unit data, are the link's own.
 own-data : (t : Terms) (n : Note) → IsOwn t n → (is_data_of t.service t.tei n ≡ is_data n) × (is_unit_of t.service t.tei n ≡ is_unit n)
@@ -127,9 +132,9 @@ unit-noted Call = refl
 unit-noted Packet = refl
 
 -- Contents that are handed on.
-module _ (c : Config) (ranged : IsInRange c) (l : Line) (s : IsSound c l) (received : List ℕ) where
+module _ (c : Config) (ranged : IsInRange c) (l : Line) (s : IsSound c l) where
   abbrev HandsOn : List ℕ → Aim → Type 0
-  HandsOn contents aim = (of_aim c aim (record l { received = received })).told.contents ≡ Some contents
+  HandsOn contents aim = (of_aim c aim l).told.contents ≡ Some contents
 
   from-link : (service : Service) (tei place : ℕ) (e : link.Event) → place_in l tei ≡ Some place → (contents : List ℕ)
       → HandsOn contents (at_link service tei place e)
@@ -152,7 +157,7 @@ module _ (c : Config) (ranged : IsInRange c) (l : Line) (s : IsSound c l) (recei
   abbrev Silent : Aim → Type 0
   Silent aim = (contents : List ℕ) → HandsOn contents aim → ⊥
 
-  dropped : (aim : Aim) → (of_aim c aim (record l { received = received })).told.contents ≡ None → Silent aim
+  dropped : (aim : Aim) → (of_aim c aim l).told.contents ≡ None → Silent aim
   dropped aim none contents h = none-some contents (sym none ∙ h)
 
   drops : (why : Cause) → Silent (drop_for why)
@@ -161,7 +166,7 @@ module _ (c : Config) (ranged : IsInRange c) (l : Line) (s : IsSound c l) (recei
   managed : (e : teis.Event) → Silent (at_management e)
   managed e = dropped (at_management e) (go (teis.told e l.management).change)
     where
-      go : (o : Option Change) → (of_change c o (told_of_management (teis.told e l.management)) (record l { received = received; management = teis.after e l.management })).told.contents ≡ None
+      go : (o : Option Change) → (of_change c o (told_of_management (teis.told e l.management)) (record l { management = teis.after e l.management })).told.contents ≡ None
       go None = refl
       go (Some (Gained tei place)) = refl
       go (Some (Left tei place)) = refl
@@ -244,13 +249,14 @@ module _ (c : Config) (ranged : IsInRange c) (l : Line) (s : IsSound c l) (recei
     pub service : Service
     pub tei : ℕ
     pub place : ℕ
-    pub whose : IsFor c l service tei place parts octets
+    pub read : reading (heard_side c) octets ≡ Ok parts
+    pub whose : IsTo l service tei place parts.address
     pub is : FromFrame (terms c service tei) (link.received (link.frame parts)) ns contents
 
   -- or by one to the group
   pub record FromGroup (octets contents : List ℕ) (ns : List Note) : Type 0 where
     pub parts : Parts
-    pub spelled : Spells (heard_side c) parts octets
+    pub read : reading (heard_side c) octets ≡ Ok parts
     pub service : Service
     pub whose : IsToGroup c parts service
     pub contents_are : parts.info ≡ contents
@@ -259,14 +265,14 @@ module _ (c : Config) (ranged : IsInRange c) (l : Line) (s : IsSound c l) (recei
   abbrev Hears : List ℕ → Aim → Type 0
   Hears octets aim =
       (contents : List ℕ) → HandsOn contents aim
-      → Heard octets contents (of_aim c aim (record l { received = received })).told.notes
-      ⊎ FromGroup octets contents (of_aim c aim (record l { received = received })).told.notes
+      → Heard octets contents (of_aim c aim l).told.notes
+      ⊎ FromGroup octets contents (of_aim c aim l).told.notes
 
   silently : (octets : List ℕ) (aim : Aim) → Silent aim → Hears octets aim
   silently octets aim x contents h = absurd (x contents h)
 
-  by-reading : (octets : List ℕ) → AreOctets octets → (r : Result Parts ReadFault) → reading (heard_side c) octets ≡ r → Hears octets (aim_of_reading c l r)
-  by-reading octets are (Ok parts) read =
+  by-reading : (octets : List ℕ) (r : Result Parts ReadFault) → reading (heard_side c) octets ≡ r → Hears octets (aim_of_reading c l r)
+  by-reading octets (Ok parts) read =
       side_aims c parts (Hears octets) (silently octets (drop_for Unserved) (drops Unserved)) to-group
       (addressed l parts.address (link.frame parts) (message_of parts.control parts.info))
       (go (parts.address.sapi == management_sapi) (parts.address.tei == group_tei))
@@ -274,7 +280,7 @@ module _ (c : Config) (ranged : IsInRange c) (l : Line) (s : IsSound c l) (recei
       to-group : (service : Service) → IsToGroup c parts service → Hears octets (at_none (group_told service parts.info))
       to-group service to contents h = inr (record {
         parts = parts;
-        spelled = reading-found (heard_side c) octets parts are read;
+        read = read;
         service = service;
         whose = to;
         contents_are = ap (λ o. unwrap_or o parts.info) h;
@@ -289,7 +295,8 @@ module _ (c : Config) (ranged : IsInRange c) (l : Line) (s : IsSound c l) (recei
         service = service;
         tei = parts.address.tei;
         place = place;
-        whose = record { spelled = reading-found (heard_side c) octets parts are read; sapi = sapi-is parts.address.sapi service sapi; tei_is = refl; on_line = e };
+        read = read;
+        whose = record { sapi = sapi-is parts.address.sapi service sapi; tei_is = refl; on_line = e };
         is = from-link service parts.address.tei place (link.received (link.frame parts)) e contents h;
       })
 
@@ -301,43 +308,40 @@ module _ (c : Config) (ranged : IsInRange c) (l : Line) (s : IsSound c l) (recei
       go true true = silently octets (message_of parts.control parts.info) (message-silent parts.control parts.info)
       go true false = silently octets (drop_for Tei) (drops Tei)
       go false group = of-service (service_of parts.address.sapi) refl
-  by-reading octets are (Err BadExtension) read = silently octets (drop_for Extension) (drops Extension)
-  by-reading octets are (Err (Undefined address)) read = silently octets (addressed l address link.undefined (drop_for Unserved)) (not-read address link.undefined (drop_for Unserved) (drops Unserved) refl refl)
-  by-reading octets are (Err (WrongSize address)) read = silently octets (addressed l address link.wrong_size (drop_for Unserved)) (not-read address link.wrong_size (drop_for Unserved) (drops Unserved) refl refl)
-  by-reading octets are (Err Short) read = silently octets (drop_for Unserved) (drops Unserved)
+  by-reading octets (Err BadExtension) read = silently octets (drop_for Extension) (drops Extension)
+  by-reading octets (Err (Undefined address)) read = silently octets (addressed l address link.undefined (drop_for Unserved)) (not-read address link.undefined (drop_for Unserved) (drops Unserved) refl refl)
+  by-reading octets (Err (WrongSize address)) read = silently octets (addressed l address link.wrong_size (drop_for Unserved)) (not-read address link.wrong_size (drop_for Unserved) (drops Unserved) refl refl)
+  by-reading octets (Err Short) read = silently octets (drop_for Unserved) (drops Unserved)
 
-  pub heard-by : (o : Option stream.Event) → IfSome o HasOctets → (contents : List ℕ) → HandsOn contents (option_map_or (aim_of_heard c l) o (at_none nothing))
-      → let ns = (of_aim c (option_map_or (aim_of_heard c l) o (at_none nothing)) (record l { received = received })).told.notes in
-      (octets : List ℕ) × (o ≡ Some (stream.frame octets)) × (Heard octets contents ns ⊎ FromGroup octets contents ns)
-  heard-by None are contents h = absurd (dropped (at_none nothing) refl contents h)
-  heard-by (Some (stream.frame octets)) are contents h = (octets, refl, by-reading octets are (reading (heard_side c) octets) refl contents h)
-  heard-by (Some (stream.overlong head)) are contents h = absurd (too-long (long_reading (heard_side c) head) contents h)
-  heard-by (Some (stream.dropped cause)) are contents h = absurd (dropped (drop_for cause) refl contents h)
+  pub heard-by : (e : stream.Event) (contents : List ℕ) → HandsOn contents (aim_of_heard c l e)
+      → let ns = (of_aim c (aim_of_heard c l e) l).told.notes in
+      (octets : List ℕ) × (e ≡ stream.frame octets) × (Heard octets contents ns ⊎ FromGroup octets contents ns)
+  heard-by (stream.frame octets) contents h = (octets, refl, by-reading octets (reading (heard_side c) octets) refl contents h)
+  heard-by (stream.overlong head) contents h = absurd (too-long (long_reading (heard_side c) head) contents h)
+  heard-by (stream.dropped cause) contents h = absurd (dropped (drop_for cause) refl contents h)
 
-heard-as : (c : Config) (l : Line) (value : ℕ) (contents : List ℕ) (ranged : IsInRange c) (s : IsSound c l) (octets : List ℕ) → Ends c l value octets
-    → let noted = (of_aim c (option_map_or (aim_of_heard c l) (gained c.n201 l.received value) (at_none nothing)) (record l { received = l.received ++ value ∷ [] })).told.notes in
-    Heard c ranged l s (l.received ++ value ∷ []) octets contents noted ⊎ FromGroup c ranged l s (l.received ++ value ∷ []) octets contents noted
-    → IsHeard c l (octet value) (answer c (octet value) l) contents
+heard-as : (c : Config) (l : Line) (e : stream.Event) (contents : List ℕ) (ranged : IsInRange c) (s : IsSound c l) (octets : List ℕ) → e ≡ stream.frame octets
+    → let noted = (of_aim c (aim_of_heard c l e) l).told.notes in
+    Heard c ranged l s octets contents noted ⊎ FromGroup c ranged l s octets contents noted → IsHeard c l (hears e) (answer c (hears e) l) contents
 unfolding answer
-heard-as c l value contents ranged s octets ends (inl x) = inl (record {
-  value = value;
-  by = refl;
+heard-as c l e contents ranged s octets by (inl x) = inl (record {
   octets = octets;
-  ends = ends;
+  by = ap hears by;
   parts = x.parts;
+  read = x.read;
+  spelled = λ are. reading-found (heard_side c) octets x.parts are x.read;
   service = x.service;
   tei = x.tei;
   place = x.place;
   whose = x.whose;
   told = x.is.is;
 })
-heard-as c l value contents ranged s octets ends (inr x) = inr (record {
-  value = value;
-  by = refl;
+heard-as c l e contents ranged s octets by (inr x) = inr (record {
   octets = octets;
-  ends = ends;
+  by = ap hears by;
   parts = x.parts;
-  spelled = x.spelled;
+  read = x.read;
+  spelled = λ are. reading-found (heard_side c) octets x.parts are x.read;
   service = x.service;
   whose = x.whose;
   contents_are = x.contents_are;
@@ -347,14 +351,14 @@ heard-as c l value contents ranged s octets ends (inr x) = inr (record {
 pub contents-heard : (c : Config) (e : Event) (l : Line) (contents : List ℕ) → IsInRange c → IsSound c l
     → contents_in (answer c e l) ≡ Some contents → IsHeard c l e (answer c e l) contents
 unfolding answer
-contents-heard c (octet value) l contents ranged s h =
-    let x = heard-by c ranged l s (l.received ++ value ∷ []) (gained c.n201 l.received value) (gained-octets c l value) contents h in
-    heard-as c l value contents ranged s x.0 (gained-adds c l value (Some (stream.frame x.0)) x.1) x.2
-contents-heard c (expiry timer) l contents ranged s h = absurd (expiry-silent c ranged l s l.received timer contents h)
+contents-heard c (hears e) l contents ranged s h =
+    let x = heard-by c ranged l s e contents h in
+    heard-as c l e contents ranged s x.0 x.1 x.2
+contents-heard c (expiry timer) l contents ranged s h = absurd (expiry-silent c ranged l s timer contents h)
 contents-heard c (request r) l contents ranged s h = go (refusal c false r l) h
   where
     go : (o : Option Refusal) → contents_in (unless_refused_told o (of_aim c (unless_refused o (aim_of_request r l)) l)) ≡ Some contents
         → IsHeard c l (request r) (unless_refused_told o (of_aim c (unless_refused o (aim_of_request r l)) l)) contents
-    go None h = absurd (request-silent c ranged l s l.received r contents h)
+    go None h = absurd (request-silent c ranged l s r contents h)
     go (Some why) h = absurd (none-some contents h)
-contents-heard c pull l contents ranged s h = absurd (none-some contents h)
+contents-heard c next l contents ranged s h = absurd (none-some contents h)

@@ -6,7 +6,7 @@ use Rattle.std.proofs.lemmas.List.Elements.{All-nil, All-cons}
 use Rattle.model_link.specs.Told.{Given}
 use Rattle.model_line.specs.declared.config.Config.{Config}
 use Rattle.model_line.specs.Line.{Line, terms_at, link_at}
-use Rattle.model_line.specs.Pull.{Taken, message_taken, unit_taken, with_given_frame, link_taken, first_taken, round}
+use Rattle.model_line.specs.Taken.{Taken, message_taken, unit_taken, with_given_frame, link_taken, first_taken, round}
 use Rattle.laws_line.specs.Turns.{LinksTakeTurns}
 use Rattle.std.specs.Option.{option_map}
 use Rattle.model_link.specs.Machine as links

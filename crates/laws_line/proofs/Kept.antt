@@ -1,18 +1,13 @@
 -- What an event makes of the contents of a link of a line.
-use Rattle.std.proofs.Common.{⊎_elim, length-set, ◌++◌, ◌≡◌, ◌≢◌, ℕ, ◌+◌, ◌*◌, ◌<◌, zero, suc, Bool, true, false, cond, ◌==◌, List, [], ◌∷◌, length, get_or, set, Option, Some, None, refl, ap, sym, ◌∙◌, subst, arith, eqb-true, eq-eqb, true≢false, option_map, IfSome}
-use Rattle.std.specs.Option.{option_or, option_map_or}
+use Rattle.std.proofs.Common.{⊎_elim, length-set, ◌≡◌, ◌≢◌, ℕ, ◌+◌, ◌*◌, ◌<◌, zero, suc, Bool, true, false, cond, ◌==◌, List, [], ◌∷◌, length, get_or, set, Option, Some, None, refl, ap, sym, ◌∙◌, subst, arith, eqb-true, eq-eqb, true≢false, IfSome}
+use Rattle.std.specs.Option.{option_map_or}
 use Rattle.std.proofs.lemmas.List.{get_or-set_same, get_or-set_other}
-use Rattle.std.proofs.lemmas.Option.{none-some}
-use Rattle.std.specs.Prelude.{All}
-use Rattle.std.proofs.lemmas.List.Elements.{All-head, All-tail}
-use Rattle.lapd_frame.specs.declared.refusals.Refusal.{Refusal}
 use Rattle.lapd_frame.specs.declared.services.Service.{Service}
 use Rattle.lapd_frame.specs.declared.services.Service.TheVariants.{Call, Packet}
 use Rattle.model_link.specs.Events as link
 use Rattle.model_link.specs.Link.{Link, fresh}
 use Rattle.model_link.specs.Machine as links
 use Rattle.model_link.specs.declared.terms.Terms.{Terms}
-use Rattle.model_link.specs.Sound as link_sound
 use Rattle.laws_link.specs.History.{Share, share}
 use Rattle.laws_link.proofs.Keeping.{Comes, event-done, same-comes, restarted}
 use Rattle.laws_link.proofs.Offering.{offer-leaves}
@@ -25,21 +20,22 @@ use Rattle.lapd_tei.specs.declared.outcome.Change.{Change}
 use Rattle.lapd_tei.specs.declared.outcome.Change.TheVariants.{Gained, Left}
 use Rattle.lapd_tei.proofs.LawLemmas as tei_lemmas
 use Rattle.model_line.specs.declared.config.Config.{Config}
-use Rattle.model_line.specs.Event.{Event, octet, expiry, request, pull, LineTold}
+use Rattle.model_line.specs.Event.{Event, hears, expiry, request, next, LineTold}
 use Rattle.model_line.specs.Deliveries.{is_change_at}
 use Rattle.model_line.specs.Effect.{Aim, at_none, at_link, at_management, at_units, told_of_management, of_change, of_aim}
-use Rattle.model_line.specs.Line.{Line, link_number, place_at, link_at, link_in, terms, terms_at, tei_at, link_count}
+use Rattle.model_line.specs.Line.{Line, link_number, service_at, place_at, link_at, link_in, terms, link_count}
 use Rattle.model_line.specs.Machine.{after, unless_refused}
-use Rattle.model_line.specs.Octet.{aim_of_octet}
+use Rattle.model_line.specs.Heard.{aim_of_heard}
 use Rattle.model_line.specs.Expiry.{aim_of_expiry}
-use Rattle.model_line.specs.Pull.{Taken, with_message, message_taken, with_unit, unit_taken, with_given_frame, link_taken, first_taken, round, taken, is_due, with_item, after_pull}
+use Rattle.model_line.specs.Taken.{Taken, taken, line_of}
 use Rattle.model_line.specs.Refusal.{refusal}
 use Rattle.model_line.specs.Requested.{aim_of_request}
 use Rattle.model_line.specs.Sound.{IsInRange, IsSound}
 use Rattle.model_line.proofs.AimsSound.{IsProper}
 use Rattle.model_line.proofs.LinksSound.{sound_in}
 use Rattle.model_line.proofs.Numbers.{place_at-number, at_place}
-use Rattle.model_line.proofs.ProperAims.{octet_proper, expiry_proper, request_proper}
+use Rattle.model_line.proofs.TakenWalk.{taken_walk, next_walk}
+use Rattle.model_line.proofs.ProperAims.{heard_proper, expiry_proper, request_proper}
 use Rattle.laws_line.specs.Share.{no_share, ending, share_aimed, share_of}
 
 -- both links of a place begin anew
@@ -73,12 +69,9 @@ stays before after same = subst (λ l. Goes no_share before l) (sym same) (same-
 begins : (before after : Link) → after ≡ fresh → Goes ending before after
 begins before after e = subst (λ l. Goes ending before l) (sym e) (restarted true before.contents before.a)
 
-module _ (c : Config) (ranged : IsInRange c) (l : Line) (s : IsSound c l) (received : List ℕ) (number : ℕ) (few : number < link_count c) where
-  abbrev pub now : Line
-  now = record l { received = received }
-
+module _ (c : Config) (ranged : IsInRange c) (l : Line) (s : IsSound c l) (number : ℕ) (few : number < link_count c) where
   abbrev pub Parts : Aim → Type 0
-  Parts aim = Goes (share_aimed c number l aim) (link_at number l) (link_at number (of_aim c aim now).line)
+  Parts aim = Goes (share_aimed c number l aim) (link_at number l) (link_at number (of_aim c aim l).line)
 
   at_its_link : (service : Service) (tei place : ℕ) (e : link.Event) → IsAt l.management.places place tei → Parts (at_link service tei place e)
   at_its_link service tei place e at = go (link_number place service == number) refl
@@ -112,7 +105,7 @@ module _ (c : Config) (ranged : IsInRange c) (l : Line) (s : IsSound c l) (recei
       stays (link_at number l) _ (begin_away l.links place number apart)
 
   change_parts : (o : Option Change) (r : LineTold) (new : Places) (m : Management) → Moves l.management.places o new
-      → Goes (cond (is_change_at (place_at number) o) ending no_share) (link_at number l) (link_at number (of_change c o r (record now { management = m })).line)
+      → Goes (cond (is_change_at (place_at number) o) ending no_share) (link_at number l) (link_at number (of_change c o r (record l { management = m })).line)
   change_parts None r new m moves = stays (link_at number l) (link_at number l) refl
   change_parts (Some (Gained tei place)) r new m moves = place_parts place moves.within (place == place_at number) refl
   change_parts (Some (Left tei place)) r new m moves = place_parts place moves.within (place == place_at number) refl
@@ -125,7 +118,7 @@ module _ (c : Config) (ranged : IsInRange c) (l : Line) (s : IsSound c l) (recei
       (teis.after e l.management) (tei_lemmas.changes_are_told e l.management proper s.management)
   aim_parts (at_units unit) proper = stays (link_at number l) (link_at number l) refl
 
--- A pull leaves the contents of each link, and V(A).
+-- A call for the next frame leaves the contents of each link, and V(A).
 record Same (before after : Link) : Type 0 where
   contents : after.contents ≡ before.contents
   acknowledged : after.a ≡ before.a
@@ -143,42 +136,18 @@ set_keeps (y ∷ ys) (suc n) (suc number) x h = set_keeps ys n number x h
 abbrev Keeps : Line → ℕ → Taken → Type 0
 Keeps l number t = Same (link_at number l) (link_at number t.line)
 
-pub mapped : {X Y : Type 0} (f : X → Y) (P : Y → Type 0) (o : Option X) → ((x : X) → P (f x)) → IfSome (option_map f o) P
-mapped f P None h = tt
-mapped f P (Some x) h = h x
-
-pub first_of : (P : Taken → Type 0) (o rest : Option Taken) → IfSome o P → IfSome rest P → IfSome (option_or o rest) P
-first_of P None rest h h' = h'
-first_of P (Some t) rest h h' = h
-
 offer-same : (t : Terms) (l : Link) → Same l (links.after t link.offer l)
 offer-same t l = let x = offer-leaves t l in record { contents = x.contents; acknowledged = x.acknowledged }
 
-link_keeps : (c : Config) (l : Line) (number n : ℕ) → IfSome (link_taken c l n) (Keeps l number)
-link_keeps c l number n =
-    let t = terms_at c n l in
-    mapped (with_given_frame c l n t) (Keeps l number) (links.given t (link_at n l))
-    (λ g. set_keeps l.links n number (links.after t link.offer (link_at n l)) (offer-same t (link_at n l)))
+taken_keeps : (c : Config) (l : Line) → IsSound c l → (number : ℕ) → IfSome (taken c l) (Keeps l number)
+taken_keeps c l s number =
+    taken_walk c l s (Keeps l number) (λ m ms e. same (link_at number l)) (λ u us e. same (link_at number l))
+    (λ n tei few at sound g e.
+    let t = terms c (service_at n) tei in
+    set_keeps l.links n number (links.after t link.offer (link_at n l)) (offer-same t (link_at n l)))
 
-links_keep : (c : Config) (l : Line) (number : ℕ) (ns : List ℕ) → IfSome (first_taken c l ns) (Keeps l number)
-links_keep c l number [] = tt
-links_keep c l number (n ∷ ns) =
-    first_of (Keeps l number) (link_taken c l n) (first_taken c l ns) (link_keeps c l number n) (links_keep c l number ns)
-
-taken_keeps : (c : Config) (l : Line) (number : ℕ) → IfSome (taken c l) (Keeps l number)
-taken_keeps c l number =
-    first_of (Keeps l number) (message_taken c l) (option_or (unit_taken c l) (first_taken c l (round c l)))
-    (mapped (with_message l) (Keeps l number) _ (λ octets. same (link_at number l)))
-    (first_of (Keeps l number) (unit_taken c l) (first_taken c l (round c l)) (mapped (with_unit c l) (Keeps l number) _ (λ u. same (link_at number l)))
-    (links_keep c l number (round c l)))
-
-pull_keeps : (c : Config) (l : Line) (number : ℕ) → Same (link_at number l) (link_at number (after_pull c l))
-pull_keeps c l number = go (is_due l) (taken c l) (taken_keeps c l number)
-  where
-    go : (due : Bool) (o : Option Taken) → IfSome o (Keeps l number) → Same (link_at number l) (link_at number (cond due (with_item o l) l))
-    go false o h = same (link_at number l)
-    go true None h = same (link_at number l)
-    go true (Some t) h = h
+next_keeps : (c : Config) (l : Line) → IsSound c l → (number : ℕ) → Same (link_at number l) (link_at number (option_map_or line_of (taken c l) l))
+next_keeps c l s number = next_walk c l (Keeps l number) (λ o m. Same (link_at number l) (link_at number m)) (taken_keeps c l s number) (same (link_at number l)) (λ t h. h)
 
 stays_same : (before after : Link) → Same before after → Goes no_share before after
 stays_same before after h =
@@ -189,10 +158,8 @@ stays_same before after h =
 pub event-goes : (c : Config) → IsInRange c → (e : Event) (l : Line) (number : ℕ) → IsSound c l → number < link_count c
     → Goes (share_of c number e l) (link_at number l) (link_at number (after c e l))
 unfolding after
-event-goes c ranged (octet value) l number s few =
-    aim_parts c ranged l s (l.received ++ value ∷ []) number few (aim_of_octet c value l) (octet_proper c l value)
-event-goes c ranged (expiry timer) l number s few =
-    aim_parts c ranged l s l.received number few (aim_of_expiry timer l) (expiry_proper c l timer)
+event-goes c ranged (hears e) l number s few = aim_parts c ranged l s number few (aim_of_heard c l e) (heard_proper c l e)
+event-goes c ranged (expiry timer) l number s few = aim_parts c ranged l s number few (aim_of_expiry timer l) (expiry_proper c l timer)
 event-goes c ranged (request r) l number s few =
-    aim_parts c ranged l s l.received number few (unless_refused (refusal c false r l) (aim_of_request r l)) (request_proper c l r)
-event-goes c ranged pull l number s few = stays_same (link_at number l) _ (pull_keeps c l number)
+    aim_parts c ranged l s number few (unless_refused (refusal c false r l) (aim_of_request r l)) (request_proper c l r)
+event-goes c ranged next l number s few = stays_same (link_at number l) _ (next_keeps c l s number)

@@ -1,5 +1,6 @@
 -- By notes layer 3 knows which links are up: each event.
-use Rattle.std.proofs.Common.{◌≡◌, ◌≢◌, ℕ, ◌==◌, ◌&&◌, Bool, true, false, cond, List, [], ◌∷◌, ◌++◌, set, get_or, Option, Some, None, IfSome, refl, ap, sym, ◌∙◌, subst, arith, eqb-true, eq-eqb, true≢false, inl, inr}
+use Rattle.std.proofs.Common.{◌≡◌, ℕ, ◌==◌, ◌&&◌, Bool, true, false, cond, List, [], ◌∷◌, ◌++◌, set, get_or, Option, Some, None, refl, ap, sym, ◌∙◌, subst, arith, eqb-true, eq-eqb, true≢false, inl, inr}
+use Rattle.model_line.proofs.TakenWalk.{next_walk}
 use Rattle.std.specs.Prelude.{fold}
 use Rattle.std.specs.Option.{option_map_or}
 use Rattle.std.proofs.lemmas.List.{get_or-set_other}
@@ -13,7 +14,7 @@ use Rattle.lapd_frame.specs.declared.services.Service.TheVariants.{Call, Packet}
 use Rattle.lapd_frame.specs.Services.{same_service}
 use Rattle.lapd_frame.specs.declared.timers.Timer.TheVariants.{T200, T203, T201}
 use Rattle.model_link.specs.Events as link
-use Rattle.laws_link.specs.Known.{is_up, known}
+use Rattle.laws_link.specs.Known.{is_up}
 use Rattle.model_link.specs.Link.{Link, fresh}
 use Rattle.model_link.specs.Machine as links
 use Rattle.model_link.specs.Offers.{offer_among, may_send_information, is_awaiting_acknowledgement, with_one_sent}
@@ -35,20 +36,19 @@ use Rattle.lapd_tei.specs.declared.outcome.Change.TheVariants.{Gained, Left}
 use Rattle.lapd_tei.proofs.LawLemmas as tei_lemmas
 use Rattle.lapd_tei.proofs.Tables.{at-off, place_of-is}
 use Rattle.model_line.specs.declared.config.Config.{Config}
-use Rattle.model_line.specs.Event.{Event, octet, expiry, request, pull, nothing}
-use Rattle.model_line.specs.Effect.{Aim, at_none, at_link, at_management, at_units, told_of_management, of_change, of_aim}
+use Rattle.model_line.specs.Event.{Event, hears, expiry, request, next}
+use Rattle.model_line.specs.Effect.{at_link, at_management, at_units, told_of_management, of_change, of_aim}
 use Rattle.model_line.specs.Expiry.{at_timer}
 use Rattle.laws_line.specs.Heard.{notes_of}
 use Rattle.model_line.specs.Line.{Line, link_number, service_at, place_at, place_in, link_at, link_in, terms, with_link, fresh_line}
 use Rattle.model_line.specs.Machine.{after, answer, unless_refused, unless_refused_told}
-use Rattle.model_line.specs.Octet.{gained, aim_of_heard, with_received}
-use Rattle.model_line.specs.Pull.{Taken, taken, is_due, with_item, after_pull, with_message, with_unit, with_given_frame}
+use Rattle.model_line.specs.Heard.{aim_of_heard}
+use Rattle.model_line.specs.Taken.{Taken, taken, line_of, with_message, with_unit, with_given_frame}
 use Rattle.model_line.specs.Refusal.{refusal}
 use Rattle.model_line.specs.Request.{Request, Establish, Release, Data, Unit, Assign, Remove, Check, SetBusy, ClearBusy}
 use Rattle.model_line.specs.Requested.{at_requested, aim_of_request}
 use Rattle.model_line.specs.Sound.{IsSound}
 use Rattle.model_line.proofs.AimsSound.{IsProper}
-use Rattle.model_line.proofs.LineSound.{received_sound}
 use Rattle.model_line.proofs.ProperAims.{heard_aims, request_proper}
 use Rattle.laws_line.specs.Knowledge.{up_by_note, taken_for_up, link_is_up, is_up_of}
 use Rattle.laws_line.proofs.Following.{some-same, and-false}
@@ -211,11 +211,10 @@ module _ (c : Config) (l : Line) (s : IsSound c l) where
       → Up l (of_aim c (at_link service tei place e) l).told.notes (of_aim c (at_link service tei place e) l).line
   aimed service tei place e at = link-up c l s service tei place e (place_of-is l.management.places tei place at).1
 
-  heard-up : (o : Option stream.Event) → let aim = option_map_or (aim_of_heard c l) o (at_none nothing) in Up l (of_aim c aim l).told.notes (of_aim c aim l).line
-  heard-up None = λ service tei. refl
-  heard-up (Some e) =
+  heard-up : (e : stream.Event) → Up l (of_aim c (aim_of_heard c l e) l).told.notes (of_aim c (aim_of_heard c l e) l).line
+  heard-up =
       heard_aims c l (λ aim. Up l (of_aim c aim l).told.notes (of_aim c aim l).line) (λ cause. λ service tei. refl)
-      (λ service tei place what at. aimed service tei place (link.received what) at) (λ info. management-up c l s (teis.message info) tt) (λ parts its to service tei. refl) e
+      (λ service tei place what at. aimed service tei place (link.received what) at) (λ info. management-up c l s (teis.message info) tt) (λ parts its to service tei. refl)
 
   timer-up : (service : Service) (tei : ℕ) (k : LinkTimer) (o : Option ℕ) → place_in l tei ≡ o → Up l (of_aim c (at_timer service tei k o) l).told.notes (of_aim c (at_timer service tei k o) l).line
   timer-up service tei k None e = λ s' n'. refl
@@ -255,22 +254,13 @@ module _ (c : Config) (l : Line) (s : IsSound c l) where
       ∙ sym (read.same-read false is_up s' n' (with_link x.number (links.after (terms c (service_at x.number) x.tei) link.offer (link_at x.number l)) l)
       (with_given_frame c l x.number (terms c (service_at x.number) x.tei) x.what).line refl refl))
 
-  pull-up : Up l [] (after_pull c l)
-  pull-up = go (is_due l) (taken c l) (taken-one c l s)
-    where
-      go : (due : Bool) (o : Option Taken) → IfSome o (IsOne c l) → Up l [] (record (cond due (with_item o l) l) { given = (after_pull c l).given })
-      go false o x = λ s' n'. sym (read.same-read false is_up s' n' l (record l { given = (after_pull c l).given }) refl refl)
-      go true None x = λ s' n'. sym (read.same-read false is_up s' n' l (record (with_item None l) { given = (after_pull c l).given }) refl refl)
-      go true (Some t) x = λ s' n'. took t x s' n' ∙ sym (read.same-read false is_up s' n' t.line (record (with_item (Some t) l) { given = (after_pull c l).given }) refl refl)
+  next-up : Up l [] (option_map_or line_of (taken c l) l)
+  next-up = next_walk c l (IsOne c l) (λ o m. Up l [] m) (taken-one c l s) (λ s' n'. refl) took
 
 pub known-up : (c : Config) (e : Event) (l : Line) (service : Service) (tei : ℕ) → IsSound c l
     → taken_for_up service tei (is_up_of service tei l) (answer c e l) ≡ is_up_of service tei (after c e l)
 unfolding after answer
-known-up c (octet value) l service tei s =
-    let now = with_received value l in
-    let aim = option_map_or (aim_of_heard c l) (gained c.n201 l.received value) (at_none nothing) in
-    ap (λ b. fold (up_by_note service tei) b (of_aim c aim now).told.notes) (sym (read.same-read false is_up service tei l now refl refl))
-    ∙ heard-up c now (received_sound c value l s) (gained c.n201 l.received value) service tei
+known-up c (hears e) l service tei s = heard-up c l s e service tei
 known-up c (expiry (T200 by n)) l service tei s = timer-up c l s by n link_timer.T200 (place_in l n) refl service tei
 known-up c (expiry (T203 by n)) l service tei s = timer-up c l s by n link_timer.T203 (place_in l n) refl service tei
 known-up c (expiry T201) l service tei s = management-up c l s teis.expiry tt service tei
@@ -281,7 +271,7 @@ known-up c (request r) l service tei s = go (refusal c false r l) (request_prope
         ≡ is_up_of service tei (of_aim c (unless_refused o (aim_of_request r l)) l).line
     go None proper = request-up c l s r proper service tei
     go (Some why) proper = refl
-known-up c pull l service tei s = pull-up c l s service tei
+known-up c next l service tei s = next-up c l s service tei
 
 pub begins-down : (c : Config) (service : Service) (tei : ℕ) → is_up_of service tei (fresh_line c) ≡ false
 begins-down c service tei = ap (λ o. option_map_or (link_is_up service (fresh_line c)) o false) (nowhere c tei)

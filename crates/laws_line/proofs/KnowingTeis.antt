@@ -1,5 +1,6 @@
 -- By notes and granted requests management knows which TEIs are on the line: each event.
-use Rattle.std.proofs.Common.{◌≡◌, ◌≢◌, ◌⊎◌, ℕ, ◌==◌, Bool, true, false, cond, not, is_some, nat_lt, List, [], ◌∷◌, ◌++◌, set, get_or, replicate, Option, Some, None, IfSome, option_map, refl, ap, sym, ◌∙◌, subst, eqb-true, eq-eqb, true≢false, inl, inr}
+use Rattle.std.proofs.Common.{◌≡◌, ℕ, ◌==◌, Bool, true, false, cond, not, is_some, nat_lt, List, ◌++◌, set, get_or, replicate, Option, Some, None, option_map, refl, ap, sym, ◌∙◌, subst, eqb-true, eq-eqb, true≢false, inl, inr}
+use Rattle.model_line.proofs.TakenWalk.{next_walk}
 use Rattle.std.specs.Prelude.{fold}
 use Rattle.std.specs.Option.{option_map_or}
 use Rattle.std.proofs.lemmas.List.{get_or-set_same}
@@ -14,7 +15,7 @@ use Rattle.lapd_frame.specs.declared.services.Service.TheVariants.{Call, Packet}
 use Rattle.lapd_frame.specs.declared.timers.Timer.TheVariants.{T200, T203, T201}
 use Rattle.model_link.specs.Events as link
 use Rattle.laws_link.specs.Known.{is_up}
-use Rattle.model_link.specs.Link.{Link, fresh}
+use Rattle.model_link.specs.Link.{fresh}
 use Rattle.model_link.specs.Machine as links
 use Rattle.model_link.specs.declared.timers.LinkTimer.{LinkTimer}
 use Rattle.model_link.specs.declared.timers.LinkTimer.TheVariants as link_timer
@@ -28,29 +29,28 @@ use Rattle.lapd_tei.specs.declared.messages.Message.TheVariants.{IdentityRemove}
 use Rattle.lapd_tei.specs.Rows.{join_at, put_on, take_off, is_checked, nothing_happens}
 use Rattle.lapd_tei.specs.Words as words
 use Rattle.lapd_tei.specs.Words.{no_room, send, leave, left, end_check}
-use Rattle.lapd_tei.specs.Sound.{IsAt, IsSoundTable}
+use Rattle.lapd_tei.specs.Sound.{IsSoundTable}
 use Rattle.lapd_tei.specs.Table.{Places, is_on, place_of, free_place}
 use Rattle.lapd_tei.specs.declared.outcome.Change.{Change}
 use Rattle.lapd_tei.specs.declared.outcome.Change.TheVariants.{Gained, Left}
 use Rattle.lapd_tei.proofs.LawLemmas as tei_lemmas
 use Rattle.lapd_tei.proofs.Tables.{is_on-at, place_of-is}
 use Rattle.model_line.specs.declared.config.Config.{Config}
-use Rattle.model_line.specs.Event.{Event, octet, expiry, request, pull, nothing}
-use Rattle.model_line.specs.Effect.{Aim, at_none, at_link, at_management, at_units, told_of_management, of_change, of_aim}
+use Rattle.model_line.specs.Event.{Event, hears, expiry, request, next}
+use Rattle.model_line.specs.Effect.{at_link, at_management, told_of_management, of_change, of_aim}
 use Rattle.model_line.specs.Expiry.{at_timer}
 use Rattle.model_line.specs.Line.{Line, link_number, place_in, has_tei, link_in, terms, fresh_line}
 use Rattle.model_line.specs.Machine.{after, answer, unless_refused, unless_refused_told}
-use Rattle.model_line.specs.Octet.{gained, aim_of_heard, with_received}
-use Rattle.model_line.specs.Pull.{Taken, taken, is_due, with_item, after_pull}
+use Rattle.model_line.specs.Heard.{aim_of_heard}
+use Rattle.model_line.specs.Taken.{Taken, taken, line_of}
 use Rattle.model_line.specs.Refusal.{refusal}
 use Rattle.model_line.specs.Sides.{has_management}
 use Rattle.model_line.specs.Request.{Request, Establish, Release, Data, Unit, Assign, Remove, Check, SetBusy, ClearBusy}
 use Rattle.model_line.specs.Requested.{at_requested, aim_of_request}
 use Rattle.model_line.specs.Sound.{IsSound}
 use Rattle.model_line.proofs.AimsSound.{IsProper}
-use Rattle.model_line.proofs.LineSound.{received_sound}
 use Rattle.model_line.proofs.ProperAims.{heard_aims, request_proper}
-use Rattle.laws_line.specs.Knowledge.{on_by_note, on_by_request, on_by_event, taken_for_on}
+use Rattle.laws_line.specs.Knowledge.{on_by_note, on_by_request, taken_for_on}
 use Rattle.laws_line.proofs.Following.{some-same}
 use Rattle.laws_line.proofs.LinkMoves.{IsOne, taken-one}
 use Rattle.laws_line.proofs.Noting.{link-notes}
@@ -195,11 +195,10 @@ module _ (c : Config) (l : Line) (s : IsSound c l) (tei : ℕ) where
   link-knows service by place e =
       link-notes (terms c service by) tei (has_tei tei l) (links.told (terms c service by) e (link_in l service place)).notes (notes-own (terms c service by) e (link_in l service place))
 
-  heard-knows : (o : Option stream.Event) → let aim = option_map_or (aim_of_heard c l) o (at_none nothing) in Knows l (λ on. on) tei (of_aim c aim l).told.notes (of_aim c aim l).line
-  heard-knows None = refl
-  heard-knows (Some e) =
+  heard-knows : (e : stream.Event) → Knows l (λ on. on) tei (of_aim c (aim_of_heard c l e) l).told.notes (of_aim c (aim_of_heard c l e) l).line
+  heard-knows =
       heard_aims c l (λ aim. Knows l (λ on. on) tei (of_aim c aim l).told.notes (of_aim c aim l).line) (λ cause. refl)
-      (λ service by place what at. link-knows service by place (link.received what)) (λ info. management-knows c l s (teis.message info) tt tei (λ none. refl)) (λ parts service to. refl) e
+      (λ service by place what at. link-knows service by place (link.received what)) (λ info. management-knows c l s (teis.message info) tt tei (λ none. refl)) (λ parts service to. refl)
 
   timer-knows : (service : Service) (by : ℕ) (k : LinkTimer) (o : Option ℕ) → Knows l (λ on. on) tei (of_aim c (at_timer service by k o) l).told.notes (of_aim c (at_timer service by k o) l).line
   timer-knows service by k None = refl
@@ -226,17 +225,12 @@ module _ (c : Config) (l : Line) (s : IsSound c l) (tei : ℕ) where
   took-on t (inr (inl x)) = ap (λ (u : Taken). has_tei tei u.line) (sym x.1)
   took-on t (inr (inr x)) = ap (λ (u : Taken). has_tei tei u.line) (sym x.is)
 
-  pull-on : has_tei tei l ≡ has_tei tei (after_pull c l)
-  pull-on = go (is_due l) (taken c l) (taken-one c l s)
-    where
-      go : (due : Bool) (o : Option Taken) → IfSome o (IsOne c l) → has_tei tei l ≡ has_tei tei (cond due (with_item o l) l)
-      go false o x = refl
-      go true None x = refl
-      go true (Some t) x = took-on t x
+  next-on : has_tei tei l ≡ has_tei tei (option_map_or line_of (taken c l) l)
+  next-on = next_walk c l (IsOne c l) (λ o m. has_tei tei l ≡ has_tei tei m) (taken-one c l s) refl took-on
 
 pub known-on : (c : Config) (e : Event) (l : Line) (tei : ℕ) → IsSound c l → taken_for_on tei (has_tei tei l) e (answer c e l) ≡ has_tei tei (after c e l)
 unfolding after answer
-known-on c (octet value) l tei s = heard-knows c (with_received value l) (received_sound c value l s) tei (gained c.n201 l.received value)
+known-on c (hears e) l tei s = heard-knows c l s tei e
 known-on c (expiry (T200 by n)) l tei s = timer-knows c l s tei by n link_timer.T200 (place_in l n)
 known-on c (expiry (T203 by n)) l tei s = timer-knows c l s tei by n link_timer.T203 (place_in l n)
 known-on c (expiry T201) l tei s = management-knows c l s teis.expiry tt tei (λ none. refl)
@@ -247,7 +241,7 @@ known-on c (request r) l tei s = go (refusal c false r l) refl (request_proper c
         ≡ has_tei tei (of_aim c (unless_refused o (aim_of_request r l)) l).line
     go None granted proper = request-knows c l s tei r granted proper
     go (Some why) granted proper = refl
-known-on c pull l tei s = pull-on c l s tei
+known-on c next l tei s = next-on c l s tei
 
 pub begins-off : (c : Config) (tei : ℕ) → has_tei tei (fresh_line c) ≡ false
 begins-off c tei = is-off (replicate c.terminals None) tei (nowhere c tei)

@@ -1,5 +1,5 @@
--- What waits on a link stays in its order, until a pull begins it.
-use Rattle.std.proofs.Common.{◌≡◌, ℕ, zero, suc, ◌*◌, ◌<◌, Bool, true, false, cond, List, [], ◌∷◌, ◌++◌, slice_get, get_or, Option, Some, None, option_map, refl, sym, ap, subst, ◌∙◌, ◌⊎◌, inl, inr, ⊎_elim, arith}
+-- What waits on a link stays in its order, until it is taken.
+use Rattle.std.proofs.Common.{◌≡◌, ℕ, zero, suc, ◌<◌, List, [], ◌∷◌, ◌++◌, slice_get, get_or, Option, Some, None, option_map, refl, sym, ap, subst, ◌∙◌, ◌⊎◌, inl, inr, ⊎_elim, arith, ◌≤◌}
 use Rattle.std.specs.Prelude.{IfSome}
 use Rattle.std.specs.Option.{option_or, unwrap_or}
 use Rattle.std.proofs.lemmas.Bool.{cases_eq}
@@ -17,15 +17,16 @@ use Rattle.laws_two_links.specs.Waits.{Goes, GoesWhole, after_offers}
 use Rattle.laws_two_links.proofs.Waiting.{in-turn}
 use Rattle.lapd_tei.specs.Messages as messages
 use Rattle.model_line.specs.declared.config.Config.{Config}
-use Rattle.model_line.specs.Event.{pull}
+use Rattle.model_line.specs.Event.{next}
 use Rattle.model_line.specs.Line.{Line, UnitData, link_count, service_at, place_at, tei_at, terms, terms_at, link_at}
 use Rattle.model_line.specs.Machine.{after}
-use Rattle.model_line.specs.Pull as pulls
-use Rattle.model_line.specs.Pull.{Taken, with_message, message_taken, with_unit, unit_taken, with_given_frame, link_taken, first_taken, round, taken, is_due, begun, with_item, with_octet, after_pull}
+use Rattle.model_line.specs.Taken as taking
+use Rattle.model_line.specs.Taken.{Taken, with_message, message_taken, with_unit, unit_taken, with_given_frame, link_taken, first_taken, round, taken}
 use Rattle.model_line.specs.Sound.{IsInRange, IsSound}
 use Rattle.model_line.proofs.LineSound.{after_sound}
-use Rattle.laws_line.specs.Pulls.{HasNothing}
-use Rattle.laws_line.specs.Drains.{after_pulls, bits_to_go, control_text, IsBegunWithin}
+use Rattle.model_line.proofs.TakenWalk.{next_walk}
+use Rattle.laws_line.specs.Served.{HasNothing}
+use Rattle.laws_line.specs.Drains.{after_takes, frames_to_go, control_text, IsTakenWithin}
 use Rattle.laws_line.proofs.Draining.{drains}
 
 -- the first that waits is what an offer gives, and the others stay
@@ -36,7 +37,7 @@ first-goes t l f fs e = in-turn t [] f fs l e
 pub others-wait : (t : Terms) (l : Link) (f : ControlFrame) (fs : List ControlFrame) → l.waiting ≡ f ∷ fs → (links.after t link.offer l).waiting ≡ fs
 others-wait t l f fs e = ap (λ ws. (Offers.offer_among t ws (course_begun l)).link.waiting) e
 
-whole-text : (c : Config) (t : Terms) (f : ControlFrame) (g : Given) → Goes f g → pulls.frame_of c t g ≡ spelling c.side (frame_of t f)
+whole-text : (c : Config) (t : Terms) (f : ControlFrame) (g : Given) → Goes f g → taking.frame_of c t g ≡ spelling c.side (frame_of t f)
 whole-text c t f g h =
     ap (λ (x : ControlFrame). spelling c.side (record (frame_of t x) { info = unwrap_or g.contents [] })) h.frame
     ∙ ap (λ o. spelling c.side (record (frame_of t f) { info = unwrap_or o [] })) h.alone
@@ -45,7 +46,7 @@ whole-text c t f g h =
 pub record Gave (c : Config) (number : ℕ) (l : Line) (t : Taken) : Type 0 where
   pub given : Given
   pub is : links.given (terms_at c number l) (link_at number l) ≡ Some given
-  pub frame : t.frame ≡ pulls.frame_of c (terms_at c number l) given
+  pub frame : t.frame ≡ taking.frame_of c (terms_at c number l) given
   pub link : link_at number t.line ≡ links.after (terms_at c number l) link.offer (link_at number l)
 
 pub record Moved (c : Config) (number : ℕ) (l : Line) (t : Taken) : Type 0 where
@@ -96,38 +97,27 @@ module _ (c : Config) (number : ℕ) (l : Line) (s : IsSound c l) (few : number 
       either (message_taken c l) (option_or (unit_taken c l) (first_taken c l (round c l))) (by-message (option_map (messages.frame_of c.side) (slice_get l.management.waiting 0)))
       (either (unit_taken c l) (first_taken c l (round c l)) (by-unit (slice_get l.units 0)) (by-round (round c l)))
 
--- A pull leaves a link as it is, or begins what it gave.
-pub record Pulled (c : Config) (number : ℕ) (l : Line) (l' : Line) : Type 0 where
+-- A call for the next frame leaves a link as it is, or takes what it gave.
+pub record Moves (c : Config) (number : ℕ) (l : Line) (o : Option Taken) (l' : Line) : Type 0 where
   pub places : l'.management.places ≡ l.management.places
   pub fate : (link_at number l' ≡ link_at number l)
-      ⊎ ((t : Taken) × (g : Given) × (begun c l ≡ Some t) × (links.given (terms_at c number l) (link_at number l) ≡ Some g)
-      × (t.frame ≡ pulls.frame_of c (terms_at c number l) g) × (link_at number l' ≡ links.after (terms_at c number l) link.offer (link_at number l)))
+      ⊎ ((t : Taken) × (g : Given) × (o ≡ Some t) × (links.given (terms_at c number l) (link_at number l) ≡ Some g)
+      × (t.frame ≡ taking.frame_of c (terms_at c number l) g) × (link_at number l' ≡ links.after (terms_at c number l) link.offer (link_at number l)))
 
-pulled-by : (c : Config) (number : ℕ) (l : Line) (due : Bool) (o : Option Taken) → IfSome o (Moved c number l) → begun c l ≡ cond due o None
-    → Pulled c number l (with_octet (cond due (with_item o l) l))
-pulled-by c number l false o x e = record { places = refl; fate = inl refl }
-pulled-by c number l true None x e = record { places = refl; fate = inl refl }
-pulled-by c number l true (Some t) x e = record { places = x.places; fate = go x.fate }
-  where
-    go : (link_at number t.line ≡ link_at number l) ⊎ Gave c number l t
-        → (link_at number t.line ≡ link_at number l)
-        ⊎ ((t' : Taken) × (g : Given) × (begun c l ≡ Some t') × (links.given (terms_at c number l) (link_at number l) ≡ Some g)
-        × (t'.frame ≡ pulls.frame_of c (terms_at c number l) g) × (link_at number t.line ≡ links.after (terms_at c number l) link.offer (link_at number l)))
-    go (inl same) = inl same
-    go (inr y) = inr (t, y.given, e, y.is, y.frame, y.link)
-
-pub pull-moves : (c : Config) (number : ℕ) (l : Line) → IsSound c l → number < link_count c → Pulled c number l (after c pull l)
+pub next-moves : (c : Config) (number : ℕ) (l : Line) → IsSound c l → number < link_count c → Moves c number l (taken c l) (after c next l)
 unfolding after
-pull-moves c number l s few = pulled-by c number l (is_due l) (taken c l) (taken-moved c number l s few) refl
+next-moves c number l s few =
+    next_walk c l (Moved c number l) (Moves c number l) (taken-moved c number l s few) (record { places = refl; fate = inl refl })
+    (λ t x. record { places = x.places; fate = ⊎_elim (λ same. inl same) (λ (y : Gave c number l t). inr (t, y.given, refl, y.is, y.frame, y.link)) x.fate })
 
--- A frame is begun at once, or by a later pull.
-pub now : (c : Config) (n : ℕ) (l : Line) (t : Taken) (text : List ℕ) → begun c l ≡ Some t → t.frame ≡ text → IsBegunWithin c (suc n) l text
-unfolding after_pulls
-now c n l t text e is = record { pulls = 0; few = omega arith; taken = t; begins = e; is = is }
+-- A frame is taken at once, or by a later call.
+pub now : (c : Config) (n : ℕ) (l : Line) (t : Taken) (text : List ℕ) → taken c l ≡ Some t → t.frame ≡ text → IsTakenWithin c (suc n) l text
+unfolding after_takes
+now c n l t text e is = record { takes = 0; few = omega arith; one = t; taken_is = e; is = is }
 
-pub later : (c : Config) (n : ℕ) (l : Line) (text : List ℕ) → IsBegunWithin c n (after c pull l) text → IsBegunWithin c (suc n) l text
-unfolding after_pulls
-later c n l text h = let few : h.pulls < n = h.few in record { pulls = suc h.pulls; few = omega arith; taken = h.taken; begins = h.begins; is = h.is }
+pub later : (c : Config) (n : ℕ) (l : Line) (text : List ℕ) → IsTakenWithin c n (after c next l) text → IsTakenWithin c (suc n) l text
+unfolding after_takes
+later c n l text h = let few : h.takes < n = h.few in record { takes = suc h.takes; few = omega arith; one = h.one; taken_is = h.taken_is; is = h.is }
 
 pub not-empty : (before : List ControlFrame) (f : ControlFrame) (behind : List ControlFrame) → before ++ f ∷ behind ≡ [] → ⊥
 not-empty [] f behind e = cc
@@ -143,27 +133,27 @@ module _ (c : Config) (ranged : IsInRange c) (number tei : ℕ) (few : number < 
   pub given-whole : (t : Terms) (l : Link) (f : ControlFrame) (fs : List ControlFrame) (g : Given) → l.waiting ≡ f ∷ fs → links.given t l ≡ Some g → Goes f g
   given-whole t l f fs g e e' = subst (GoesWhole f) e' (first-goes t l f fs e)
 
-  pub text-is : (l : Line) (f : ControlFrame) (g : Given) → tei_at (place_at number) l ≡ Some tei → Goes f g → pulls.frame_of c (terms_at c number l) g ≡ control_text c number tei f
+  pub text-is : (l : Line) (f : ControlFrame) (g : Given) → tei_at (place_at number) l ≡ Some tei → Goes f g → taking.frame_of c (terms_at c number l) g ≡ control_text c number tei f
   text-is l f g at h = whole-text c (terms_at c number l) f g h ∙ ap (λ t. spelling c.side (frame_of t f)) (terms-are l at)
 
   pub goes-out : (n : ℕ) (l : Line) → IsSound c l → tei_at (place_at number) l ≡ Some tei → (before : List ControlFrame) (f : ControlFrame) (behind : List ControlFrame)
-      → (link_at number l).waiting ≡ before ++ f ∷ behind → HasNothing c (after_pulls c n l) → IsBegunWithin c n l (control_text c number tei f)
-  unfolding after_pulls
+      → (link_at number l).waiting ≡ before ++ f ∷ behind → HasNothing c (after_takes c n l) → IsTakenWithin c n l (control_text c number tei f)
+  unfolding after_takes
   goes-out zero l s at before f behind e h = absurd (not-empty before f behind (sym e ∙ (h.links number few tei at).waiting))
   goes-out (suc n) l s at before f behind e h =
-      let p = pull-moves c number l s few in
-      let s' = after_sound c ranged pull l s in
-      let at' = same-place l (after c pull l) p.places at in
+      let p = next-moves c number l s few in
+      let s' = after_sound c ranged next l s in
+      let at' = same-place l (after c next l) p.places at in
       step n l at before f behind e p.fate
-      (λ before' e'. goes-out n (after c pull l) s' at' before' f behind e' h)
+      (λ before' e'. goes-out n (after c next l) s' at' before' f behind e' h)
     where
       step : (n : ℕ) (l : Line) → tei_at (place_at number) l ≡ Some tei → (before : List ControlFrame) (f : ControlFrame) (behind : List ControlFrame)
           → (link_at number l).waiting ≡ before ++ f ∷ behind
-          → (link_at number (after c pull l) ≡ link_at number l)
-          ⊎ ((t : Taken) × (g : Given) × (begun c l ≡ Some t) × (links.given (terms_at c number l) (link_at number l) ≡ Some g)
-          × (t.frame ≡ pulls.frame_of c (terms_at c number l) g) × (link_at number (after c pull l) ≡ links.after (terms_at c number l) link.offer (link_at number l)))
-          → ((before' : List ControlFrame) → (link_at number (after c pull l)).waiting ≡ before' ++ f ∷ behind → IsBegunWithin c n (after c pull l) (control_text c number tei f))
-          → IsBegunWithin c (suc n) l (control_text c number tei f)
+          → (link_at number (after c next l) ≡ link_at number l)
+          ⊎ ((t : Taken) × (g : Given) × (taken c l ≡ Some t) × (links.given (terms_at c number l) (link_at number l) ≡ Some g)
+          × (t.frame ≡ taking.frame_of c (terms_at c number l) g) × (link_at number (after c next l) ≡ links.after (terms_at c number l) link.offer (link_at number l)))
+          → ((before' : List ControlFrame) → (link_at number (after c next l)).waiting ≡ before' ++ f ∷ behind → IsTakenWithin c n (after c next l) (control_text c number tei f))
+          → IsTakenWithin c (suc n) l (control_text c number tei f)
       step n l at before f behind e (inl same) more = later c n l _ (more before (ap (λ (x : Link). x.waiting) same ∙ e))
       step n l at [] f behind e (inr (t, g, some, given, frame, moved)) more =
           now c n l t _ some (frame ∙ text-is l f g at (given-whole (terms_at c number l) (link_at number l) f behind g e given))
@@ -171,5 +161,5 @@ module _ (c : Config) (ranged : IsInRange c) (number tei : ℕ) (few : number < 
           later c n l _ (more bs (ap (λ (x : Link). x.waiting) moved ∙ others-wait (terms_at c number l) (link_at number l) b (bs ++ f ∷ behind) e))
 
   pub waits-and-goes : (n : ℕ) (l : Line) → IsSound c l → tei_at (place_at number) l ≡ Some tei → (before : List ControlFrame) (f : ControlFrame) (behind : List ControlFrame)
-      → (link_at number l).waiting ≡ before ++ f ∷ behind → bits_to_go c l < 8 * n → IsBegunWithin c n l (control_text c number tei f)
+      → (link_at number l).waiting ≡ before ++ f ∷ behind → frames_to_go c l ≤ n → IsTakenWithin c n l (control_text c number tei f)
   waits-and-goes n l s at before f behind e less = goes-out n l s at before f behind e (drains c ranged n l s less)

@@ -5,7 +5,6 @@ pub mod Asked
 pub mod Told
 pub mod Silence
 pub mod Serving
-pub mod Ending
 pub mod Hearing
 pub mod HandedOn
 pub mod ToldOnce
@@ -25,7 +24,6 @@ pub mod TeiNotes
 pub mod Noting
 pub mod Knowing
 pub mod KnowingTeis
-pub mod Beginning
 pub mod Messaging
 pub mod GroupAims
 pub mod Causing
@@ -35,7 +33,6 @@ pub mod Parts
 pub mod Telling
 pub mod Reasoning
 pub mod Noted
-pub mod Lengths
 pub mod Going
 pub mod Exact
 pub mod Draining
@@ -50,5 +47,3 @@ pub mod Premises
 pub mod AmongMet
 pub mod Short
 pub mod InTurn
-pub mod FrameLengths
-pub mod FrameCalls

@@ -1,7 +1,8 @@
 -- What holds of a link that begins, and is kept by each event of a link, holds of all links of a line.
-use Rattle.std.proofs.Common.{◌≡◌, ℕ, zero, suc, ◌<◌, Bool, true, false, cond, List, [], ◌∷◌, ◌++◌, get_or, set, Option, Some, None, refl, ap, sym, ◌∙◌, subst, ◌⊎◌, inl, inr, option_map, IfSome}
+use Rattle.std.proofs.Common.{◌≡◌, ℕ, zero, suc, ◌<◌, false, List, [], ◌∷◌, get_or, set, Option, Some, None, refl, ap, sym, ◌∙◌, subst, ◌⊎◌, inl, inr, option_map, IfSome}
+use Rattle.lapd_tei.specs.Messages.{frame_of}
 use Rattle.std.specs.Prelude.{All}
-use Rattle.std.specs.Option.{option_or, unwrap_or}
+use Rattle.std.specs.Option.{option_map_or, option_or, unwrap_or}
 use Rattle.std.proofs.lemmas.List.Elements.{All-head, All-tail}
 use Rattle.lapd_frame.specs.declared.services.Service.TheVariants.{Call, Packet}
 use Rattle.model_link.specs.Events as link
@@ -14,24 +15,24 @@ use Rattle.lapd_tei.specs.Events as teis
 use Rattle.lapd_tei.specs.declared.outcome.Change.{Change}
 use Rattle.lapd_tei.specs.declared.outcome.Change.TheVariants.{Gained, Left}
 use Rattle.model_line.specs.declared.config.Config.{Config}
-use Rattle.model_line.specs.Event.{Event, octet, expiry, request, pull, LineTold}
+use Rattle.model_line.specs.Event.{Event, hears, expiry, request, next, LineTold}
 use Rattle.model_line.specs.Effect.{Aim, at_none, at_link, at_management, at_units, told_of_management, of_change, of_aim}
 use Rattle.model_line.specs.Line.{Line, UnitData, link_number, service_at, place_at, tei_at, link_at, link_in, terms, link_count}
 use Rattle.model_line.specs.Machine.{after, unless_refused}
-use Rattle.model_line.specs.Octet.{aim_of_octet}
+use Rattle.model_line.specs.Heard.{aim_of_heard}
 use Rattle.model_line.specs.Expiry.{aim_of_expiry}
-use Rattle.model_line.specs.Pull.{Taken, with_message, message_taken, with_unit, unit_taken, with_given_frame, link_taken, first_taken, round, taken, is_due, with_item, after_pull}
+use Rattle.model_line.specs.Taken.{Taken, with_message, with_unit, with_given_frame, link_taken, first_taken, taken, line_of}
 use Rattle.model_line.specs.Refusal.{refusal}
 use Rattle.model_line.specs.Requested.{aim_of_request}
 use Rattle.model_line.specs.Sound.{IsInRange, IsSoundAt, IsSound}
 use Rattle.model_line.proofs.AimsSound.{IsProper}
 use Rattle.model_line.proofs.LinksSound.{sound_in}
 use Rattle.model_line.proofs.Offered.{fresh_gives_nothing}
-use Rattle.model_line.proofs.ProperAims.{octet_proper, expiry_proper, request_proper}
-use Rattle.model_line.proofs.PullSound.{round_below}
+use Rattle.model_line.proofs.ProperAims.{heard_proper, expiry_proper, request_proper}
+use Rattle.model_line.proofs.TakenWalk.{taken_walk, next_walk}
 use Rattle.model_line.proofs.Ranges.{terms_in_range}
 
--- What a pull takes: a message, unit data, or a frame of a link of a TEI on the line.
+-- What is taken: a message, unit data, or a frame of a link of a TEI on the line.
 pub record OfLink (c : Config) (l : Line) (t : Taken) : Type 0 where
   pub number : ℕ
   pub few : number < link_count c
@@ -43,10 +44,6 @@ pub record OfLink (c : Config) (l : Line) (t : Taken) : Type 0 where
 
 abbrev pub IsOne : Config → Line → Taken → Type 0
 IsOne c l t = ((octets : List ℕ) × (t ≡ with_message l octets)) ⊎ ((unit : UnitData) × (t ≡ with_unit c l unit)) ⊎ OfLink c l t
-
-mapped : {X Y : Type 0} (f : X → Y) (P : Y → Type 0) (o : Option X) → ((x : X) → P (f x)) → IfSome (option_map f o) P
-mapped f P None h = tt
-mapped f P (Some x) h = h x
 
 first_of : (P : Taken → Type 0) (o rest : Option Taken) → IfSome o P → IfSome rest P → IfSome (option_or o rest) P
 first_of P None rest h h' = h'
@@ -75,16 +72,10 @@ module _ (c : Config) (l : Line) (s : IsSound c l) where
       first_of (OfLink c l) (link_taken c l n) (first_taken c l ns) (of-link n (All-head (λ n. n < link_count c) n ns all))
       (of-links ns (All-tail (λ n. n < link_count c) n ns all))
 
-  one-of : (o : Option Taken) → IfSome o (OfLink c l) → IfSome o (IsOne c l)
-  one-of None x = tt
-  one-of (Some t) x = inr (inr x)
-
   pub taken-one : IfSome (taken c l) (IsOne c l)
   taken-one =
-      first_of (IsOne c l) (message_taken c l) (option_or (unit_taken c l) (first_taken c l (round c l)))
-      (mapped (with_message l) (IsOne c l) _ (λ octets. inl (octets, refl)))
-      (first_of (IsOne c l) (unit_taken c l) (first_taken c l (round c l)) (mapped (with_unit c l) (IsOne c l) _ (λ u. inr (inl (u, refl))))
-      (one-of (first_taken c l (round c l)) (of-links (round c l) (round_below c l))))
+      taken_walk c l s (IsOne c l) (λ m ms e. inl (frame_of c.side m, refl)) (λ u us e. inr (inl (u, refl)))
+      (λ n tei few at sound g e. inr (inr (record { number = n; few = few; tei = tei; on_line = at; what = g; given = e; is = refl })))
 
 module _ (P : Link → Type 0) (begins : P fresh) (keeps : (t : Terms) (e : link.Event) (x : Link) → link_sound.IsInRange t → link_sound.IsSound t x → P x → P (links.after t e x)) where
   -- one link is another
@@ -105,15 +96,15 @@ module _ (P : Link → Type 0) (begins : P fresh) (keeps : (t : Terms) (e : link
     changed (Some (Gained tei place)) r now all = both_hold now.links (link_number place Call) (link_number place Packet) number all
     changed (Some (Left tei place)) r now all = both_hold now.links (link_number place Call) (link_number place Packet) number all
 
-    aimed : (received : List ℕ) (aim : Aim) → IsProper c l aim → P (link_at number (of_aim c aim (record l { received = received })).line)
-    aimed received (at_none t) proper = h number
-    aimed received (at_link service tei place e) proper =
+    aimed : (aim : Aim) → IsProper c l aim → P (link_at number (of_aim c aim l).line)
+    aimed (at_none t) proper = h number
+    aimed (at_link service tei place e) proper =
         let t = terms c service tei in
         set_holds l.links (link_number place service) number (links.after t e (link_in l service place)) h
         (keeps t e (link_in l service place) (terms_in_range c ranged service tei (s.management.table.range place tei proper)) (sound_in c ranged l s service tei place proper)
         (h (link_number place service)))
-    aimed received (at_management e) proper = changed (teis.told e l.management).change (told_of_management (teis.told e l.management)) _ h
-    aimed received (at_units unit) proper = h number
+    aimed (at_management e) proper = changed (teis.told e l.management).change (told_of_management (teis.told e l.management)) _ h
+    aimed (at_units unit) proper = h number
 
     took : (t : Taken) → IsOne c l t → P (link_at number t.line)
     took t (inl x) = subst (λ (u : Taken). P (link_at number u.line)) (sym x.1) (h number)
@@ -125,19 +116,13 @@ module _ (P : Link → Type 0) (begins : P fresh) (keeps : (t : Terms) (e : link
         (keeps terms_of link.offer (link_at x.number l) (terms_in_range c ranged (service_at x.number) x.tei (s.management.table.range (place_at x.number) x.tei x.on_line))
         (subst (IsSoundAt c x.number (link_at x.number l)) x.on_line (s.links x.number x.few)) (h x.number)))
 
-    pulled : P (link_at number (after_pull c l))
-    pulled = go (is_due l) (taken c l) (taken-one c l s)
-      where
-        go : (due : Bool) (o : Option Taken) → IfSome o (IsOne c l) → P (link_at number (cond due (with_item o l) l))
-        go false o x = h number
-        go true None x = h number
-        go true (Some t) x = took t x
+    called : P (link_at number (option_map_or line_of (taken c l) l))
+    called = next_walk c l (IsOne c l) (λ o m. P (link_at number m)) (taken-one c l s) (h number) took
 
   -- Any event.
   pub all-after : (c : Config) → IsInRange c → (e : Event) (l : Line) → IsSound c l → ((number : ℕ) → P (link_at number l)) → (number : ℕ) → P (link_at number (after c e l))
   unfolding after
-  all-after c ranged (octet value) l s h number = aimed c ranged l s h number (l.received ++ value ∷ []) (aim_of_octet c value l) (octet_proper c l value)
-  all-after c ranged (expiry timer) l s h number = aimed c ranged l s h number l.received (aim_of_expiry timer l) (expiry_proper c l timer)
-  all-after c ranged (request r) l s h number =
-      aimed c ranged l s h number l.received (unless_refused (refusal c false r l) (aim_of_request r l)) (request_proper c l r)
-  all-after c ranged pull l s h number = pulled c ranged l s h number
+  all-after c ranged (hears e) l s h number = aimed c ranged l s h number (aim_of_heard c l e) (heard_proper c l e)
+  all-after c ranged (expiry timer) l s h number = aimed c ranged l s h number (aim_of_expiry timer l) (expiry_proper c l timer)
+  all-after c ranged (request r) l s h number = aimed c ranged l s h number (unless_refused (refusal c false r l) (aim_of_request r l)) (request_proper c l r)
+  all-after c ranged next l s h number = called c ranged l s h number

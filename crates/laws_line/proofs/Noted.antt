@@ -1,5 +1,8 @@
 -- All that an answer notes: each event of a line.
-use Rattle.std.proofs.Common.{◌≡◌, ℕ, ◌<◌, Bool, true, false, cond, List, [], ◌∷◌, ◌++◌, length, get_or, set, Option, Some, None, IfSome, refl, sym, ap, ◌∙◌, subst, arith, ◌⊎◌, inl, inr}
+use Rattle.std.proofs.Common.{◌≡◌, ℕ, false, List, [], ◌++◌, get_or, set, Option, Some, None, refl, sym, ap, ◌∙◌, subst, arith, inl, inr}
+use Rattle.model_line.proofs.TakenWalk.{next_walk}
+use Rattle.std.specs.Option.{option_map_or}
+use Rattle.model_bits.specs.Stream as stream
 use Rattle.std.proofs.lemmas.List.{get_or-set_same, get_or-set_other}
 use Rattle.lapd_frame.specs.declared.notes.Note.{Note}
 use Rattle.lapd_frame.specs.declared.refusals.Refusal.{Refusal}
@@ -23,46 +26,43 @@ use Rattle.lapd_tei.specs.declared.outcome.Change.TheVariants.{Gained, Left}
 use Rattle.lapd_tei.proofs.LawLemmas as tei_lemmas
 use Rattle.lapd_tei.proofs.Tables.{at-within}
 use Rattle.model_line.specs.declared.config.Config.{Config}
-use Rattle.model_line.specs.Event.{Event, octet, expiry, request, pull, Answer, told}
-use Rattle.model_line.specs.Effect.{Aim, at_none, at_link, at_management, at_units, told_of_management, of_change, of_aim}
+use Rattle.model_line.specs.Event.{Event, hears, expiry, request, next, Answer, told}
+use Rattle.model_line.specs.Effect.{Aim, at_link, at_management, told_of_management, of_change, of_aim}
 use Rattle.model_line.specs.Expiry.{at_timer, aim_of_expiry}
 use Rattle.model_line.specs.Line.{Line, link_number, place_in, link_in, terms}
 use Rattle.model_line.specs.Machine.{after, answer, unless_refused, unless_refused_told}
-use Rattle.model_line.specs.Octet.{aim_of_octet}
-use Rattle.model_line.specs.Pull.{Taken, taken, is_due, with_item, after_pull}
+use Rattle.model_line.specs.Heard.{aim_of_heard}
+use Rattle.model_line.specs.Taken.{Taken, taken, line_of}
 use Rattle.model_line.specs.Refusal.{refusal}
 use Rattle.model_line.specs.Request.{Request, Establish, Release, Data, Unit, Assign, Remove, Check, SetBusy, ClearBusy}
 use Rattle.model_line.specs.Requested.{at_requested, aim_of_request}
 use Rattle.model_line.specs.Sound.{IsSound}
 use Rattle.model_line.proofs.AimsSound.{IsProper}
 use Rattle.model_line.proofs.Numbers.{number_within}
-use Rattle.model_line.proofs.ProperAims.{octet_proper, expiry_proper, request_proper}
+use Rattle.model_line.proofs.ProperAims.{heard_proper, expiry_proper, request_proper}
 use Rattle.laws_line.specs.Heard.{notes_of}
-use Rattle.laws_line.specs.Noted.{NotesOneEvent, noted_coming, noted_leaving, noted_ending, NotesItsOwn}
-use Rattle.laws_line.proofs.GroupAims.{octet-aims}
+use Rattle.laws_line.specs.Noted.{noted_coming, noted_leaving, noted_ending, NotesItsOwn}
+use Rattle.laws_line.proofs.GroupAims.{heard-aims-at}
 use Rattle.laws_line.proofs.LinkMoves.{IsOne, taken-one}
 use Rattle.laws_line.proofs.TeiNotes.{GainedBy, LeftBy, ByChange, noted}
-use Rattle.laws_line.proofs.Tied.{Ties, octet-ties, expiry-ties, request-ties}
+use Rattle.laws_line.proofs.Tied.{Ties, heard-ties, expiry-ties, request-ties}
 
 -- What a link tells as its TEI leaves the line
 ending-told : (t : Terms) (x : Link) → (links.told t link.cleared x).notes ≡ told_cleared x.state t
 ending-told t x = (event-follows t link.cleared x).leaves.tells
 
-module _ (c : Config) (l : Line) (s : IsSound c l) (received : List ℕ) (e : Event) where
-  abbrev now : Line
-  now = record l { received = received }
-
+module _ (c : Config) (l : Line) (s : IsSound c l) (e : Event) where
   abbrev Own : Aim → Type 0
-  Own aim = NotesItsOwn c e l (of_aim c aim now).line (told (of_aim c aim now).told)
+  Own aim = NotesItsOwn c e l (of_aim c aim l).line (told (of_aim c aim l).told)
 
   -- an event of a link
   of-link : (service : Service) (tei place : ℕ) (le : link.Event) → IsProper c l (at_link service tei place le)
-      → Ties c l e (told (of_aim c (at_link service tei place le) now).told) (at_link service tei place le) → Own (at_link service tei place le)
+      → Ties c e (told (of_aim c (at_link service tei place le) l).told) (at_link service tei place le) → Own (at_link service tei place le)
   of-link service tei place le at by =
       let t = terms c service tei in
       let x = link_in l service place in
       let few = number_within place c.terminals service (omega (arith, at-within l.management.places place tei at, s.places)) in
-      let there : link_in (of_aim c (at_link service tei place le) now).line service place ≡ links.after t le x =
+      let there : link_in (of_aim c (at_link service tei place le) l).line service place ≡ links.after t le x =
       get_or-set_same l.links (link_number place service) (links.after t le x) fresh (omega (arith, few, s.count)) in
       inl (record {
         service = service;
@@ -82,7 +82,7 @@ module _ (c : Config) (l : Line) (s : IsSound c l) (received : List ℕ) (e : Ev
 
     abbrev Goes : Option Change → Type 0
     Goes o =
-        let f = of_change c o (told_of_management (teis.told me l.management)) (record l { received = received; management = teis.after me l.management }) in
+        let f = of_change c o (told_of_management (teis.told me l.management)) (record l { management = teis.after me l.management }) in
         NotesItsOwn c e l f.line (told f.told)
 
     by-change : (o : Option Change) → ByChange me o ns → tei_laws.Moves l.management.places o (teis.after me l.management).places → Goes o
@@ -116,30 +116,23 @@ module _ (c : Config) (l : Line) (s : IsSound c l) (received : List ℕ) (e : Ev
     managed : Own (at_management me)
     managed = by-change (teis.told me l.management).change (noted me l.management s.management) (tei_lemmas.changes_are_told me l.management fits s.management)
 
-  nothing-noted : (a : Answer) (next : Line) → next.management.places ≡ l.management.places → notes_of a ≡ [] → NotesItsOwn c e l next a
-  nothing-noted a next stays none = inr (inr (inr (inr (record { stays = stays; notes = none }))))
+  nothing-noted : (a : Answer) (l' : Line) → l'.management.places ≡ l.management.places → notes_of a ≡ [] → NotesItsOwn c e l l' a
+  nothing-noted a l' stays none = inr (inr (inr (inr (record { stays = stays; notes = none }))))
 
--- An octet.
-module _ (c : Config) (l : Line) (s : IsSound c l) (value : ℕ) where
-  abbrev heard : List ℕ
-  heard = l.received ++ value ∷ []
-
+-- What is heard.
+module _ (c : Config) (l : Line) (s : IsSound c l) (heard : stream.Event) where
   abbrev HeardOwn : Aim → Type 0
-  HeardOwn aim =
-      IsProper c l aim → Ties c l (octet value) (told (of_aim c aim (record l { received = heard })).told) aim
-      → Own c l s heard (octet value) aim
+  HeardOwn aim = IsProper c l aim → Ties c (hears heard) (told (of_aim c aim l).told) aim → Own c l s (hears heard) aim
 
-  octet-noted : HeardOwn (aim_of_octet c value l)
-  octet-noted =
-      octet-aims c l value HeardOwn (λ proper by. nothing-noted c l s heard (octet value) _ _ refl refl) (λ cause proper by. nothing-noted c l s heard (octet value) _ _ refl refl)
-      (λ service tei place what proper by. of-link c l s heard (octet value) service tei place (link.received what) proper by)
-      (λ parts ui proper by. managed c l s heard (octet value) (teis.message parts.info) proper (λ tei ns is. is) (λ tei ns is. is))
-      (λ parts octets ends read service to proper by.
+  heard-noted : HeardOwn (aim_of_heard c l heard)
+  heard-noted =
+      heard-aims-at c l heard HeardOwn (λ cause proper by. nothing-noted c l s (hears heard) _ _ refl refl)
+      (λ service tei place what proper by. of-link c l s (hears heard) service tei place (link.received what) proper by)
+      (λ parts ui proper by. managed c l s (hears heard) (teis.message parts.info) proper (λ tei ns is. is) (λ tei ns is. is))
+      (λ parts octets is read service to proper by.
       inr (inr (inr (inl (record {
-        value = value;
-        by = refl;
         octets = octets;
-        ends = ends;
+        by = ap hears is;
         parts = parts;
         read = read;
         service = service;
@@ -151,20 +144,20 @@ module _ (c : Config) (l : Line) (s : IsSound c l) (value : ℕ) where
 -- An expiry, and a request.
 module _ (c : Config) (l : Line) (s : IsSound c l) where
   abbrev OwnOf : Event → Aim → Type 0
-  OwnOf e aim = IsProper c l aim → Ties c l e (told (of_aim c aim l).told) aim → NotesItsOwn c e l (of_aim c aim l).line (told (of_aim c aim l).told)
+  OwnOf e aim = IsProper c l aim → Ties c e (told (of_aim c aim l).told) aim → NotesItsOwn c e l (of_aim c aim l).line (told (of_aim c aim l).told)
 
   timer-noted : (e : Event) (service : Service) (tei : ℕ) (timer : LinkTimer) (o : Option ℕ) → OwnOf e (at_timer service tei timer o)
-  timer-noted e service tei timer None proper by = nothing-noted c l s l.received e _ _ refl refl
-  timer-noted e service tei timer (Some place) proper by = of-link c l s l.received e service tei place (link.expired timer) proper by
+  timer-noted e service tei timer None proper by = nothing-noted c l s e _ _ refl refl
+  timer-noted e service tei timer (Some place) proper by = of-link c l s e service tei place (link.expired timer) proper by
 
   expiry-noted : (timer : Timer) → OwnOf (expiry timer) (aim_of_expiry timer l)
   expiry-noted (T200 service tei) proper by = timer-noted (expiry (T200 service tei)) service tei link_timer.T200 (place_in l tei) proper by
   expiry-noted (T203 service tei) proper by = timer-noted (expiry (T203 service tei)) service tei link_timer.T203 (place_in l tei) proper by
-  expiry-noted T201 proper by = managed c l s l.received (expiry T201) teis.expiry proper (λ tei ns is. absurd is) (λ tei ns is. is)
+  expiry-noted T201 proper by = managed c l s (expiry T201) teis.expiry proper (λ tei ns is. absurd is) (λ tei ns is. is)
 
   asked-noted : (e : Event) (service : Service) (tei : ℕ) (what : link.Request) (o : Option ℕ) → OwnOf e (at_requested service tei what o)
-  asked-noted e service tei what None proper by = nothing-noted c l s l.received e _ _ refl refl
-  asked-noted e service tei what (Some place) proper by = of-link c l s l.received e service tei place (link.requested what false) proper by
+  asked-noted e service tei what None proper by = nothing-noted c l s e _ _ refl refl
+  asked-noted e service tei what (Some place) proper by = of-link c l s e service tei place (link.requested what false) proper by
 
   request-noted : (r : Request) → OwnOf (request r) (aim_of_request r l)
   request-noted (Establish service tei) proper by = asked-noted (request (Establish service tei)) service tei link.Establish (place_in l tei) proper by
@@ -172,31 +165,24 @@ module _ (c : Config) (l : Line) (s : IsSound c l) where
   request-noted (Data service tei contents) proper by = asked-noted (request (Data service tei contents)) service tei (link.Data contents) (place_in l tei) proper by
   request-noted (SetBusy service tei) proper by = asked-noted (request (SetBusy service tei)) service tei link.SetBusy (place_in l tei) proper by
   request-noted (ClearBusy service tei) proper by = asked-noted (request (ClearBusy service tei)) service tei link.ClearBusy (place_in l tei) proper by
-  request-noted (Unit service tei contents) proper by = nothing-noted c l s l.received (request (Unit service tei contents)) _ _ refl refl
-  request-noted (Assign tei) proper by = managed c l s l.received (request (Assign tei)) (teis.assign tei) proper (λ t ns is. is.1) (λ t ns is. absurd is)
-  request-noted (Remove tei) proper by = managed c l s l.received (request (Remove tei)) (teis.remove tei) proper (λ t ns is. absurd is) (λ t ns is. is.1)
-  request-noted (Check tei) proper by = managed c l s l.received (request (Check tei)) (teis.check tei) proper (λ t ns is. absurd is) (λ t ns is. absurd is)
+  request-noted (Unit service tei contents) proper by = nothing-noted c l s (request (Unit service tei contents)) _ _ refl refl
+  request-noted (Assign tei) proper by = managed c l s (request (Assign tei)) (teis.assign tei) proper (λ t ns is. is.1) (λ t ns is. absurd is)
+  request-noted (Remove tei) proper by = managed c l s (request (Remove tei)) (teis.remove tei) proper (λ t ns is. absurd is) (λ t ns is. is.1)
+  request-noted (Check tei) proper by = managed c l s (request (Check tei)) (teis.check tei) proper (λ t ns is. absurd is) (λ t ns is. absurd is)
 
--- A pull notes nothing, and no TEI comes or leaves by it.
+-- A call for the next frame notes nothing, and no TEI comes or leaves by it.
 module _ (c : Config) (l : Line) (s : IsSound c l) where
   took : (t : Taken) → IsOne c l t → t.line.management.places ≡ l.management.places
   took t (inl x) = ap (λ (u : Taken). u.line.management.places) x.1
   took t (inr (inl x)) = ap (λ (u : Taken). u.line.management.places) x.1
   took t (inr (inr x)) = ap (λ (u : Taken). u.line.management.places) x.is
 
-  pull-stays : (after_pull c l).management.places ≡ l.management.places
-  pull-stays = go (is_due l) (taken c l) (taken-one c l s)
-    where
-      go : (due : Bool) (o : Option Taken) → IfSome o (IsOne c l) → (cond due (with_item o l) l).management.places ≡ l.management.places
-      go false o x = refl
-      go true None x = refl
-      go true (Some t) x = took t x
+  next-stays : (option_map_or line_of (taken c l) l).management.places ≡ l.management.places
+  next-stays = next_walk c l (IsOne c l) (λ o m. m.management.places ≡ l.management.places) (taken-one c l s) refl took
 
 pub notes-its-own : (c : Config) (e : Event) (l : Line) → IsSound c l → NotesItsOwn c e l (after c e l) (answer c e l)
 unfolding after answer
-notes-its-own c (octet value) l s =
-    octet-noted c l s value (octet_proper c l value)
-    (octet-ties c l value (told (of_aim c (aim_of_octet c value l) (record l { received = l.received ++ value ∷ [] })).told))
+notes-its-own c (hears e) l s = heard-noted c l s e (heard_proper c l e) (heard-ties c l e (told (of_aim c (aim_of_heard c l e) l).told))
 notes-its-own c (expiry timer) l s =
     expiry-noted c l s timer (expiry_proper c l timer) (expiry-ties c l timer (told (of_aim c (aim_of_expiry timer l) l).told))
 notes-its-own c (request r) l s = go (refusal c false r l) refl
@@ -205,5 +191,5 @@ notes-its-own c (request r) l s = go (refusal c false r l) refl
         → NotesItsOwn c (request r) l (of_aim c (unless_refused o (aim_of_request r l)) l).line (unless_refused_told o (of_aim c (unless_refused o (aim_of_request r l)) l))
     go None none =
         request-noted c l s r (subst (λ o. IsProper c l (unless_refused o (aim_of_request r l))) none (request_proper c l r)) (request-ties c l (told (of_aim c (aim_of_request r l) l).told) refl r)
-    go (Some why) some = nothing-noted c l s l.received (request r) _ _ refl refl
-notes-its-own c pull l s = nothing-noted c l s l.received pull _ _ (pull-stays c l s) refl
+    go (Some why) some = nothing-noted c l s (request r) _ _ refl refl
+notes-its-own c next l s = nothing-noted c l s next _ _ (next-stays c l s) refl

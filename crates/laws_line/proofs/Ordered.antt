@@ -1,11 +1,9 @@
--- A control frame that waits is begun in its turn: after the messages, the unit data, and at most one frame of each other
+-- A control frame that waits is taken in its turn: after the messages, the unit data, and at most one frame of each other
 -- link for each of its own that goes before it.
-use Rattle.std.proofs.Common.{◌≡◌, ◌≢◌, ℕ, zero, suc, ◌+◌, ◌-◌, ◌*◌, ◌<◌, ◌≤◌, Bool, true, false, cond, List, [], ◌∷◌, ◌++◌, length, drop, slice_get, Option, Some, None, option_map, refl, sym, ap, subst, ◌∙◌, ◌⊎◌, inl, inr, ⊎_elim, arith}
-use Rattle.std.specs.Prelude.{IfSome}
-use Rattle.std.specs.Option.{option_or}
-use Rattle.std.proofs.lemmas.Bool.{cases_eq, ltb-false}
+use Rattle.std.proofs.Common.{◌≡◌, ◌≢◌, ℕ, zero, suc, ◌+◌, ◌*◌, ◌<◌, ◌≤◌, List, [], ◌∷◌, ◌++◌, length, drop, slice_get, Option, Some, None, option_map, refl, sym, ap, subst, ◌∙◌, ◌⊎◌, inl, inr, ⊎_elim, arith}
+use Rattle.std.specs.Option.{option_map_or, option_or}
+use Rattle.std.proofs.lemmas.Bool.{cases_eq}
 use Rattle.std.proofs.lemmas.List.{get_or-set_same, get_or-set_other}
-use Rattle.model_bits.specs.Sent.{frame, item_text}
 use Rattle.model_link.specs.declared.frames.ControlFrame.{ControlFrame}
 use Rattle.model_link.specs.Events as link
 use Rattle.model_link.specs.Link.{Link, fresh}
@@ -15,20 +13,18 @@ use Rattle.laws_two_links.specs.Waits.{GoesWhole}
 use Rattle.lapd_tei.specs.declared.messages.Message.{Message}
 use Rattle.lapd_tei.specs.Messages as messages
 use Rattle.model_line.specs.declared.config.Config.{Config}
-use Rattle.model_line.specs.Event.{pull}
+use Rattle.model_line.specs.Event.{next}
 use Rattle.model_line.specs.Line.{Line, UnitData, link_count, place_at, tei_at, terms_at, link_at}
 use Rattle.model_line.specs.Machine.{after}
-use Rattle.model_line.specs.Pull.{Taken, with_message, with_unit, with_given_frame, link_taken, first_taken, round, taken, left_of, is_due, begun, with_item, with_due, after_pull}
+use Rattle.model_line.specs.Taken.{Taken, with_message, with_unit, with_given_frame, link_taken, first_taken, round, taken, line_of}
 use Rattle.model_line.specs.Sound.{IsInRange, IsSound}
 use Rattle.laws_line.specs.Turns.{IsInTurn}
 use Rattle.laws_line.proofs.InTurn.{links_take_turns}
 use Rattle.model_line.proofs.LineSound.{after_sound}
-use Rattle.model_line.proofs.PullSound.{TakesSoundly, taken_sound}
-use Rattle.laws_line.specs.Drains.{way_round, frames_before, bits_before, IsEnough, control_text, IsBegunWithin}
-use Rattle.laws_line.proofs.Draining.{by-lengths, by-frame, not-due, begins-item, taken-nothing}
+use Rattle.laws_line.specs.Drains.{way_round, frames_before, IsEnough, control_text, IsTakenWithin}
+use Rattle.laws_line.proofs.Serving.{none-waits}
 use Rattle.laws_line.proofs.InRounds.{served-last, comes-first}
-use Rattle.laws_line.proofs.Leaving.{first-goes, others-wait, now, later, not-empty, same-place, given-whole, text-is, pull-moves, waits-and-goes}
-use Rattle.laws_line.proofs.Lengths.{text-longest, frame-long, octet-shortens, item-lengthens}
+use Rattle.laws_line.proofs.Leaving.{first-goes, others-wait, now, later, not-empty, same-place, given-whole, text-is, next-moves, waits-and-goes}
 
 -- What is taken is the frame, or it comes nearer.
 abbrev pub Nearer : Config → ℕ → Line → List ControlFrame → ControlFrame → List ControlFrame → ℕ → Line → Type 0
@@ -55,8 +51,8 @@ module _ (c : Config) (ranged : IsInRange c) (number tei : ℕ) (few : number < 
       → Step before (with_given_frame c l number (terms_at c number l) g)
   own-gives [] e g given = inl (text-is c ranged number tei few l f g at (given-whole c ranged number tei few (terms_at c number l) (link_at number l) f behind g e given))
   own-gives (b ∷ bs) e g given =
-      let next = links.after (terms_at c number l) link.offer (link_at number l) in
-      let here : link_at number (with_given_frame c l number (terms_at c number l) g).line ≡ next = get_or-set_same l.links number next fresh (omega (arith, few, s.count)) in
+      let given = links.after (terms_at c number l) link.offer (link_at number l) in
+      let here : link_at number (with_given_frame c l number (terms_at c number l) g).line ≡ given = get_or-set_same l.links number given fresh (omega (arith, few, s.count)) in
       let last : way_round (link_count c) (number + 1) number + 1 ≡ link_count c = served-last (link_count c) l.turn s.turn number few in
       let sum : (1 + length bs) * link_count c ≡ link_count c + length bs * link_count c = omega arith in
       inr (bs, ap (λ (x : Link). x.waiting) here ∙ others-wait (terms_at c number l) (link_at number l) b (bs ++ f ∷ behind) e, omega (arith, last, sum))
@@ -112,72 +108,39 @@ module _ (c : Config) (ranged : IsInRange c) (number tei : ℕ) (few : number < 
   pub taken-step : (before : List ControlFrame) → (link_at number l).waiting ≡ before ++ f ∷ behind → (t : Taken) → taken c l ≡ Some t → Step before t
   taken-step before e t some = by-all before e t some l.management.waiting refl l.units refl some
 
-  -- so a pull begins it, or it comes nearer by eight bits
+  -- so a call takes it, or it comes nearer
   abbrev Goes : List ControlFrame → Line → Type 0
   Goes before l' =
-      ((t : Taken) × (begun c l ≡ Some t) × (t.frame ≡ control_text c number tei f))
-      ⊎ ((before' : List ControlFrame) × ((link_at number l').waiting ≡ before' ++ f ∷ behind) × (bits_before c l' number (length before') + 8 ≤ bits_before c l number (length before)))
+      ((t : Taken) × (taken c l ≡ Some t) × (t.frame ≡ control_text c number tei f)) ⊎ Nearer c number l before f behind (frames_before c l number (length before)) l'
 
-  stays-waiting : (before : List ControlFrame) → (link_at number l).waiting ≡ before ++ f ∷ behind → is_due l ≡ false → Goes before (after_pull c l)
-  stays-waiting before e due =
-      let is = not-due c ranged l s due in
-      let whole : length (left_of (after_pull c l)) ≡ length (left_of (with_due c l)) - 8 = octet-shortens (with_due c l) in
-      let same : length (left_of (with_due c l)) ≡ length (left_of l) = ap (λ l'. length (left_of l')) is in
-      let enough : 8 ≤ length (left_of l) = ltb-false (length (left_of l)) 8 due in
-      let frames : frames_before c (after_pull c l) number (length before) ≡ frames_before c l number (length before) = ap (λ l'. frames_before c l' number (length before)) is in
-      inr (
-        before,
-        ap (λ l'. (link_at number l').waiting) is ∙ e,
-        by-lengths c ranged l s (length (left_of (after_pull c l))) (frames_before c l number (length before)) (frames_before c (after_pull c l) number (length before)) (omega (arith, whole, same, enough)) (omega (arith, frames)),
-      )
+  by-taken : (before : List ControlFrame) → (link_at number l).waiting ≡ before ++ f ∷ behind → (o : Option Taken) → taken c l ≡ o → Goes before (option_map_or line_of o l)
+  by-taken before e (Some t) some = ⊎_elim (λ is. inl (t, some, is)) (λ nearer. inr nearer) (taken-step before e t some)
+  by-taken before e None some = absurd (not-empty before f behind (sym e ∙ ((none-waits c l s some).links number few tei at).waiting))
 
-  comes-nearer : (before : List ControlFrame) → (t : Taken) → is_due l ≡ true → taken c l ≡ Some t → TakesSoundly c l t → Step before t → Goes before (after_pull c l)
-  comes-nearer before t due some x (inl is) = inl (t, ap (λ b. cond b (taken c l) None) due ∙ some, is)
-  comes-nearer before t due some x (inr (before', waits, less)) =
-      let is = begins-item c ranged l s t due some in
-      let whole : length (left_of (after_pull c l)) ≡ length (left_of (with_due c l)) - 8 = octet-shortens (with_due c l) in
-      let same : length (left_of (with_due c l)) ≡ length (left_of (with_item (Some t) l)) = ap (λ l'. length (left_of l')) is in
-      let longer : length (left_of (with_item (Some t) l)) ≡ length (left_of l) + length (item_text (frame t.frame)) = item-lengthens l (with_item (Some t) l) (frame t.frame) refl x.given s.text in
-      let eight : 8 ≤ length (item_text (frame t.frame)) = frame-long t.frame in
-      let frames : frames_before c (after_pull c l) number (length before') ≡ frames_before c t.line number (length before') = ap (λ l'. frames_before c l' number (length before')) is in
-      inr (
-        before',
-        ap (λ l'. (link_at number l').waiting) is ∙ waits,
-        by-frame c ranged l s (length (left_of (after_pull c l))) (frames_before c l number (length before)) (frames_before c (after_pull c l) number (length before')) (length (item_text (frame t.frame)))
-            (omega (arith, whole, same, longer, eight)) (text-longest c t.frame x.size) (omega (arith, frames, less)),
-      )
-
-  by-due : (before : List ControlFrame) → (link_at number l).waiting ≡ before ++ f ∷ behind → (due : Bool) → is_due l ≡ due → (o : Option Taken) → taken c l ≡ o → IfSome o (TakesSoundly c l)
-      → Goes before (after_pull c l)
-  by-due before e false due o some x = stays-waiting before e due
-  by-due before e true due (Some t) some x = comes-nearer before t due some x (taken-step before e t some)
-  by-due before e true due None some x =
-      absurd (not-empty before f behind (sym e ∙ ((taken-nothing c ranged l s due some).links number few tei at).waiting))
-
-  pub pull-goes : (before : List ControlFrame) → (link_at number l).waiting ≡ before ++ f ∷ behind → Goes before (after c pull l)
+  pub next-goes : (before : List ControlFrame) → (link_at number l).waiting ≡ before ++ f ∷ behind → Goes before (after c next l)
   unfolding after
-  pull-goes before e = by-due before e (is_due l) refl (taken c l) refl (taken_sound c ranged l s)
+  next-goes before e = by-taken before e (taken c l) refl
 
--- A pull after the other.
-pub begun-in-order : (c : Config) → IsInRange c → (number tei : ℕ) → number < link_count c → (f : ControlFrame) (behind : List ControlFrame) (n : ℕ) (l : Line) → IsSound c l
-    → tei_at (place_at number) l ≡ Some tei → (before : List ControlFrame) → (link_at number l).waiting ≡ before ++ f ∷ behind → bits_before c l number (length before) < 8 * n
-    → IsBegunWithin c n l (control_text c number tei f)
-begun-in-order c ranged number tei few f behind zero l s at before e less = absurd (omega (arith, less))
-begun-in-order c ranged number tei few f behind (suc n) l s at before e less =
-    go (pull-goes c ranged number tei few l s at f behind before e)
+-- A call after the other.
+pub taken-in-order : (c : Config) → IsInRange c → (number tei : ℕ) → number < link_count c → (f : ControlFrame) (behind : List ControlFrame) (n : ℕ) (l : Line) → IsSound c l
+    → tei_at (place_at number) l ≡ Some tei → (before : List ControlFrame) → (link_at number l).waiting ≡ before ++ f ∷ behind → frames_before c l number (length before) < n
+    → IsTakenWithin c n l (control_text c number tei f)
+taken-in-order c ranged number tei few f behind zero l s at before e less = absurd (omega (arith, less))
+taken-in-order c ranged number tei few f behind (suc n) l s at before e less =
+    go (next-goes c ranged number tei few l s at f behind before e)
     (λ before' e' less'.
-    begun-in-order c ranged number tei few f behind n (after c pull l) (after_sound c ranged pull l s)
-    (same-place c ranged number tei few l (after c pull l) (pull-moves c number l s few).places at) before' e' less')
+    taken-in-order c ranged number tei few f behind n (after c next l) (after_sound c ranged next l s)
+    (same-place c ranged number tei few l (after c next l) (next-moves c number l s few).places at) before' e' less')
   where
-    go : Goes c ranged number tei few l s at f behind before (after c pull l)
-        → ((before' : List ControlFrame) → (link_at number (after c pull l)).waiting ≡ before' ++ f ∷ behind → bits_before c (after c pull l) number (length before') < 8 * n
-        → IsBegunWithin c n (after c pull l) (control_text c number tei f))
-        → IsBegunWithin c (suc n) l (control_text c number tei f)
+    go : Goes c ranged number tei few l s at f behind before (after c next l)
+        → ((before' : List ControlFrame) → (link_at number (after c next l)).waiting ≡ before' ++ f ∷ behind → frames_before c (after c next l) number (length before') < n
+        → IsTakenWithin c n (after c next l) (control_text c number tei f))
+        → IsTakenWithin c (suc n) l (control_text c number tei f)
     go (inl (t, some, is)) more = now c n l t (control_text c number tei f) some is
     go (inr (before', e', nearer)) more = later c n l (control_text c number tei f) (more before' e' (omega (arith, less, nearer)))
 
 pub enough-goes : (c : Config) → IsInRange c → (number tei : ℕ) → number < link_count c → (n : ℕ) (l : Line) → IsSound c l → tei_at (place_at number) l ≡ Some tei
     → (before : List ControlFrame) (f : ControlFrame) (behind : List ControlFrame) → (link_at number l).waiting ≡ before ++ f ∷ behind → IsEnough c n l number (length before)
-    → IsBegunWithin c n l (control_text c number tei f)
+    → IsTakenWithin c n l (control_text c number tei f)
 enough-goes c ranged number tei few n l s at before f behind e (inl less) = waits-and-goes c ranged number tei few n l s at before f behind e less
-enough-goes c ranged number tei few n l s at before f behind e (inr less) = begun-in-order c ranged number tei few f behind n l s at before e less
+enough-goes c ranged number tei few n l s at before f behind e (inr less) = taken-in-order c ranged number tei few f behind n l s at before e less

@@ -1,5 +1,6 @@
 -- Each event of a line is one of one of its parts, or nothing changes.
 use Rattle.std.proofs.Common.{◌≡◌, ◌≢◌, ◌⊎◌, inl, inr, ℕ, ◌<◌, Bool, true, false, ◌==◌, List, [], ◌∷◌, ◌++◌, length, get_or, set, Option, Some, None, refl, sym, ap, ◌∙◌, subst, arith, append-nil, append_assoc, eqb-true, eq-eqb, true≢false}
+use Rattle.model_bits.specs.Stream as stream
 use Rattle.std.proofs.lemmas.List.{get_or-set_other}
 use Rattle.lapd_frame.specs.declared.refusals.Refusal.{Refusal}
 use Rattle.lapd_frame.specs.declared.services.Service.{Service}
@@ -19,36 +20,33 @@ use Rattle.model_link.specs.Machine as links
 use Rattle.model_line.specs.declared.config.Config.{Config}
 use Rattle.model_line.specs.Deliveries.{is_change_at}
 use Rattle.model_line.specs.Effect.{Aim, at_link, at_management, told_of_management, of_change, of_aim}
-use Rattle.model_line.specs.Event.{Event, octet, expiry, request, pull, told, nothing}
+use Rattle.model_line.specs.Event.{Event, hears, expiry, request, next, told, nothing}
 use Rattle.model_line.specs.Expiry.{at_timer, aim_of_expiry}
 use Rattle.model_line.specs.Line.{Line, UnitData, link_number, link_count, place_at, tei_at, place_in, link_at, link_in, terms}
 use Rattle.model_line.specs.Machine.{after, answer, unless_refused, unless_refused_told}
-use Rattle.model_line.specs.Octet.{aim_of_octet, with_received}
+use Rattle.model_line.specs.Heard.{aim_of_heard}
 use Rattle.model_line.specs.Refusal.{refusal}
 use Rattle.model_line.specs.Request.{Request, Establish, Release, Data, Assign, Remove, Check, SetBusy, ClearBusy}
 use Rattle.model_line.specs.Requested.{at_requested, aim_of_request}
 use Rattle.model_line.specs.Sound.{IsSound}
 use Rattle.model_line.proofs.AimsSound.{IsProper}
-use Rattle.model_line.proofs.ProperAims.{octet_proper, expiry_proper, request_proper}
-use Rattle.laws_line.specs.OneEvent.{with_octet_of, noted_ending, noted_behind, IsManaged, IsGranted, IsOfPart, of_link, of_management, of_units, of_group, of_pull, SaysNothing, IsOneEvent}
+use Rattle.model_line.proofs.ProperAims.{heard_proper, expiry_proper, request_proper}
+use Rattle.laws_line.specs.OneEvent.{noted_ending, noted_behind, IsManaged, IsGranted, IsOfPart, of_link, of_management, of_units, of_group, of_next, SaysNothing, IsOneEvent}
 use Rattle.laws_line.specs.Share.{is_granted}
 use Rattle.laws_line.specs.Steady.{BringsMessage, IsOfManagement}
 use Rattle.laws_line.proofs.Alone.{is-alone}
 use Rattle.laws_line.proofs.Causing.{message-aim}
 use Rattle.laws_line.proofs.Granting.{not-refused}
-use Rattle.laws_line.proofs.GroupAims.{octet-aims}
+use Rattle.laws_line.proofs.GroupAims.{heard-aims-at}
 use Rattle.laws_line.proofs.Kept.{begin_here, begin_away}
 use Rattle.laws_line.proofs.Places.{has-place}
-use Rattle.laws_line.proofs.Tied.{Ties, octet-ties, expiry-ties, request-ties}
+use Rattle.laws_line.proofs.Tied.{Ties, heard-ties, expiry-ties, request-ties}
 use Rattle.laws_line.proofs.Told.{moved}
 
 -- An event of TEI management.
-module _ (c : Config) (l : Line) (s : IsSound c l) (received : List ℕ) (me : teis.Event) (fits : tei_laws.IsInRange me) where
-  abbrev now : Line
-  now = record l { received = received }
-
+module _ (c : Config) (l : Line) (s : IsSound c l) (me : teis.Event) (fits : tei_laws.IsInRange me) where
   abbrev there : Option Change → Line
-  there o = (of_change c o (told_of_management (teis.told me l.management)) (record now { management = teis.after me l.management })).line
+  there o = (of_change c o (told_of_management (teis.told me l.management)) (record l { management = teis.after me l.management })).line
 
   abbrev places : List (Option ℕ)
   places = (teis.after me l.management).places
@@ -84,7 +82,7 @@ module _ (c : Config) (l : Line) (s : IsSound c l) (received : List ℕ) (me : t
   of-links (Some (Gained tei place)) moves = of-places (Some (Gained tei place)) place (Some tei) (λ number. refl) moves moves.within moves.is_there refl
   of-links (Some (Left tei place)) moves = of-places (Some (Left tei place)) place None (λ number. refl) moves moves.within moves.is_free refl
 
-  line-is : (o : Option Change) → there o ≡ record now { management = teis.after me l.management; links = (there o).links }
+  line-is : (o : Option Change) → there o ≡ record l { management = teis.after me l.management; links = (there o).links }
   line-is None = refl
   line-is (Some (Gained tei place)) = refl
   line-is (Some (Left tei place)) = refl
@@ -94,7 +92,7 @@ module _ (c : Config) (l : Line) (s : IsSound c l) (received : List ℕ) (me : t
   places-are (Some (Gained tei place)) = refl
   places-are (Some (Left tei place)) = refl
 
-  noted-is : (o : Option Change) → (of_change c o (told_of_management (teis.told me l.management)) (record now { management = teis.after me l.management })).told.notes
+  noted-is : (o : Option Change) → (of_change c o (told_of_management (teis.told me l.management)) (record l { management = teis.after me l.management })).told.notes
       ≡ (teis.told me l.management).notes ++ noted_behind c l o
   noted-is None = sym (append-nil (teis.told me l.management).notes)
   noted-is (Some (Gained tei place)) = sym (append-nil (teis.told me l.management).notes)
@@ -105,18 +103,18 @@ module _ (c : Config) (l : Line) (s : IsSound c l) (received : List ℕ) (me : t
       ap (λ (x : Link). (teis.told me l.management).notes ++ noted_ending c l Call tei place ++ (links.told (terms c Packet tei) link.cleared x).notes) same
       ∙ append_assoc (teis.told me l.management).notes (noted_ending c l Call tei place) (noted_ending c l Packet tei place)
 
-  lost-is : (o : Option Change) → (of_change c o (told_of_management (teis.told me l.management)) (record now { management = teis.after me l.management })).told.lost
+  lost-is : (o : Option Change) → (of_change c o (told_of_management (teis.told me l.management)) (record l { management = teis.after me l.management })).told.lost
       ≡ (teis.told me l.management).lost
   lost-is None = refl
   lost-is (Some (Gained tei place)) = refl
   lost-is (Some (Left tei place)) = refl
 
-  pub managed : (e : Event) → with_octet_of e l ≡ now → IsManaged c e l (of_aim c (at_management me) now).line (told (of_aim c (at_management me) now).told) me
-  managed e is =
+  pub managed : IsManaged c l (of_aim c (at_management me) l).line (told (of_aim c (at_management me) l).told) me
+  managed =
       let o = (teis.told me l.management).change in
       let all = of-links o (tei_lemmas.changes_are_told me l.management fits s.management) in
       record {
-        line = line-is o ∙ ap (λ (x : Line). record x { management = teis.after me l.management; links = (there o).links }) (sym is);
+        line = line-is o;
         stay = λ number few stays. (all number few).0 (sym (ap (λ ps. get_or ps (place_at number) None) (places-are o)) ∙ stays);
         begin = λ number few other. (all number few).1 (λ same. other (ap (λ ps. get_or ps (place_at number) None) (places-are o) ∙ same));
         notes = noted-is o;
@@ -126,21 +124,20 @@ module _ (c : Config) (l : Line) (s : IsSound c l) (received : List ℕ) (me : t
 -- A message of a terminal, the expiry of T201, and a request of management that is granted.
 module _ (c : Config) (l : Line) (s : IsSound c l) where
   abbrev Managed : Event → teis.Event → Type 0
-  Managed e me = IsManaged c e l (after c e l) (answer c e l) me
+  Managed e me = IsManaged c l (after c e l) (answer c e l) me
 
-  by-message : (e : Event) (info : List ℕ) → BringsMessage c l e info → Managed e (teis.message info)
+  by-message : (e : Event) (info : List ℕ) → BringsMessage c e info → Managed e (teis.message info)
   unfolding after answer
   by-message e info b =
       subst (λ e. Managed e (teis.message info)) (sym b.heard.by)
-      (subst (λ aim. let f = of_aim c aim (with_received b.value l) in IsManaged c (octet b.value) l f.line (told f.told) (teis.message info)) (sym (message-aim c l e info b))
-      (managed c l s (l.received ++ b.value ∷ []) (teis.message info) tt (octet b.value) refl))
+      (subst (λ aim. let f = of_aim c aim l in IsManaged c l f.line (told f.told) (teis.message info)) (sym (message-aim c l e info b)) (managed c l s (teis.message info) tt))
 
   by-request : (r : Request) (me : teis.Event) → tei_laws.IsInRange me → aim_of_request r l ≡ at_management me → refusal c false r l ≡ None → Managed (request r) me
   unfolding after answer
   by-request r me fits aim none =
-      subst (λ o. IsManaged c (request r) l (of_aim c (unless_refused o (aim_of_request r l)) l).line (unless_refused_told o (of_aim c (unless_refused o (aim_of_request r l)) l)) me) (sym none)
-      (subst (λ a. IsManaged c (request r) l (of_aim c a l).line (told (of_aim c a l).told) me) (sym aim)
-      (managed c l s l.received me fits (request r) refl))
+      subst (λ o. IsManaged c l (of_aim c (unless_refused o (aim_of_request r l)) l).line (unless_refused_told o (of_aim c (unless_refused o (aim_of_request r l)) l)) me) (sym none)
+      (subst (λ a. IsManaged c l (of_aim c a l).line (told (of_aim c a l).told) me) (sym aim)
+      (managed c l s me fits))
 
   -- a request that is granted is of a TEI of at most 126
   in-range : (r : Request) (me : teis.Event) → aim_of_request r l ≡ at_management me → refusal c false r l ≡ None → tei_laws.IsInRange me
@@ -154,9 +151,9 @@ module _ (c : Config) (l : Line) (s : IsSound c l) where
 
   by-timer : Managed (expiry T201) teis.expiry
   unfolding after answer
-  by-timer = managed c l s l.received teis.expiry tt (expiry T201) refl
+  by-timer = managed c l s teis.expiry tt
 
-  pub is-managed : (e : Event) (me : teis.Event) → IsOfManagement c l e (answer c e l) me → Managed e me
+  pub is-managed : (e : Event) (me : teis.Event) → IsOfManagement c e (answer c e l) me → Managed e me
   is-managed e (teis.message info) by = by-message e info by
   is-managed e teis.expiry by = subst (λ e. Managed e teis.expiry) (sym by) by-timer
   is-managed e (teis.assign tei) by = asked e (Assign tei) (teis.assign tei) refl by
@@ -181,11 +178,11 @@ module _ (c : Config) (l : Line) (s : IsSound c l) where
       (λ granted. waits unit (not-refused c (Request.Unit unit.service unit.tei unit.contents) l granted)) g.granted
 
 -- Which part has the event, by what it aims at; or nothing changes.
-module _ (c : Config) (l : Line) (s : IsSound c l) (e : Event) (received : List ℕ) where
+module _ (c : Config) (l : Line) (s : IsSound c l) (e : Event) where
   abbrev Falls : Aim → Type 0
   Falls aim =
-      let f = of_aim c aim (record l { received = received }) in
-      IsProper c l aim → Ties c l e (told f.told) aim → IsOfPart c l e (told f.told) ⊎ ((f.line ≡ record l { received = received }) × SaysNothing (told f.told))
+      let f = of_aim c aim l in
+      IsProper c l aim → Ties c e (told f.told) aim → IsOfPart c l e (told f.told) ⊎ ((f.line ≡ l) × SaysNothing (told f.told))
 
   at-its-link : (service : Service) (tei place : ℕ) (event : link.Event) → Falls (at_link service tei place event)
   at-its-link service tei place event proper by = inl (of_link service tei place event (has-place l.management.places tei place s.management.table proper) by)
@@ -198,46 +195,44 @@ module _ (c : Config) (l : Line) (s : IsSound c l) (e : Event) (received : List 
   asked-falls service tei what None proper by = inr (refl, refl)
   asked-falls service tei what (Some place) proper by = at-its-link service tei place (link.requested what false) proper by
 
-octet-falls : (c : Config) (l : Line) (s : IsSound c l) (value : ℕ) → Falls c l s (octet value) (l.received ++ value ∷ []) (aim_of_octet c value l)
-octet-falls c l s value =
-    let received = l.received ++ value ∷ [] in
-    octet-aims c l value (Falls c l s (octet value) received) (λ proper by. inr (refl, refl)) (λ cause proper by. inr (refl, refl))
-    (λ service tei place what. at-its-link c l s (octet value) received service tei place (link.received what))
+heard-falls : (c : Config) (l : Line) (s : IsSound c l) (e : stream.Event) → Falls c l s (hears e) (aim_of_heard c l e)
+heard-falls c l s e =
+    heard-aims-at c l e (Falls c l s (hears e)) (λ cause proper by. inr (refl, refl))
+    (λ service tei place what. at-its-link c l s (hears e) service tei place (link.received what))
     (λ parts ui proper by. inl (of_management (teis.message parts.info) (record {
       network = ui.network;
-      value = value;
       parts = parts;
-      heard = record { by = refl; octets = ui.octets; ends = ui.ends; read = ui.read };
+      heard = record { octets = ui.octets; by = ap hears ui.by; read = ui.read };
       sapi = ui.sapi;
       group = ui.group;
       poll = ui.poll;
       control = ui.control;
       info_is = refl;
     })))
-    (λ parts octets ends read service to proper by.
-    inl (of_group value parts service (record { by = refl; octets = octets; ends = ends; read = read }) to))
+    (λ parts octets is read service to proper by.
+    inl (of_group parts service (record { octets = octets; by = ap hears is; read = read }) to))
 
 module _ (c : Config) (l : Line) (s : IsSound c l) where
-  expiry-falls : (timer : Timer) → Falls c l s (expiry timer) l.received (aim_of_expiry timer l)
-  expiry-falls (T200 service tei) = timer-falls c l s (expiry (T200 service tei)) l.received service tei link_timer.T200 (place_in l tei)
-  expiry-falls (T203 service tei) = timer-falls c l s (expiry (T203 service tei)) l.received service tei link_timer.T203 (place_in l tei)
+  expiry-falls : (timer : Timer) → Falls c l s (expiry timer) (aim_of_expiry timer l)
+  expiry-falls (T200 service tei) = timer-falls c l s (expiry (T200 service tei)) service tei link_timer.T200 (place_in l tei)
+  expiry-falls (T203 service tei) = timer-falls c l s (expiry (T203 service tei)) service tei link_timer.T203 (place_in l tei)
   expiry-falls T201 = λ proper by. inl (of_management teis.expiry refl)
 
-  request-falls : (r : Request) → Falls c l s (request r) l.received (aim_of_request r l)
-  request-falls (Establish service tei) = asked-falls c l s (request (Establish service tei)) l.received service tei link.Establish (place_in l tei)
-  request-falls (Release service tei) = asked-falls c l s (request (Release service tei)) l.received service tei link.Release (place_in l tei)
-  request-falls (Data service tei contents) = asked-falls c l s (request (Data service tei contents)) l.received service tei (link.Data contents) (place_in l tei)
-  request-falls (SetBusy service tei) = asked-falls c l s (request (SetBusy service tei)) l.received service tei link.SetBusy (place_in l tei)
-  request-falls (ClearBusy service tei) = asked-falls c l s (request (ClearBusy service tei)) l.received service tei link.ClearBusy (place_in l tei)
+  request-falls : (r : Request) → Falls c l s (request r) (aim_of_request r l)
+  request-falls (Establish service tei) = asked-falls c l s (request (Establish service tei)) service tei link.Establish (place_in l tei)
+  request-falls (Release service tei) = asked-falls c l s (request (Release service tei)) service tei link.Release (place_in l tei)
+  request-falls (Data service tei contents) = asked-falls c l s (request (Data service tei contents)) service tei (link.Data contents) (place_in l tei)
+  request-falls (SetBusy service tei) = asked-falls c l s (request (SetBusy service tei)) service tei link.SetBusy (place_in l tei)
+  request-falls (ClearBusy service tei) = asked-falls c l s (request (ClearBusy service tei)) service tei link.ClearBusy (place_in l tei)
   request-falls (Request.Unit service tei contents) = λ proper by.
       inl (of_units (record { service = service; tei = tei; contents = contents }) (record { by = refl; granted = refl }))
   request-falls (Assign tei) = λ proper by. inl (of_management (teis.assign tei) (refl, refl))
   request-falls (Remove tei) = λ proper by. inl (of_management (teis.remove tei) (refl, refl))
   request-falls (Check tei) = λ proper by. inl (of_management (teis.check tei) (refl, refl))
 
-  pub falls : (e : Event) → IsOfPart c l e (answer c e l) ⊎ ((after c e l ≡ with_octet_of e l) × SaysNothing (answer c e l))
+  pub falls : (e : Event) → IsOfPart c l e (answer c e l) ⊎ ((after c e l ≡ l) × SaysNothing (answer c e l))
   unfolding after answer
-  falls (octet value) = octet-falls c l s value (octet_proper c l value) (octet-ties c l value (told (of_aim c (aim_of_octet c value l) (with_received value l)).told))
+  falls (hears e) = heard-falls c l s e (heard_proper c l e) (heard-ties c l e (told (of_aim c (aim_of_heard c l e) l).told))
   falls (expiry timer) = expiry-falls timer (expiry_proper c l timer) (expiry-ties c l timer (told (of_aim c (aim_of_expiry timer l) l).told))
   falls (request r) = go (refusal c false r l) refl
     where
@@ -248,13 +243,13 @@ module _ (c : Config) (l : Line) (s : IsSound c l) where
           request-falls r (subst (λ o. IsProper c l (unless_refused o (aim_of_request r l))) none (request_proper c l r))
           (request-ties c l (told (of_aim c (aim_of_request r l) l).told) refl r)
       go (Some why) some = inr (refl, tt)
-  falls pull = inl (of_pull refl)
+  falls next = inl (of_next refl)
 
 pub one-event : (c : Config) (e : Event) (l : Line) → IsSound c l → IsOneEvent c e l (after c e l) (answer c e l)
 one-event c e l s = record {
   link = λ service tei place event other on by. is-alone c l service tei place on e event other by;
   management = λ event by. is-managed c l s e event by;
   units = λ unit granted. is-unit c l s e unit granted;
-  pulls = λ is. (ap (λ e. after c e l) is, ap (λ e. answer c e l) is);
+  takes = λ is. (ap (λ e. after c e l) is, ap (λ e. answer c e l) is);
   none = falls c l s e;
 }

@@ -1,6 +1,7 @@
--- A poll's answer is begun by one of so many pulls.
+-- A poll's answer is taken by one of so many calls for the next frame.
 use Rattle.std.proofs.Common.{◌≡◌, ℕ, ◌+◌, ◌<◌, ◌≤◌, false, List, [], ◌∷◌, ◌++◌, length, get_or, Option, Some, None, sym, ap, subst, ◌∙◌, arith}
 use Rattle.std.proofs.lemmas.List.{get_or-set_same}
+use Rattle.model_bits.specs.Stream as stream
 use Rattle.lapd_frame.specs.declared.controls.Control.{Control}
 use Rattle.lapd_frame.specs.declared.services.Service.{Service}
 use Rattle.lapd_frame.specs.Grammar.{Parts}
@@ -12,65 +13,65 @@ use Rattle.laws_two_links.specs.Polls.{IsPollWhileUp, Answered, AnsweredBy, aske
 use Rattle.laws_two_links.proofs.Answering.{poll-answered, unnumbered-answered}
 use Rattle.lapd_tei.proofs.Tables.{place_of-is}
 use Rattle.model_line.specs.declared.config.Config.{Config}
-use Rattle.model_line.specs.Event.{octet}
+use Rattle.model_line.specs.Event.{hears}
 use Rattle.model_line.specs.Line.{Line, link_number, link_count, place_at, tei_at, link_at, link_in, terms}
 use Rattle.model_line.specs.Machine.{after}
 use Rattle.model_line.specs.Sound.{IsInRange, IsSound}
 use Rattle.model_line.proofs.LineSound.{after_sound}
 use Rattle.model_line.proofs.Numbers.{place_at-number, number_within}
-use Rattle.laws_line.specs.Heard.{Ends, IsFor}
+use Rattle.laws_line.specs.Heard.{IsFor}
 use Rattle.laws_line.proofs.Hearing.{one-event}
-use Rattle.laws_line.specs.Drains.{IsEnough, control_text, IsBegunWithin, IsAnsweredWithin}
+use Rattle.laws_line.specs.Drains.{IsEnough, control_text, IsTakenWithin, IsAnsweredWithin}
 use Rattle.laws_line.proofs.Ordered.{enough-goes}
 
-module _ (c : Config) (ranged : IsInRange c) (l : Line) (s : IsSound c l) (value : ℕ) (service : Service) (tei place : ℕ) (parts : Parts) (octets : List ℕ)
-    (ends : Ends c l value octets) (h : IsFor c l service tei place parts octets) where
+module _ (c : Config) (ranged : IsInRange c) (l : Line) (s : IsSound c l) (service : Service) (tei place : ℕ) (parts : Parts) (octets : List ℕ)
+    (h : IsFor c l service tei place parts octets) where
   abbrev number : ℕ
   number = link_number place service
 
-  abbrev next : Link
-  next = links.after (terms c service tei) (link.received (link.frame parts)) (link_in l service place)
+  abbrev heard_by : Link
+  heard_by = links.after (terms c service tei) (link.received (link.frame parts)) (link_in l service place)
 
   pub few : number < link_count c
   few =
       let within = (place_of-is l.management.places tei place h.on_line).0 in
       number_within place c.terminals service (omega (arith, within, s.places))
 
-  link-is : link_at number (after c (octet value) l) ≡ next
+  link-is : link_at number (after c (hears (stream.frame octets)) l) ≡ heard_by
   link-is =
-      ap (link_at number) (one-event c l value service tei place parts octets ends h).line
-      ∙ get_or-set_same l.links number next fresh (let n = few in omega (arith, n, s.count))
+      ap (link_at number) (one-event c l service tei place parts octets h).line
+      ∙ get_or-set_same l.links number heard_by fresh (let n = few in omega (arith, n, s.count))
 
-  tei-stays : tei_at (place_at number) (after c (octet value) l) ≡ Some tei
+  tei-stays : tei_at (place_at number) (after c (hears (stream.frame octets)) l) ≡ Some tei
   tei-stays =
-      ap (λ (x : Line). tei_at (place_at number) x) (one-event c l value service tei place parts octets ends h).line
+      ap (λ (x : Line). tei_at (place_at number) x) (one-event c l service tei place parts octets h).line
       ∙ ap (λ p. get_or l.management.places p None) (place_at-number place service) ∙ (place_of-is l.management.places tei place h.on_line).1
 
-  goes : (n : ℕ) (f : ControlFrame) → next.waiting ≡ (link_in l service place).waiting ++ f ∷ [] → IsEnough c n (after c (octet value) l) number (length (link_in l service place).waiting)
-      → IsBegunWithin c n (after c (octet value) l) (control_text c number tei f)
+  goes : (n : ℕ) (f : ControlFrame) → heard_by.waiting ≡ (link_in l service place).waiting ++ f ∷ [] → IsEnough c n (after c (hears (stream.frame octets)) l) number (length (link_in l service place).waiting)
+      → IsTakenWithin c n (after c (hears (stream.frame octets)) l) (control_text c number tei f)
   goes n f e less =
-      enough-goes c ranged number tei few n (after c (octet value) l) (after_sound c ranged (octet value) l s) tei-stays (link_in l service place).waiting f []
+      enough-goes c ranged number tei few n (after c (hears (stream.frame octets)) l) (after_sound c ranged (hears (stream.frame octets)) l s) tei-stays (link_in l service place).waiting f []
       (ap (λ (x : Link). x.waiting) link-is ∙ e) less
 
   pub poll-goes : (n : ℕ) → IsPollWhileUp (terms c service tei) (link_in l service place) parts → length (link_in l service place).waiting + 1 ≤ c.control
-      → IsEnough c n (after c (octet value) l) number (length (link_in l service place).waiting) → IsAnsweredWithin c n service tei place (after c (octet value) l)
+      → IsEnough c n (after c (hears (stream.frame octets)) l) number (length (link_in l service place).waiting) → IsAnsweredWithin c n service tei place (after c (hears (stream.frame octets)) l)
   poll-goes n p room less =
-      let a : Answered (link_in l service place).waiting next = poll-answered (terms c service tei) (link_in l service place) room parts p.up p.poll in
+      let a : Answered (link_in l service place).waiting heard_by = poll-answered (terms c service tei) (link_in l service place) room parts p.up p.poll in
       record {
         answer = a.answer;
         is_response = a.is_response;
         says = subst (λ r. SaysReceived r a.answer.control) (sym (ap (λ (x : Link). x.r) link-is)) a.says;
-        begins = goes n a.answer a.waits less;
+        goes = goes n a.answer a.waits less;
       }
 
-  by-answer : (o : Option Control) (answer : Control) → o ≡ Some answer → AnsweredBy o (link_in l service place).waiting next
-      → next.waiting ≡ (link_in l service place).waiting ++ record { command = false; control = answer } ∷ []
+  by-answer : (o : Option Control) (answer : Control) → o ≡ Some answer → AnsweredBy o (link_in l service place).waiting heard_by
+      → heard_by.waiting ≡ (link_in l service place).waiting ++ record { command = false; control = answer } ∷ []
   by-answer None answer e h = absurd (cc)
   by-answer (Some x) answer e h = h ∙ ap (λ a. (link_in l service place).waiting ++ record { command = false; control = a } ∷ []) (let same : Some x ≡ Some answer = e in cc)
 
   pub unnumbered-goes : (n : ℕ) (answer : Control) → asked_of (link_in l service place).state parts.control ≡ Some answer → length (link_in l service place).waiting + 1 ≤ c.control
-      → IsEnough c n (after c (octet value) l) number (length (link_in l service place).waiting)
-      → IsBegunWithin c n (after c (octet value) l) (control_text c number tei (record { command = false; control = answer }))
+      → IsEnough c n (after c (hears (stream.frame octets)) l) number (length (link_in l service place).waiting)
+      → IsTakenWithin c n (after c (hears (stream.frame octets)) l) (control_text c number tei (record { command = false; control = answer }))
   unnumbered-goes n answer e room less =
       goes n (record { command = false; control = answer })
       (by-answer (asked_of (link_in l service place).state parts.control) answer e

@@ -31,19 +31,19 @@ use Rattle.lapd_tei.specs.Rows as rows
 use Rattle.lapd_tei.specs.Table.{free_place, free_tei}
 use Rattle.lapd_tei.specs.Words.{Course, begun, no_room, lose_one, unserved, check_is, begin_check, end_check, send, leave}
 use Rattle.model_line.specs.declared.config.Config.{Config}
-use Rattle.model_line.specs.Event.{Event, octet, expiry, request, pull, LineTold}
+use Rattle.model_line.specs.Event.{Event, hears, expiry, request, next, LineTold}
 use Rattle.model_line.specs.Effect.{at_management, told_of_management, of_link, of_change, of_aim}
 use Rattle.model_line.specs.Expiry.{at_timer}
 use Rattle.model_line.specs.Line.{Line, place_in, link_in, terms}
 use Rattle.model_line.specs.Machine.{answer, unless_refused, unless_refused_told}
-use Rattle.model_line.specs.Octet.{group_tei, with_received}
+use Rattle.model_line.specs.Heard.{group_tei}
 use Rattle.model_line.specs.Refusal.{refusal}
 use Rattle.model_line.specs.Request.{Request, Establish, Release, Data, Unit, Assign, Remove, Check as Checking, SetBusy, ClearBusy}
 use Rattle.model_line.specs.Requested.{at_requested, aim_of_request}
 use Rattle.laws_line.specs.Heard.{notes_of}
 use Rattle.laws_line.specs.Messages.{asks, responds, Says}
 use Rattle.laws_line.specs.Reasons.{HasReason, HaveReasons}
-use Rattle.laws_line.proofs.GroupAims.{hears, octet-aims}
+use Rattle.laws_line.proofs.GroupAims.{hears-said, heard-aims-at}
 use Rattle.laws_line.proofs.Messaging.{spelled}
 
 -- Each row: one note at most, which its event explains.
@@ -154,7 +154,7 @@ module _ (P : Note → Type 0) (m : Management) where
 -- Each event of a line. Notes of links say nothing of TEIs.
 module _ (c : Config) (l : Line) (e : Event) where
   abbrev P : Note → Type 0
-  P = HasReason c l e
+  P = HasReason c e
 
   own : (t : Terms) (n : Note) → IsOwn t n → P n
   own t (notes.EstablishIndication s n) h = tt
@@ -211,25 +211,23 @@ module _ (c : Config) (l : Line) (e : Event) where
   granted-noted (Checking tei) =
       management-noted (teis.check tei) l (unless-noted P l.management (teis.refusal (teis.check tei) l.management) (teis.check tei) (All-nil P))
 
-pub have-reasons : (c : Config) (e : Event) (l : Line) → HaveReasons c l e (answer c e l)
+pub have-reasons : (c : Config) (e : Event) (l : Line) → HaveReasons c e (answer c e l)
 unfolding answer teis.course teis.refusal
-have-reasons c (octet value) l =
-    octet-aims c l value (λ aim. All (HasReason c l (octet value)) (of_aim c aim (with_received value l)).told.notes)
-    (All-nil (HasReason c l (octet value))) (λ cause. All-nil (HasReason c l (octet value)))
-    (λ service tei place what. link-noted c l (octet value) (terms c service tei) (link.received what) (link_in l service place))
+have-reasons c (hears e) l =
+    heard-aims-at c l e (λ aim. All (HasReason c (hears e)) (of_aim c aim l).told.notes) (λ cause. All-nil (HasReason c (hears e)))
+    (λ service tei place what. link-noted c l (hears e) (terms c service tei) (link.received what) (link_in l service place))
     (λ parts ui.
-    management-noted c l (octet value) (teis.message parts.info) (with_received value l)
-    (message-noted (HasReason c l (octet value)) l.management parts.info (λ ri tei says. (ri, hears c l value parts (asks ri) ui says))
-    (λ tei says. hears c l value parts (responds tei) ui says) parts.info refl))
-    (λ parts octets ends read service to.
-    All-cons (HasReason c l (octet value)) (notes.Unit service group_tei) [] tt (All-nil (HasReason c l (octet value))))
+    management-noted c l (hears e) (teis.message parts.info) l
+    (message-noted (HasReason c (hears e)) l.management parts.info (λ ri tei says. (ri, hears-said c e parts (asks ri) ui says))
+    (λ tei says. hears-said c e parts (responds tei) ui says) parts.info refl))
+    (λ parts octets by read service to. All-cons (HasReason c (hears e)) (notes.Unit service group_tei) [] tt (All-nil (HasReason c (hears e))))
 have-reasons c (expiry (T200 service tei)) l = timer-noted c l (expiry (T200 service tei)) service tei link_timer.T200 (place_in l tei)
 have-reasons c (expiry (T203 service tei)) l = timer-noted c l (expiry (T203 service tei)) service tei link_timer.T203 (place_in l tei)
 have-reasons c (expiry T201) l =
-    management-noted c l (expiry T201) teis.expiry l (expiry-noted (HasReason c l (expiry T201)) l.management (λ tei. refl) l.management.check)
+    management-noted c l (expiry T201) teis.expiry l (expiry-noted (HasReason c (expiry T201)) l.management (λ tei. refl) l.management.check)
 have-reasons c (request r) l = go (refusal c false r l)
   where
-    go : (o : Option Refusal) → All (HasReason c l (request r)) (notes_of (unless_refused_told o (of_aim c (unless_refused o (aim_of_request r l)) l)))
+    go : (o : Option Refusal) → All (HasReason c (request r)) (notes_of (unless_refused_told o (of_aim c (unless_refused o (aim_of_request r l)) l)))
     go None = granted-noted c l (request r) r
-    go (Some why) = All-nil (HasReason c l (request r))
-have-reasons c pull l = All-nil (HasReason c l pull)
+    go (Some why) = All-nil (HasReason c (request r))
+have-reasons c next l = All-nil (HasReason c next)

@@ -1,15 +1,12 @@
--- What a pull begins.
-use Rattle.std.proofs.Common.{◌≡◌, ◌≢◌, ℕ, ◌+◌, ◌<◌, zero, suc, Bool, true, false, cond, List, [], ◌∷◌, ◌++◌, length, drop, take, slice_get, get_or, set, Option, Some, None, refl, sym, ap, ◌∙◌, subst, arith, zero-add, append-nil, option_map, inl, inr}
+-- What is taken.
+use Rattle.std.proofs.Common.{◌≡◌, ℕ, ◌+◌, ◌<◌, false, cond, List, [], ◌∷◌, ◌++◌, drop, take, slice_get, get_or, set, Option, Some, None, refl, sym, ap, ◌∙◌, subst, arith, zero-add, append-nil, option_map, inl, inr}
 use Rattle.std.specs.Prelude.{All, IfSome}
 use Rattle.std.specs.List.{range_with_len}
 use Rattle.std.specs.Option.{option_or, option_map_or, unwrap_or}
-use Rattle.std.proofs.lemmas.Bool.{ltb-false}
-use Rattle.std.proofs.lemmas.List.{length-drop, get_or-set_same, get_or-set_other, take-append-drop}
+use Rattle.std.proofs.lemmas.List.{get_or-set_same, take-append-drop}
 use Rattle.std.proofs.lemmas.List.Elements.{All-head, All-tail, All-nil, All-cons, All-get_or, All-append}
 use Rattle.std.proofs.lemmas.List.FromFn.{get_or-range_with_len, length-range_with_len}
 use Rattle.std.proofs.lemmas.Option.{none-some}
-use Rattle.model_bits.specs.Bits.{bits}
-use Rattle.model_bits.specs.Sent.{line_text}
 use Rattle.model_bits.specs.Stream as stream
 use Rattle.lapd_frame.specs.declared.refusals.Refusal.{Refusal}
 use Rattle.lapd_frame.specs.declared.services.Service.{Service}
@@ -35,10 +32,10 @@ use Rattle.laws_two_links.proofs.Waiting.{nothing-given}
 use Rattle.lapd_tei.specs.declared.messages.Message.{Message}
 use Rattle.lapd_tei.specs.Messages.{frame_of}
 use Rattle.model_line.specs.declared.config.Config.{Config}
-use Rattle.model_line.specs.Event.{Event, octet, expiry, request, pull, nothing}
+use Rattle.model_line.specs.Event.{Event, hears, expiry, request, next}
 use Rattle.model_line.specs.Effect.{Aim, at_none, at_link, at_management, at_units, told_of_management, of_change, of_aim}
 use Rattle.model_line.specs.Expiry.{at_timer, aim_of_expiry}
-use Rattle.model_line.specs.Octet.{gained, aim_of_heard, aim_of_octet, with_received}
+use Rattle.model_line.specs.Heard.{aim_of_heard}
 use Rattle.model_line.specs.Refusal.{refusal}
 use Rattle.model_line.specs.Request.{Request, Establish, Release, Data, Assign, Remove, Check, SetBusy, ClearBusy}
 use Rattle.model_line.specs.Requested.{at_requested, aim_of_request}
@@ -46,11 +43,10 @@ use Rattle.model_line.proofs.ProperAims.{heard_aims}
 use Rattle.laws_line.specs.Share.{is_granted}
 use Rattle.model_line.specs.Line.{Line, UnitData, link_count, service_at, place_at, place_in, tei_at, terms, terms_at, link_at, with_link}
 use Rattle.model_line.specs.Machine.{after, answer, unless_refused, unless_refused_told}
-use Rattle.model_line.specs.Pull as pulls
-use Rattle.model_line.specs.Pull.{Taken, with_message, with_unit, with_given_frame, link_taken, first_taken, round, taken, left_of, is_due, begun, with_item, after_pull}
-use Rattle.model_line.specs.Sound.{IsInRange, IsSoundAt, IsSound}
-use Rattle.model_line.proofs.PullSound.{round_below}
-use Rattle.laws_line.specs.Pulls.{IsMessage, IsUnit, IsSilent, IsSilentAt, IsItsTurn, IsOfLink, IsOwed, HasNothing, IsIdle, bits_left, contents_of, IsServed, unit_asked, UnitsWait, TurnStays}
+use Rattle.model_line.specs.Taken.{Taken, with_message, with_unit, with_given_frame, link_taken, first_taken, round, taken, line_of}
+use Rattle.model_line.specs.Sound.{IsSoundAt, IsSound}
+use Rattle.model_line.proofs.TakenSound.{round_below}
+use Rattle.laws_line.specs.Served.{IsSilent, IsSilentAt, IsItsTurn, IsOfLink, IsOwed, HasNothing, IsIdle, contents_of, IsServed, unit_asked, UnitsWait, TurnStays}
 use Rattle.laws_line.proofs.Silence.{silent}
 
 -- the first of a list is not there
@@ -88,14 +84,14 @@ module _ (c : Config) (l : Line) (s : IsSound c l) where
           same-tei e e' = let both : Some _ ≡ Some _ = sym e ∙ e' in cc
       at-tei tei at sound (Some g) e =
           let t = terms c (service_at number) tei in
-          let next = links.after t link.offer (link_at number l) in
+          let after_it = links.after t link.offer (link_at number l) in
           let carried : IsOffered (contents_of l number) (link_at number l).s g.frame g.contents =
           subst (λ o. IfSome o (λ g. IsOffered (link_at number l).contents (link_at number l).s g.frame g.contents)) e (given-is-offered t (link_at number l) sound) in
-          let counts : next.s ≡ (link_at number l).s + one (is_information g.frame.control) =
+          let counts : after_it.s ≡ (link_at number l).s + one (is_information g.frame.control) =
           offer-counts t (link_at number l) sound ∙ ap (λ o. (link_at number l).s + one (option_map_or (λ g. is_information g.frame.control) o false)) e in
-          let here : get_or (set l.links number next) number fresh ≡ next = get_or-set_same l.links number next fresh (omega (arith, few, s.count)) in
-          let ordered : IsInOrder t (link_at number l) next g.frame =
-          subst (λ o. IfSome o (λ g. IsInOrder t (link_at number l) next g.frame)) e (given-in-order t (link_at number l) sound) in (
+          let here : get_or (set l.links number after_it) number fresh ≡ after_it = get_or-set_same l.links number after_it fresh (omega (arith, few, s.count)) in
+          let ordered : IsInOrder t (link_at number l) after_it g.frame =
+          subst (λ o. IfSome o (λ g. IsInOrder t (link_at number l) after_it g.frame)) e (given-in-order t (link_at number l) sound) in (
           λ turn. record {
             number = number;
             few = few;
@@ -195,49 +191,20 @@ module _ (c : Config) (l : Line) (s : IsSound c l) where
   taken-is : Fate (taken c l)
   taken-is = by-all (slice_get l.management.waiting 0) refl (slice_get l.units 0) refl
 
-  -- what is put on the line changes nothing else
-  abbrev grown : Taken → Line → Line
-  grown t x = record x { items = (pulls.with_octet (with_item (Some t) l)).items; given = (pulls.with_octet (with_item (Some t) l)).given }
+  pub none-waits : taken c l ≡ None → HasNothing c l
+  none-waits e = subst Fate e taken-is
 
-  -- with its item, and the octet that is given
   pub served : IsServed c (contents_of l) l
   unfolding after
-  served = go (is_due l) refl (taken c l) taken-is
+  served = go (taken c l) taken-is
     where
-      with-item : (t : Taken) → IsOwed c (contents_of l) l t.line t.frame → IsOwed c (contents_of l) l (pulls.with_octet (with_item (Some t) l)) t.frame
-      with-item t (inl x) = inl (record { message = x.message; oldest = x.oldest; spelled = x.spelled; line = ap (grown t) x.line })
-      with-item t (inr (inl x)) =
-          inr (inl (record { no_message = x.no_message; unit = x.unit; oldest = x.oldest; spelled = x.spelled; line = ap (grown t) x.line }))
-      with-item t (inr (inr x)) = inr (inr (record {
-        number = x.number;
-        few = x.few;
-        its_turn = x.its_turn;
-        tei = x.tei;
-        on_line = x.on_line;
-        command = x.command;
-        control = x.control;
-        information = x.information;
-        spelled = x.spelled;
-        in_order = x.in_order;
-        carried = x.carried;
-        counted = x.counted;
-        line = ap (grown t) x.line;
-      }))
-
-      not-few : is_due l ≡ false → bits_left l < 8 → ⊥
-      not-few e few =
-          let some = ltb-false (length (left_of l)) 8 e in
-          let left = length-drop (length (bits l.given)) (line_text l.items) in
-          absurd (omega (arith, some, left, few))
-
-      go : (due : Bool) → is_due l ≡ due → (o : Option Taken) → Fate o
-          → elim (cond due o None) as (λ o. Type 0) [
-            | None ↦ IsIdle c l (pulls.with_octet (cond due (with_item o l) l))
-            | Some t ↦ IsOwed c (contents_of l) l (pulls.with_octet (cond due (with_item o l) l)) t.frame
+      go : (o : Option Taken) → Fate o
+          → elim o as (λ o. Type 0) [
+            | None ↦ IsIdle c l (option_map_or line_of o l)
+            | Some t ↦ IsOwed c (contents_of l) l (option_map_or line_of o l) t.frame
           ]
-      go false e o x = record { nothing = λ few. absurd (not-few e few); line = refl }
-      go true e None x = record { nothing = λ few. x; line = refl }
-      go true e (Some t) x = with-item t x
+      go None x = record { nothing = x; line = refl }
+      go (Some t) x = x
 
 -- Unit data that waits.
 module _ (c : Config) where
@@ -258,9 +225,8 @@ module _ (c : Config) where
       by-change (Some (Left tei place)) = refl
   aim-units l m (at_units unit) e = ap (λ us. us ++ unit ∷ []) e
 
-  none-heard : (l : Line) (o : Option stream.Event) → unit_of (option_map_or (aim_of_heard c l) o (at_none nothing)) ≡ []
-  none-heard l None = refl
-  none-heard l (Some e) = heard_aims c l (λ aim. unit_of aim ≡ []) (λ cause. refl) (λ service tei place what at. refl) (λ info. refl) (λ parts service to. refl) e
+  none-heard : (l : Line) (e : stream.Event) → unit_of (aim_of_heard c l e) ≡ []
+  none-heard l e = heard_aims c l (λ aim. unit_of aim ≡ []) (λ cause. refl) (λ service tei place what at. refl) (λ info. refl) (λ parts service to. refl) e
 
   by-timer : (service : Service) (tei : ℕ) (timer : LinkTimer) (o : Option ℕ) → unit_of (at_timer service tei timer o) ≡ []
   by-timer service tei timer None = refl
@@ -288,8 +254,7 @@ module _ (c : Config) where
 
 pub units-wait : (c : Config) (e : Event) (l : Line) → UnitsWait e l (after c e l) (answer c e l)
 unfolding after answer
-units-wait c (octet value) l =
-    aim-units c l (with_received value l) (aim_of_octet c value l) refl ∙ ap (λ us. l.units ++ us) (none-heard c l (gained c.n201 l.received value)) ∙ append-nil l.units
+units-wait c (hears e) l = aim-units c l l (aim_of_heard c l e) refl ∙ ap (λ us. l.units ++ us) (none-heard c l e) ∙ append-nil l.units
 units-wait c (expiry timer) l = aim-units c l l (aim_of_expiry timer l) refl ∙ ap (λ us. l.units ++ us) (by-expiry c l timer) ∙ append-nil l.units
 units-wait c (request r) l = go (refusal c false r l)
   where
@@ -297,7 +262,7 @@ units-wait c (request r) l = go (refusal c false r l)
         ≡ l.units ++ cond (is_granted (unless_refused_told o (of_aim c (unless_refused o (aim_of_request r l)) l))) (unit_asked r) []
     go None = aim-units c l l (aim_of_request r l) refl ∙ ap (λ us. l.units ++ us) (by-request c l r)
     go (Some why) = sym (append-nil l.units)
-units-wait c pull l = tt
+units-wait c next l = tt
 
 -- Whose turn it is stays.
 aim-turn : (c : Config) (m : Line) (aim : Aim) → (of_aim c aim m).line.turn ≡ m.turn
@@ -313,7 +278,7 @@ aim-turn c m (at_units unit) = refl
 
 pub turn-stays : (c : Config) (e : Event) (l : Line) → TurnStays e l (after c e l)
 unfolding after
-turn-stays c (octet value) l = aim-turn c (with_received value l) (aim_of_octet c value l)
+turn-stays c (hears e) l = aim-turn c l (aim_of_heard c l e)
 turn-stays c (expiry timer) l = aim-turn c l (aim_of_expiry timer l)
 turn-stays c (request r) l = aim-turn c l (unless_refused (refusal c false r l) (aim_of_request r l))
-turn-stays c pull l = tt
+turn-stays c next l = tt

@@ -1,6 +1,6 @@
 -- An answer has at most four notes and four orders.
-use Rattle.std.proofs.Common.{ℕ, ◌≤◌, Bool, true, false, cond, List, [], ◌∷◌, ◌++◌, length, Option, Some, None, option_map, IfSome, arith, length-append}
-use Rattle.std.specs.Option.{option_or, option_map_or}
+use Rattle.std.proofs.Common.{ℕ, ◌≤◌, false, List, [], ◌∷◌, ◌++◌, length, Option, Some, None, option_map, IfSome, arith, length-append}
+use Rattle.std.specs.Option.{option_or}
 use Rattle.lapd_frame.specs.declared.refusals.Refusal.{Refusal}
 use Rattle.lapd_frame.specs.declared.services.Service.{Service}
 use Rattle.lapd_frame.specs.declared.services.Service.TheVariants.{Call, Packet}
@@ -14,15 +14,15 @@ use Rattle.model_link.proofs.TellRows.{event-tells, cleared-tells, two-orders, c
 use Rattle.lapd_tei.specs.declared.outcome.Change.{Change}
 use Rattle.lapd_tei.specs.declared.outcome.Change.TheVariants.{Gained, Left}
 use Rattle.model_line.specs.declared.config.Config.{Config}
-use Rattle.model_line.specs.Event.{Event, octet, expiry, request, pull, LineTold, nothing}
+use Rattle.model_line.specs.Event.{Event, hears, expiry, request, next, LineTold, nothing, gave}
 use Rattle.model_line.specs.Expiry.{at_timer, aim_of_expiry}
 use Rattle.model_line.specs.Laws.{notes_in, orders_in}
 use Rattle.laws_line.specs.Short.{AnswersAreShort}
 use Rattle.model_line.specs.Line.{Line, link_in, link_at, terms, terms_at, place_in}
 use Rattle.model_line.specs.Machine.{answer, unless_refused, unless_refused_told}
-use Rattle.model_line.specs.Octet.{gained, aim_of_heard, with_received}
-use Rattle.model_line.specs.Effect.{at_none, told_of_management, of_link, of_change, of_management, of_aim}
-use Rattle.model_line.specs.Pull.{Taken, with_message, message_taken, with_unit, unit_taken, with_given_frame, link_taken, first_taken, round, taken, is_due, orders_of, begun}
+use Rattle.model_line.specs.Heard.{aim_of_heard}
+use Rattle.model_line.specs.Effect.{told_of_management, of_link, of_change, of_management, of_aim}
+use Rattle.model_line.specs.Taken.{Taken, with_message, message_taken, with_unit, unit_taken, with_given_frame, link_taken, first_taken, round, taken, next_of}
 use Rattle.model_line.specs.Refusal.{refusal}
 use Rattle.model_line.specs.Request.{Request, Establish, Release, Data, Unit, Assign, Remove, Check, SetBusy, ClearBusy}
 use Rattle.model_line.specs.Requested.{at_requested, aim_of_request}
@@ -84,12 +84,11 @@ module _ (c : Config) where
   none_short : IsShort nothing
   none_short = record { notes = omega arith; orders = omega arith }
 
-  octet_short : (l m : Line) (o : Option stream.Event) → IsShort (of_aim c (option_map_or (aim_of_heard c l) o (at_none nothing)) m).told
-  octet_short l m None = none_short
-  octet_short l m (Some e) =
-      heard_aims c l (λ aim. IsShort (of_aim c aim m).told) (λ cause. record { notes = omega arith; orders = omega arith })
-      (λ service n place what at. link_short service n place (link.received what) m) (λ info. management_short (teis.message info) m)
-      (λ parts service to. record { notes = omega arith; orders = omega arith }) e
+  heard_short : (l : Line) (e : stream.Event) → IsShort (of_aim c (aim_of_heard c l e) l).told
+  heard_short l =
+      heard_aims c l (λ aim. IsShort (of_aim c aim l).told) (λ cause. record { notes = omega arith; orders = omega arith })
+      (λ service n place what at. link_short service n place (link.received what) l) (λ info. management_short (teis.message info) l)
+      (λ parts service to. record { notes = omega arith; orders = omega arith })
 
   timer_short : (l : Line) (service : Service) (n : ℕ) (timer : LinkTimer) (o : Option ℕ) → IsShort (of_aim c (at_timer service n timer o) l).told
   timer_short l service n timer None = none_short
@@ -115,7 +114,7 @@ module _ (c : Config) where
   request_short l (SetBusy service n) = requested_short l service n link.SetBusy (place_in l n)
   request_short l (ClearBusy service n) = requested_short l service n link.ClearBusy (place_in l n)
 
-  -- A pull orders what the frame's timer wants.
+  -- A call for the next frame orders what the frame's timer wants.
   HasFewOrders : Taken → Type 0
   HasFewOrders t = length t.orders ≤ 2
 
@@ -154,14 +153,13 @@ module _ (c : Config) where
       (first_few HasFewOrders (unit_taken c l) (first_taken c l (round c l))
       (mapped (with_unit c l) HasFewOrders _ (anything (λ u. 0 ≤ 2) _ (λ u. omega arith))) (links_few l (round c l)))
 
-  pull_few : (l : Line) → length (option_map_or orders_of (begun c l) []) ≤ 2
+  next_few : (l : Line) → length (orders_in (gave (option_map next_of (taken c l)))) ≤ 2
   unfolding HasFewOrders
-  pull_few l = go (is_due l) (taken c l) (taken_few l)
+  next_few l = go (taken c l) (taken_few l)
     where
-      go : (due : Bool) (o : Option Taken) → IfSome o HasFewOrders → length (option_map_or orders_of (cond due o None) []) ≤ 2
-      go false o h = omega arith
-      go true None h = omega arith
-      go true (Some t) h = h
+      go : (o : Option Taken) → IfSome o HasFewOrders → length (orders_in (gave (option_map next_of o))) ≤ 2
+      go None h = omega arith
+      go (Some t) h = h
 
   -- any event
   request_notes : (r : Request) (l : Line) (o : Option Refusal) → length (notes_in (unless_refused_told o (of_aim c (unless_refused o (aim_of_request r l)) l))) ≤ 4
@@ -174,21 +172,21 @@ module _ (c : Config) where
 
   notes_few : (e : Event) (l : Line) → length (notes_in (answer c e l)) ≤ 4
   unfolding answer
-  notes_few (octet value) l = (octet_short l (with_received value l) (gained c.n201 l.received value)).notes
+  notes_few (hears e) l = (heard_short l e).notes
   notes_few (expiry timer) l = (expiry_short l timer).notes
   notes_few (request r) l = request_notes r l (refusal c false r l)
-  notes_few pull l = omega arith
+  notes_few next l = omega arith
 
   orders_few : (e : Event) (l : Line) → length (orders_in (answer c e l)) ≤ 4
   unfolding answer
-  orders_few (octet value) l = (octet_short l (with_received value l) (gained c.n201 l.received value)).orders
+  orders_few (hears e) l = (heard_short l e).orders
   orders_few (expiry timer) l = (expiry_short l timer).orders
   orders_few (request r) l = request_orders r l (refusal c false r l)
-  orders_few pull l = omega (arith, pull_few l)
+  orders_few next l = omega (arith, next_few l)
 
-  pull_orders : (l : Line) → length (orders_in (answer c pull l)) ≤ 2
+  next_orders : (l : Line) → length (orders_in (answer c next l)) ≤ 2
   unfolding answer
-  pull_orders l = pull_few l
+  next_orders l = next_few l
 
 pub answers_are_short : AnswersAreShort
-answers_are_short = record { notes = notes_few; orders = orders_few; pulls = pull_orders; expiries = expiry_starts }
+answers_are_short = record { notes = notes_few; orders = orders_few; takes = next_orders; expiries = expiry_starts }

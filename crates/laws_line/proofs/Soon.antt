@@ -1,12 +1,12 @@
 -- What a configuration lets go before a control frame that waits.
-use Rattle.std.proofs.Common.{◌≡◌, ℕ, ◌+◌, ◌-◌, ◌*◌, ◌≤◌, ◌<◌, Bool, true, false, cond, List, ◌∷◌, ◌++◌, length, Option, Some, None, refl, sym, ap, subst, inr, arith, length-append, nat_le}
+use Rattle.std.proofs.Common.{◌≡◌, ℕ, ◌+◌, ◌-◌, ◌*◌, ◌≤◌, ◌<◌, Bool, true, false, cond, List, ◌∷◌, ◌++◌, length, Option, Some, None, refl, ap, inr, arith, length-append, nat_le}
 use Rattle.std.proofs.Math.Nat.{mul-le-mul_right}
 use Rattle.std.proofs.lemmas.Bool.{leb-false}
 use Rattle.model_link.specs.declared.frames.ControlFrame.{ControlFrame}
 use Rattle.model_line.specs.declared.config.Config.{Config}
 use Rattle.model_line.specs.Line.{Line, link_count, place_at, tei_at, link_at}
 use Rattle.model_line.specs.Sound.{IsInRange, IsSoundAt, IsSound}
-use Rattle.laws_line.specs.Drains.{longest_text, way_round, frames_before, bits_before, IsEnough, control_text, IsBegunWithin, HasFewLeft, most_frames_before, most_bits_before, most_pulls_before}
+use Rattle.laws_line.specs.Drains.{way_round, frames_before, IsEnough, control_text, IsTakenWithin, most_frames_before}
 use Rattle.laws_line.proofs.Ordered.{enough-goes}
 
 -- at most each other link comes before in the round
@@ -18,26 +18,19 @@ way-few count turn number few = go (nat_le turn number) refl
     go false e = let more : number < turn = leb-false turn number e in omega (arith, few, more)
 
 -- by numbers alone
-pub frames-few : (c : Config) (l : Line) → IsSound c l → (number others : ℕ) → number < link_count c → others + 1 ≤ c.control
+pub few-before : (c : Config) (l : Line) → IsSound c l → (number others : ℕ) → number < link_count c → others + 1 ≤ c.control
     → frames_before c l number others ≤ most_frames_before c
-frames-few c l s number others few room =
+few-before c l s number others few room =
     let messages = s.management.queue.few in
     let units = s.few_units in
     let way = way-few (link_count c) l.turn number few in
     let own : others * link_count c ≤ (c.control - 1) * link_count c = mul-le-mul_right (link_count c) (omega (arith, room)) in
     omega (arith, own, messages, units, way)
 
-pub few-before : (c : Config) (l : Line) → IsSound c l → HasFewLeft c l → (number others : ℕ) → number < link_count c → others + 1 ≤ c.control
-    → bits_before c l number others ≤ most_bits_before c
-few-before c l s left number others few room =
-    let most : frames_before c l number others * longest_text c ≤ most_frames_before c * longest_text c = mul-le-mul_right (longest_text c) (frames-few c l s number others few room) in
-    let sum : (1 + most_frames_before c) * longest_text c ≡ longest_text c + most_frames_before c * longest_text c = omega arith in
-    subst (λ x. bits_before c l number others ≤ x) (sym sum) (omega (arith, left, most))
-
-pub enough-before : (c : Config) (l : Line) → IsSound c l → HasFewLeft c l → (number others n : ℕ) → number < link_count c → others + 1 ≤ c.control
-    → most_pulls_before c ≤ n → IsEnough c n l number others
-enough-before c l s left number others n few room enough =
-    let before = few-before c l s left number others few room in
+pub enough-before : (c : Config) (l : Line) → IsSound c l → (number others n : ℕ) → number < link_count c → others + 1 ≤ c.control
+    → most_frames_before c < n → IsEnough c n l number others
+enough-before c l s number others n few room enough =
+    let before = few-before c l s number others few room in
     inr (omega (arith, before, enough))
 
 -- what waits of a link has room
@@ -58,9 +51,9 @@ module _ (c : Config) (ranged : IsInRange c) (l : Line) (s : IsSound c l) (numbe
       let most = ring in
       omega (arith, sum, here, most)
 
-pub goes-soon : (c : Config) → IsInRange c → (l : Line) → IsSound c l → HasFewLeft c l → (number tei : ℕ) → number < link_count c
+pub goes-soon : (c : Config) → IsInRange c → (l : Line) → IsSound c l → (number tei : ℕ) → number < link_count c
     → tei_at (place_at number) l ≡ Some tei → (before : List ControlFrame) (f : ControlFrame) (behind : List ControlFrame)
-    → (link_at number l).waiting ≡ before ++ f ∷ behind → (n : ℕ) → most_pulls_before c ≤ n → IsBegunWithin c n l (control_text c number tei f)
-goes-soon c ranged l s left number tei few at before f behind waits n enough =
+    → (link_at number l).waiting ≡ before ++ f ∷ behind → (n : ℕ) → most_frames_before c < n → IsTakenWithin c n l (control_text c number tei f)
+goes-soon c ranged l s number tei few at before f behind waits n enough =
     enough-goes c ranged number tei few n l s at before f behind waits
-    (enough-before c l s left number (length before) n few (others-fit c ranged l s number tei few at before f behind waits) enough)
+    (enough-before c l s number (length before) n few (others-fit c ranged l s number tei few at before f behind waits) enough)

@@ -1,5 +1,5 @@
 -- A TEI that is told to a terminal is on the line when its message comes to wait: each row.
-use Rattle.std.proofs.Common.{◌≡◌, ◌⊎◌, inl, inr, ℕ, ◌+◌, ◌==◌, Bool, true, false, List, [], ◌∷◌, ◌++◌, length, drop, get_or, Option, Some, None, refl, sym, ap, ◌∙◌, arith, true≢false, length-append, length-drop}
+use Rattle.std.proofs.Common.{◌≡◌, ◌⊎◌, inl, inr, ℕ, ◌==◌, Bool, true, false, List, [], ◌∷◌, ◌++◌, length, drop, get_or, Option, Some, None, refl, sym, ap, ◌∙◌, arith, true≢false, length-append, length-drop}
 use Rattle.std.proofs.lemmas.List.{append_cancel_left, get_or-set_same}
 use Rattle.lapd_tei.specs.Machine.{Management}
 use Rattle.lapd_tei.specs.declared.check.Check.{Check}
@@ -111,7 +111,7 @@ module _ (before after : Management) (ri tei : ℕ) (more : after.waiting ≡ be
 pub told-there : (c : Config) (e : Event) (before after : Line) (a : Answer) → HaveCauses c e before after a → AreThere before after
 told-there c e before after a h ri tei more = go h.caused
   where
-    go : (after.management ≡ before.management) ⊎ IsTaken e before.management after.management ⊎ HasCause c before e a → is_on tei after.management.places ≡ true
+    go : (after.management ≡ before.management) ⊎ IsTaken e before.management after.management ⊎ HasCause c e a → is_on tei after.management.places ≡ true
     go (inl stays) = absurd (must-move before.management after.management ri tei more (ap (λ (m : Management). m.waiting) stays))
     go (inr (inl taken)) = absurd (fewer before.management after.management ri tei more (ap (λ (m : Management). m.waiting) taken.rest))
     go (inr (inr (inl cause))) = by-heard before.management after.management ri tei more cause.0 _ (h.heard cause.0 cause.1)

@@ -1,6 +1,5 @@
 -- How what an event aims at is tied to the event.
 use Rattle.std.proofs.Common.{◌≡◌, ℕ, Bool, true, false, ◌==◌, cond, List, Option, Some, None, Result, Ok, Err, refl, inl, inr}
-use Rattle.std.specs.Option.{option_map_or}
 use Rattle.model_bits.specs.Stream as stream
 use Rattle.lapd_frame.specs.declared.addresses.Address.{Address}
 use Rattle.lapd_frame.specs.declared.controls.Control.{Control}
@@ -20,44 +19,46 @@ use Rattle.model_link.specs.Events as link
 use Rattle.model_link.specs.declared.timers.LinkTimer.{LinkTimer}
 use Rattle.model_link.specs.declared.timers.LinkTimer.TheVariants as link_timer
 use Rattle.model_line.specs.declared.config.Config.{Config}
-use Rattle.model_line.specs.Event.{Event, octet, expiry, request, Answer, nothing}
+use Rattle.model_line.specs.Event.{Event, hears, expiry, request, Answer}
 use Rattle.model_line.specs.Effect.{Aim, at_none, at_link, at_management, at_units}
 use Rattle.model_line.specs.Expiry.{at_timer, aim_of_expiry}
 use Rattle.model_line.specs.Line.{Line, place_in}
-use Rattle.model_line.specs.Octet.{gained, drop_for, management_sapi, group_tei, at_place, to_service, addressed, message_of, aim_of_reading, unless_at_link, aim_of_long, heard_side, aim_of_heard, aim_of_octet}
+use Rattle.model_line.specs.Heard.{drop_for, management_sapi, group_tei, at_place, to_service, addressed, message_of, aim_of_reading, unless_at_link, aim_of_long, heard_side, aim_of_heard}
 use Rattle.model_line.proofs.Sides.{side_aims}
 use Rattle.model_line.specs.Request.{Request, Establish, Release, Data, Assign, Remove, Check, SetBusy, ClearBusy}
 use Rattle.model_line.specs.Requested.{at_requested, aim_of_request}
 use Rattle.laws_line.specs.Share.{is_granted}
 use Rattle.laws_line.specs.Heard.{IsTooLong}
 use Rattle.laws_line.specs.Steady.{BringsMalformed, IsBy}
-use Rattle.laws_line.proofs.Ending.{gained-adds}
+
+abbrev pub Ties : Config → Event → Answer → Aim → Type 0
+Ties c e answer (at_link service tei place event) = IsBy c e answer service tei event
+Ties c e answer (at_none what) = Unit {0}
+Ties c e answer (at_management event) = Unit {0}
+Ties c e answer (at_units unit) = Unit {0}
 
 module _ (c : Config) (l : Line) (e : Event) (answer : Answer) where
-  abbrev pub Ties : Aim → Type 0
-  Ties (at_link service tei place event) = IsBy c l e answer service tei event
-  Ties (at_none what) = Unit {0}
-  Ties (at_management event) = Unit {0}
-  Ties (at_units unit) = Unit {0}
+  abbrev Tied : Aim → Type 0
+  Tied aim = Ties c e answer aim
 
-  placed : (service : Service) (tei : ℕ) (what : link.Received) → IsBy c l e answer service tei (link.received what) → (o : Option ℕ) → Ties (at_place service tei what o)
+  placed : (service : Service) (tei : ℕ) (what : link.Received) → IsBy c e answer service tei (link.received what) → (o : Option ℕ) → Tied (at_place service tei what o)
   placed service tei what by None = tt
   placed service tei what by (Some place) = by
 
-  to-its : (tei : ℕ) (what : link.Received) (o : Option Service) → ((service : Service) → o ≡ Some service → IsBy c l e answer service tei (link.received what)) → Ties (to_service l tei what o)
+  to-its : (tei : ℕ) (what : link.Received) (o : Option Service) → ((service : Service) → o ≡ Some service → IsBy c e answer service tei (link.received what)) → Tied (to_service l tei what o)
   to-its tei what None by = tt
   to-its tei what (Some service) by = placed service tei what (by service refl) (place_in l tei)
 
-  by-address : (address : Address) (what : link.Received) (m : Aim) → Ties m
-      → ((service : Service) → service_of address.sapi ≡ Some service → IsBy c l e answer service address.tei (link.received what)) → Ties (addressed l address what m)
+  by-address : (address : Address) (what : link.Received) (m : Aim) → Tied m
+      → ((service : Service) → service_of address.sapi ≡ Some service → IsBy c e answer service address.tei (link.received what)) → Tied (addressed l address what m)
   by-address address what m ties by = go (address.sapi == management_sapi) (address.tei == group_tei)
     where
-      go : (known group : Bool) → Ties (cond known (cond group m (drop_for Tei)) (to_service l address.tei what (service_of address.sapi)))
+      go : (known group : Bool) → Tied (cond known (cond group m (drop_for Tei)) (to_service l address.tei what (service_of address.sapi)))
       go true true = ties
       go true false = tt
       go false group = to-its address.tei what (service_of address.sapi) by
 
-  message-ties : (k : Control) (info : List ℕ) → Ties (message_of k info)
+  message-ties : (k : Control) (info : List ℕ) → Tied (message_of k info)
   message-ties (control.Ui p) info = tt
   message-ties (control.Information ns nr p) info = tt
   message-ties (control.ReceiveReady nr pf) info = tt
@@ -70,87 +71,57 @@ module _ (c : Config) (l : Line) (e : Event) (answer : Answer) where
   message-ties (control.Frmr f) info = tt
   message-ties (control.Xid pf) info = tt
 
-  unless-ties : (aim : Aim) → Ties (unless_at_link aim)
+  unless-ties : (aim : Aim) → Tied (unless_at_link aim)
   unless-ties (at_none what) = tt
   unless-ties (at_link service tei place event) = tt
   unless-ties (at_management event) = tt
   unless-ties (at_units unit) = tt
 
--- An octet.
-module _ (c : Config) (l : Line) (value : ℕ) (answer : Answer) where
-  read-ties : (octets : List ℕ) → gained c.n201 l.received value ≡ Some (stream.frame octets) → (r : Result Parts ReadFault) → reading (heard_side c) octets ≡ r
-      → Ties c l (octet value) answer (aim_of_reading c l r)
-  read-ties octets ends (Ok parts) read =
-      side_aims c parts (Ties c l (octet value) answer) tt (λ service to. tt) (addressed l parts.address (link.frame parts) (message_of parts.control parts.info))
-      (by-address c l (octet value) answer parts.address (link.frame parts) (message_of parts.control parts.info) (message-ties c l (octet value) answer parts.control parts.info)
-      (λ service sapi. record { value = value; by = refl; octets = octets; ends = gained-adds c l value (Some (stream.frame octets)) ends; read = read; sapi = sapi; tei_is = refl }))
-  read-ties octets ends (Err BadExtension) read = tt
-  read-ties octets ends (Err (Undefined address)) read =
-      let adds = gained-adds c l value (Some (stream.frame octets)) ends in
-      by-address c l (octet value) answer address link.undefined (drop_for Unserved) tt
-      (λ service sapi.
-      record {
-        value = value;
-        by = refl;
-        octets = octets;
-        address = address;
-        ends = inl (adds, read);
-        sapi = sapi;
-        tei_is = refl;
-      })
-  read-ties octets ends (Err (WrongSize address)) read =
-      let adds = gained-adds c l value (Some (stream.frame octets)) ends in
-      by-address c l (octet value) answer address link.wrong_size (drop_for Unserved) tt
-      (λ service sapi.
-      record {
-        value = value;
-        by = refl;
-        octets = octets;
-        address = address;
-        ends = inl (adds, read);
-        sapi = sapi;
-        tei_is = refl;
-      })
-  read-ties octets ends (Err Short) read = tt
+-- What is heard.
+module _ (c : Config) (l : Line) (answer : Answer) where
+  read-ties : (octets : List ℕ) (r : Result Parts ReadFault) → reading (heard_side c) octets ≡ r → Ties c (hears (stream.frame octets)) answer (aim_of_reading c l r)
+  read-ties octets (Ok parts) read =
+      let e = hears (stream.frame octets) in
+      side_aims c parts (Ties c e answer) tt (λ service to. tt) (addressed l parts.address (link.frame parts) (message_of parts.control parts.info))
+      (by-address c l e answer parts.address (link.frame parts) (message_of parts.control parts.info) (message-ties c l e answer parts.control parts.info)
+      (λ service sapi. record { octets = octets; by = refl; read = read; sapi = sapi; tei_is = refl }))
+  read-ties octets (Err BadExtension) read = tt
+  read-ties octets (Err (Undefined address)) read =
+      by-address c l (hears (stream.frame octets)) answer address link.undefined (drop_for Unserved) tt
+      (λ service sapi. record { octets = octets; address = address; by = inl (refl, read); sapi = sapi; tei_is = refl })
+  read-ties octets (Err (WrongSize address)) read =
+      by-address c l (hears (stream.frame octets)) answer address link.wrong_size (drop_for Unserved) tt
+      (λ service sapi. record { octets = octets; address = address; by = inl (refl, read); sapi = sapi; tei_is = refl })
+  read-ties octets (Err Short) read = tt
 
   -- one that was too long to keep
-  too-long : (head : List ℕ) → gained c.n201 l.received value ≡ Some (stream.overlong head) → (address : Address) (what : link.Received) → IsTooLong c address head what
-      → (service : Service) → service_of address.sapi ≡ Some service → BringsMalformed c l (octet value) service address.tei what
-  too-long head ends address what is service sapi = record {
-    value = value;
-    by = refl;
-    octets = head;
-    address = address;
-    ends = inr (gained-adds c l value (Some (stream.overlong head)) ends, is);
-    sapi = sapi;
-    tei_is = refl;
-  }
+  too-long : (head : List ℕ) (address : Address) (what : link.Received) → IsTooLong c address head what
+      → (service : Service) → service_of address.sapi ≡ Some service → BringsMalformed c (hears (stream.overlong head)) service address.tei what
+  too-long head address what is service sapi = record { octets = head; address = address; by = inr (refl, is); sapi = sapi; tei_is = refl }
 
-  long-ties : (head : List ℕ) → gained c.n201 l.received value ≡ Some (stream.overlong head) → (r : Result Long ReadFault) → long_reading (heard_side c) head ≡ r
-      → Ties c l (octet value) answer (aim_of_long l r)
-  long-ties head ends (Ok (long.Information address)) read = by-address c l (octet value) answer address link.overlong (drop_for Unserved) tt (too-long head ends address link.overlong read)
-  long-ties head ends (Ok (long.Unnumbered address)) read = unless-ties c l (octet value) answer (addressed l address link.overlong (drop_for Unserved))
-  long-ties head ends (Err BadExtension) read = tt
-  long-ties head ends (Err (Undefined address)) read = by-address c l (octet value) answer address link.undefined (drop_for Unserved) tt (too-long head ends address link.undefined read)
-  long-ties head ends (Err (WrongSize address)) read = by-address c l (octet value) answer address link.wrong_size (drop_for Unserved) tt (too-long head ends address link.wrong_size read)
-  long-ties head ends (Err Short) read = tt
+  long-ties : (head : List ℕ) (r : Result Long ReadFault) → long_reading (heard_side c) head ≡ r → Ties c (hears (stream.overlong head)) answer (aim_of_long l r)
+  long-ties head (Ok (long.Information address)) read =
+      by-address c l (hears (stream.overlong head)) answer address link.overlong (drop_for Unserved) tt (too-long head address link.overlong read)
+  long-ties head (Ok (long.Unnumbered address)) read = unless-ties c l (hears (stream.overlong head)) answer (addressed l address link.overlong (drop_for Unserved))
+  long-ties head (Err BadExtension) read = tt
+  long-ties head (Err (Undefined address)) read =
+      by-address c l (hears (stream.overlong head)) answer address link.undefined (drop_for Unserved) tt (too-long head address link.undefined read)
+  long-ties head (Err (WrongSize address)) read =
+      by-address c l (hears (stream.overlong head)) answer address link.wrong_size (drop_for Unserved) tt (too-long head address link.wrong_size read)
+  long-ties head (Err Short) read = tt
 
-  pub octet-ties : Ties c l (octet value) answer (aim_of_octet c value l)
-  octet-ties = go (gained c.n201 l.received value) refl
-    where
-      go : (o : Option stream.Event) → gained c.n201 l.received value ≡ o → Ties c l (octet value) answer (option_map_or (aim_of_heard c l) o (at_none nothing))
-      go None e = tt
-      go (Some (stream.frame octets)) e = read-ties octets e (reading (heard_side c) octets) refl
-      go (Some (stream.overlong head)) e = long-ties head e (long_reading (heard_side c) head) refl
-      go (Some (stream.dropped cause)) e = tt
+pub heard-ties : (c : Config) (l : Line) (e : stream.Event) (answer : Answer) → Ties c (hears e) answer (aim_of_heard c l e)
+heard-ties c l (stream.frame octets) answer = read-ties c l answer octets (reading (heard_side c) octets) refl
+heard-ties c l (stream.overlong head) answer = long-ties c l answer head (long_reading (heard_side c) head) refl
+heard-ties c l (stream.dropped cause) answer = tt
 
 -- An expiry.
 timer-ties : (c : Config) (l : Line) (answer : Answer) (service : Service) (tei : ℕ) (timer : LinkTimer) (o : Option ℕ)
-    → Ties c l (expiry (Rattle.laws_line.specs.Steady.timer_of service tei timer)) answer (at_timer service tei timer o)
+    → Ties c (expiry (Rattle.laws_line.specs.Steady.timer_of service tei timer)) answer (at_timer service tei timer o)
 timer-ties c l answer service tei timer None = tt
 timer-ties c l answer service tei timer (Some place) = refl
 
-pub expiry-ties : (c : Config) (l : Line) (timer : Timer) (answer : Answer) → Ties c l (expiry timer) answer (aim_of_expiry timer l)
+pub expiry-ties : (c : Config) (l : Line) (timer : Timer) (answer : Answer) → Ties c (expiry timer) answer (aim_of_expiry timer l)
 expiry-ties c l (T200 service tei) answer = timer-ties c l answer service tei link_timer.T200 (place_in l tei)
 expiry-ties c l (T203 service tei) answer = timer-ties c l answer service tei link_timer.T203 (place_in l tei)
 expiry-ties c l T201 answer = tt
@@ -158,11 +129,11 @@ expiry-ties c l T201 answer = tt
 -- A request that is granted.
 module _ (c : Config) (l : Line) (answer : Answer) (granted : is_granted answer ≡ true) where
   asked-ties : (service : Service) (tei : ℕ) (asked : link.Request) (o : Option ℕ)
-      → Ties c l (request (Rattle.laws_line.specs.Requests.of_link service tei asked)) answer (at_requested service tei asked o)
+      → Ties c (request (Rattle.laws_line.specs.Requests.of_link service tei asked)) answer (at_requested service tei asked o)
   asked-ties service tei asked None = tt
   asked-ties service tei asked (Some place) = (refl, granted, refl)
 
-  pub request-ties : (r : Request) → Ties c l (request r) answer (aim_of_request r l)
+  pub request-ties : (r : Request) → Ties c (request r) answer (aim_of_request r l)
   request-ties (Establish service tei) = asked-ties service tei link.Establish (place_in l tei)
   request-ties (Release service tei) = asked-ties service tei link.Release (place_in l tei)
   request-ties (Data service tei contents) = asked-ties service tei (link.Data contents) (place_in l tei)

@@ -1,5 +1,6 @@
 -- A caller that obeys the orders runs the timers that are needed: each event of a line.
-use Rattle.std.proofs.Common.{◌≡◌, ◌≢◌, ℕ, zero, suc, ◌/◌, ◌%◌, ◌==◌, Bool, true, false, cond, arith, eqb-true, eq-eqb, true≢false, is_some, List, [], ◌∷◌, ◌++◌, get_or, replicate, Option, Some, None, refl, ap, sym, ◌∙◌, subst, inl, inr, IfSome}
+use Rattle.std.proofs.Common.{option_map, ◌≡◌, ◌≢◌, ℕ, zero, suc, ◌/◌, ◌%◌, ◌==◌, Bool, true, false, cond, arith, eqb-true, eq-eqb, true≢false, is_some, List, get_or, replicate, Option, Some, None, refl, ap, sym, ◌∙◌, subst, inl, inr}
+use Rattle.model_line.proofs.TakenWalk.{next_walk}
 use Rattle.std.specs.Option.{option_map_or}
 use Rattle.std.proofs.lemmas.Option.{none-some}
 use Rattle.model_bits.specs.Stream as stream
@@ -32,20 +33,19 @@ use Rattle.lapd_tei.proofs.Followed.{t201_follows, expired_t201_follows}
 use Rattle.lapd_tei.proofs.LawLemmas as tei_lemmas
 use Rattle.lapd_tei.proofs.Tables.{place_of-is}
 use Rattle.model_line.specs.declared.config.Config.{Config}
-use Rattle.model_line.specs.Event.{Event, octet, expiry, request, pull, nothing}
-use Rattle.model_line.specs.Effect.{at_none, at_link, at_management, at_units, told_of_management, of_change, of_aim}
+use Rattle.model_line.specs.Event.{Event, expiry, request, gave, hears, next}
+use Rattle.model_line.specs.Effect.{at_link, at_management, at_units, told_of_management, of_change, of_aim}
 use Rattle.model_line.specs.Expiry.{at_timer, is_running, runs_at}
 use Rattle.model_line.specs.Laws.{orders_in}
 use Rattle.model_line.specs.Line.{Line, link_number, service_at, place_at, place_in, link_at, link_in, terms, with_link, fresh_line, link_count}
 use Rattle.model_line.specs.Machine.{after, answer, unless_refused, unless_refused_told}
-use Rattle.model_line.specs.Octet.{gained, aim_of_heard, with_received}
-use Rattle.model_line.specs.Pull.{Taken, with_message, with_unit, with_given_frame, orders_of, taken, is_due, with_item, after_pull}
+use Rattle.model_line.specs.Heard.{aim_of_heard}
+use Rattle.model_line.specs.Taken.{Taken, with_message, with_unit, with_given_frame, taken, next_of, line_of}
 use Rattle.model_line.specs.Refusal.{refusal}
 use Rattle.model_line.specs.Request.{Request, Establish, Release, Data, Unit, Assign, Remove, Check, SetBusy, ClearBusy}
 use Rattle.model_line.specs.Requested.{at_requested, aim_of_request}
 use Rattle.model_line.specs.Sound.{IsInRange, IsSound}
 use Rattle.model_line.proofs.AimsSound.{IsProper}
-use Rattle.model_line.proofs.LineSound.{received_sound}
 use Rattle.model_line.proofs.ProperAims.{heard_aims, request_proper}
 use Rattle.laws_line.specs.Timers.{link_needs, is_needed, runs_then, HaveTheirTimers}
 use Rattle.laws_line.proofs.Following.{timer_of, each-timer, running-of, same-running, one-steered, management-stays, comes, goes, t201-goes, t201-stays}
@@ -124,11 +124,10 @@ module _ (c : Config) (l : Line) (s : IsSound c l) where
   managed e fits = management-followed c l s as_it_was (λ k service tei b. refl) e fits (t201_follows e l.management)
 
   -- what is heard
-  pub heard-followed : (o : Option stream.Event) → let aim = option_map_or (aim_of_heard c l) o (at_none nothing) in Follow as_it_was l (of_aim c aim l).told.orders (of_aim c aim l).line
-  heard-followed None = λ timer. refl
-  heard-followed (Some e) =
+  pub heard-followed : (e : stream.Event) → Follow as_it_was l (of_aim c (aim_of_heard c l e) l).told.orders (of_aim c (aim_of_heard c l e) l).line
+  heard-followed =
       heard_aims c l (λ aim. Follow as_it_was l (of_aim c aim l).told.orders (of_aim c aim l).line) (λ cause. λ timer. refl)
-      (λ service tei place what at. aimed service tei place (link.received what) at) (λ info. managed (teis.message info) tt) (λ parts service to timer. refl) e
+      (λ service tei place what at. aimed service tei place (link.received what) at) (λ info. managed (teis.message info) tt) (λ parts service to timer. refl)
 
   -- what is asked for
   asked : (service : Service) (tei : ℕ) (what : link.Request) (o : Option ℕ) → place_in l tei ≡ o
@@ -186,7 +185,7 @@ module _ (c : Config) (l : Line) (s : IsSound c l) where
       ours link_timer.T200 service tei b = refl
       ours link_timer.T203 service tei b = refl
 
-  -- A pull: what a link gives, it orders as well.
+  -- A call for the next frame: what a link gives, it orders as well.
   given-orders : (t : Terms) (x : Link) (g : Given) → links.given t x ≡ Some g → g.orders ≡ (links.told t link.offer x).orders
   given-orders t x g = go (links.course t link.offer x).sent
     where
@@ -215,34 +214,16 @@ module _ (c : Config) (l : Line) (s : IsSound c l) where
           (one-steered c l s (service_at x.number) x.tei (place_at x.number) x.on_line as_it_was x.what.orders (links.after (terms c (service_at x.number) x.tei) link.offer (link_at x.number l))
           (subst (λ y. Steers (terms c (service_at x.number) x.tei) as_it_was x.what.orders y (links.after (terms c (service_at x.number) x.tei) link.offer (link_at x.number l))) (ap (λ n. link_at n l) (sym (number-is x.number))) steers) timer)
 
-  pub pull-followed : let begun = cond (is_due l) (taken c l) None in Follow as_it_was l (option_map_or orders_of begun []) (after_pull c l)
-  pull-followed = go (is_due l) (taken c l) (taken-one c l s)
-    where
-      with-text : (last : Line) (os : List Order) → Follow as_it_was l os last → (rest : Line) → rest.management ≡ last.management → rest.links ≡ last.links → Follow as_it_was l os rest
-      with-text last os h rest same ls timer =
-          h timer ∙ sym (same-running last rest (ap (λ (x : Management). x.places) same) (ap (λ (x : Management). is_some x.check) same) ls timer)
-
-      go : (due : Bool) (o : Option Taken) → IfSome o (IsOne c l)
-          → Follow as_it_was l (option_map_or orders_of (cond due o None) []) (record (cond due (with_item o l) l) { given = (after_pull c l).given })
-      go false o x = with-text l [] (λ timer. refl) _ refl refl
-      go true None x = with-text l [] (λ timer. refl) _ refl refl
-      go true (Some t) x = with-text t.line t.orders (took t x) _ refl refl
+  pub next-followed : Follow as_it_was l (orders_in (gave (option_map next_of (taken c l)))) (option_map_or line_of (taken c l) l)
+  next-followed = next_walk c l (IsOne c l) (λ o m. Follow as_it_was l (orders_in (gave (option_map next_of o))) m) (taken-one c l s) (λ timer. refl) took
 
 -- Any event, of the timers that the line runs.
 abbrev Runs : Config → Event → Line → Timer → Type 0
 Runs c e l timer = runs_then timer (is_running timer l) e (answer c e l) ≡ is_running timer (after c e l)
 
-received-same : (l : Line) (received : List ℕ) (timer : Timer) → is_running timer (record l { received = received }) ≡ is_running timer l
-received-same l received timer = same-running l (record l { received = received }) refl refl refl timer
-
 runs-follow : (c : Config) (e : Event) (l : Line) (timer : Timer) → IsSound c l → ((number : ℕ) → IsTimed (link_at number l)) → Runs c e l timer
 unfolding after answer
-runs-follow c (octet value) l timer s timed =
-    let now = with_received value l in
-    let h = heard-followed c now (received_sound c value l s) (gained c.n201 l.received value) timer in
-    subst (λ b. obeyed timer b (of_aim c (option_map_or (aim_of_heard c l) (gained c.n201 l.received value) (at_none nothing)) now).told.orders
-    ≡ is_running timer (of_aim c (option_map_or (aim_of_heard c l) (gained c.n201 l.received value) (at_none nothing)) now).line)
-    (received-same l (l.received ++ value ∷ []) timer) h
+runs-follow c (hears e) l timer s timed = heard-followed c l s e timer
 runs-follow c (expiry (T200 service tei)) l timer s timed = expired c l s link_timer.T200 service tei timed (place_in l tei) refl timer
 runs-follow c (expiry (T203 service tei)) l timer s timed = expired c l s link_timer.T203 service tei timed (place_in l tei) refl timer
 runs-follow c (expiry T201) l timer s timed = t201-expired c l s timer
@@ -253,7 +234,7 @@ runs-follow c (request r) l timer s timed = go (refusal c false r l) (request_pr
         ≡ is_running timer (of_aim c (unless_refused o (aim_of_request r l)) l).line
     go None proper = request-followed c l s r proper timer
     go (Some why) proper = refl
-runs-follow c pull l timer s timed = pull-followed c l s timer
+runs-follow c next l timer s timed = next-followed c l s timer
 
 -- A timely line runs what it needs.
 needs-runs : (k : LinkTimer) (service : Service) (l : Line) → HaveTheirTimers l → (o : Option ℕ) → option_map_or (link_needs k service l) o false ≡ runs_at service k o l

@@ -1,5 +1,5 @@
 -- Where all that a link keeps goes, layer 3 learns it.
-use Rattle.std.proofs.Common.{◌≡◌, ◌≢◌, ℕ, ◌<◌, Bool, true, false, cond, ◌||◌, ◌&&◌, ◌==◌, List, [], ◌∷◌, ◌++◌, length, get_or, set, Option, Some, None, is_some, refl, sym, ap, ◌∙◌, subst, true≢false, eqb-true, eq-eqb, ◌⊎◌, inl, inr, ⊎_elim}
+use Rattle.std.proofs.Common.{◌≡◌, ◌≢◌, ℕ, Bool, true, false, cond, ◌||◌, ◌&&◌, ◌==◌, List, [], ◌∷◌, get_or, Option, Some, None, is_some, refl, sym, ap, ◌∙◌, subst, true≢false, eqb-true, eq-eqb, ◌⊎◌, inl, inr, ⊎_elim}
 use Rattle.std.specs.Prelude.{All}
 use Rattle.std.specs.List.{list_any}
 use Rattle.std.specs.Option.{option_map_or}
@@ -34,13 +34,13 @@ use Rattle.lapd_tei.specs.declared.outcome.Change.TheVariants.{Gained, Left}
 use Rattle.lapd_tei.proofs.LawLemmas as tei_lemmas
 use Rattle.lapd_tei.proofs.Tables.{place_of-is}
 use Rattle.model_line.specs.declared.config.Config.{Config}
-use Rattle.model_line.specs.Event.{Event, octet, expiry, request, pull, LineTold, told, nothing}
+use Rattle.model_line.specs.Event.{Event, expiry, request, LineTold, told, nothing, hears, next}
 use Rattle.model_line.specs.Deliveries.{is_change_at}
 use Rattle.model_line.specs.Effect.{Aim, at_none, at_link, at_management, at_units, told_of_management, of_change, of_aim}
 use Rattle.model_line.specs.Expiry.{at_timer, aim_of_expiry}
 use Rattle.model_line.specs.Line.{Line, link_number, service_at, place_at, tei_at, place_in, link_in, terms}
 use Rattle.model_line.specs.Machine.{after, answer, unless_refused, unless_refused_told}
-use Rattle.model_line.specs.Octet.{gained, aim_of_heard, aim_of_octet}
+use Rattle.model_line.specs.Heard.{aim_of_heard}
 use Rattle.model_line.specs.Refusal.{refusal}
 use Rattle.model_line.specs.Request.{Request, Establish, Release, Data, Unit, Assign, Remove, Check, SetBusy, ClearBusy}
 use Rattle.model_line.specs.Requested.{at_requested, aim_of_request}
@@ -48,8 +48,8 @@ use Rattle.model_line.specs.Sound.{IsSound}
 use Rattle.model_line.proofs.AimsSound.{IsProper}
 use Rattle.model_line.proofs.Numbers.{place_at-number, service_at-number}
 use Rattle.model_line.proofs.ProperAims.{heard_aims, request_proper}
-use Rattle.laws_line.specs.Share.{no_share, ending, share_aimed, share_of, is_link, is_of}
-use Rattle.laws_line.specs.Loss.{is_loss_of, IsReleased, IsNoted, IsMoved, IsTold}
+use Rattle.laws_line.specs.Share.{no_share, ending, share_aimed, share_of, is_link}
+use Rattle.laws_line.specs.Loss.{is_loss_of, IsTold}
 
 -- A note of a link that tells a loss tells it of this link.
 pub same_of_itself : (s : Service) → same_service s s ≡ true
@@ -96,14 +96,14 @@ moved places new place (Some (Left tei other)) e m =
     let at : other ≡ place = eqb-true other place e in
     λ same. none-some tei (sym (get_or-set_same places other None None m.within) ∙ ap (λ ps. get_or ps other None) (sym m.is_free) ∙ ap (λ p. get_or new p None) at ∙ same ∙ ap (λ p. get_or places p None) (sym at) ∙ m.was_there)
 
-module _ (c : Config) (l : Line) (s : IsSound c l) (number : ℕ) (received : List ℕ) where
+module _ (c : Config) (l : Line) (s : IsSound c l) (number : ℕ) where
   abbrev Tells : Event → Aim → Type 0
-  Tells e aim = (share_aimed c number l aim).empties ≡ true → IsTold number e l (of_aim c aim (record l { received = received })).line (told (of_aim c aim (record l { received = received })).told)
+  Tells e aim = (share_aimed c number l aim).empties ≡ true → IsTold number e l (of_aim c aim l).line (told (of_aim c aim l).told)
 
   -- an event of this link
   at-link : (event : Event) (service : Service) (tei place : ℕ) (e : link.Event) → IsAt l.management.places place tei
       → (ends (terms c service tei) e (link_in l service place) ≡ true → link_number place service ≡ number
-      → IsTold number event l (of_aim c (at_link service tei place e) (record l { received = received })).line (told (of_aim c (at_link service tei place e) (record l { received = received })).told))
+      → IsTold number event l (of_aim c (at_link service tei place e) l).line (told (of_aim c (at_link service tei place e) l).told))
       → Tells event (at_link service tei place e)
   at-link event service tei place e at ended = go (link_number place service == number) refl
     where
@@ -117,7 +117,7 @@ module _ (c : Config) (l : Line) (s : IsSound c l) (number : ℕ) (received : Li
       )
 
       go : (b : Bool) → (link_number place service == number) ≡ b → (cond b (share t e (link_in l service place)) no_share).empties ≡ true
-          → IsTold number event l (of_aim c (at_link service tei place e) (record l { received = received })).line (told (of_aim c (at_link service tei place e) (record l { received = received })).told)
+          → IsTold number event l (of_aim c (at_link service tei place e) l).line (told (of_aim c (at_link service tei place e) l).told)
       go false other none = absurd (true≢false (sym none))
       go true same some =
           let is : link_number place service ≡ number = eqb-true (link_number place service) number same in
@@ -133,14 +133,14 @@ module _ (c : Config) (l : Line) (s : IsSound c l) (number : ℕ) (received : Li
 
   changes : (event : Event) (o : Option Change) (r : LineTold) (m : Management) → tei_laws.Moves l.management.places o m.places
       → (cond (is_change_at (place_at number) o) ending no_share).empties ≡ true
-      → IsTold number event l (of_change c o r (record l { received = received; management = m })).line (told (of_change c o r (record l { received = received; management = m })).told)
+      → IsTold number event l (of_change c o r (record l { management = m })).line (told (of_change c o r (record l { management = m })).told)
   changes event o r m moves some = inr (inr (λ same. moved l.management.places m.places (place_at number) o (at-it (is_change_at (place_at number) o) some) moves (places-are o ∙ same)))
     where
       at-it : (b : Bool) → (cond b ending no_share).empties ≡ true → b ≡ true
       at-it true e = refl
       at-it false e = e
 
-      places-are : (o : Option Change) → get_or m.places (place_at number) None ≡ tei_at (place_at number) (of_change c o r (record l { received = received; management = m })).line
+      places-are : (o : Option Change) → get_or m.places (place_at number) None ≡ tei_at (place_at number) (of_change c o r (record l { management = m })).line
       places-are None = refl
       places-are (Some (Gained tei place)) = refl
       places-are (Some (Left tei place)) = refl
@@ -154,12 +154,11 @@ module _ (c : Config) (l : Line) (s : IsSound c l) (number : ℕ) (received : Li
   no-loss event aim none some = absurd (true≢false (sym some ∙ none))
 
   -- what is heard
-  pub octet-tells : (event : Event) (o : Option stream.Event) → Tells event (option_map_or (aim_of_heard c l) o (at_none nothing))
-  octet-tells event None = no-loss event (at_none nothing) refl
-  octet-tells event (Some e) =
+  pub heard-tells : (event : Event) (e : stream.Event) → Tells event (aim_of_heard c l e)
+  heard-tells event =
       heard_aims c l (Tells event) (λ cause. no-loss event (at_none _) refl)
       (λ service tei place what at. at-link event service tei place (link.received what) (place_of-is l.management.places tei place at).1 (λ y is. absurd (true≢false (sym y))))
-      (λ info. management event (teis.message info) tt) (λ parts service to. no-loss event (at_none _) refl) e
+      (λ info. management event (teis.message info) tt) (λ parts service to. no-loss event (at_none _) refl)
 
   timer-tells : (event : Event) (service : Service) (tei : ℕ) (timer : LinkTimer) (o : Option ℕ) → place_in l tei ≡ o → Tells event (at_timer service tei timer o)
   timer-tells event service tei timer None e = no-loss event (at_none nothing) refl
@@ -209,12 +208,12 @@ module _ (c : Config) (l : Line) (s : IsSound c l) (number : ℕ) (received : Li
 pub loss-told : (c : Config) (e : Event) (l : Line) (number : ℕ) → IsSound c l → (share_of c number e l).empties ≡ true
     → IsTold number e l (after c e l) (answer c e l)
 unfolding after answer
-loss-told c (octet value) l number s = octet-tells c l s number (l.received ++ value ∷ []) (octet value) (gained c.n201 l.received value)
-loss-told c (expiry timer) l number s = expiry-tells c l s number l.received (expiry timer) timer
+loss-told c (hears e) l number s = heard-tells c l s number (hears e) e
+loss-told c (expiry timer) l number s = expiry-tells c l s number (expiry timer) timer
 loss-told c (request r) l number s = go (refusal c false r l) (request_proper c l r)
   where
     go : (o : Option Refusal) → IsProper c l (unless_refused o (aim_of_request r l)) → (share_aimed c number l (unless_refused o (aim_of_request r l))).empties ≡ true
         → IsTold number (request r) l (of_aim c (unless_refused o (aim_of_request r l)) l).line (unless_refused_told o (of_aim c (unless_refused o (aim_of_request r l)) l))
-    go None proper = request-tells c l s number l.received r proper
+    go None proper = request-tells c l s number r proper
     go (Some why) proper = λ none. absurd (true≢false (sym none))
-loss-told c pull l number s = λ none. absurd (true≢false (sym none))
+loss-told c next l number s = λ none. absurd (true≢false (sym none))

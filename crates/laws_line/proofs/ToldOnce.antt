@@ -1,7 +1,7 @@
 -- Contents that an answer hands on are noted once.
 use Rattle.std.proofs.Common.{◌≡◌, ℕ, ◌+◌, false, cond, List, [], ◌∷◌, ◌++◌, length, Option, Some, None, option_to_list, refl, ap, ◌∙◌, ◌⊎◌, inl, inr, arith}
 use Rattle.std.specs.Prelude.{count_by}
-use Rattle.std.specs.Option.{option_or, option_map_or}
+use Rattle.std.specs.Option.{option_or}
 use Rattle.std.proofs.lemmas.List.Sums.{sum_by-cons, sum_by-append}
 use Rattle.model_bits.specs.Stream as stream
 use Rattle.lapd_frame.specs.declared.notes.Note.{Note}
@@ -29,12 +29,12 @@ use Rattle.lapd_tei.specs.declared.outcome.Change.{Change}
 use Rattle.lapd_tei.specs.declared.outcome.Change.TheVariants.{Gained, Left}
 use Rattle.lapd_tei.proofs.Tables.{place_of-is}
 use Rattle.model_line.specs.declared.config.Config.{Config}
-use Rattle.model_line.specs.Event.{Event, octet, expiry, request, pull, nothing}
-use Rattle.model_line.specs.Effect.{Aim, at_none, at_link, at_management, told_of_management, of_link, of_change, of_aim}
+use Rattle.model_line.specs.Event.{Event, expiry, request, hears, next}
+use Rattle.model_line.specs.Effect.{Aim, at_link, at_management, told_of_management, of_link, of_change, of_aim}
 use Rattle.model_line.specs.Expiry.{at_timer, aim_of_expiry}
 use Rattle.model_line.specs.Line.{Line, place_in, link_in, terms}
 use Rattle.model_line.specs.Machine.{answer, unless_refused, unless_refused_told}
-use Rattle.model_line.specs.Octet.{gained, aim_of_heard}
+use Rattle.model_line.specs.Heard.{aim_of_heard}
 use Rattle.model_line.specs.Refusal.{refusal}
 use Rattle.model_line.specs.Request.{Request, Establish, Release, Data, Unit, Assign, Remove, Check, SetBusy, ClearBusy}
 use Rattle.model_line.specs.Requested.{at_requested, aim_of_request}
@@ -118,10 +118,10 @@ three-none a b c one two three =
     omega (arith, first, second, one, two, three)
 
 -- What an event aims at.
-module _ (c : Config) (ranged : IsInRange c) (l : Line) (s : IsSound c l) (received : List ℕ) where
+module _ (c : Config) (ranged : IsInRange c) (l : Line) (s : IsSound c l) where
   abbrev Once : Aim → Type 0
   Once aim =
-      let t = (of_aim c aim (record l { received = received })).told in
+      let t = (of_aim c aim l).told in
       count_by tells_contents t.notes ≡ length (option_to_list t.contents)
 
   at-its-link : (service : Service) (tei place : ℕ) (e : link.Event) → place_in l tei ≡ Some place → Once (at_link service tei place e)
@@ -130,12 +130,12 @@ module _ (c : Config) (ranged : IsInRange c) (l : Line) (s : IsSound c l) (recei
       (sound_in c ranged l s service tei place (place_of-is l.management.places tei place on).1) e
 
   changed-once : (e : teis.Event) (o : Option Change) → ByChange e o (teis.told e l.management).notes
-      → let t = (of_change c o (told_of_management (teis.told e l.management)) (record l { received = received; management = teis.after e l.management })).told in
+      → let t = (of_change c o (told_of_management (teis.told e l.management)) (record l { management = teis.after e l.management })).told in
       count_by tells_contents t.notes ≡ length (option_to_list t.contents)
   changed-once e None by = management-none e None (teis.told e l.management).notes by
   changed-once e (Some (Gained tei place)) by = management-none e (Some (Gained tei place)) (teis.told e l.management).notes by
   changed-once e (Some (Left tei place)) by =
-      let now = record l { received = received; management = teis.after e l.management } in
+      let now = record l { management = teis.after e l.management } in
       let call = of_link c Call tei place link.cleared now in
       let packet = of_link c Packet tei place link.cleared call.line in
       three-none (teis.told e l.management).notes call.told.notes packet.told.notes
@@ -145,11 +145,10 @@ module _ (c : Config) (ranged : IsInRange c) (l : Line) (s : IsSound c l) (recei
   managed : (e : teis.Event) → Once (at_management e)
   managed e = changed-once e (teis.told e l.management).change (noted e l.management s.management)
 
-  heard-once : (o : Option stream.Event) → Once (option_map_or (aim_of_heard c l) o (at_none nothing))
-  heard-once None = refl
-  heard-once (Some e) =
+  heard-once : (e : stream.Event) → Once (aim_of_heard c l e)
+  heard-once =
       heard_aims c l Once (λ cause. refl) (λ service tei place what on. at-its-link service tei place (link.received what) on)
-      (λ info. managed (teis.message info)) (λ parts service to. refl) e
+      (λ info. managed (teis.message info)) (λ parts service to. refl)
 
   timer-once : (service : Service) (tei : ℕ) (timer : LinkTimer) (o : Option ℕ) → place_in l tei ≡ o → Once (at_timer service tei timer o)
   timer-once service tei timer None on = refl
@@ -177,11 +176,11 @@ module _ (c : Config) (ranged : IsInRange c) (l : Line) (s : IsSound c l) (recei
 
 pub told-once : (c : Config) (e : Event) (l : Line) → IsInRange c → IsSound c l → IsNotedOnce (answer c e l)
 unfolding answer
-told-once c (octet value) l ranged s = heard-once c ranged l s (l.received ++ value ∷ []) (gained c.n201 l.received value)
-told-once c (expiry timer) l ranged s = expiry-once c ranged l s l.received timer
+told-once c (hears e) l ranged s = heard-once c ranged l s e
+told-once c (expiry timer) l ranged s = expiry-once c ranged l s timer
 told-once c (request r) l ranged s = go (refusal c false r l)
   where
     go : (o : Option Refusal) → IsNotedOnce (unless_refused_told o (of_aim c (unless_refused o (aim_of_request r l)) l))
-    go None = request-once c ranged l s l.received r
+    go None = request-once c ranged l s r
     go (Some why) = refl
-told-once c pull l ranged s = refl
+told-once c next l ranged s = refl

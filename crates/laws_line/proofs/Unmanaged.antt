@@ -1,7 +1,8 @@
 -- The user's side has no TEI management.
-use Rattle.std.proofs.Common.{◌≡◌, ℕ, Bool, true, false, not, cond, List, [], ◌∷◌, drop, Option, Some, None, refl, sym, ap, ◌∙◌, subst, true≢false, inl, inr}
-use Rattle.std.specs.Prelude.{IfSome}
-use Rattle.lapd_frame.specs.declared.addresses.Side.{Side}
+use Rattle.std.proofs.Common.{◌≡◌, ℕ, Bool, true, false, not, [], ◌∷◌, drop, Option, Some, None, refl, sym, ap, ◌∙◌, true≢false, inl, inr}
+use Rattle.model_line.proofs.TakenWalk.{next_walk}
+use Rattle.std.specs.Option.{option_map_or}
+use Rattle.model_bits.specs.Stream as stream
 use Rattle.lapd_frame.specs.declared.addresses.Side.TheVariants.{User, Network}
 use Rattle.lapd_frame.specs.declared.refusals.Refusal.{Refusal}
 use Rattle.lapd_frame.specs.declared.services.Service.{Service}
@@ -15,13 +16,12 @@ use Rattle.model_link.specs.declared.timers.LinkTimer.{LinkTimer}
 use Rattle.model_link.specs.declared.timers.LinkTimer.TheVariants as link_timer
 use Rattle.model_link.specs.Events as link
 use Rattle.model_line.specs.declared.config.Config.{Config}
-use Rattle.model_line.specs.Effect.{Aim, at_management, of_aim}
-use Rattle.model_line.specs.Event.{Event, octet, expiry, request, pull}
+use Rattle.model_line.specs.Effect.{at_management, of_aim}
+use Rattle.model_line.specs.Event.{Event, hears, expiry, request, next}
 use Rattle.model_line.specs.Expiry.{at_timer}
-use Rattle.model_line.specs.Line.{Line, fresh_line, place_in}
+use Rattle.model_line.specs.Line.{Line, place_in}
 use Rattle.model_line.specs.Machine.{after, unless_refused}
-use Rattle.model_line.specs.Octet.{with_received}
-use Rattle.model_line.specs.Pull.{Taken, taken, is_due, with_item, after_pull}
+use Rattle.model_line.specs.Taken.{Taken, taken, line_of}
 use Rattle.model_line.specs.Refusal.{wrong_side, bad_tei, no_link, check_running, control_full, refusal}
 use Rattle.model_line.specs.Request.{Request, Establish, Release, Data, Unit, Assign, Remove, Check, SetBusy, ClearBusy}
 use Rattle.model_line.specs.Requested.{at_requested, aim_of_request}
@@ -29,7 +29,7 @@ use Rattle.model_line.specs.Sides.{has_management}
 use Rattle.model_line.specs.Sound.{IsSound}
 use Rattle.laws_line.specs.Unmanaged.{IsUnmanaged, UsersManageNothing}
 use Rattle.laws_line.proofs.Asked.{passed}
-use Rattle.laws_line.proofs.GroupAims.{octet-aims}
+use Rattle.laws_line.proofs.GroupAims.{heard-aims-at}
 use Rattle.laws_line.proofs.LinkMoves.{IsOne, taken-one}
 use Rattle.laws_line.proofs.Managing.{managed}
 
@@ -71,18 +71,18 @@ module _ (c : Config) (l : Line) (user : c.side ≡ User) (s : IsSound c l) (h :
   idle : IsIdle l.management
   idle = record { messages = h.messages; remembered = h.remembered; check = h.check }
 
-  same : (next : Line) → next.management ≡ l.management → IsUnmanaged next
-  same next is = record {
+  same : (l' : Line) → l'.management ≡ l.management → IsUnmanaged l'
+  same l' is = record {
     messages = ap (λ (m : Management). m.waiting) is ∙ h.messages;
     remembered = ap (λ (m : Management). m.remembered) is ∙ h.remembered;
     check = ap (λ (m : Management). m.check) is ∙ h.check;
   }
 
-  by-octet : (value : ℕ) → IsUnmanaged (after c (octet value) l)
+  by-heard : (e : stream.Event) → IsUnmanaged (after c (hears e) l)
   unfolding after
-  by-octet value =
-      octet-aims c l value (λ aim. IsUnmanaged (of_aim c aim (with_received value l)).line) (same _ refl) (λ cause. same _ refl)
-      (λ service tei place what. same _ refl) (λ parts ui. absurd (sides (sym user ∙ ui.network))) (λ parts octets ends read service to. same _ refl)
+  by-heard e =
+      heard-aims-at c l e (λ aim. IsUnmanaged (of_aim c aim l).line) (λ cause. same _ refl)
+      (λ service tei place what. same _ refl) (λ parts ui. absurd (sides (sym user ∙ ui.network))) (λ parts octets by read service to. same _ refl)
 
   by-timer : (service : Service) (tei : ℕ) (timer : LinkTimer) (o : Option ℕ) → IsUnmanaged (of_aim c (at_timer service tei timer o) l).line
   by-timer service tei timer None = h
@@ -110,7 +110,7 @@ module _ (c : Config) (l : Line) (user : c.side ≡ User) (s : IsSound c l) (h :
   by-request (Check tei) none =
       absurd (not-ours (has_management c.side) refl (passed (wrong_side c) (bad_tei tei ∷ no_link tei l ∷ check_running l ∷ control_full l ∷ []) none).0)
 
-  -- a pull takes none of nothing
+  -- a call takes none of nothing
   took : (t : Taken) → IsOne c l t → IsUnmanaged t.line
   took t (inl x) =
       let is = ap (λ (u : Taken). u.line.management) x.1 in
@@ -122,20 +122,12 @@ module _ (c : Config) (l : Line) (user : c.side ≡ User) (s : IsSound c l) (h :
   took t (inr (inl x)) = same t.line (ap (λ (u : Taken). u.line.management) x.1)
   took t (inr (inr x)) = same t.line (ap (λ (u : Taken). u.line.management) x.is)
 
-  by-pull : IsUnmanaged (after_pull c l)
-  by-pull = go (is_due l) (taken c l) (taken-one c l s)
-    where
-      kept : (next : Line) → IsUnmanaged next → (given : List ℕ) → IsUnmanaged (record next { given = given })
-      kept next k given = record { messages = k.messages; remembered = k.remembered; check = k.check }
-
-      go : (due : Bool) (o : Option Taken) → IfSome o (IsOne c l) → IsUnmanaged (Rattle.model_line.specs.Pull.with_octet (cond due (with_item o l) l))
-      go false o x = kept l h _
-      go true None x = same _ refl
-      go true (Some t) x = let k = took t x in record { messages = k.messages; remembered = k.remembered; check = k.check }
+  by-next : IsUnmanaged (option_map_or line_of (taken c l) l)
+  by-next = next_walk c l (IsOne c l) (λ o m. IsUnmanaged m) (taken-one c l s) h took
 
 pub unmanaged-stays : (c : Config) (e : Event) (l : Line) → c.side ≡ User → IsSound c l → IsUnmanaged l → IsUnmanaged (after c e l)
 unfolding after
-unmanaged-stays c (octet value) l user s h = by-octet c l user s h value
+unmanaged-stays c (hears e) l user s h = by-heard c l user s h e
 unmanaged-stays c (expiry (T200 service tei)) l user s h = by-timer c l user s h service tei link_timer.T200 (place_in l tei)
 unmanaged-stays c (expiry (T203 service tei)) l user s h = by-timer c l user s h service tei link_timer.T203 (place_in l tei)
 unmanaged-stays c (expiry T201) l user s h =
@@ -151,7 +143,7 @@ unmanaged-stays c (request r) l user s h = go (refusal c false r l) refl
     go : (o : Option Refusal) → refusal c false r l ≡ o → IsUnmanaged (of_aim c (unless_refused o (aim_of_request r l)) l).line
     go None none = by-request c l user s h r none
     go (Some why) is = h
-unmanaged-stays c pull l user s h = by-pull c l user s h
+unmanaged-stays c next l user s h = by-next c l user s h
 
 pub users-manage-nothing : UsersManageNothing
 users-manage-nothing = record { begins = λ c. record { messages = refl; remembered = refl; check = refl }; stays = unmanaged-stays }

@@ -1,24 +1,24 @@
--- Pulls of a line among other events of it: octets that come in, expiries and requests.
+-- Calls for the next frame of a line among other events of it: what is heard, expiries and requests.
 use Rattle.std.specs.Prelude.{◌≡◌, ℕ, ◌+◌, ◌-◌, Bool, true, false, List, [], ◌∷◌, ◌++◌, length, Some, if◌then◌else◌}
 use Rattle.model_line.specs.declared.config.Config.{Config}
-use Rattle.model_line.specs.Event.{Event, pull}
+use Rattle.model_line.specs.Event.{Event, next}
 use Rattle.model_line.specs.Line.{Line, place_at, tei_at}
 use Rattle.model_line.specs.Machine.{after}
-use Rattle.model_line.specs.Pull.{Taken, begun}
+use Rattle.model_line.specs.Taken.{Taken, taken}
 
 -- A line after events.
 unfoldable pub after_events : Config → List Event → Line → Line
 after_events c [] l = l
 after_events c (e ∷ es) l = after_events c es (after c e l)
 
--- How many of them are pulls.
-abbrev pub is_pull : Event → Bool
-is_pull pull = true
-is_pull other = false
+-- How many of them are calls for the next frame.
+abbrev pub is_take : Event → Bool
+is_take next = true
+is_take other = false
 
-abbrev pub pulls_in : List Event → ℕ
-pulls_in [] = 0
-pulls_in (e ∷ es) = (if is_pull e then 1 else 0) + pulls_in es
+abbrev pub takes_in : List Event → ℕ
+takes_in [] = 0
+takes_in (e ∷ es) = (if is_take e then 1 else 0) + takes_in es
 
 -- The frames that go before all links: messages of TEI management, and unit data.
 abbrev pub go_first : Line → ℕ
@@ -26,7 +26,7 @@ go_first l = length l.management.waiting + length l.units
 
 -- How many of them the other events bring.
 abbrev pub comes_first : Config → Event → Line → ℕ
-comes_first c e l = if is_pull e then 0 else go_first (after c e l) - go_first l
+comes_first c e l = if is_take e then 0 else go_first (after c e l) - go_first l
 
 unfoldable pub come_first : Config → List Event → Line → ℕ
 come_first c [] l = 0
@@ -37,11 +37,11 @@ unfoldable pub StaysOnLine : Config → ℕ → ℕ → List Event → Line → 
 StaysOnLine c number tei [] l = tei_at (place_at number) l ≡ Some tei
 StaysOnLine c number tei (e ∷ es) l = (tei_at (place_at number) l ≡ Some tei) × StaysOnLine c number tei es (after c e l)
 
--- One of these events is a pull that begins this frame.
-pub record IsBegunIn (c : Config) (es : List Event) (l : Line) (frame : List ℕ) : Type 0 where
+-- One of these events is a call that takes this frame.
+pub record IsTakenIn (c : Config) (es : List Event) (l : Line) (frame : List ℕ) : Type 0 where
   pub front : List Event
   pub back : List Event
-  pub split : es ≡ front ++ pull ∷ back
-  pub taken : Taken
-  pub begins : begun c (after_events c front l) ≡ Some taken
-  pub is : taken.frame ≡ frame
+  pub split : es ≡ front ++ next ∷ back
+  pub one : Taken
+  pub taken_is : taken c (after_events c front l) ≡ Some one
+  pub is : one.frame ≡ frame

@@ -1,5 +1,5 @@
--- What the octets of a line bring to its links and to layer 3.
-use Rattle.std.specs.Prelude.{◌≡◌, ◌⊎◌, ℕ, ◌==◌, ◌&&◌, ◌||◌, Bool, true, false, List, [], ◌∷◌, ◌++◌, length, count_by, Ok, Err, Option, Some, None, option_to_list}
+-- What is heard on a line brings to its links and to layer 3.
+use Rattle.std.specs.Prelude.{◌≡◌, ◌⊎◌, ℕ, ◌==◌, ◌&&◌, ◌||◌, Bool, true, false, List, [], length, count_by, Ok, Err, Option, Some, None, option_to_list}
 use Rattle.std.specs.List.{list_any}
 use Rattle.std.specs.Option.{option_or}
 use Rattle.model_bits.specs.Stream as stream
@@ -10,7 +10,7 @@ use Rattle.lapd_frame.specs.declared.notes.Note.{Note}
 use Rattle.lapd_frame.specs.declared.notes.Note.TheVariants as notes
 use Rattle.lapd_frame.specs.declared.overlong.Long.TheVariants as long
 use Rattle.lapd_frame.specs.declared.services.Service.{Service}
-use Rattle.lapd_frame.specs.Grammar.{Parts, Spells}
+use Rattle.lapd_frame.specs.Grammar.{Parts, Spells, AreOctets}
 use Rattle.lapd_frame.specs.Reading.{reading, long_reading}
 use Rattle.lapd_frame.specs.Services.{sapi_of, same_service}
 use Rattle.model_link.specs.Events as link
@@ -21,22 +21,10 @@ use Rattle.model_link.specs.Notes.{is_data, is_unit}
 use Rattle.model_link.specs.Told as link_told
 use Rattle.laws_link.specs.Heard.{in_i_frame, in_ui_frame, data_due, unit_due}
 use Rattle.model_line.specs.declared.config.Config.{Config}
-use Rattle.model_line.specs.Event.{Event, octet, LineTold, Answer, told}
+use Rattle.model_line.specs.Event.{Event, hears, LineTold, Answer, told}
 use Rattle.model_line.specs.Line.{Line, link_number, place_in, link_in, with_link, terms}
-use Rattle.model_line.specs.Octet.{heard_side, with_received}
+use Rattle.model_line.specs.Heard.{heard_side}
 use Rattle.model_line.specs.Sides.{group_tei, IsToGroup}
-
--- What an octet adds to what is heard: in the bits of all octets received, with this one, is heard what was heard before
--- it, and then this. Heard are the stretches between two flags: the octets of one from which the stuffed 0s are taken, and
--- whose check is good, are a frame (Q.921 clauses 2.2 to 2.7, 2.9 and 2.10).
-abbrev pub Adds : Config → Line → ℕ → List stream.Event → Type 0
-Adds c l value more = stream.heard_in c.n201 (l.received ++ value ∷ []) ≡ stream.heard_in c.n201 l.received ++ more
-
--- An octet ends a frame of these octets. Else it ends one that is longer than the receiver has room for, of which the first
--- four octets are kept (`overlong`); or a stretch that is no frame, for a cause (`dropped`): an abort, a frame of no whole octets
--- or wrongly stuffed, a wrong check, or too few octets; or nothing.
-abbrev pub Ends : Config → Line → ℕ → List ℕ → Type 0
-Ends c l value octets = Adds c l value (stream.frame octets ∷ [])
 
 -- The frame is spelled by the grammar, as the other side's, with the SAPI of a service, and with a TEI on the line.
 pub record IsFor (c : Config) (l : Line) (service : Service) (tei place : ℕ) (parts : Parts) (octets : List ℕ) : Type 0 where
@@ -74,16 +62,15 @@ pub record Says (t : link_told.LinkTold) (answer : Answer) : Type 0 where
   pub orders : own.orders ≡ t.orders
   pub lost : own.lost ≡ t.lost
 
--- Then the octet is this event of the link of that service and TEI, and nothing else changes but the octets received;
--- and the line answers what the link does.
-pub record IsOneEvent (c : Config) (before after : Line) (answer : Answer) (value : ℕ) (service : Service) (tei place : ℕ) (event : link.Event) : Type 0 where
-  pub line : after ≡ with_received value
-      (with_link (link_number place service) (links.after (terms c service tei) event (link_in before service place)) before)
+-- Then what is heard is this event of the link of that service and TEI, and nothing else changes; and the line answers what
+-- the link does.
+pub record IsOneEvent (c : Config) (before after : Line) (answer : Answer) (service : Service) (tei place : ℕ) (event : link.Event) : Type 0 where
+  pub line : after ≡ with_link (link_number place service) (links.after (terms c service tei) event (link_in before service place)) before
   pub answer_is : Says (links.told (terms c service tei) event (link_in before service place)) answer
 
--- An octet that is for no part of the line changes nothing but what was received, and this is all that is answered.
-pub record OnlyTells (t : LineTold) (before after : Line) (answer : Answer) (value : ℕ) : Type 0 where
-  pub line : after ≡ with_received value before
+-- What is for no part of the line changes nothing, and this is all that is answered.
+pub record OnlyTells (t : LineTold) (before after : Line) (answer : Answer) : Type 0 where
+  pub line : after ≡ before
   pub answer_is : answer ≡ told t
 
 -- The contents that an answer hands on.
@@ -124,36 +111,36 @@ tells_contents note = is_data note || is_unit note
 abbrev pub IsNotedOnce : Answer → Type 0
 IsNotedOnce answer = count_by tells_contents (notes_of answer) ≡ length (option_to_list (contents_in answer))
 
--- Contents are handed on only by an octet that ends a frame: an I-frame or a UI of a service and a TEI on the line, whose
--- information they are; and the answer notes data, or unit data, of that service and TEI.
+-- Contents are handed on only of a frame that is heard: an I-frame or a UI, as the grammar reads it and, where it is octets,
+-- spells it, of a service and a TEI on the line, whose information they are; and the answer notes data, or unit data, of that
+-- service and TEI.
 pub record IsHeardAtLink (c : Config) (l : Line) (event : Event) (answer : Answer) (contents : List ℕ) : Type 0 where
-  pub value : ℕ
-  pub by : event ≡ octet value
   pub octets : List ℕ
-  pub ends : Ends c l value octets
+  pub by : event ≡ hears (stream.frame octets)
   pub parts : Parts
+  pub read : reading (heard_side c) octets ≡ Ok parts
+  pub spelled : AreOctets octets → Spells (heard_side c) parts octets
   pub service : Service
   pub tei : ℕ
   pub place : ℕ
-  pub whose : IsFor c l service tei place parts octets
+  pub whose : IsTo l service tei place parts.address
   pub told : IsData service tei parts contents answer ⊎ IsUnit service tei parts contents answer
 
 -- Or, on the user's side, a UI of a service to the group (clauses 3.3.4 and 5.2.2), of at most N201 octets; and the answer
 -- notes unit data of that service and the group's TEI.
-pub record IsHeardByGroup (c : Config) (l : Line) (event : Event) (answer : Answer) (contents : List ℕ) : Type 0 where
-  pub value : ℕ
-  pub by : event ≡ octet value
+pub record IsHeardByGroup (c : Config) (event : Event) (answer : Answer) (contents : List ℕ) : Type 0 where
   pub octets : List ℕ
-  pub ends : Ends c l value octets
+  pub by : event ≡ hears (stream.frame octets)
   pub parts : Parts
-  pub spelled : Spells (heard_side c) parts octets
+  pub read : reading (heard_side c) octets ≡ Ok parts
+  pub spelled : AreOctets octets → Spells (heard_side c) parts octets
   pub service : Service
   pub whose : IsToGroup c parts service
   pub contents_are : parts.info ≡ contents
   pub told : list_any (is_unit_of service group_tei) (notes_of answer) ≡ true
 
 abbrev pub IsHeard : Config → Line → Event → Answer → List ℕ → Type 0
-IsHeard c l event answer contents = IsHeardAtLink c l event answer contents ⊎ IsHeardByGroup c l event answer contents
+IsHeard c l event answer contents = IsHeardAtLink c l event answer contents ⊎ IsHeardByGroup c event answer contents
 
 -- A frame of layer 2 management is for the user's side. TEI management is the network's (clause 5.3), so it is not served.
 pub record IsToManagement (c : Config) (parts : Parts) : Type 0 where

@@ -1,7 +1,7 @@
 -- What a line does with what it is given and what it hears, and worked values of it and of its machine.
 pub mod Share
 pub mod Loss
-pub mod Pulls
+pub mod Served
 pub mod Heard
 pub mod Frames
 pub mod Timers
@@ -9,7 +9,6 @@ pub mod Requests
 pub mod Steady
 pub mod OneEvent
 pub mod Knowledge
-pub mod Begun
 pub mod Messages
 pub mod Causes
 pub mod Unmanaged
@@ -19,9 +18,9 @@ pub mod Machine
 pub mod Laws
 pub mod WorkedLine
 pub mod WorkedSides
-pub mod WorkedWhole
+pub mod WorkedCame
 pub mod Worked
-pub mod WorkedPulls
+pub mod WorkedServed
 pub mod WorkedHeard
 pub mod WorkedOneEvent
 pub mod WorkedLinks

@@ -1,6 +1,7 @@
 -- All that an answer notes, and why: of one event of a link, of a TEI that comes or leaves, of unit data to the group on the
 -- user's side, or nothing.
 use Rattle.std.specs.Prelude.{◌≡◌, ◌⊎◌, ℕ, List, [], ◌∷◌, ◌++◌, Ok, Some, None}
+use Rattle.model_bits.specs.Stream as stream
 use Rattle.lapd_frame.specs.declared.notes.Note.{Note}
 use Rattle.lapd_frame.specs.declared.notes.Note.TheVariants.{Assigned, Removed, Doubled}
 use Rattle.lapd_frame.specs.declared.notes.Note.TheVariants as notes
@@ -12,11 +13,11 @@ use Rattle.model_link.specs.Events as link
 use Rattle.laws_link.specs.States.{as_heard}
 use Rattle.laws_link.specs.Telling.{told_by, told_cleared}
 use Rattle.model_line.specs.declared.config.Config.{Config}
-use Rattle.model_line.specs.Event.{Event, octet, expiry, Answer}
+use Rattle.model_line.specs.Event.{Event, hears, expiry, Answer}
 use Rattle.model_line.specs.Line.{Line, tei_at, link_in, terms}
-use Rattle.model_line.specs.Octet.{heard_side}
+use Rattle.model_line.specs.Heard.{heard_side}
 use Rattle.model_line.specs.Sides.{group_tei, IsToGroup}
-use Rattle.laws_line.specs.Heard.{Ends, notes_of}
+use Rattle.laws_line.specs.Heard.{notes_of}
 use Rattle.laws_line.specs.Steady.{IsBy}
 
 -- The event is one of a link of a TEI on the line, and the notes are those of the table.
@@ -26,13 +27,13 @@ pub record NotesOneEvent (c : Config) (e : Event) (before after : Line) (answer 
   pub place : ℕ
   pub on_line : tei_at place before ≡ Some tei
   pub event : link.Event
-  pub by : IsBy c before e answer service tei event
+  pub by : IsBy c e answer service tei event
   pub notes : notes_of answer
       ≡ told_by (terms c service tei) (as_heard (terms c service tei) event) (link_in before service place) (link_in after service place).state
 
 -- A TEI comes to the line: that is noted where a terminal asked for it, and not where management did (Q.921 clause 5.3.2).
 abbrev pub noted_coming : Event → ℕ → List Note
-noted_coming (octet value) tei = Assigned tei ∷ []
+noted_coming (hears e) tei = Assigned tei ∷ []
 noted_coming other tei = []
 
 pub record NotesComing (e : Event) (before after : Line) (answer : Answer) : Type 0 where
@@ -45,7 +46,7 @@ pub record NotesComing (e : Event) (before after : Line) (answer : Answer) : Typ
 -- A TEI leaves the line: by a second answer to its check, by T201, or by a request of management, which is not noted (clauses
 -- 5.3.3.2 and 5.3.4). Behind that is noted what its two links tell as they end.
 abbrev pub noted_leaving : Event → ℕ → List Note
-noted_leaving (octet value) tei = Doubled tei ∷ []
+noted_leaving (hears e) tei = Doubled tei ∷ []
 noted_leaving (expiry timer) tei = Removed tei ∷ []
 noted_leaving other tei = []
 
@@ -64,13 +65,11 @@ pub record NotesNothing (before after : Line) (answer : Answer) : Type 0 where
   pub stays : after.management.places ≡ before.management.places
   pub notes : notes_of answer ≡ []
 
--- Or, on the user's side, an octet ends a UI of the network to the group: its unit data is noted with the group's TEI, and no
+-- Or, on the user's side, a UI of the network to the group is heard: its unit data is noted with the group's TEI, and no
 -- TEI comes or leaves (clauses 3.3.4 and 5.2.2).
 pub record NotesGroup (c : Config) (e : Event) (before after : Line) (answer : Answer) : Type 0 where
-  pub value : ℕ
-  pub by : e ≡ octet value
   pub octets : List ℕ
-  pub ends : Ends c before value octets
+  pub by : e ≡ hears (stream.frame octets)
   pub parts : Parts
   pub read : reading (heard_side c) octets ≡ Ok parts
   pub service : Service

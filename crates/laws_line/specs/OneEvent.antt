@@ -11,27 +11,20 @@ use Rattle.model_link.specs.Events as link
 use Rattle.model_link.specs.Link.{fresh}
 use Rattle.model_link.specs.Machine as links
 use Rattle.model_line.specs.declared.config.Config.{Config}
-use Rattle.model_line.specs.Event.{Event, octet, request, pull, Answer, told, refused, pulled, nothing}
+use Rattle.model_line.specs.Event.{Event, request, next, Answer, told, refused, gave, nothing}
 use Rattle.model_line.specs.Line.{Line, UnitData, link_number, link_count, place_at, tei_at, place_in, link_in, link_at, with_link, terms}
 use Rattle.model_line.specs.Machine as lines
-use Rattle.model_line.specs.Octet.{with_received}
 use Rattle.model_line.specs.Request.{Request}
 use Rattle.model_line.specs.Sides.{IsToGroup}
 use Rattle.laws_line.specs.Frames.{lost_in}
 use Rattle.laws_line.specs.Heard.{Says, notes_of}
 use Rattle.laws_line.specs.Loss.{IsMoved}
 use Rattle.laws_line.specs.Share.{is_granted}
-use Rattle.laws_line.specs.Steady.{EndsFrame, IsBy, IsOfManagement}
-
--- An octet is received, whatever part it concerns.
-abbrev pub with_octet_of : Event → Line → Line
-with_octet_of (octet value) l = with_received value l
-with_octet_of other l = l
+use Rattle.laws_line.specs.Steady.{HearsFrame, IsBy, IsOfManagement}
 
 -- One link has this event, and nothing else changes; the line answers what the link tells.
-pub record IsAlone (c : Config) (e : Event) (before after : Line) (answer : Answer) (service : Service) (tei place : ℕ) (event : link.Event) : Type 0 where
-  pub line : after
-      ≡ with_octet_of e (with_link (link_number place service) (links.after (terms c service tei) event (link_in before service place)) before)
+pub record IsAlone (c : Config) (before after : Line) (answer : Answer) (service : Service) (tei place : ℕ) (event : link.Event) : Type 0 where
+  pub line : after ≡ with_link (link_number place service) (links.after (terms c service tei) event (link_in before service place)) before
   pub answer_is : Says (links.told (terms c service tei) event (link_in before service place)) answer
 
 -- TEI management has this event, and nothing else changes, but that the links of a TEI that comes or leaves are as ones that
@@ -43,8 +36,8 @@ abbrev pub noted_behind : Config → Line → Option Change → List Note
 noted_behind c l (Some (Left tei place)) = noted_ending c l Call tei place ++ noted_ending c l Packet tei place
 noted_behind c l other = []
 
-pub record IsManaged (c : Config) (e : Event) (before after : Line) (answer : Answer) (event : teis.Event) : Type 0 where
-  pub line : after ≡ record (with_octet_of e before) { management = teis.after event before.management; links = after.links }
+pub record IsManaged (c : Config) (before after : Line) (answer : Answer) (event : teis.Event) : Type 0 where
+  pub line : after ≡ record before { management = teis.after event before.management; links = after.links }
   pub stay : (number : ℕ) → number < link_count c → tei_at (place_at number) after ≡ tei_at (place_at number) before → link_at number after ≡ link_at number before
   pub begin : (number : ℕ) → number < link_count c → IsMoved number before after → link_at number after ≡ fresh
   pub notes : notes_of answer
@@ -56,27 +49,27 @@ pub record IsGranted (e : Event) (answer : Answer) (unit : UnitData) : Type 0 wh
   pub by : e ≡ request (Request.Unit unit.service unit.tei unit.contents)
   pub granted : is_granted answer ≡ true
 
--- Whatever happens on a line is an event of a link of a TEI on it, of TEI management, unit data that is granted, unit data to the
--- group that is heard on the user's side (`Heard` has what comes of it), or a pull;
+-- Whatever happens on a line is an event of a link of a TEI on it, of TEI management, unit data that is granted, unit
+-- data to the group that is heard on the user's side (`Heard` has what comes of it), or a call for the next frame;
 pub data IsOfPart (c : Config) (l : Line) (e : Event) (answer : Answer) : Type 0 where
-  of_link : (service : Service) (tei place : ℕ) (event : link.Event) → place_in l tei ≡ Some place → IsBy c l e answer service tei event → IsOfPart c l e answer
-  of_management : (event : teis.Event) → IsOfManagement c l e answer event → IsOfPart c l e answer
+  of_link : (service : Service) (tei place : ℕ) (event : link.Event) → place_in l tei ≡ Some place → IsBy c e answer service tei event → IsOfPart c l e answer
+  of_management : (event : teis.Event) → IsOfManagement c e answer event → IsOfPart c l e answer
   of_units : (unit : UnitData) → IsGranted e answer unit → IsOfPart c l e answer
-  of_group : (value : ℕ) (parts : Parts) (service : Service) → EndsFrame c l e value parts → IsToGroup c parts service → IsOfPart c l e answer
-  of_pull : e ≡ pull → IsOfPart c l e answer
+  of_group : (parts : Parts) (service : Service) → HearsFrame c e parts → IsToGroup c parts service → IsOfPart c l e answer
+  of_next : e ≡ next → IsOfPart c l e answer
 
--- or nothing changes but what was received, and the answer says nothing, but why.
+-- or nothing changes, and the answer says nothing, but why.
 abbrev pub SaysNothing : Answer → Type 0
 SaysNothing (told t) = t ≡ record nothing { cause = t.cause }
 SaysNothing (refused why) = Unit {0}
-SaysNothing (pulled value begun orders) = ⊥
+SaysNothing (gave frame) = ⊥
 
 -- What becomes of it: an event of one part is this event of the part, and nothing else changes. Unit data waits whole, behind
--- what waits; and a pull is one of the line's machine.
+-- what waits; and a call for the next frame is one of the line's machine.
 pub record IsOneEvent (c : Config) (e : Event) (before after : Line) (answer : Answer) : Type 0 where
-  pub link : (service : Service) (tei place : ℕ) (event : link.Event) → e ≢ pull → place_in before tei ≡ Some place → IsBy c before e answer service tei event
-      → IsAlone c e before after answer service tei place event
-  pub management : (event : teis.Event) → IsOfManagement c before e answer event → IsManaged c e before after answer event
+  pub link : (service : Service) (tei place : ℕ) (event : link.Event) → e ≢ next → place_in before tei ≡ Some place → IsBy c e answer service tei event
+      → IsAlone c before after answer service tei place event
+  pub management : (event : teis.Event) → IsOfManagement c e answer event → IsManaged c before after answer event
   pub units : (unit : UnitData) → IsGranted e answer unit → (after ≡ record before { units = before.units ++ unit ∷ [] }) × (answer ≡ told nothing)
-  pub pulls : e ≡ pull → (after ≡ lines.after c pull before) × (answer ≡ lines.answer c pull before)
-  pub none : IsOfPart c before e answer ⊎ ((after ≡ with_octet_of e before) × SaysNothing answer)
+  pub takes : e ≡ next → (after ≡ lines.after c next before) × (answer ≡ lines.answer c next before)
+  pub none : IsOfPart c before e answer ⊎ ((after ≡ before) × SaysNothing answer)

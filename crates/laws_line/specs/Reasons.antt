@@ -5,25 +5,24 @@ use Rattle.lapd_frame.specs.declared.notes.Note.TheVariants.{EstablishIndication
 use Rattle.lapd_frame.specs.declared.timers.Timer.TheVariants.{T201}
 use Rattle.model_line.specs.declared.config.Config.{Config}
 use Rattle.model_line.specs.Event.{Event, expiry, Answer}
-use Rattle.model_line.specs.Line.{Line}
 use Rattle.laws_line.specs.Causes.{Hears}
 use Rattle.laws_line.specs.Heard.{notes_of}
 use Rattle.laws_line.specs.Messages.{asks, responds}
 
 -- That one was assigned is noted of an identity request (Q.921 clause 5.3.2); that it was removed since no terminal answered,
 -- of the expiry of T201; and that two have it, of an answer to its check (clauses 5.3.3.2 and 5.3.4).
-abbrev pub HasReason : Config → Line → Event → Note → Type 0
-HasReason c l e (Assigned tei) = (ri : ℕ) × Hears c l e (asks ri)
-HasReason c l e (Removed tei) = e ≡ expiry T201
-HasReason c l e (Doubled tei) = Hears c l e (responds tei)
-HasReason c l e (EstablishIndication service tei) = Unit {0}
-HasReason c l e (EstablishConfirm service tei) = Unit {0}
-HasReason c l e (ReleaseIndication service tei) = Unit {0}
-HasReason c l e (ReleaseConfirm service tei) = Unit {0}
-HasReason c l e (Data service tei) = Unit {0}
-HasReason c l e (UnitData service tei) = Unit {0}
-HasReason c l e (Error service tei code) = Unit {0}
-HasReason c l e (Xid service tei) = Unit {0}
+abbrev pub HasReason : Config → Event → Note → Type 0
+HasReason c e (Assigned tei) = (ri : ℕ) × Hears c e (asks ri)
+HasReason c e (Removed tei) = e ≡ expiry T201
+HasReason c e (Doubled tei) = Hears c e (responds tei)
+HasReason c e (EstablishIndication service tei) = Unit {0}
+HasReason c e (EstablishConfirm service tei) = Unit {0}
+HasReason c e (ReleaseIndication service tei) = Unit {0}
+HasReason c e (ReleaseConfirm service tei) = Unit {0}
+HasReason c e (Data service tei) = Unit {0}
+HasReason c e (UnitData service tei) = Unit {0}
+HasReason c e (Error service tei code) = Unit {0}
+HasReason c e (Xid service tei) = Unit {0}
 
-abbrev pub HaveReasons : Config → Line → Event → Answer → Type 0
-HaveReasons c l e answer = All (HasReason c l e) (notes_of answer)
+abbrev pub HaveReasons : Config → Event → Answer → Type 0
+HaveReasons c e answer = All (HasReason c e) (notes_of answer)

@@ -1,5 +1,5 @@
 -- What an event of a line is to one of its links, and to TEI management.
-use Rattle.std.specs.Prelude.{◌≡◌, ◌⊎◌, ℕ, Bool, true, false, List, [], ◌∷◌, Ok, Some}
+use Rattle.std.specs.Prelude.{◌≡◌, ◌⊎◌, ℕ, Bool, true, false, List, Ok, Some}
 use Rattle.model_bits.specs.Stream as stream
 use Rattle.lapd_frame.specs.declared.addresses.Address.{Address}
 use Rattle.lapd_frame.specs.declared.addresses.Side.TheVariants.{Network}
@@ -15,62 +15,55 @@ use Rattle.model_link.specs.declared.timers.LinkTimer.TheVariants.{T200, T203}
 use Rattle.model_link.specs.Events as link
 use Rattle.lapd_tei.specs.Events as teis
 use Rattle.model_line.specs.declared.config.Config.{Config}
-use Rattle.model_line.specs.Event.{Event, octet, expiry, request, pull, Answer}
-use Rattle.model_line.specs.Line.{Line}
-use Rattle.model_line.specs.Octet.{heard_side}
+use Rattle.model_line.specs.Event.{Event, hears, expiry, request, next, Answer}
+use Rattle.model_line.specs.Heard.{heard_side}
 use Rattle.model_line.specs.Request.{Assign, Remove, Check}
-use Rattle.laws_line.specs.Heard.{Ends, Adds, IsMalformed, IsTooLong}
+use Rattle.laws_line.specs.Heard.{IsMalformed, IsTooLong}
 use Rattle.laws_line.specs.Requests.{of_link}
 use Rattle.laws_line.specs.Share.{is_granted}
 
--- An octet ends a frame that the grammar reads as this, as one of the other side.
-pub record EndsFrame (c : Config) (l : Line) (e : Event) (value : ℕ) (parts : Parts) : Type 0 where
-  pub by : e ≡ octet value
+-- A frame is heard that the grammar reads as this, as one of the other side.
+pub record HearsFrame (c : Config) (e : Event) (parts : Parts) : Type 0 where
   pub octets : List ℕ
-  pub ends : Ends c l value octets
+  pub by : e ≡ hears (stream.frame octets)
   pub read : reading (heard_side c) octets ≡ Ok parts
 
--- It ends one with the SAPI of a service and a TEI.
-pub record Brings (c : Config) (l : Line) (e : Event) (service : Service) (tei : ℕ) (parts : Parts) : Type 0 where
-  pub value : ℕ
-  pub by : e ≡ octet value
+-- One is heard with the SAPI of a service and a TEI.
+pub record Brings (c : Config) (e : Event) (service : Service) (tei : ℕ) (parts : Parts) : Type 0 where
   pub octets : List ℕ
-  pub ends : Ends c l value octets
+  pub by : e ≡ hears (stream.frame octets)
   pub read : reading (heard_side c) octets ≡ Ok parts
   pub sapi : service_of parts.address.sapi ≡ Some service
   pub tei_is : parts.address.tei ≡ tei
 
--- An octet ends one that the grammar does not have, or that is too long, with the SAPI of a service and a TEI.
-pub record BringsMalformed (c : Config) (l : Line) (e : Event) (service : Service) (tei : ℕ) (what : link.Received) : Type 0 where
-  pub value : ℕ
-  pub by : e ≡ octet value
+-- One is heard that the grammar does not have, or that is too long, with the SAPI of a service and a TEI.
+pub record BringsMalformed (c : Config) (e : Event) (service : Service) (tei : ℕ) (what : link.Received) : Type 0 where
   pub octets : List ℕ
   pub address : Address
-  pub ends : (Ends c l value octets × IsMalformed c address octets what) ⊎ (Adds c l value (stream.overlong octets ∷ []) × IsTooLong c address octets what)
+  pub by : ((e ≡ hears (stream.frame octets)) × IsMalformed c address octets what) ⊎ ((e ≡ hears (stream.overlong octets)) × IsTooLong c address octets what)
   pub sapi : service_of address.sapi ≡ Some service
   pub tei_is : address.tei ≡ tei
 
 -- The event of the line is this event of the link of a service with a TEI: a frame is brought, or one that is malformed;
--- its timer expires; a request of it is granted, for which there is room; or a pull takes what it gives.
+-- its timer expires; a request of it is granted, for which there is room; or a call for the next frame takes what it gives.
 abbrev pub timer_of : Service → ℕ → LinkTimer → Timer
 timer_of service tei T200 = timers.T200 service tei
 timer_of service tei T203 = timers.T203 service tei
 
-abbrev pub IsBy : Config → Line → Event → Answer → Service → ℕ → link.Event → Type 0
-IsBy c l e answer service tei (link.received (link.frame parts)) = Brings c l e service tei parts
-IsBy c l e answer service tei (link.received other) = BringsMalformed c l e service tei other
-IsBy c l e answer service tei (link.expired timer) = e ≡ expiry (timer_of service tei timer)
-IsBy c l e answer service tei (link.requested asked full) = (e ≡ request (of_link service tei asked)) × (is_granted answer ≡ true) × (full ≡ false)
-IsBy c l e answer service tei link.offer = e ≡ pull
-IsBy c l e answer service tei link.cleared = ⊥
+abbrev pub IsBy : Config → Event → Answer → Service → ℕ → link.Event → Type 0
+IsBy c e answer service tei (link.received (link.frame parts)) = Brings c e service tei parts
+IsBy c e answer service tei (link.received other) = BringsMalformed c e service tei other
+IsBy c e answer service tei (link.expired timer) = e ≡ expiry (timer_of service tei timer)
+IsBy c e answer service tei (link.requested asked full) = (e ≡ request (of_link service tei asked)) × (is_granted answer ≡ true) × (full ≡ false)
+IsBy c e answer service tei link.offer = e ≡ next
+IsBy c e answer service tei link.cleared = ⊥
 
--- On the network's side an octet ends a UI to the group with SAPI 63, with this information (Q.921 clauses 3.3.3, 3.3.4 and
+-- On the network's side a UI to the group with SAPI 63 is heard, with this information (Q.921 clauses 3.3.3, 3.3.4 and
 -- 5.3.1).
-pub record BringsMessage (c : Config) (l : Line) (e : Event) (info : List ℕ) : Type 0 where
+pub record BringsMessage (c : Config) (e : Event) (info : List ℕ) : Type 0 where
   pub network : c.side ≡ Network
-  pub value : ℕ
   pub parts : Parts
-  pub heard : EndsFrame c l e value parts
+  pub heard : HearsFrame c e parts
   pub sapi : parts.address.sapi ≡ 63
   pub group : parts.address.tei ≡ 127
   pub poll : Bool
@@ -79,9 +72,9 @@ pub record BringsMessage (c : Config) (l : Line) (e : Event) (info : List ℕ) :
 
 -- The event of the line is this event of TEI management: a message is brought; T201 expires; or a request of management is
 -- granted.
-abbrev pub IsOfManagement : Config → Line → Event → Answer → teis.Event → Type 0
-IsOfManagement c l e answer (teis.message info) = BringsMessage c l e info
-IsOfManagement c l e answer teis.expiry = e ≡ expiry timers.T201
-IsOfManagement c l e answer (teis.assign tei) = (e ≡ request (Assign tei)) × (is_granted answer ≡ true)
-IsOfManagement c l e answer (teis.remove tei) = (e ≡ request (Remove tei)) × (is_granted answer ≡ true)
-IsOfManagement c l e answer (teis.check tei) = (e ≡ request (Check tei)) × (is_granted answer ≡ true)
+abbrev pub IsOfManagement : Config → Event → Answer → teis.Event → Type 0
+IsOfManagement c e answer (teis.message info) = BringsMessage c e info
+IsOfManagement c e answer teis.expiry = e ≡ expiry timers.T201
+IsOfManagement c e answer (teis.assign tei) = (e ≡ request (Assign tei)) × (is_granted answer ≡ true)
+IsOfManagement c e answer (teis.remove tei) = (e ≡ request (Remove tei)) × (is_granted answer ≡ true)
+IsOfManagement c e answer (teis.check tei) = (e ≡ request (Check tei)) × (is_granted answer ≡ true)

@@ -2,9 +2,9 @@
 use Rattle.std.specs.Prelude.{◌≡◌, ℕ, ◌+◌, List, ◌∷◌, ◌++◌, Some, None, All}
 use Rattle.model_line.specs.declared.config.Config.{Config}
 use Rattle.model_line.specs.Line.{Line}
-use Rattle.model_line.specs.Pull.{Taken, message_taken, unit_taken, link_taken, taken, round}
+use Rattle.model_line.specs.Taken.{Taken, message_taken, unit_taken, link_taken, taken, round}
 
--- What a pull takes is what this link has to give: each link before it in the round has nothing to give, and the next
+-- What is taken is what this link has to give: each link before it in the round has nothing to give, and the next
 -- round begins with the link after it.
 pub record IsInTurn (c : Config) (l : Line) (number : ℕ) (t : Taken) : Type 0 where
   pub before : List ℕ

@@ -11,20 +11,20 @@ use Rattle.model_line.specs.declared.config.Config.{Config}
 use Rattle.model_line.specs.Effect.{of_aim}
 use Rattle.model_line.specs.Line.{Line, fresh_line}
 use Rattle.model_line.specs.Machine.{of_request}
-use Rattle.model_line.specs.Octet.{aim_of_heard}
+use Rattle.model_line.specs.Heard.{aim_of_heard}
 use Rattle.model_line.specs.Request.{Assign, Data, Unit, Remove, Release}
 use Rattle.laws_line.specs.Share.{no_share, ending, share_of, asked_by}
-use Rattle.laws_line.specs.Pulls.{units_asked}
+use Rattle.laws_line.specs.Served.{units_asked}
 
 abbrev pub usual : Config
 usual = record { lines = 1; terminals = 8; k = 7; k16 = 7; queue = 8; unit_queue = 4; control = 4; slots = 64; n201 = 260; n200 = 3; side = Network }
 
 -- TEI 64 on the line, and its SABME of both services
-abbrev pub hears : List ℕ → Line → Line
-hears octets l = (of_aim usual (aim_of_heard usual l (stream.frame octets)) l).line
+abbrev pub heard : List ℕ → Line → Line
+heard octets l = (of_aim usual (aim_of_heard usual l (stream.frame octets)) l).line
 
 abbrev pub both_up : Line
-both_up = hears (0x40 ∷ 0x81 ∷ 0x7F ∷ []) (hears (0x00 ∷ 0x81 ∷ 0x7F ∷ []) (of_request usual (Assign 64) (fresh_line usual)).line)
+both_up = heard (0x40 ∷ 0x81 ∷ 0x7F ∷ []) (heard (0x00 ∷ 0x81 ∷ 0x7F ∷ []) (of_request usual (Assign 64) (fresh_line usual)).line)
 
 -- Data for the call control link of TEI 64 is accepted for link 0, and for no other.
 data_for_its_link : share_of usual 0 (request (Data Call 64 (1 ∷ []))) both_up

@@ -1,30 +1,32 @@
--- Worked values: a control frame that waits while other events of its line are between the pulls.
+-- Worked values: a control frame that waits while other events of its line are between the calls for the next frame.
 use Rattle.std.specs.Prelude.{◌≡◌, List, [], ◌∷◌, replicate, refl}
-use Rattle.model_bits.specs.Bits.{low_bits}
+use Rattle.model_bits.specs.Stream.{dropped}
+use Rattle.model_bits.specs.declared.heard.Cause.TheVariants.{Fcs}
 use Rattle.lapd_frame.specs.declared.services.Service.TheVariants.{Call}
 use Rattle.lapd_frame.specs.Reading.{reading, header_of, control_of, unnumbered_of, supervisory_of}
 use Rattle.lapd_seq.specs.Numbers.{seq}
 use Rattle.lapd_seq.specs.Circle.{distance_of, named}
 use Rattle.lapd_tei.specs.Events as teis
-use Rattle.model_line.specs.Event.{Event, octet, request, pull}
+use Rattle.model_line.specs.Event.{Event, hears, request, next}
 use Rattle.model_line.specs.Machine.{after}
 use Rattle.model_line.specs.Request
-use Rattle.laws_line.specs.Among.{pulls_in, come_first}
-use Rattle.laws_line.specs.Drains.{bits_before}
+use Rattle.laws_line.specs.Among.{takes_in, come_first}
+use Rattle.laws_line.specs.Drains.{frames_before}
 use Rattle.laws_line.specs.WorkedPolled.{small, asked}
 
--- Behind a poll its answer waits, after a UA. Then a flag comes in, layer 3 gives unit data, and the line is pulled.
+-- Behind a poll its answer waits, after a UA. Then a wrong check is heard, layer 3 gives unit data, and the next frame is
+-- called for.
 abbrev pub events : List Event
-events = octet 0x7E ∷ request (Request.Unit Call 127 (0xAB ∷ [])) ∷ replicate 55 pull
+events = hears (dropped Fcs) ∷ request (Request.Unit Call 127 (0xAB ∷ [])) ∷ replicate 4 next
 
--- The unit data is all that comes first; with its bits 434 go before the answer, for which 55 pulls are enough.
+-- The unit data is all that comes first; with it three frames go before the answer, for which four calls are enough.
 pub one_comes : come_first small events asked ≡ 1
-unfolding come_first after reading header_of control_of unnumbered_of supervisory_of teis.course teis.refusal seq distance_of named low_bits
+unfolding come_first after reading header_of control_of unnumbered_of supervisory_of teis.course teis.refusal seq distance_of named
 one_comes = refl
 
-pub bits_first : bits_before small asked 0 1 ≡ 292
-unfolding after reading header_of control_of unnumbered_of supervisory_of teis.course teis.refusal seq distance_of named low_bits
-bits_first = refl
+pub frames_first : frames_before small asked 0 1 ≡ 2
+unfolding after reading header_of control_of unnumbered_of supervisory_of teis.course teis.refusal seq distance_of named
+frames_first = refl
 
-pub pulls_are : pulls_in events ≡ 55
-pulls_are = refl
+pub takes_are : takes_in events ≡ 4
+takes_are = refl

@@ -16,10 +16,10 @@ use Rattle.model_line.specs.Event.{nothing, dropped}
 use Rattle.model_line.specs.Request.{Request, Data, Unit, Assign, Remove, Check}
 use Rattle.model_line.specs.Line.{Line, fresh_line, state_of}
 use Rattle.model_line.specs.Effect.{Effect, of_aim}
-use Rattle.model_line.specs.Octet.{aim_of_heard}
+use Rattle.model_line.specs.Heard.{aim_of_heard}
 use Rattle.model_line.specs.Refusal.{refusal}
 use Rattle.model_line.specs.Machine.{of_request}
-use Rattle.model_line.specs.Pull.{Taken, taken}
+use Rattle.model_line.specs.Taken.{Taken, taken}
 
 abbrev pub usual : Config
 usual = record { lines = 1; terminals = 8; k = 7; k16 = 7; queue = 8; unit_queue = 4; control = 4; slots = 64; n201 = 260; n200 = 3; side = Network }

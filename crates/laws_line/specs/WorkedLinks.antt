@@ -1,6 +1,5 @@
--- Worked values: what frames, requests and pulls make of a link of a line.
+-- Worked values: what frames, requests and calls for the next frame make of a link of a line.
 use Rattle.std.specs.Prelude.{◌≡◌, true, false, [], ◌∷◌, Some, refl}
-use Rattle.model_bits.specs.Bits.{low_bits}
 use Rattle.lapd_frame.specs.declared.controls.Control.TheVariants.{ReceiveReady, ReceiveNotReady, Sabme, Ua}
 use Rattle.lapd_frame.specs.declared.services.Service.TheVariants.{Call}
 use Rattle.lapd_frame.specs.Reading.{reading, header_of, control_of, unnumbered_of, supervisory_of}
@@ -16,11 +15,11 @@ use Rattle.lapd_tei.specs.Events as teis
 use Rattle.model_line.specs.Line.{Line, fresh_line, link_at, terms}
 use Rattle.model_line.specs.Machine.{after}
 use Rattle.model_line.specs.Request.{Establish, Data, Assign, SetBusy}
-use Rattle.laws_line.specs.Worked.{usual, both_up, hears}
-use Rattle.laws_line.specs.WorkedPulls.{asked, pulled}
+use Rattle.laws_line.specs.Worked.{usual, both_up, heard}
+use Rattle.laws_line.specs.WorkedServed.{asked, taken_from}
 
 -- RR with P=1 comes for the call control link of TEI 64: behind the UA to its SABME one answer waits, with F=1.
-poll_answered : (link_at 0 (hears (0x00 ∷ 0x81 ∷ 0x01 ∷ 0x01 ∷ []) both_up)).waiting
+poll_answered : (link_at 0 (heard (0x00 ∷ 0x81 ∷ 0x01 ∷ 0x01 ∷ []) both_up)).waiting
     ≡ response (Ua true) ∷ response (ReceiveReady (seq 0) true) ∷ []
 unfolding seq distance_of named reading header_of control_of unnumbered_of supervisory_of teis.course teis.refusal
 poll_answered = refl
@@ -46,16 +45,16 @@ busy_told : (link_at 0 (asked (SetBusy Call 64) both_up)).waiting ≡ response (
 unfolding seq reading header_of control_of unnumbered_of supervisory_of teis.course teis.refusal
 busy_told = refl
 
--- An I-frame is begun, and V(S) counts it; REJ with N(R) 0 takes V(S) back to 0.
+-- An I-frame is taken behind both UAs, and V(S) counts it; REJ with N(R) 0 takes V(S) back to 0.
 abbrev one_sent : Line
-one_sent = pulled 1 (asked (Data Call 64 (0x41 ∷ [])) (pulled 13 both_up))
+one_sent = taken_from 1 (asked (Data Call 64 (0x41 ∷ [])) (taken_from 2 both_up))
 
 sent_counted : (link_at 0 one_sent).s ≡ 1
-unfolding after seq reading header_of control_of unnumbered_of teis.course teis.refusal low_bits pulled
+unfolding after seq reading header_of control_of unnumbered_of teis.course teis.refusal taken_from
 sent_counted = refl
 
-sent_again : (link_at 0 (hears (0x02 ∷ 0x81 ∷ 0x09 ∷ 0x00 ∷ []) one_sent)).s ≡ 0
-unfolding after seq distance_of named reading header_of control_of unnumbered_of supervisory_of teis.course teis.refusal low_bits pulled
+sent_again : (link_at 0 (heard (0x02 ∷ 0x81 ∷ 0x09 ∷ 0x00 ∷ []) one_sent)).s ≡ 0
+unfolding after seq distance_of named reading header_of control_of unnumbered_of supervisory_of teis.course teis.refusal taken_from
 sent_again = refl
 
 -- A frame with an undefined control field comes for the call control link of TEI 64: by the tables, and on the line, SABME
@@ -69,7 +68,7 @@ undefined_moves : state_after (terms usual Call 64) (received undefined) (link_a
 unfolding seq distance_of named reading header_of control_of unnumbered_of supervisory_of teis.course teis.refusal
 undefined_moves = refl
 
-undefined_heard : (link_at 0 (hears (0x00 ∷ 0x81 ∷ 0x2F ∷ []) both_up)).waiting ≡ response (Ua true) ∷ command (Sabme true) ∷ []
+undefined_heard : (link_at 0 (heard (0x00 ∷ 0x81 ∷ 0x2F ∷ []) both_up)).waiting ≡ response (Ua true) ∷ command (Sabme true) ∷ []
 unfolding seq distance_of named reading header_of control_of unnumbered_of supervisory_of teis.course teis.refusal
 undefined_heard = refl
 

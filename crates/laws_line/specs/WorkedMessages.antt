@@ -1,6 +1,6 @@
 -- Worked values: a terminal asks for a TEI, and what TEI management says.
 use Rattle.std.specs.Prelude.{◌≡◌, ℕ, true, false, List, [], ◌∷◌, refl}
-use Rattle.model_bits.specs.Bits.{low_bits}
+use Rattle.model_bits.specs.Stream as stream
 use Rattle.lapd_frame.specs.declared.controls.Control.TheVariants.{Ui}
 use Rattle.lapd_frame.specs.declared.timers.Timer.TheVariants.{T201}
 use Rattle.lapd_frame.specs.Reading.{reading, header_of, control_of, unnumbered_of}
@@ -8,31 +8,26 @@ use Rattle.lapd_tei.specs.declared.messages.Message.{Message}
 use Rattle.lapd_tei.specs.declared.messages.Message.TheVariants.{IdentityAssigned, IdentityDenied, IdentityCheckRequest, IdentityRemove}
 use Rattle.lapd_tei.specs.Events as teis
 use Rattle.model_line.specs.declared.config.Config.{Config}
-use Rattle.model_line.specs.Event.{octet, expiry}
+use Rattle.model_line.specs.Event.{Event, hears, expiry}
 use Rattle.model_line.specs.Line.{Line, fresh_line, has_tei}
 use Rattle.model_line.specs.Machine.{after, answer}
 use Rattle.model_line.specs.Request.{Assign, Check}
 use Rattle.laws_line.specs.Causes.{Hears}
 use Rattle.laws_line.specs.Frames.{lost_in}
 use Rattle.laws_line.specs.Messages.{asks}
-use Rattle.laws_line.specs.Worked.{usual, hears}
-use Rattle.laws_line.specs.WorkedPulls.{asked}
+use Rattle.laws_line.specs.Worked.{usual, heard}
+use Rattle.laws_line.specs.WorkedServed.{asked}
 
--- The identity request by Ri 1234 came between two flags, stuffed and with its check, except for the last octet.
-abbrev pub asking : Line
-asking = record (fresh_line usual) {
-  received = 0x7E ∷ 0x7C ∷ 0xDF ∷ 0x17 ∷ 0x78 ∷ 0x90 ∷ 0xA0 ∷ 0x09 ∷ 0xF8 ∷ 0x6E ∷ 0xA1 ∷ 0xE1 ∷ [];
-}
+-- The identity request by Ri 1234 is heard: a terminal asks;
+abbrev pub asking : Event
+asking = hears (stream.frame (0xFC ∷ 0xFF ∷ 0x03 ∷ 0x0F ∷ 0x12 ∷ 0x34 ∷ 0x01 ∷ 0xFF ∷ []))
 
--- The octet with the end of the flag brings it: a terminal asks;
-it_asks : Hears usual asking (octet 0x07) (asks 0x1234)
-unfolding reading header_of control_of unnumbered_of low_bits
+it_asks : Hears usual asking (asks 0x1234)
+unfolding reading header_of control_of unnumbered_of
 it_asks = record {
   network = refl;
-  value = 0x07;
-  by = refl;
   octets = 0xFC ∷ 0xFF ∷ 0x03 ∷ 0x0F ∷ 0x12 ∷ 0x34 ∷ 0x01 ∷ 0xFF ∷ [];
-  ends = refl;
+  by = refl;
   parts = record { address = record { sapi = 63; command = true; tei = 127 }; control = Ui false; info = 0x0F ∷ 0x12 ∷ 0x34 ∷ 0x01 ∷ 0xFF ∷ [] };
   read = refl;
   sapi = refl;
@@ -43,17 +38,17 @@ it_asks = record {
 }
 
 -- TEI 64 is told to it, and is on the line.
-told_64 : (after usual (octet 0x07) asking).management.waiting ≡ IdentityAssigned 0x1234 64 ∷ []
-unfolding after reading header_of control_of unnumbered_of teis.course teis.refusal low_bits
+told_64 : (after usual asking (fresh_line usual)).management.waiting ≡ IdentityAssigned 0x1234 64 ∷ []
+unfolding after reading header_of control_of unnumbered_of teis.course teis.refusal
 told_64 = refl
 
-there_64 : has_tei 64 (after usual (octet 0x07) asking) ≡ true
-unfolding after reading header_of control_of unnumbered_of teis.course teis.refusal low_bits
+there_64 : has_tei 64 (after usual asking (fresh_line usual)) ≡ true
+unfolding after reading header_of control_of unnumbered_of teis.course teis.refusal
 there_64 = refl
 
 -- What waits after frames of terminals: the same Ri is told the same TEI again, and another the lowest that is free.
 abbrev asks_by : ℕ → Line → Line
-asks_by low l = hears (0xFC ∷ 0xFF ∷ 0x03 ∷ 0x0F ∷ 0x12 ∷ low ∷ 0x01 ∷ 0xFF ∷ []) l
+asks_by low l = heard (0xFC ∷ 0xFF ∷ 0x03 ∷ 0x0F ∷ 0x12 ∷ low ∷ 0x01 ∷ 0xFF ∷ []) l
 
 abbrev waiting_at : Line → List Message
 waiting_at l = l.management.waiting
@@ -82,8 +77,8 @@ not_assigned : has_tei 65 (asks_by 0x35 four_wait) ≡ false
 unfolding reading header_of control_of unnumbered_of teis.course teis.refusal
 not_assigned = refl
 
-answer_lost : lost_in (answer usual (octet 0x07) (record four_wait { received = asking.received })) ≡ 1
-unfolding answer reading header_of control_of unnumbered_of teis.course teis.refusal low_bits
+answer_lost : lost_in (answer usual asking four_wait) ≡ 1
+unfolding answer reading header_of control_of unnumbered_of teis.course teis.refusal
 answer_lost = refl
 
 -- A check asks, and asks again as T201 expires; two answers to it in one period have the TEI given up.
@@ -95,7 +90,7 @@ unfolding after teis.course teis.refusal
 asked_twice = refl
 
 abbrev answers_64 : Line → Line
-answers_64 l = hears (0xFC ∷ 0xFF ∷ 0x03 ∷ 0x0F ∷ 0x56 ∷ 0x78 ∷ 0x05 ∷ 0x81 ∷ []) l
+answers_64 l = heard (0xFC ∷ 0xFF ∷ 0x03 ∷ 0x0F ∷ 0x56 ∷ 0x78 ∷ 0x05 ∷ 0x81 ∷ []) l
 
 given_up : waiting_at (answers_64 (answers_64 checked)) ≡ IdentityCheckRequest 64 ∷ IdentityCheckRequest 64 ∷ IdentityRemove 64 ∷ []
 unfolding after reading header_of control_of unnumbered_of teis.course teis.refusal

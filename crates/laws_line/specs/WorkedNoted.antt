@@ -1,6 +1,5 @@
 -- Worked values: what an answer notes as a TEI comes, as it leaves, and of an event of one of its links.
 use Rattle.std.specs.Prelude.{◌≡◌, [], ◌∷◌, ◌++◌, refl}
-use Rattle.model_bits.specs.Bits.{low_bits}
 use Rattle.lapd_frame.specs.declared.notes.ErrorCode.TheVariants as code
 use Rattle.lapd_frame.specs.declared.notes.Note.TheVariants.{Removed, ReleaseIndication, Error}
 use Rattle.lapd_frame.specs.declared.services.Service.TheVariants.{Call, Packet}
@@ -11,20 +10,20 @@ use Rattle.lapd_seq.specs.Circle.{distance_of, named}
 use Rattle.lapd_tei.specs.Events as teis
 use Rattle.model_link.specs.Events as link
 use Rattle.laws_link.specs.Telling.{told_by}
-use Rattle.model_line.specs.Event.{octet, expiry, request}
+use Rattle.model_line.specs.Event.{expiry, request}
 use Rattle.model_line.specs.Line.{Line, fresh_line, link_in, terms}
 use Rattle.model_line.specs.Machine.{after, answer}
 use Rattle.model_line.specs.Request.{Assign, Check, Remove}
 use Rattle.laws_line.specs.Heard.{notes_of}
 use Rattle.laws_line.specs.Noted.{noted_coming, noted_leaving, noted_ending}
 use Rattle.laws_line.specs.Worked.{usual, both_up}
-use Rattle.laws_line.specs.WorkedHeard.{before_undefined}
+use Rattle.laws_line.specs.WorkedHeard.{undefined}
 use Rattle.laws_line.specs.WorkedMessages.{asking}
-use Rattle.laws_line.specs.WorkedPulls.{asked}
+use Rattle.laws_line.specs.WorkedServed.{asked}
 
 -- TEI 64 comes as a terminal asks for one, and that is noted; where management puts it on the line, nothing is.
-came : notes_of (answer usual (octet 0x07) asking) ≡ noted_coming (octet 0x07) 64
-unfolding answer reading header_of control_of unnumbered_of teis.course teis.refusal low_bits
+came : notes_of (answer usual asking (fresh_line usual)) ≡ noted_coming asking 64
+unfolding answer reading header_of control_of unnumbered_of teis.course teis.refusal
 came = refl
 
 came_unasked : notes_of (answer usual (request (Assign 64)) (fresh_line usual)) ≡ noted_coming (request (Assign 64)) 64
@@ -50,11 +49,11 @@ unfolding answer seq reading header_of control_of unnumbered_of teis.course teis
 left_by_request = refl
 
 -- A frame with an undefined control field is told of its link as error L.
-undefined_told : notes_of (answer usual (octet 0xFC) before_undefined)
-    ≡ told_by (terms usual Call 64) (link.received link.undefined) (link_in before_undefined Call 0) (link_in (after usual (octet 0xFC) before_undefined) Call 0).state
-unfolding after answer seq distance_of named reading header_of control_of unnumbered_of teis.course teis.refusal low_bits
+undefined_told : notes_of (answer usual undefined both_up)
+    ≡ told_by (terms usual Call 64) (link.received link.undefined) (link_in both_up Call 0) (link_in (after usual undefined both_up) Call 0).state
+unfolding after answer seq distance_of named reading header_of control_of unnumbered_of teis.course teis.refusal
 undefined_told = refl
 
-as_error_L : notes_of (answer usual (octet 0xFC) before_undefined) ≡ Error Call 64 code.L ∷ []
-unfolding answer seq distance_of named reading header_of control_of unnumbered_of teis.course teis.refusal low_bits
+as_error_L : notes_of (answer usual undefined both_up) ≡ Error Call 64 code.L ∷ []
+unfolding answer seq distance_of named reading header_of control_of unnumbered_of teis.course teis.refusal
 as_error_L = refl

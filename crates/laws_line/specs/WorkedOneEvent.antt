@@ -1,7 +1,6 @@
 -- Worked values: events of one part of a line, which leave all else as it was.
 use Rattle.std.proofs.Common.{ap, arith}
-use Rattle.std.specs.Prelude.{◌≡◌, ℕ, [], ◌∷◌, Some, refl}
-use Rattle.model_bits.specs.Bits.{low_bits}
+use Rattle.std.specs.Prelude.{◌≡◌, [], ◌∷◌, Some, refl}
 use Rattle.model_bits.specs.declared.heard.Cause.TheVariants.{Fcs}
 use Rattle.lapd_frame.specs.declared.notes.Note.TheVariants.{ReleaseIndication}
 use Rattle.lapd_frame.specs.declared.services.Service.TheVariants.{Call, Packet}
@@ -13,19 +12,18 @@ use Rattle.lapd_tei.specs.Events as teis
 use Rattle.model_link.specs.Events.{received, frame}
 use Rattle.model_link.specs.Link.{fresh}
 use Rattle.model_link.specs.Machine as links
-use Rattle.model_line.specs.Event.{LineTold, octet, request, told, dropped, nothing}
+use Rattle.model_line.specs.Event.{LineTold, request, told, dropped, nothing}
 use Rattle.model_line.specs.Line.{link_at, link_in, with_link, terms}
-use Rattle.model_line.specs.Machine.{after, answer}
+use Rattle.model_line.specs.Machine.{after}
 use Rattle.model_line.specs.Request.{Unit, Remove}
-use Rattle.laws_line.specs.OneEvent.{with_octet_of, noted_behind, SaysNothing}
+use Rattle.laws_line.specs.OneEvent.{noted_behind, SaysNothing}
 use Rattle.laws_line.specs.Worked.{usual, both_up}
-use Rattle.laws_line.specs.WorkedHeard.{before_flag, information}
+use Rattle.laws_line.specs.WorkedHeard.{i_frame, information}
 
--- The flag behind an I-frame of call control's link of TEI 64 is an event of this link, and changes nothing else but what was
--- received.
-i_frame_alone : after usual (octet 0x7E) before_flag
-    ≡ with_octet_of (octet 0x7E) (with_link 0 (links.after (terms usual Call 64) (received (frame information)) (link_in before_flag Call 0)) before_flag)
-unfolding after seq distance_of named reading header_of control_of unnumbered_of teis.course teis.refusal low_bits
+-- An I-frame of call control's link of TEI 64 is an event of this link, and changes nothing else.
+i_frame_alone : after usual i_frame both_up
+    ≡ with_link 0 (links.after (terms usual Call 64) (received (frame information)) (link_in both_up Call 0)) both_up
+unfolding after seq distance_of named reading header_of control_of unnumbered_of teis.course teis.refusal
 i_frame_alone = refl
 
 -- Unit data waits, and nothing else changes.

@@ -15,10 +15,10 @@ use Rattle.model_line.specs.Event.{nothing, dropped}
 use Rattle.model_line.specs.Request.{Request, Establish, Unit, Assign, Remove, Check}
 use Rattle.model_line.specs.Line.{Line, fresh_line, state_of}
 use Rattle.model_line.specs.Effect.{Effect, of_aim}
-use Rattle.model_line.specs.Octet.{aim_of_heard}
+use Rattle.model_line.specs.Heard.{aim_of_heard}
 use Rattle.model_line.specs.Refusal.{refusal}
 use Rattle.model_line.specs.Machine.{of_request}
-use Rattle.model_line.specs.Pull.{Taken, taken}
+use Rattle.model_line.specs.Taken.{Taken, taken}
 use Rattle.laws_line.specs.WorkedLine.{usual}
 
 -- the private exchange's end of a trunk

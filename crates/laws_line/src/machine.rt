@@ -3,24 +3,23 @@
 ghost use Rattle.laws_line.specs.Machine.{DropsChangeNothing, LinesRise, LinesStaySound};
 
 /// A line is sound as it begins, and each event keeps it so: TEI management and the links are, the links of free
-/// places are as they begin, no queue holds more than it may, and the octets given are a beginning of the text of the
-/// items, of which none is longer than the longest frame.
+/// places are as they begin, and no queue holds more than it may.
 #[tactic(auto, using(crate::proofs::MachineLaws::lines_stay_sound))]
 pub fn lines_stay_sound()
     ensures { LinesStaySound }
 {}
 
 /// What a line has sent, and may still send without anything else happening, rises by no more than an event's price:
-/// two for a frame that an octet ends, and it ends one at most; one for an accepted request; k + 1 for the expiry of a
-/// running timer; k more for an REJ with a valid N(R), which is a frame of four octets; else 0. A pull that begins a
-/// frame lowers what may be sent by one or two, and any other leaves it as it is.
+/// two for a frame that is heard; one for an accepted request; k + 1 for the expiry of a running timer; k more for an
+/// REJ with a valid N(R), which is a frame of four octets or more; else 0. A call for the next frame that takes one
+/// lowers what may be sent by one or two, and any other leaves it as it is.
 #[tactic(auto, using(crate::proofs::MachineLaws::lines_rise))]
 pub fn lines_rise()
     ensures { LinesRise }
 {}
 
-/// Where the answer to an octet names a cause, whichever, the cause is all that it says, the line is afterwards what it
-/// was except for the octet received, and so what may be sent stays as it is.
+/// Where the answer to what is heard names a cause, whichever, the cause is all that it says, the line is afterwards what
+/// it was, and so what may be sent stays as it is.
 #[tactic(auto, using(crate::proofs::MachineLaws::drops_change_nothing))]
 pub fn drops_change_nothing()
     ensures { DropsChangeNothing }

@@ -1,22 +1,18 @@
-//! What the notes of a line tell, and the answers to its pulls.
+//! What the notes of a line tell.
 
-ghost use Rattle.laws_line.specs.Laws.{NotesTell, NothingElseIsNoted, BegunIsTrue};
+ghost use Rattle.laws_line.specs.Laws.{NotesTell, NothingElseIsNoted};
 
-/// By notes layer 3 knows which links are up, and management which TEIs are on the line: `notes_tell`, `teis_are_told` and
-/// `begins`.
+/// By notes layer 3 knows which links are up, and management which TEIs are on the line, as the law
+/// of this name of `laws_card` has it.
 pub fn notes_tell()
     ensures { NotesTell }
 {}
 
-/// All that is noted is of one event of a link, or of one TEI that comes or leaves. Of a link of a TEI on the line it is what the
-/// table of notes has for the event. Of a TEI that comes, that it was assigned, if a terminal asked for it; of one that leaves,
-/// that two terminals have it, or that none answered, unless management took it off, and after that what its two links tell as
-/// they end, that of call control first. Else there are none (Q.921 clauses 5.2.3, 5.3.2 to 5.3.4 and 5.5 to 5.8).
+/// All that is noted is of one event of a link, or of one TEI that comes or leaves. Of a link of a TEI on the line it is
+/// what the table of notes has for the event. Of a TEI that comes, that it was assigned, if a terminal asked for it; of
+/// one that leaves, that two terminals have it, or that none answered, unless management took it off, and after that what
+/// its two links tell as they end, that of call control first. Else there are none (Q.921 clauses 5.2.3, 5.3.2 to 5.3.4
+/// and 5.5 to 5.8).
 pub fn nothing_else_is_noted()
     ensures { NothingElseIsNoted }
-{}
-
-/// The answer to a pull says that a frame was begun exactly where one was: `begun_is_told`.
-pub fn begun_is_true()
-    ensures { BegunIsTrue }
 {}

@@ -1,9 +1,9 @@
-//! Whose turn it is, how short answers are, and how long frames. Each law is the contract of a call that does nothing.
+//! Whose turn it is, and how short answers are. Each law is the contract of a call that does nothing.
 
-ghost use Rattle.laws_line.specs.Short.{AnswersAreShort, CallsComeToAnEnd, FramesHaveLengths};
+ghost use Rattle.laws_line.specs.Short.{AnswersAreShort};
 ghost use Rattle.laws_line.specs.Turns.{LinksTakeTurns};
 
-/// Links take turns: a frame of a link that a pull takes is that of the first link in the round that has one, and the
+/// Links take turns: a frame of a link that is taken is that of the first link in the round that has one, and the
 /// next round begins with the link after it. So no link that has something to give is passed over, and one that was
 /// served waits until the round comes back to it.
 pub fn links_take_turns()
@@ -11,22 +11,9 @@ pub fn links_take_turns()
 {}
 
 /// An answer has at most four notes and at most four orders for timers, so a list of four holds each. A line answers
-/// most of both where a TEI leaves it: one of TEI management and one of each of its two links. The answer to a pull has
-/// at most two orders, those of the link whose frame it takes. That to an expiry starts one timer at most, so whoever
+/// most of both where a TEI leaves it: one of TEI management and one of each of its two links. That to a call for the next frame
+/// has at most two orders, those of the link whose frame it takes. That to an expiry starts one timer at most, so whoever
 /// applies the orders of what falls due comes to an end.
 pub fn answers_are_short()
     ensures { AnswersAreShort }
-{}
-
-/// A frame that comes means five octets more at least than it has without its check, and at most six for each five, and
-/// six more.
-pub fn frames_have_lengths()
-    ensures { FramesHaveLengths }
-{}
-
-/// A call for the next frame means the pulls of `frames_go_whole` where one waits, and nothing where none does. One that
-/// takes a frame lowers what may be sent, so after as many calls as frames may be sent, with nothing else between them,
-/// none waits.
-pub fn calls_come_to_an_end()
-    ensures { CallsComeToAnEnd }
 {}

@@ -7,17 +7,15 @@ use Rattle.model_card.specs.Reached.{IsReached}
 use Rattle.model_card.specs.Run.{IsAtLine, AreAtLines}
 use Rattle.model_card.specs.Sound.{IsSound}
 use Rattle.model_card.proofs.Reaching.{reached-sound}
-use Rattle.laws_card.specs.Promises.{AreReceived, IsCountedIn, NotesTell, TeisAreTold, TeisHaveOnePlace, IsServedIn}
-use Rattle.laws_card.specs.PromisesOfPulls.{WaitingAreBegun, PullsComeToAnEnd}
-use Rattle.laws_card.proofs.Beginning.{begun-told}
-use Rattle.laws_card.proofs.Happening.{one-all}
+use Rattle.laws_card.specs.Promises.{IsCountedIn, TeisAreTold, TeisHaveOnePlace}
+use Rattle.laws_card.specs.Brief.{GivesWhatWaits}
+use Rattle.laws_card.specs.PromisesOfTakes.{Wherever, WaitingIsTakenMeanwhile, AnswersAreTaken, TakesComeToAnEnd, FewAreToGo}
+use Rattle.laws_card.proofs.Brief.{gives-what-waits, others-stay, causes-are-told, no-tei-at-first}
 use Rattle.laws_card.proofs.Hearing.{heard-all}
 use Rattle.laws_card.proofs.Keeping.{kept, run-counted}
-use Rattle.laws_card.proofs.Knowing.{up-known, on-known, begins-anew, one-place}
-use Rattle.laws_card.proofs.Receiving.{run-received}
-use Rattle.laws_card.proofs.Serving.{served-in}
-use Rattle.laws_card.proofs.TimersRun.{needed-run, reached-timely}
-use Rattle.laws_card.proofs.Wherever.{waiting-begun, come-to-an-end, few-reached}
+use Rattle.laws_card.proofs.Knowing.{on-known, begins-anew, one-place}
+use Rattle.laws_card.proofs.OneEvent.{one-all}
+use Rattle.laws_card.proofs.Wherever.{waiting-taken, answers-are-taken, come-to-an-end, few-are}
 use Rattle.laws_promises.specs.Promises.{Promises}
 
 module _ (m : Card) (events : List Event) (reached : IsReached m) (within : AreAtLines m events) where
@@ -36,17 +34,17 @@ module _ (m : Card) (events : List Event) (reached : IsReached m) (within : AreA
   promises-kept = record {
     nothing_is_lost = kept m events sound within;
     one_event = one-all m events sound within;
-    begun_is_told = begun-told m events sound within;
     heard_is_delivered = heard-all m events sound within;
-    received = front AreReceived run-received;
     counted = front IsCountedIn run-counted;
-    timers = λ count. needed-run m (take count events) sound (reached-timely m reached) (front-within count);
-    notes_tell = front NotesTell up-known;
+    others_stay = others-stay m events sound within;
+    causes_are_told = causes-are-told m events sound within;
     teis_are_told = front TeisAreTold on-known;
     begins = begins-anew m.config;
+    no_tei_at_first = no-tei-at-first m.config;
     one_place = front TeisHaveOnePlace one-place;
-    served = front IsServedIn served-in;
-    waiting_is_begun = front WaitingAreBegun waiting-begun;
-    pulls_come_to_an_end = front PullsComeToAnEnd come-to-an-end;
-    few_to_go = λ count. few-reached m (take count events) reached (front-within count);
+    gives_what_waits = front GivesWhatWaits gives-what-waits;
+    waiting_is_taken = front (Wherever WaitingIsTakenMeanwhile) (λ card es s all. (waiting-taken card es s all).meanwhile);
+    answers_are_taken = front AnswersAreTaken answers-are-taken;
+    takes_come_to_an_end = front TakesComeToAnEnd come-to-an-end;
+    few_to_go = front FewAreToGo few-are;
   }

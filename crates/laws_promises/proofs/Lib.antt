@@ -1,3 +1,7 @@
 -- Lemmas.
 pub mod Kept
-pub mod FramesKept
+mod Meaning
+mod Telling
+mod Idling
+pub mod OctetsKept
+pub mod Linear

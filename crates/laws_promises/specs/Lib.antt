@@ -1,3 +1,4 @@
 -- What is promised of every list of events.
 pub mod Promises
-pub mod FramePromises
+pub mod PromisesOfOctets
+pub mod Linear

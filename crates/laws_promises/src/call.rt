@@ -1,24 +1,29 @@
-//! The call of a card that runs a list of events, with all that is promised of it.
+//! The call of a card of octets that runs a list of events, with all that is promised of it.
 
 ghost use Rattle.std.specs.Prelude.{◌≡◌, ◌<◌, ◌+◌, ℕ, length, take, All, IfOk, IfErr, OnOk, OnErr};
 ghost use Rattle.model_card.specs.ByEvent.{ArePriced};
-ghost use Rattle.model_card.specs.Card as machine;
-ghost use Rattle.model_card.specs.Drops.{AreDropsWithoutCost, AreDropsWithoutEffect};
-ghost use Rattle.model_card.specs.Laws.{RefusedByTheTable, RunIsMoments};
-ghost use Rattle.model_card.specs.Promises.{IsWithinLimit, IsAmortised, IsAmortisedFromZero, HasSixOctetsAFrame, HasSevenOctetsAReject, IsLinear, IsIsolated, IsNeverFull, IsNumbered, IsNumberedFromZero, IsTextual};
-ghost use Rattle.model_card.specs.Run.{run, moments};
+ghost use Rattle.model_card.specs.Counted.{all_counted, CountersAreNumbers};
+ghost use Rattle.model_card.specs.Promises.{IsAmortised, IsAmortisedFromZero, IsNeverFull, IsNumbered, IsNumberedFromZero};
+ghost use Rattle.model_card.specs.Run.{moments};
+ghost use Rattle.model_ports.specs.Card as machine;
+ghost use Rattle.model_ports.specs.Codec.{Refines};
+ghost use Rattle.model_ports.specs.Drops.{AreDropsWithoutCost, AreDropsWithoutEffect};
+ghost use Rattle.model_ports.specs.Laws.{RunIsMoments};
+ghost use Rattle.model_ports.specs.Promises.{IsWithinLimit, HasSixOctetsAFrame, HasSevenOctetsAReject, IsLinear, IsIsolated};
+ghost use Rattle.model_ports.specs.Run.{run, meant_all};
 ghost use Rattle.lapd_card.specs.Card.{line_count};
 ghost use Rattle.lapd_card.specs.Counted.{counters_in};
-ghost use Rattle.model_card.specs.Counted.{all_counted, CountersAreNumbers};
-ghost use Rattle.lapd_card.specs.Drive.{line_of, events_of, Taken, MissesAt};
-ghost use Rattle.lapd_card.specs.Sink.{one_failure_more};
+ghost use Rattle.lapd_card.specs.Drive.{line_of, events_of, MissesAt, RefusedByTheTable, IsTextual};
+ghost use Rattle.lapd_card.specs.Sink.{Taken, one_failure_more};
 ghost use Rattle.lapd_card.specs.Stands.{Stands};
 ghost use Rattle.laws_promises.specs.Promises.{Promises};
+ghost use Rattle.laws_promises.specs.PromisesOfOctets.{PromisesOfOctets};
 
 use lapd_card::{Card, Event, Sink, SinkFault};
 use lapd_store::Shelf;
 
-/// Runs a list of events, as [`Card::drive`] does, whose clauses these are, and keeps all promises (`promises`).
+/// Runs a list of events, as [`Card::drive`] does, whose clauses these are, and keeps all promises: those of what the events
+/// mean to the card of frames inside (`promises`), and those of its octets (`promises_of_octets`).
 ///
 /// # Errors
 ///
@@ -33,49 +38,52 @@ pub fn drive<S: Shelf, K: Sink>(
     ensures at { IfErr result (λ fault. fault.at < length events.now) }
     ensures failed { OnErr result (K.failures sink.new ≡ one_failure_more (K.failures sink.old)) }
     ensures not_failed { OnOk result (K.failures sink.new ≡ K.failures sink.old) }
-    ensures config { card.new.config ≡ card.old.config }
-    ensures ran { OnOk result ((m : machine.Card) → Stands S.store card.old m
+    ensures config { card.new.frames.config ≡ card.old.frames.config }
+    ensures ran { OnOk result ((m : machine.OctetCard) → Stands S.store card.old m
         → Stands S.store card.new (run m (events_of events.now)).card) }
-    ensures taken { OnOk result ((m : machine.Card) → Stands S.store card.old m
+    ensures taken { OnOk result ((m : machine.OctetCard) → Stands S.store card.old m
         → Taken K.takes sink.old (run m (events_of events.now)).replies sink.new) }
-    ensures counters { OnOk result ((m : machine.Card) → Stands S.store card.old m
-        → counters_in card.new.lines ≡ all_counted (counters_in card.old.lines) (moments m (events_of events.now))) }
-    ensures stopped { IfErr result (λ fault. (m : machine.Card) → Stands S.store card.old m
+    ensures counters { OnOk result ((m : machine.OctetCard) → Stands S.store card.old m
+        → counters_in card.new.frames.lines ≡ all_counted (counters_in card.old.frames.lines) (moments m.card (meant_all m (events_of events.now)))) }
+    ensures stopped { IfErr result (λ fault. (m : machine.OctetCard) → Stands S.store card.old m
         → Stands S.store card.new (run m (take (fault.at + 1) (events_of events.now))).card) }
-    ensures taken_before { IfErr result (λ fault. (m : machine.Card) → Stands S.store card.old m
+    ensures taken_before { IfErr result (λ fault. (m : machine.OctetCard) → Stands S.store card.old m
         → MissesAt K.takes K.misses m (events_of events.now) fault.at sink.old sink.new) }
-    ensures counters_before { IfErr result (λ fault. (m : machine.Card) → Stands S.store card.old m
-        → counters_in card.new.lines ≡ all_counted (counters_in card.old.lines) (moments m (take (fault.at + 1) (events_of events.now)))) }
+    ensures counters_before { IfErr result (λ fault. (m : machine.OctetCard) → Stands S.store card.old m
+        → counters_in card.new.frames.lines ≡ all_counted (counters_in card.old.frames.lines) (moments m.card (meant_all m (take (fault.at + 1) (events_of events.now))))) }
     ensures moments { RunIsMoments }
     ensures refused { RefusedByTheTable }
     ensures counters_add_up { CountersAreNumbers }
-    ensures by_event { (m : machine.Card) → Stands S.store card.old m → ArePriced m (events_of events.now) }
-    ensures drops { (m : machine.Card) → Stands S.store card.old m → AreDropsWithoutCost m (events_of events.now) }
-    ensures without_effect { (m : machine.Card) → Stands S.store card.old m
+    ensures by_event { (m : machine.OctetCard) → Stands S.store card.old m → ArePriced m.card (meant_all m (events_of events.now)) }
+    ensures drops { (m : machine.OctetCard) → Stands S.store card.old m → AreDropsWithoutCost m (events_of events.now) }
+    ensures without_effect { (m : machine.OctetCard) → Stands S.store card.old m
         → AreDropsWithoutEffect m (events_of events.now) }
-    ensures within_limit { (m : machine.Card) (count : ℕ) → Stands S.store card.old m
+    ensures within_limit { (m : machine.OctetCard) (count : ℕ) → Stands S.store card.old m
         → IsWithinLimit m (take count (events_of events.now)) }
-    ensures amortised { (m : machine.Card) (count : ℕ) → Stands S.store card.old m
-        → IsAmortised m (take count (events_of events.now)) }
-    ensures amortised_from_zero { (count : ℕ) → Stands S.store card.old (machine.fresh card.old.config)
-        → IsAmortisedFromZero card.old.config (take count (events_of events.now)) }
-    ensures six_octets_a_frame { (count : ℕ) → Stands S.store card.old (machine.fresh card.old.config)
-        → HasSixOctetsAFrame card.old.config (take count (events_of events.now)) }
-    ensures seven_octets_a_reject { (count : ℕ) → Stands S.store card.old (machine.fresh card.old.config)
-        → HasSevenOctetsAReject card.old.config (take count (events_of events.now)) }
-    ensures linear { (count : ℕ) → Stands S.store card.old (machine.fresh card.old.config)
-        → IsLinear card.old.config (take count (events_of events.now)) }
-    ensures isolated { (count : ℕ) → Stands S.store card.old (machine.fresh card.old.config)
-        → IsIsolated card.old.config (take count (events_of events.now)) }
-    ensures never_full { (count : ℕ) → Stands S.store card.old (machine.fresh card.old.config)
-        → IsNeverFull card.old.config (take count (events_of events.now)) }
-    ensures numbered { (m : machine.Card) (count : ℕ) → Stands S.store card.old m
-        → IsNumbered m (take count (events_of events.now)) }
-    ensures from_zero { (count : ℕ) → Stands S.store card.old (machine.fresh card.old.config)
-        → IsNumberedFromZero card.old.config (take count (events_of events.now)) }
-    ensures textual { (m : machine.Card) (count : ℕ) → Stands S.store card.old m
+    ensures amortised { (m : machine.OctetCard) (count : ℕ) → Stands S.store card.old m
+        → IsAmortised m.card (meant_all m (take count (events_of events.now))) }
+    ensures amortised_from_zero { (count : ℕ) → Stands S.store card.old (machine.fresh card.old.frames.config)
+        → IsAmortisedFromZero card.old.frames.config (meant_all (machine.fresh card.old.frames.config) (take count (events_of events.now))) }
+    ensures six_octets_a_frame { (count : ℕ) → Stands S.store card.old (machine.fresh card.old.frames.config)
+        → HasSixOctetsAFrame card.old.frames.config (take count (events_of events.now)) }
+    ensures seven_octets_a_reject { (count : ℕ) → Stands S.store card.old (machine.fresh card.old.frames.config)
+        → HasSevenOctetsAReject card.old.frames.config (take count (events_of events.now)) }
+    ensures linear { (count : ℕ) → Stands S.store card.old (machine.fresh card.old.frames.config)
+        → IsLinear card.old.frames.config (take count (events_of events.now)) }
+    ensures isolated { (count : ℕ) → Stands S.store card.old (machine.fresh card.old.frames.config)
+        → IsIsolated card.old.frames.config (take count (events_of events.now)) }
+    ensures never_full { (count : ℕ) → Stands S.store card.old (machine.fresh card.old.frames.config)
+        → IsNeverFull card.old.frames.config (meant_all (machine.fresh card.old.frames.config) (take count (events_of events.now))) }
+    ensures numbered { (m : machine.OctetCard) (count : ℕ) → Stands S.store card.old m
+        → IsNumbered m.card (meant_all m (take count (events_of events.now))) }
+    ensures from_zero { (count : ℕ) → Stands S.store card.old (machine.fresh card.old.frames.config)
+        → IsNumberedFromZero card.old.frames.config (meant_all (machine.fresh card.old.frames.config) (take count (events_of events.now))) }
+    ensures codec { (m : machine.OctetCard) (count : ℕ) → Stands S.store card.old m
+        → Refines m (take count (events_of events.now)) }
+    ensures textual { (m : machine.OctetCard) (count : ℕ) → Stands S.store card.old m
         → IsTextual m (take count (events_of events.now)) }
-    ensures promises { (m : machine.Card) → Stands S.store card.old m → Promises m (events_of events.now) }
+    ensures promises { (m : machine.OctetCard) → Stands S.store card.old m → Promises m.card (meant_all m (events_of events.now)) }
+    ensures promises_of_octets { (m : machine.OctetCard) → Stands S.store card.old m → PromisesOfOctets m (events_of events.now) }
 {
     card.drive(events, sink)
 }

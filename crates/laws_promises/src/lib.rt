@@ -1,13 +1,14 @@
-//! What is promised of every list of events at a card, in one record, and the card's own call with that record in its
-//! contract.
+//! What is promised of every list of events at a card, in one record, and the card's own calls with that record in their
+//! contracts.
 //!
-//! `specs/Promises` has the record. Each field is a promise, and the sentence above it says it in words. The clauses of
-//! [`lapd_card::Card::drive`] say the rest: where the card is after the events, which replies the sink has taken, and
-//! what bounds storage and frames.
+//! `specs/Promises` has the record. Each field is a promise, and the sentence above it says it in words. Of a card of octets it
+//! is said of what the events mean to the card of frames inside; `specs/PromisesOfOctets` has what is promised of the octets
+//! beside. The clauses of [`lapd_card::Card::drive`] say the rest: where the card is after the events, which replies the sink
+//! has taken, what bounds storage and frames, and what stands in the octets.
 //!
-//! - `call`: `drive`, a card's call, with its clauses and the promises. A caller that needs no proof calls the card itself.
-//! - `frame_call`: `drive_frames`, the same of a card for frames: all promises of the events that its happenings mean, and
-//!   what they are in frames' own terms (`specs/FramePromises`).
+//! - `frame_call`: `drive_frames`, a card's call, with its clauses and the promises. A caller that needs no proof calls the card
+//!   itself.
+//! - `call`: `drive`, the same of a card of octets.
 //! - `laws`: the promises of every machine of a card that is reached, as calls without effect.
 #![tactic(auto)]
 
@@ -19,4 +20,4 @@ mod tests;
 
 pub use call::drive;
 pub use frame_call::drive_frames;
-pub use laws::{frame_promises_are_kept, promises_are_kept};
+pub use laws::{promises_are_kept, promises_of_octets_are_kept};

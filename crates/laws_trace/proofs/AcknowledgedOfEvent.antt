@@ -1,10 +1,9 @@
 -- What one event of a line leaves to be acknowledged of a link.
-use Rattle.std.proofs.Common.{◌≡◌, ℕ, ◌<◌, ◌==◌, ◌&&◌, Bool, true, false, cond, List, [], ◌∷◌, ◌++◌, map, Option, Some, None, IfSome, option_map, refl, sym, ap, ◌∙◌, subst, arith, true≢false, ◌⊎◌, inl, inr, append-nil, eqb-true, eq-eqb}
+use Rattle.std.proofs.Common.{◌≡◌, ℕ, ◌<◌, ◌==◌, ◌&&◌, Bool, true, false, cond, List, [], ◌∷◌, ◌++◌, map, Option, Some, None, IfSome, refl, sym, ap, ◌∙◌, subst, arith, true≢false, ◌⊎◌, inl, inr, append-nil, eqb-true, eq-eqb}
 use Rattle.std.specs.Prelude.{All, fold, flat_map, option_to_list, is_some}
 use Rattle.std.specs.List.{list_any}
 use Rattle.std.specs.Option.{option_map_or, unwrap_or}
 use Rattle.std.proofs.lemmas.List.Elements.{All-head, All-tail}
-use Rattle.model_bits.specs.Stream as stream
 use Rattle.lapd_frame.specs.declared.controls.Control.TheVariants.{Ui}
 use Rattle.lapd_frame.specs.declared.services.Service.{Service}
 use Rattle.lapd_frame.specs.Reading.{reading}
@@ -25,11 +24,10 @@ use Rattle.model_link.specs.Told.{Given}
 use Rattle.model_link.specs.Sound.{IsGiven}
 use Rattle.model_link.proofs.Giving.{given_is_frame}
 use Rattle.model_line.specs.declared.config.Config.{Config}
-use Rattle.model_line.specs.Event.{Event, octet, expiry, request, pull, Answer, LineTold, told, refused, pulled}
+use Rattle.model_line.specs.Event.{Event, hears, expiry, request, next, Answer, told, refused, gave}
 use Rattle.model_line.specs.Line.{Line, link_in, link_of, terms}
-use Rattle.model_line.specs.Machine.{after, answer, of_octet}
-use Rattle.model_line.specs.Octet.{gained}
-use Rattle.model_line.specs.Pull.{Taken, begun, frame_of}
+use Rattle.model_line.specs.Machine.{after, answer, of_request, unless_refused_told}
+use Rattle.model_line.specs.Taken.{frame_of}
 use Rattle.model_line.specs.Request.{Request}
 use Rattle.model_line.specs.Sound.{IsInRange, IsSound}
 use Rattle.model_line.proofs.LinksSound.{sound_in}
@@ -38,11 +36,9 @@ use Rattle.laws_line.specs.Frames.{lost_in}
 use Rattle.laws_line.specs.Heard.{notes_of, is_data_of}
 use Rattle.laws_line.specs.Steady.{IsBy}
 use Rattle.laws_line.proofs.Hearing.{same-sapi}
-use Rattle.model_card.specs.Pulled.{frame_taken, frame_in, octet_in}
 use Rattle.laws_trace.specs.AllAreAcknowledged.{number_in, numbers_at, lost_since}
 use Rattle.laws_trace.specs.ControlFrames.{of_link}
-use Rattle.laws_trace.specs.Trace as traces
-use Rattle.laws_trace.specs.Trace.{Seen, heard, noted, lost, put, seen, seen_told, seen_granted}
+use Rattle.laws_trace.specs.Trace.{frame_in, Seen, lost, seen, seen_told, seen_granted}
 use Rattle.laws_trace.proofs.AcknowledgedOfLink.{number_of, IsAcked, zero-begun, same-number, delivered-acked, other-acked, given-acked}
 use Rattle.laws_trace.proofs.Begins.{up-before}
 use Rattle.laws_trace.proofs.CommandsCaused.{IsNoOther}
@@ -51,6 +47,10 @@ use Rattle.laws_trace.proofs.OfferTells.{offer-tells_nothing}
 use Rattle.laws_trace.proofs.OneLink.{IsForeign, frames_given, HasOne, HasNone, Goes, event-goes}
 use Rattle.laws_trace.proofs.ReadAgain.{read-again}
 use Rattle.laws_trace.proofs.Spelled.{whole-parts, given-spells}
+use Rattle.laws_trace.specs.Trace as traces
+use Rattle.model_line.specs.Refusal.{refusal}
+use Rattle.model_line.specs.Effect.{Effect}
+use Rattle.lapd_frame.specs.declared.refusals.Refusal.{Refusal}
 
 no : {A : Type 0} → false ≡ true → A
 no e = absurd (true≢false (sym e))
@@ -70,67 +70,55 @@ module _ (service : Service) (tei : ℕ) where
   lost_behind some t = fold (lost_since service tei) some t
 
   -- What is seen to go are the frames that begin.
-  none-told : (c : Config) (o : Option stream.Event) (a : Answer) → numbers_begun c (map heard (option_to_list o) ++ seen_told a) ≡ []
-  none-told c None (told t) = refl
-  none-told c None (refused why) = refl
-  none-told c None (pulled value is_begun orders) = refl
-  none-told c (Some e) (told t) = refl
-  none-told c (Some e) (refused why) = refl
-  none-told c (Some e) (pulled value is_begun orders) = refl
+  none-told : (c : Config) (a : Answer) → numbers_begun c (seen_told a) ≡ []
+  none-told c (told t) = refl
+  none-told c (refused why) = refl
+  none-told c (gave given) = refl
 
   none-granted : (c : Config) (r : Request) (a : Answer) → numbers_begun c (seen_granted r a ++ seen_told a) ≡ []
   none-granted c r (told t) = refl
   none-granted c r (refused why) = refl
-  none-granted c r (pulled value is_begun orders) = refl
+  none-granted c r (gave given) = refl
 
-  by-begun : (c : Config) (o : Option Taken) (a : Answer)
-      → numbers_begun c (map traces.begun (option_to_list (option_map frame_taken o)) ++ map put (octet_in a)) ≡ flat_map (begun_at c) (option_to_list (option_map frame_taken o))
-  by-begun c None (told t) = refl
-  by-begun c None (refused why) = refl
-  by-begun c None (pulled value is_begun orders) = refl
-  by-begun c (Some t) (told u) = refl
-  by-begun c (Some t) (refused why) = refl
-  by-begun c (Some t) (pulled value is_begun orders) = refl
+  by-begun : (c : Config) (frames : List (List ℕ)) → numbers_begun c (map traces.begun frames) ≡ flat_map (begun_at c) frames
+  by-begun c [] = refl
+  by-begun c (f ∷ frames) = ap (λ xs. begun_at c f ++ xs) (by-begun c frames)
 
-  begun-is : (c : Config) (e : Event) (l : Line) (a : Answer) → numbers_begun c (seen c e l a) ≡ flat_map (begun_at c) (frame_in c e l)
-  begun-is c (octet value) l a = none-told c (gained c.n201 l.received value) a
-  begun-is c (expiry timer) l a = none-told c None a
-  begun-is c (request r) l a = none-granted c r a
-  begun-is c pull l a = by-begun c (begun c l) a
+  none-given : (c : Config) (o : Option Refusal) (x : Effect) → [] ≡ flat_map (begun_at c) (frame_in (unless_refused_told o x))
+  none-given c None x = refl
+  none-given c (Some why) x = refl
+
+  begun-is : (c : Config) (e : Event) (l : Line) → numbers_begun c (seen e (answer c e l)) ≡ flat_map (begun_at c) (frame_in (answer c e l))
+  unfolding answer
+  begun-is c (hears what) l = none-told c (answer c (hears what) l)
+  begun-is c (expiry timer) l = none-told c (answer c (expiry timer) l)
+  begun-is c (request r) l = none-granted c r (answer c (request r) l) ∙ none-given c (refusal c false r l) (of_request c r l)
+  begun-is c next l = by-begun c (frame_in (answer c next l))
 
   -- Whether frames were lost since data was told.
   abbrev LostBehind : Bool → Answer → Bool
   LostBehind some a = cond (lost_in a == 0) (cond (list_any (is_data_of service tei) (notes_of a)) false some) true
 
-  lost-heard : (o : Option stream.Event) (some : Bool) (t : LineTold)
-      → lost_behind some (map heard (option_to_list o) ++ noted t.notes t.contents ∷ lost t.lost ∷ []) ≡ LostBehind some (told t)
-  lost-heard None some t = refl
-  lost-heard (Some e) some t = refl
-
   lost-told : (some : Bool) (a : Answer) → lost_behind some (seen_told a) ≡ LostBehind some a
   lost-told some (told t) = refl
   lost-told some (refused why) = refl
-  lost-told some (pulled value is_begun orders) = refl
+  lost-told some (gave given) = refl
 
   lost-asked : (r : Request) (some : Bool) (a : Answer) → lost_behind some (seen_granted r a ++ seen_told a) ≡ LostBehind some a
   lost-asked r some (told t) = refl
   lost-asked r some (refused why) = refl
-  lost-asked r some (pulled value is_begun orders) = refl
+  lost-asked r some (gave given) = refl
 
-  lost-pulled : (o : Option Taken) (some : Bool) (a : Answer) → lost_behind some (map traces.begun (option_to_list (option_map frame_taken o)) ++ map put (octet_in a)) ≡ some
-  lost-pulled None some (told t) = refl
-  lost-pulled None some (refused why) = refl
-  lost-pulled None some (pulled value is_begun orders) = refl
-  lost-pulled (Some t) some (told u) = refl
-  lost-pulled (Some t) some (refused why) = refl
-  lost-pulled (Some t) some (pulled value is_begun orders) = refl
+  lost-begun : (frames : List (List ℕ)) (some : Bool) → lost_behind some (map traces.begun frames) ≡ some
+  lost-begun [] some = refl
+  lost-begun (f ∷ frames) some = lost-begun frames some
 
-  pub lost-is : (c : Config) (e : Event) (l : Line) (some : Bool) → lost_behind some (seen c e l (answer c e l)) ≡ LostBehind some (answer c e l)
+  pub lost-is : (c : Config) (e : Event) (l : Line) (some : Bool) → lost_behind some (seen e (answer c e l)) ≡ LostBehind some (answer c e l)
   unfolding answer
-  lost-is c (octet value) l some = lost-heard (gained c.n201 l.received value) some (of_octet c value l).told
+  lost-is c (hears what) l some = lost-told some (answer c (hears what) l)
   lost-is c (expiry timer) l some = lost-told some (answer c (expiry timer) l)
   lost-is c (request r) l some = lost-asked r some (answer c (request r) l)
-  lost-is c pull l some = lost-pulled (begun c l) some (answer c pull l)
+  lost-is c next l some = lost-begun (frame_in (answer c next l)) some
 
   -- Frames of others have no number of this link.
   foreign : (c : Config) (frame : List ℕ) → IsForeign c service tei frame → begun_at c frame ≡ []
@@ -175,17 +163,17 @@ module _ (service : Service) (tei : ℕ) where
     abbrev own : Link
     own = link_of service tei l
 
-    abbrev next : Link
-    next = link_of service tei (after c e l)
+    abbrev new : Link
+    new = link_of service tei (after c e l)
 
     abbrev its : Terms
     its = terms c service tei
 
     abbrev now : List ℕ
-    now = begun ++ numbers_begun c (seen c e l a)
+    now = begun ++ numbers_begun c (seen e a)
 
     abbrev Here : Type 0
-    Here = Knows next m_now (LostBehind some a) now
+    Here = Knows new m_now (LostBehind some a) now
 
     is-zero : (b : Bool) (n : ℕ) → (n == 0) ≡ b → (x : Bool) → cond b x true ≡ false → (n ≡ 0) × (x ≡ false)
     is-zero true n is x none = (eqb-true n 0 is, none)
@@ -201,18 +189,18 @@ module _ (service : Service) (tei : ℕ) where
     none-here x up some_told none = go x.is
       where
         is-now : now ≡ begun
-        is-now = ap (λ xs. begun ++ xs) (begun-is c e l a ∙ all-foreign c (frame_in c e l) x.begins) ∙ append-nil begun
+        is-now = ap (λ xs. begun ++ xs) (begun-is c e l ∙ all-foreign c (frame_in a) x.begins) ∙ append-nil begun
 
         not-noted : (b : Bool) → list_any (is_data_of service tei) (notes_of a) ≡ b → b ≡ false
         not-noted false is = refl
         not-noted true is = absurd (no-data c ranged l s e service tei m count x is)
 
-        go : (next ≡ own) ⊎ (next ≡ fresh) → IsAcked next now
-        go (inr new) = no (sym (ap (λ (k : Link). is_multiple_frame k.state) new) ∙ up)
+        go : (new ≡ own) ⊎ (new ≡ fresh) → IsAcked new now
+        go (inr anew) = no (sym (ap (λ (k : Link). is_multiple_frame k.state) anew) ∙ up)
         go (inl same) =
             let was = ap (λ (k : Link). is_multiple_frame k.state) (sym same) ∙ up in
             let numbers-same : m_now ≡ m = sym (count_now up) ∙ ap (λ (k : Link). k.r) same ∙ count was in
-            subst (IsAcked next) (sym is-now)
+            subst (IsAcked new) (sym is-now)
             (subst (λ (k : Link). IsAcked k begun) (sym same)
             (known was (subst (λ n. 0 < n) numbers-same some_told)
             (untold (list_any (is_data_of service tei) (notes_of a)) refl (not-noted (list_any (is_data_of service tei) (notes_of a)) refl) (none-lost none).1)))
@@ -231,22 +219,22 @@ module _ (service : Service) (tei : ℕ) where
       Then = links.after its x.event own
 
       now-is : now ≡ begun ++ flat_map (begun_at c) (frames_given c its x.event own)
-      now-is = ap (λ xs. begun ++ xs) (begun-is c e l a ∙ ap (flat_map (begun_at c)) x.begins)
+      now-is = ap (λ xs. begun ++ xs) (begun-is c e l ∙ ap (flat_map (begun_at c)) x.begins)
 
-      then-up : is_multiple_frame next.state ≡ true → is_multiple_frame Then.state ≡ true
+      then-up : is_multiple_frame new.state ≡ true → is_multiple_frame Then.state ≡ true
       then-up up = ap (λ (k : Link). is_multiple_frame k.state) (sym x.is) ∙ up
 
-      number-is : is_multiple_frame next.state ≡ true → Then.r ≡ m_now
+      number-is : is_multiple_frame new.state ≡ true → Then.r ≡ m_now
       number-is up = ap (λ (k : Link). k.r) (sym x.is) ∙ count_now up
 
-      goes-on : is_multiple_frame next.state ≡ true → 0 < m_now → (b : Bool) → restarts its x.event own ≡ b → restarts its x.event own ≡ false
+      goes-on : is_multiple_frame new.state ≡ true → 0 < m_now → (b : Bool) → restarts its x.event own ≡ b → restarts its x.event own ≡ false
       goes-on up some_told false is = is
       goes-on up some_told true is =
           let zero : m_now ≡ 0 = sym (number-is up) ∙ zero-begun its x.event own begun is in
           absurd (omega (arith, zero, some_told))
 
       -- what was known before, where nothing is told now
-      known-before : is_multiple_frame next.state ≡ true → 0 < m_now → LostBehind some a ≡ false → restarts its x.event own ≡ false → (links.told its x.event own).delivered ≡ None
+      known-before : is_multiple_frame new.state ≡ true → 0 < m_now → LostBehind some a ≡ false → restarts its x.event own ≡ false → (links.told its x.event own).delivered ≡ None
           → IsAcked own begun
       known-before up some_told none on silent =
           let was = up-before its x.event own (then-up up) on in
@@ -254,7 +242,7 @@ module _ (service : Service) (tei : ℕ) where
           known was (subst (λ n. 0 < n) (sym same) some_told)
           (untold (is_some (links.told its x.event own).delivered) (data-noted c ranged l s e service tei m count x) (ap is_some silent) (none-lost none).1)
 
-      by-frames : (given : List (List ℕ)) → frames_given c its x.event own ≡ given → IsAcked Then (begun ++ flat_map (begun_at c) given) → IsAcked next now
+      by-frames : (given : List (List ℕ)) → frames_given c its x.event own ≡ given → IsAcked Then (begun ++ flat_map (begun_at c) given) → IsAcked new now
       by-frames given is h =
           subst (λ (k : Link). IsAcked k now) (sym x.is) (subst (IsAcked Then) (sym (now-is ∙ ap (λ fs. begun ++ flat_map (begun_at c) fs) is)) h)
 
@@ -291,7 +279,7 @@ module _ (service : Service) (tei : ℕ) where
           same-r = ap (λ (k : Link). k.r) (sym then-is) ∙ same-number its x.event own begun on nothing-told
 
           go : (o : Option Given) → links.given its own ≡ o → IfSome (links.given its own) (λ g. IsInOrder its own (links.after its link.offer own) g.frame)
-              → IfSome (links.given its own) (λ g. IsGiven its g.frame g.contents) → IsAcked next now
+              → IfSome (links.given its own) (λ g. IsGiven its g.frame g.contents) → IsAcked new now
           go None nothing order frame =
               by-frames [] (ap (λ e. frames_given c its e own) is ∙ ap (λ o. map (frame_of c its) (option_to_list o)) nothing)
               (subst (IsAcked Then) (sym (append-nil begun))
@@ -304,7 +292,7 @@ module _ (service : Service) (tei : ℕ) where
               (subst (λ (k : Link). IsAcked k (begun ++ number_of g.frame)) (sym then-is)
               (given-acked its own (links.after its link.offer own) g.frame begun same-r ordered before)))
 
-      by-event : (event : link.Event) → x.event ≡ event → IsBy c l e a service tei event → Here
+      by-event : (event : link.Event) → x.event ≡ event → IsBy c e a service tei event → Here
       by-event (link.received what) is by = plain (subst IsNoOther (sym is) tt) (ap (λ e. frames_given c its e own) is)
       by-event (link.expired timer) is by = plain (subst IsNoOther (sym is) tt) (ap (λ e. frames_given c its e own) is)
       by-event (link.requested asked full) is by = plain (subst IsNoOther (sym is) tt) (ap (λ e. frames_given c its e own) is)

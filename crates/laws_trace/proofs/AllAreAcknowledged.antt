@@ -1,4 +1,5 @@
--- All that is told of a link is acknowledged, where a line is only pulled, as often as the configuration says: the law.
+-- All that is told of a link is acknowledged, where a line is only called for its next frame, as often as the
+-- configuration says: the law.
 use Rattle.std.proofs.Common.{◌≡◌, ℕ, ◌%◌, Bool, true, false, List, [], ◌++◌, Option, Some, None, refl, sym, ap, ◌∙◌, subst, true≢false, inl, inr, append-nil, append_assoc}
 use Rattle.std.specs.Prelude.{fold}
 use Rattle.std.specs.Option.{option_map_or}
@@ -11,9 +12,8 @@ use Rattle.model_line.specs.declared.config.Config.{Config}
 use Rattle.model_line.specs.Event.{Event}
 use Rattle.model_line.specs.Line.{Line, place_in, link_in, link_of, terms, fresh_line}
 use Rattle.model_line.specs.Machine.{after, answer}
-use Rattle.model_line.specs.Pull.{begun}
 use Rattle.model_line.specs.Sound.{IsInRange, IsSound}
-use Rattle.laws_line.specs.Pulls.{HasNothing, IsSilent}
+use Rattle.laws_line.specs.Served.{HasNothing, IsSilent}
 use Rattle.laws_line.proofs.TimersFollow.{nowhere}
 use Rattle.model_card.specs.Card as cards
 use Rattle.model_card.specs.Card.{line_at}
@@ -25,14 +25,14 @@ use Rattle.laws_trace.specs.Deliveries.{Watched, nothing_yet, watch}
 use Rattle.laws_trace.specs.Trace.{Seen, seen, trace_of, Always}
 use Rattle.laws_trace.proofs.AcknowledgedOfLink.{numbers, IsAcked}
 use Rattle.laws_trace.proofs.AllDataGoesOut.{silent-there, line-at-end}
-use Rattle.laws_trace.proofs.AllFramesGoOut as frames
 use Rattle.laws_trace.proofs.Deliveries.{up-is}
-use Rattle.laws_trace.proofs.DeliveriesRun as deliveries
 use Rattle.laws_trace.proofs.DeliveriesRun.{IsCount}
 use Rattle.laws_trace.proofs.Runs.{run-shows}
 use Rattle.laws_trace.proofs.StandingOfLink.{quiet}
-use Rattle.laws_trace.proofs.UnitsGoOut.{after-both}
+use Rattle.laws_trace.proofs.WaitedBegins.{after-both}
 use Rattle.laws_trace.proofs.AcknowledgedOfEvent.{numbers_begun, lost_behind, lost-is, Knows, event-knows}
+use Rattle.laws_trace.proofs.WaitedBegins as frames
+use Rattle.laws_trace.proofs.DeliveriesRun as deliveries
 
 no : {A : Type 0} → false ≡ true → A
 no e = absurd (true≢false (sym e))
@@ -79,23 +79,23 @@ joins c k l m t u h i service tei n some begun count knows =
           (append_assoc begun (numbers_begun service tei c t) (numbers_begun service tei c u) ∙ ap (λ ns. begun ++ ns) (sym (flat_map-append (numbers_at c service tei) t u))) second.knows));
     }
 
-steps : (c : Config) → IsInRange c → (e : Event) (l : Line) → IsSound c l → Stands c l → Shows c l (seen c e l (answer c e l)) (after c e l) × Stands c (after c e l)
+steps : (c : Config) → IsInRange c → (e : Event) (l : Line) → IsSound c l → Stands c l → Shows c l (seen e (answer c e l)) (after c e l) × Stands c (after c e l)
 steps c ranged e l s stands = (
   λ service tei m some begun count knows.
       let told = deliveries.event-passes c service tei ranged e l s m count in
-      let now = (fold (watch c service tei) (quiet m) (seen c e l (answer c e l))).count in
+      let now = (fold (watch c service tei) (quiet m) (seen e (answer c e l))).count in
       record {
         calm = told.1;
         count = told.2;
         knows =
-            subst (λ b. Knows service tei (link_of service tei (after c e l)) now b (begun ++ numbers_begun service tei c (seen c e l (answer c e l)))) (sym (lost-is service tei c e l some))
+            subst (λ b. Knows service tei (link_of service tei (after c e l)) now b (begun ++ numbers_begun service tei c (seen e (answer c e l)))) (sym (lost-is service tei c e l some))
             (event-knows service tei c ranged e l s m some begun count knows now told.2);
       },
   tt,
 )
 
 pub all-are-acknowledged : Always AllAreAcknowledged
-all-are-acknowledged c events number ranged all within service tei before pulls split only enough is_up some_told none =
+all-are-acknowledged c events number ranged all within service tei before calls split only enough is_up some_told none =
     go (ran.knows up some_told none) (silent-there c l (line-at-end c events number ranged all within) there service tei on.0 on.1)
   where
     up : is_multiple_frame (link_of service tei (line_at number (after_all (cards.fresh c) events))).state ≡ true
@@ -117,12 +117,12 @@ all-are-acknowledged c events number ranged all within service tei before pulls 
     there : HasNothing c l
     there =
         let m = after_all (cards.fresh c) before in
-        let last : after_all (cards.fresh c) events ≡ after_all m pulls = ap (after_all (cards.fresh c)) split ∙ after-both (cards.fresh c) before pulls in
+        let last : after_all (cards.fresh c) events ≡ after_all m calls = ap (after_all (cards.fresh c)) split ∙ after-both (cards.fresh c) before calls in
         subst (λ x. HasNothing c (line_at number x)) (sym last)
-        (subst (λ d. HasNothing d (line_at number (after_all m pulls))) (frames.kept c events number ranged all within before pulls split only enough)
-        (card-drains m number pulls (frames.sound c events number ranged all within before pulls split only enough) (frames.few c events number ranged all within before pulls split only enough)
-        (frames.later c events number ranged all within before pulls split only enough) only
-        (frames.short c events number ranged all within before pulls split only enough)))
+        (subst (λ d. HasNothing d (line_at number (after_all m calls))) (frames.kept c events number ranged all within before calls split only enough)
+        (card-drains m number calls (frames.sound c events number ranged all within before calls split only enough) (frames.few c events number ranged all within before calls split only enough)
+        (frames.later c events number ranged all within before calls split only enough) only
+        (frames.short c events number ranged all within before calls split only enough)))
 
     on-line : (o : Option ℕ) → place_in l tei ≡ o → (place : ℕ) × (place_in l tei ≡ Some place)
     on-line (Some place) is = (place, is)

@@ -1,4 +1,4 @@
--- All data goes out, where a line is only pulled, as often as the configuration says.
+-- All data goes out, where a line is only called for its next frame, as often as the configuration says.
 use Rattle.std.proofs.Common.{◌≡◌, ℕ, ◌<◌, ◌≤◌, List, ◌++◌, length, get_or, Option, Some, None, sym, ap, ◌∙◌, subst, true≢false, refl, arith}
 use Rattle.std.specs.Option.{option_map_or}
 use Rattle.lapd_frame.specs.declared.services.Service.{Service}
@@ -11,20 +11,20 @@ use Rattle.model_line.specs.Line.{Line, link_in, link_of, link_at, link_number, 
 use Rattle.model_line.specs.Sound.{IsInRange, IsSound}
 use Rattle.model_line.proofs.LinksSound.{sound_in}
 use Rattle.model_line.proofs.Numbers.{place_at-number, service_at-number, number_within}
-use Rattle.laws_line.specs.Drains.{most_pulls}
-use Rattle.laws_line.specs.Pulls.{HasNothing, IsSilent}
+use Rattle.laws_line.specs.Drains.{most_frames}
+use Rattle.laws_line.specs.Served.{HasNothing, IsSilent}
 use Rattle.model_card.specs.Card as cards
 use Rattle.model_card.specs.Card.{line_at}
 use Rattle.model_card.specs.Event.{Event}
 use Rattle.model_card.specs.Run.{after_all, AreAtLines}
 use Rattle.model_card.proofs.CardSound.{fresh_is_sound, always_sound}
-use Rattle.laws_card.specs.Among.{ArePullsAt, pulls_at}
+use Rattle.laws_card.specs.Among.{AreTakesAt, takes_at}
 use Rattle.laws_card.proofs.Meanwhile.{line-sound, card-drains}
 use Rattle.laws_card.proofs.Wherever.{config-stays}
-use Rattle.laws_trace.proofs.AllFramesGoOut as frames
+use Rattle.laws_trace.proofs.WaitedBegins as frames
 use Rattle.laws_trace.proofs.DataKnown.{IsOpen, all-has-gone}
 use Rattle.laws_trace.proofs.DataRun.{at-end}
-use Rattle.laws_trace.proofs.UnitsGoOut.{after-both}
+use Rattle.laws_trace.proofs.WaitedBegins.{after-both}
 
 -- A link of a line that has nothing to send has nothing to send.
 pub silent-there : (c : Config) (l : Line) → IsSound c l → HasNothing c l → (service : Service) (tei place : ℕ) → place_in l tei ≡ Some place
@@ -61,22 +61,22 @@ link-at-end c l ranged s service tei place on =
 
 -- All has gone, and V(S) is behind it.
 pub all-gone : (c : Config) (events : List Event) (number : ℕ) (ranged : IsInRange c) (all : AreAtLines (cards.fresh c) events) (within : number < c.lines)
-    (service : Service) (tei : ℕ) (before pulls : List Event) → events ≡ before ++ pulls → ArePullsAt number pulls → most_pulls c ≤ pulls_at number pulls →
+    (service : Service) (tei : ℕ) (before calls : List Event) → events ≡ before ++ calls → AreTakesAt number calls → most_frames c ≤ takes_at number calls →
     let k = link_of service tei (line_at number (after_all (cards.fresh c) events)) in
     let x = at-end c events number ranged all within service tei in
     IsOpen (terms c service tei) k → (x.gone ≡ length x.contents) × (k.s ≡ x.gone)
-all-gone c events number ranged all within service tei before pulls split only enough may =
+all-gone c events number ranged all within service tei before calls split only enough may =
     let m = after_all (cards.fresh c) before in
-    let m_sound = frames.sound c events number ranged all within before pulls split only enough in
-    let kept = frames.kept c events number ranged all within before pulls split only enough in
+    let m_sound = frames.sound c events number ranged all within before calls split only enough in
+    let kept = frames.kept c events number ranged all within before calls split only enough in
     let nothing =
-    card-drains m number pulls m_sound (frames.few c events number ranged all within before pulls split only enough)
-    (frames.later c events number ranged all within before pulls split only enough) only
-    (frames.short c events number ranged all within before pulls split only enough) in
-    let last : after_all (cards.fresh c) events ≡ after_all m pulls = ap (after_all (cards.fresh c)) split ∙ after-both (cards.fresh c) before pulls in
+    card-drains m number calls m_sound (frames.few c events number ranged all within before calls split only enough)
+    (frames.later c events number ranged all within before calls split only enough) only
+    (frames.short c events number ranged all within before calls split only enough) in
+    let last : after_all (cards.fresh c) events ≡ after_all m calls = ap (after_all (cards.fresh c)) split ∙ after-both (cards.fresh c) before calls in
     let l = line_at number (after_all (cards.fresh c) events) in
     let there : HasNothing c l =
-    subst (λ x. HasNothing c (line_at number x)) (sym last) (subst (λ d. HasNothing d (line_at number (after_all m pulls))) kept nothing) in
+    subst (λ x. HasNothing c (line_at number x)) (sym last) (subst (λ d. HasNothing d (line_at number (after_all m calls))) kept nothing) in
     let s = line-at-end c events number ranged all within in
     let on = on-line l service tei may.state (place_in l tei) refl in
     let x = at-end c events number ranged all within service tei in

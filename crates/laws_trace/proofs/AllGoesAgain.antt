@@ -1,4 +1,4 @@
--- What is to go again goes again, where a line is only pulled, as often as the configuration says: the law.
+-- What is to go again goes again, where a line is only called for its next frame, as often as the configuration says: the law.
 use Rattle.std.proofs.Common.{◌≡◌, ℕ, ◌+◌, ◌-◌, ◌%◌, ◌≤◌, ◌<◌, List, Option, Some, None, refl, sym, ap, ◌∙◌, subst, arith}
 use Rattle.std.specs.Prelude.{All, IfSome, fold}
 use Rattle.std.proofs.lemmas.Option.{none-some}
@@ -6,26 +6,27 @@ use Rattle.lapd_frame.specs.declared.services.Service.{Service}
 use Rattle.lapd_tei.proofs.Tables.{place_of-is}
 use Rattle.model_link.specs.declared.states.State.{State}
 use Rattle.model_link.specs.declared.states.State.TheVariants.{TeiAssigned, AwaitingEstablishment, AwaitingRelease, Established, TimerRecovery}
+use Rattle.model_line.specs.Machine as lines
 use Rattle.model_line.specs.Line.{Line, link_of, place_in, state_of, terms, window}
 use Rattle.model_line.specs.declared.config.Config.{Config}
-use Rattle.model_line.specs.Event.{pull}
+use Rattle.model_line.specs.Event.{next}
 use Rattle.model_line.specs.Sound.{IsInRange}
 use Rattle.model_line.proofs.Ranges.{terms_in_range}
 use Rattle.model_card.proofs.Steps.{has_lines, line_sound}
 use Rattle.model_card.specs.Card.{fresh, line_at}
 use Rattle.model_card.specs.Event.{Event, at}
-use Rattle.model_card.specs.Pulled.{frame_in}
 use Rattle.model_card.specs.Run.{moments, after_all, AreAtLines}
-use Rattle.laws_trace.specs.AllGoesAgain.{is_next, MayGo, AllGoesAgain, NextGoes}
-use Rattle.laws_trace.specs.TimersAreTimely.{nothing_yet, watch}
-use Rattle.laws_trace.specs.Trace.{Always}
+use Rattle.laws_trace.proofs.AgainWatched.{is_next, MayGo, AllGoesAgain, NextGoes}
+use Rattle.laws_trace.proofs.TimersWatched.{nothing_yet, watch}
+use Rattle.laws_trace.specs.Trace.{frame_in, Always}
 use Rattle.laws_trace.proofs.AllDataGoesOut.{on-line, line-at-end, link-at-end, all-gone}
 use Rattle.laws_trace.proofs.DataGoesOut.{quiet, sent_of}
 use Rattle.laws_trace.proofs.DataKnown.{IsOpen}
 use Rattle.laws_trace.proofs.DataRun.{at-end}
 use Rattle.laws_trace.proofs.TimerClaims.{Agrees, IsKnown, told_state}
 use Rattle.laws_trace.proofs.TimersAreTimely.{front-at, config-now, sound-now, timely-now, true-now}
-use Rattle.laws_trace.proofs.TimersOfEvent.{state-on, off-state, pull-next}
+use Rattle.laws_trace.proofs.TimersOfEvent.{state-on, off-state, next-next}
+use Rattle.model_card.specs.Machine.{answer}
 
 -- A link of which state 7 is told is in state 7, and its TEI is on the line.
 up-in : (state : State) → told_state state ≡ Some 7 → state ≡ Established
@@ -41,12 +42,12 @@ is-up service tei l e None off = absurd (none-some 7 (sym (off-state service tei
 is-up service tei l e (Some place) on = (place, on, up-in (link_of service tei l).state (sym (state-on service tei l place on) ∙ e))
 
 -- As many I-frames are outstanding as the numbers say modulo 128.
-few-outstanding : (a s k next acknowledged : ℕ) → a ≤ s → s ≤ a + 127 → next ≡ s % 128 → acknowledged ≡ a % 128 → (next + 128 - acknowledged) % 128 < k → s < a + k
-few-outstanding a s k next acknowledged ordered high n m few = omega (arith, ordered, high, n, m, few)
+few-outstanding : (a s k new acknowledged : ℕ) → a ≤ s → s ≤ a + 127 → new ≡ s % 128 → acknowledged ≡ a % 128 → (new + 128 - acknowledged) % 128 < k → s < a + k
+few-outstanding a s k new acknowledged ordered high n m few = omega (arith, ordered, high, n, m, few)
 
 -- The other way round, too: so that I-frames may go by what was heard and what began says the same as that they may go.
-few-by-numbers : (a s k next acknowledged : ℕ) → a ≤ s → s ≤ a + 127 → k ≤ 127 → next ≡ s % 128 → acknowledged ≡ a % 128 → s < a + k → (next + 128 - acknowledged) % 128 < k
-few-by-numbers a s k next acknowledged ordered high small n m few = omega (arith, ordered, high, small, n, m, few)
+few-by-numbers : (a s k new acknowledged : ℕ) → a ≤ s → s ≤ a + 127 → k ≤ 127 → new ≡ s % 128 → acknowledged ≡ a % 128 → s < a + k → (new + 128 - acknowledged) % 128 < k
+few-by-numbers a s k new acknowledged ordered high small n m few = omega (arith, ordered, high, small, n, m, few)
 
 pub may-go-where-open : (c : Config) (events : List Event) (number : ℕ) (ranged : IsInRange c) (all : AreAtLines (fresh c) events) (within : number < c.lines)
     (service : Service) (tei : ℕ) → let l = line_at number (after_all (fresh c) events) in IsOpen (terms c service tei) (link_of service tei l)
@@ -71,7 +72,7 @@ may-go-where-open c events number ranged all within service tei is_open =
     }
 
 pub all-goes-again : Always AllGoesAgain
-all-goes-again c events number ranged all within service tei before pulls split only enough may =
+all-goes-again c events number ranged all within service tei before calls split only enough may =
     let l = line_at number (after_all (fresh c) events) in
     let own = link_of service tei l in
     let k = fold (watch c service tei number) nothing_yet (moments (fresh c) events) in
@@ -85,7 +86,7 @@ all-goes-again c events number ranged all within service tei before pulls split 
     let ordered : own.a ≤ own.s = s.ordered in
     let bound : own.s ≤ own.a + window c service = s.within in
     let small : window c service ≤ 127 = range.k_high in
-    let gone = all-gone c events number ranged all within service tei before pulls split only enough (record {
+    let gone = all-gone c events number ranged all within service tei before calls split only enough (record {
       state = up.2;
       free = sym known.busy_is ∙ may.free;
       window = few-outstanding own.a own.s (window c service) k.next k.acknowledged ordered (omega (arith, bound, small)) known.next known.acknowledged may.few;
@@ -94,15 +95,16 @@ all-goes-again c events number ranged all within service tei before pulls split 
 
 -- Each I-frame that begins is the one that goes next: the law.
 pub next-goes : Always NextGoes
+unfolding lines.takes_slot
 next-goes c events number ranged all within service tei before behind is =
     let whole = subst (AreAtLines (fresh c)) is all in
-    let front = front-at (fresh c) before (at number pull) behind whole in
+    let front = front-at (fresh c) before (at number next) behind whole in
     let card = after_all (fresh c) before in
     let l = line_at number card in
     let k = fold (watch c service tei number) nothing_yet (moments (fresh c) before) in
     let same = config-now c before number ranged front within service tei in
     let s = sound-now c before number ranged front within service tei in
     let here : number < card.config.lines = subst (λ (c : Config). number < c.lines) (sym same) within in
-    subst (λ (d : Config). All (λ octets. IfSome (sent_of d service tei octets) (is_next k)) (frame_in d pull l)) same
-    (pull-next card.config s.config l (line_sound card number (has_lines card s) here) ((timely-now c before number ranged front within service tei).lines number here) service tei k
+    subst (λ (d : Config). All (λ octets. IfSome (sent_of d service tei octets) (is_next k)) (frame_in (answer (at number next) card))) same
+    (next-next card.config s.config l (line_sound card number (has_lines card s) here) ((timely-now c before number ranged front within service tei).lines number here) service tei k
     (true-now c before number ranged front within service tei))

@@ -1,5 +1,5 @@
 -- The control frames of a link that go are those that are due: the laws.
-use Rattle.std.proofs.Common.{◌≡◌, ℕ, ◌<◌, ◌≤◌, ◌==◌, ◌&&◌, ◌||◌, Bool, true, false, cond, List, [], ◌∷◌, ◌++◌, get_or, length, take, ◌-◌, Option, Some, None, refl, sym, ap, ◌∙◌, subst, arith, eqb-true, eq-eqb, true≢false, append_assoc, append-nil}
+use Rattle.std.proofs.Common.{◌≡◌, ℕ, ◌<◌, ◌==◌, ◌&&◌, ◌||◌, Bool, true, false, cond, List, [], ◌∷◌, ◌++◌, get_or, length, take, ◌-◌, Option, Some, None, refl, sym, ap, ◌∙◌, subst, arith, eqb-true, eq-eqb, true≢false, append_assoc, append-nil}
 use Rattle.std.specs.Prelude.{All, flat_map, fold}
 use Rattle.std.specs.Option.{option_map_or}
 use Rattle.std.proofs.lemmas.Bool.{and_parts}
@@ -15,9 +15,8 @@ use Rattle.model_line.specs.Line.{Line, fresh_line, link_count, link_number, lin
 use Rattle.model_line.specs.Machine as lines
 use Rattle.model_line.specs.Sound.{IsSound}
 use Rattle.model_line.proofs.Numbers.{place_at-number, number_within}
-use Rattle.laws_line.specs.Drains.{most_pulls}
 use Rattle.laws_line.specs.Frames.{lost_in}
-use Rattle.laws_line.specs.Pulls.{HasNothing}
+use Rattle.laws_line.specs.Served.{HasNothing}
 use Rattle.model_card.specs.Card.{Card, fresh, line_at, is_full}
 use Rattle.model_card.specs.Event as card
 use Rattle.model_card.specs.Machine as cards
@@ -25,16 +24,12 @@ use Rattle.model_card.specs.Run.{Moment, moments, after_all, IsAtLine, AreAtLine
 use Rattle.model_card.specs.Sound as card_sound
 use Rattle.model_card.proofs.CardSound.{fresh_is_sound, always_sound, after_is_sound}
 use Rattle.model_card.proofs.Steps.{has_lines, by_room, line_sound}
-use Rattle.laws_card.specs.Among.{pulls_at}
 use Rattle.laws_card.specs.Timers.{AllHaveTheirTimers}
-use Rattle.laws_card.proofs.Enough.{enough-pulls}
 use Rattle.laws_card.proofs.TimersRun.{timely-all, timely-after, begins-timely-card}
-use Rattle.laws_card.proofs.Wherever.{all-left, all-right, config-stays, begins-with-few}
-use Rattle.laws_trace.specs.ControlFrames.{controls_at, command_of, due_in, may_go_in, along, IsPart, OnlyDueGo, StaysOn, AllDueGo}
+use Rattle.laws_card.proofs.Wherever.{all-left, all-right, config-stays}
+use Rattle.laws_trace.specs.ControlFrames.{controls_at, IsPart, StaysOn, command_of, due_in, may_go_in, along, OnlyDueGo, AllDueGo}
 use Rattle.laws_trace.specs.Deliveries.{Standing, at_first, stand}
-use Rattle.laws_trace.specs.LinksMove.{expired_of, one_more}
-use Rattle.laws_trace.specs.TimersAreTimely.{differ}
-use Rattle.laws_trace.specs.Trace as traces
+use Rattle.laws_trace.specs.States.{expired_of, one_more, differ}
 use Rattle.laws_trace.specs.Trace.{Seen, seen, trace, trace_of, Always}
 use Rattle.laws_trace.proofs.ControlsAtLine.{waits, due_here, owed_here, Passes, none-taken, event-passes}
 use Rattle.laws_trace.proofs.ControlsDue.{controls}
@@ -44,13 +39,14 @@ use Rattle.laws_trace.proofs.DeliveriesRun.{IsCount}
 use Rattle.laws_trace.proofs.LinkLed.{on-line}
 use Rattle.laws_trace.proofs.LinksMove.{differ-self, none-expires}
 use Rattle.laws_trace.proofs.Parts.{of-itself, of-nothing, both, more, behind, through}
-use Rattle.laws_trace.proofs.PullRuns.{apart}
+use Rattle.laws_trace.proofs.CallRuns.{apart}
 use Rattle.laws_trace.proofs.Runs.{nothing-seen}
 use Rattle.laws_trace.proofs.Standing.{standing, stand-is, event-stands, event-counts}
 use Rattle.laws_trace.proofs.StandingOfLink.{calm, IsStanding}
-use Rattle.laws_trace.proofs.StaysOn.{first-on, then-on, pulls-keep, after-none}
+use Rattle.laws_trace.proofs.StaysOn.{first-on, then-on, calls-keep}
 use Rattle.laws_trace.proofs.TimersOfEvent.{off-fresh}
-use Rattle.laws_trace.proofs.UnitsGoOut.{after-both}
+use Rattle.laws_trace.proofs.WaitedBegins.{after-both, drained}
+use Rattle.laws_trace.specs.Trace as traces
 
 -- One thing behind the other.
 chain : {X : Type 0} (fs gs ws vs us ds es : List X) → IsPart (fs ++ vs) (ws ++ ds) → IsPart (gs ++ us) (vs ++ es) → IsPart ((fs ++ gs) ++ us) (ws ++ (ds ++ es))
@@ -121,11 +117,11 @@ module _ (service : Service) (tei : ℕ) where
     time_of l e b next = differ (state_of service tei l) (state_of service tei next) || (b && option_map_or one_more (expired_of service tei e.what) 0 == 1)
 
     own-line : (m : Card) (e : card.Event) → card_sound.IsSound m → AllHaveTheirTimers m → IsAtLine m e → let l = line_at e.line m in Stands l
-        → let x = line_at e.line (cards.after e m) in Moves m.config was (time_of l e true x) l (seen m.config e.what l (cards.answer e m)) (lost_in (cards.answer e m)) x
+        → let x = line_at e.line (cards.after e m) in Moves m.config was (time_of l e true x) l (seen e.what (cards.answer e m)) (lost_in (cards.answer e m)) x
     own-line m e s timely here stands =
         let c = m.config in
         let l = line_at e.line m in
-        by_room (λ ls a. let x = get_or ls e.line (fresh_line c) in Moves c was (time_of l e true x) l (seen c e.what l a) (lost_in a) x) e m
+        by_room (λ ls a. let x = get_or ls e.line (fresh_line c) in Moves c was (time_of l e true x) l (seen e.what a) (lost_in a) x) e m
         (λ full.
         let takes = (and_parts (lines.takes_slot c e.what l) (is_full m) full).0 in
         subst (λ t. Moves c was (time_of l e true l) l t 0 l) (sym (nothing-seen c e.what l takes))
@@ -134,7 +130,7 @@ module _ (service : Service) (tei : ℕ) where
         (λ room.
         let sound = line_sound m e.line (has_lines m s) here in
         let is = stand-is service tei c e.what l n busy rejected in
-        let t = seen c e.what l (lines.answer c e.what l) in
+        let t = seen e.what (lines.answer c e.what l) in
         let next = lines.after c e.what l in
         subst (λ (x : Line). Moves c was (time_of l e true x) l t (lost_in (lines.answer c e.what l)) x)
         (sym (get_or-set_same m.lines e.line next (fresh_line c) (omega (arith, s.count, here))))
@@ -150,7 +146,7 @@ module _ (service : Service) (tei : ℕ) where
     Moment-moves m e number b =
         let l = line_at number m in
         let x = line_at number (cards.after e m) in
-        Moves m.config was (time_of l e b x) l (cond b (seen m.config e.what l (cards.answer e m)) []) (lost_in (cards.answer e m)) x
+        Moves m.config was (time_of l e b x) l (cond b (seen e.what (cards.answer e m)) []) (lost_in (cards.answer e m)) x
 
     moment : (m : Card) (e : card.Event) (number : ℕ) → card_sound.IsSound m → AllHaveTheirTimers m → IsAtLine m e → Stands (line_at number m)
         → (b : Bool) → (e.line == number) ≡ b → Moment-moves m e number b
@@ -264,46 +260,46 @@ only-due-go c events number ranged all within service tei before since split awa
     none-where-away l (Some place) on away = absurd (true≢false (sym (on-line l tei place on) ∙ away))
 
 pub all-due-go : Always AllDueGo
-all-due-go c events number ranged all within service tei before meanwhile pulls split only enough on =
+all-due-go c events number ranged all within service tei before meanwhile calls split only enough on =
     let whole = subst (AreAtLines (fresh c)) split all in
     let m = after_all (fresh c) before in
     let same-config : m.config ≡ c = config-stays (fresh c) before in
-    let first = all-left (IsAtLine (fresh c)) before (meanwhile ++ pulls) whole in
+    let first = all-left (IsAtLine (fresh c)) before (meanwhile ++ calls) whole in
     let sound = always_sound (fresh c) before (fresh_is_sound c ranged) first in
     let timely = timely-all (fresh c) before (fresh_is_sound c ranged) (begins-timely-card c) first in
-    let later : AreAtLines m (meanwhile ++ pulls) =
-    subst (λ (c : Config). All (λ (e : card.Event). e.line < c.lines) (meanwhile ++ pulls)) (sym same-config) (all-right (IsAtLine (fresh c)) before (meanwhile ++ pulls) whole) in
+    let later : AreAtLines m (meanwhile ++ calls) =
+    subst (λ (c : Config). All (λ (e : card.Event). e.line < c.lines) (meanwhile ++ calls)) (sym same-config) (all-right (IsAtLine (fresh c)) before (meanwhile ++ calls) whole) in
     let then = after_all m meanwhile in
-    let then-sound = always_sound m meanwhile sound (all-left (IsAtLine m) meanwhile pulls later) in
-    let then-at : AreAtLines then pulls = subst (λ (c : Config). All (λ (e : card.Event). e.line < c.lines) pulls) (sym (config-stays m meanwhile)) (all-right (IsAtLine m) meanwhile pulls later) in
-    let stays = then-on tei m meanwhile pulls number on (pulls-keep tei then pulls number then-sound then-at only) in
+    let then-sound = always_sound m meanwhile sound (all-left (IsAtLine m) meanwhile calls later) in
+    let then-at : AreAtLines then calls = subst (λ (c : Config). All (λ (e : card.Event). e.line < c.lines) calls) (sym (config-stays m meanwhile)) (all-right (IsAtLine m) meanwhile calls later) in
+    let stays = then-on tei m meanwhile calls number on (calls-keep tei then calls number then-sound then-at only) in
     let known = run-stands c before number ranged first within service tei in
     let w = fold (stand c service tei) at_first (trace_of c before number) in
-    let ran = subst (Ran m w) same-config (run-all service tei m (meanwhile ++ pulls) number w.told.count w.busy w.rejected sound timely later (known.2, known.3) stays) in
-    let due = along c service tei number (due_in c service tei number) w (moments m (meanwhile ++ pulls)) in
-    let due-known : along c service tei number (due_in c service tei number) (calm w.told.count w.busy w.rejected) (moments m (meanwhile ++ pulls)) ≡ due =
-    ap (λ v. along c service tei number (due_in c service tei number) v (moments m (meanwhile ++ pulls))) (sym (as-calm w known.1)) in
+    let ran = subst (Ran m w) same-config (run-all service tei m (meanwhile ++ calls) number w.told.count w.busy w.rejected sound timely later (known.2, known.3) stays) in
+    let due = along c service tei number (due_in c service tei number) w (moments m (meanwhile ++ calls)) in
+    let due-known : along c service tei number (due_in c service tei number) (calm w.told.count w.busy w.rejected) (moments m (meanwhile ++ calls)) ≡ due =
+    ap (λ v. along c service tei number (due_in c service tei number) v (moments m (meanwhile ++ calls))) (sym (as-calm w known.1)) in
     let at-first = waits service tei (line_at number m) in
-    let shown = flat_map (controls_at c service tei) (trace number (moments m (meanwhile ++ pulls))) in
-    through (along c service tei number (due_in c service tei number) w (moments m meanwhile)) due shown (due-front service tei c m meanwhile pulls number w)
+    let shown = flat_map (controls_at c service tei) (trace number (moments m (meanwhile ++ calls))) in
+    through (along c service tei number (due_in c service tei number) w (moments m meanwhile)) due shown (due-front service tei c m meanwhile calls number w)
     (through due (at-first ++ due) shown (behind at-first due)
     (subst (IsPart (at-first ++ due)) (append-nil shown)
-    (subst (λ xs. IsPart (at-first ++ due) (shown ++ xs)) nothing-left (subst (λ ds. IsPart (at-first ++ ds) (shown ++ waits service tei (line_at number (after_all m (meanwhile ++ pulls))))) due-known ran))))
+    (subst (λ xs. IsPart (at-first ++ due) (shown ++ xs)) nothing-left (subst (λ ds. IsPart (at-first ++ ds) (shown ++ waits service tei (line_at number (after_all m (meanwhile ++ calls))))) due-known ran))))
   where
     Ran : Card → Standing → Config → Type 0
     Ran m w d =
-        IsPart (waits service tei (line_at number m) ++ along d service tei number (due_in d service tei number) (calm w.told.count w.busy w.rejected) (moments m (meanwhile ++ pulls)))
-        (controls_begun d service tei (trace number (moments m (meanwhile ++ pulls))) ++ waits service tei (line_at number (after_all m (meanwhile ++ pulls))))
+        IsPart (waits service tei (line_at number m) ++ along d service tei number (due_in d service tei number) (calm w.told.count w.busy w.rejected) (moments m (meanwhile ++ calls)))
+        (controls_begun d service tei (trace number (moments m (meanwhile ++ calls))) ++ waits service tei (line_at number (after_all m (meanwhile ++ calls))))
 
     -- the run from the start on
     front : List card.Event
     front = before ++ meanwhile
 
-    same : events ≡ front ++ pulls
-    same = split ∙ sym (append_assoc before meanwhile pulls)
+    same : events ≡ front ++ calls
+    same = split ∙ sym (append_assoc before meanwhile calls)
 
-    end-is : after_all (fresh c) events ≡ after_all (after_all (fresh c) before) (meanwhile ++ pulls)
-    end-is = ap (after_all (fresh c)) split ∙ after-both (fresh c) before (meanwhile ++ pulls)
+    end-is : after_all (fresh c) events ≡ after_all (after_all (fresh c) before) (meanwhile ++ calls)
+    end-is = ap (after_all (fresh c)) split ∙ after-both (fresh c) before (meanwhile ++ calls)
 
     end-sound : IsSound c (line_at number (after_all (fresh c) events))
     end-sound =
@@ -313,10 +309,7 @@ all-due-go c events number ranged all within service tei before meanwhile pulls 
         (line_sound (after_all (fresh c) events) number (has_lines (after_all (fresh c) events) card-is) (subst (λ (c : Config). number < c.lines) (sym same-config) within))
 
     nothing : HasNothing c (line_at number (after_all (fresh c) events))
-    nothing =
-        let idle = (enough-pulls (fresh c) events (fresh_is_sound c ranged) all number within (begins-with-few c number within)).ends front pulls same
-        pulls [] (sym (append-nil pulls)) only (subst (λ c. most_pulls c ≤ pulls_at number pulls) (sym (config-stays (fresh c) front)) enough) in
-        after-none c (after_all (after_all (fresh c) front) pulls) events number (ap (after_all (fresh c)) same ∙ after-both (fresh c) front pulls) idle.nothing
+    nothing = drained c events number ranged all within front calls same only enough
 
-    nothing-left : waits service tei (line_at number (after_all (after_all (fresh c) before) (meanwhile ++ pulls))) ≡ []
+    nothing-left : waits service tei (line_at number (after_all (after_all (fresh c) before) (meanwhile ++ calls))) ≡ []
     nothing-left = ap (λ m. waits service tei (line_at number m)) (sym end-is) ∙ none-waits service tei c (line_at number (after_all (fresh c) events)) end-sound nothing

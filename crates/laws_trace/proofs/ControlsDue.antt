@@ -1,6 +1,6 @@
 -- What an event of a link makes due are control frames.
 use Rattle.std.proofs.Common.{◌≡◌, ℕ, ◌==◌, ◌&&◌, ◌||◌, Bool, true, false, cond, List, [], ◌∷◌, ◌++◌, Some, refl, ap, ◌∙◌}
-use Rattle.std.specs.Prelude.{not, flat_map, All}
+use Rattle.std.specs.Prelude.{not, flat_map, All, nat_lt, length}
 use Rattle.std.proofs.lemmas.List.Elements.{All-nil, All-cons, All-append, All-head, All-tail}
 use Rattle.lapd_frame.specs.declared.controls.Control.{Control}
 use Rattle.lapd_frame.specs.declared.controls.Control.TheVariants.{Information, ReceiveReady, ReceiveNotReady, Reject, Sabme, Disc, Ui, Ua, Dm, Frmr, Xid}
@@ -20,10 +20,10 @@ abbrev pub controls : List ControlFrame → List ControlFrame
 controls frames = flat_map (λ (f : ControlFrame). control_in f.command f.control) frames
 
 -- What answers an event of a link, as it stands before and behind it, by the number of its state.
-abbrev pub answers_of : Standing → Standing → ℕ → Event → List ControlFrame
-answers_of was now state (received (frame f)) = answer_to was now state f.address.command f.control
-answers_of was now state (requested r full) = while_up state (changed was now)
-answers_of was now state other = []
+abbrev pub answers_of : ℕ → Standing → Standing → ℕ → Event → List ControlFrame
+answers_of n201 was now state (received (frame f)) = answer_to was now state f.address.command (nat_lt n201 (length f.info)) f.control
+answers_of n201 was now state (requested r full) = while_up state (changed was now)
+answers_of n201 was now state other = []
 
 -- All that is put are control frames.
 abbrev pub IsControl : ControlFrame → Type 0
@@ -50,32 +50,33 @@ all-polled now p = if-all p (as_response (receipt now true)) [] (if-one false no
 all-up : (state : ℕ) (xs : List ControlFrame) → All IsControl xs → All IsControl (while_up state xs)
 all-up state xs h = if-all _ xs [] h none-at-all
 
-all-answers : (was now : Standing) (state : ℕ) (command : Bool) (control : Control) → All IsControl (answer_to was now state command control)
-all-answers was now state command (Sabme p) = if-one false (state == 6) (Dm p) (Ua p) refl refl
-all-answers was now state command (Disc p) = if-one false (state == 4 || state == 5) (Dm p) (Ua p) refl refl
-all-answers was now state command (Information ns nr p) =
+all-answers : (was now : Standing) (state : ℕ) (command too_long : Bool) (control : Control) → All IsControl (answer_to was now state command too_long control)
+all-answers was now state command too_long (Sabme p) = if-one false (state == 6) (Dm p) (Ua p) refl refl
+all-answers was now state command too_long (Disc p) = if-one false (state == 4 || state == 5) (Dm p) (Ua p) refl refl
+all-answers was now state command true (Information ns nr p) = none-at-all
+all-answers was now state command false (Information ns nr p) =
     all-up state (to_information p was now) (if-all (now.rejected && not was.rejected) (as_response (Reject (seq now.told.count) p)) (polled now p) (one _ refl) (all-polled now p))
-all-answers was now state command (ReceiveReady nr p) = all-up state (polled now (command && p)) (all-polled now (command && p))
-all-answers was now state command (ReceiveNotReady nr p) = all-up state (polled now (command && p)) (all-polled now (command && p))
-all-answers was now state command (Reject nr p) = all-up state (polled now (command && p)) (all-polled now (command && p))
-all-answers was now state command (Ui p) = none-at-all
-all-answers was now state command (Ua p) = none-at-all
-all-answers was now state command (Dm p) = none-at-all
-all-answers was now state command (Frmr p) = none-at-all
-all-answers was now state command (Xid p) = none-at-all
+all-answers was now state command too_long (ReceiveReady nr p) = all-up state (polled now (command && p)) (all-polled now (command && p))
+all-answers was now state command too_long (ReceiveNotReady nr p) = all-up state (polled now (command && p)) (all-polled now (command && p))
+all-answers was now state command too_long (Reject nr p) = all-up state (polled now (command && p)) (all-polled now (command && p))
+all-answers was now state command too_long (Ui p) = none-at-all
+all-answers was now state command too_long (Ua p) = none-at-all
+all-answers was now state command too_long (Dm p) = none-at-all
+all-answers was now state command too_long (Frmr p) = none-at-all
+all-answers was now state command too_long (Xid p) = none-at-all
 
 all-changed : (was now : Standing) → All IsControl (changed was now)
 all-changed was now = if-all (cond was.busy (not now.busy) now.busy) (as_response (receipt now false)) [] (if-one false now.busy _ _ refl refl) none-at-all
 
-all-answers-of : (was now : Standing) (state : ℕ) (e : Event) → All IsControl (answers_of was now state e)
-all-answers-of was now state (received (frame f)) = all-answers was now state f.address.command f.control
-all-answers-of was now state (received undefined) = none-at-all
-all-answers-of was now state (received wrong_size) = none-at-all
-all-answers-of was now state (received overlong) = none-at-all
-all-answers-of was now state (expired timer) = none-at-all
-all-answers-of was now state (requested r full) = all-up state (changed was now) (all-changed was now)
-all-answers-of was now state offer = none-at-all
-all-answers-of was now state cleared = none-at-all
+all-answers-of : (n201 : ℕ) (was now : Standing) (state : ℕ) (e : Event) → All IsControl (answers_of n201 was now state e)
+all-answers-of n201 was now state (received (frame f)) = all-answers was now state f.address.command (nat_lt n201 (length f.info)) f.control
+all-answers-of n201 was now state (received undefined) = none-at-all
+all-answers-of n201 was now state (received wrong_size) = none-at-all
+all-answers-of n201 was now state (received overlong) = none-at-all
+all-answers-of n201 was now state (expired timer) = none-at-all
+all-answers-of n201 was now state (requested r full) = all-up state (changed was now) (all-changed was now)
+all-answers-of n201 was now state offer = none-at-all
+all-answers-of n201 was now state cleared = none-at-all
 
 all-commands : (now : Standing) (to : State) → All IsControl (command_of now (Some (state_number to)))
 all-commands now TeiAssigned = none-at-all
@@ -85,12 +86,12 @@ all-commands now Established = none-at-all
 all-commands now TimerRecovery = if-one true now.busy _ _ refl refl
 
 -- What an event puts.
-abbrev pub put_by : Standing → Standing → Event → State → State → List ControlFrame
-put_by was now e from to = answers_of was now (state_number from) e ++ cond (moves from to || ticks e == 1) (command_of now (Some (state_number to))) []
+abbrev pub put_by : ℕ → Standing → Standing → Event → State → State → List ControlFrame
+put_by n201 was now e from to = answers_of n201 was now (state_number from) e ++ cond (moves from to || ticks e == 1) (command_of now (Some (state_number to))) []
 
-pub all-put : (was now : Standing) (e : Event) (from to : State) → All IsControl (put_by was now e from to)
-all-put was now e from to =
-    All-append IsControl (answers_of was now (state_number from) e) _ (all-answers-of was now (state_number from) e)
+pub all-put : (n201 : ℕ) (was now : Standing) (e : Event) (from to : State) → All IsControl (put_by n201 was now e from to)
+all-put n201 was now e from to =
+    All-append IsControl (answers_of n201 was now (state_number from) e) _ (all-answers-of n201 was now (state_number from) e)
     (if-all (moves from to || ticks e == 1) (command_of now (Some (state_number to))) [] (all-commands now to) none-at-all)
 
 pub all-controls : (frames : List ControlFrame) → All IsControl frames → controls frames ≡ frames

@@ -1,6 +1,6 @@
 -- What an event of a link puts is what it makes due.
 use Rattle.std.proofs.Common.{◌≡◌, ℕ, ◌+◌, ◌-◌, ◌≤◌, ◌==◌, ◌&&◌, ◌||◌, Bool, true, false, cond, List, [], ◌∷◌, ◌++◌, length, take, drop, zero, suc, Some, refl, sym, ap, ◌∙◌, subst, arith, true≢false}
-use Rattle.std.specs.Prelude.{not}
+use Rattle.std.specs.Prelude.{not, nat_lt}
 use Rattle.std.proofs.lemmas.Grind.{flat_map-append}
 use Rattle.std.proofs.lemmas.List.{length-drop}
 use Rattle.std.proofs.lemmas.List.Elements.{All-take}
@@ -16,15 +16,15 @@ use Rattle.model_link.specs.declared.terms.Terms.{Terms}
 use Rattle.model_link.specs.declared.timers.LinkTimer.{LinkTimer}
 use Rattle.model_link.specs.declared.timers.LinkTimer.TheVariants.{T200, T203}
 use Rattle.model_link.specs.Deliveries.{restarts}
-use Rattle.model_link.specs.Events.{Event, frame, undefined, wrong_size, overlong, Request, Establish, Release, Data, SetBusy, ClearBusy, received, expired, requested, offer, cleared}
+use Rattle.model_link.specs.Events.{Event, frame, undefined, wrong_size, overlong, Request, Establish, Release, Data, SetBusy, ClearBusy, received, expired, requested, offer, cleared, Received}
 use Rattle.model_link.specs.Link.{Link, is_multiple_frame, may_repeat, state_number}
 use Rattle.model_link.specs.Machine as links
 use Rattle.model_link.specs.Told.{runs}
 use Rattle.laws_link.proofs.Restarts.{establishes}
 use Rattle.laws_link.specs.Flags.{busy_asked, takes_contents}
-use Rattle.laws_link.specs.States.{as_heard, moves, by_expiry, state_after}
+use Rattle.laws_link.specs.States.{as_heard, moves, by_expiry, state_after, is_overlong}
 use Rattle.laws_link.specs.Waiting as waiting
-use Rattle.laws_link.specs.Waiting.{receipt_as, as_response, as_command, is_next, to_supervisory, to_sabme, to_disc, answers_to, answers, command_in, commands, put, room, behind, waiting_left}
+use Rattle.laws_link.specs.Waiting.{receipt_as, as_response, as_command, is_next, to_supervisory, to_sabme, to_disc, answers, command_in, commands, put, room, behind, waiting_left}
 use Rattle.laws_link.proofs.Follows.{event-follows}
 use Rattle.laws_trace.specs.ControlFrames.{control_in, receipt, polled, to_information, while_up, answer_to, changed, command_of}
 use Rattle.laws_trace.specs.Deliveries.{Standing}
@@ -32,6 +32,7 @@ use Rattle.laws_trace.proofs.CommandsCaused.{enquiry, leads, IsNoOther, caused}
 use Rattle.laws_trace.proofs.ControlsDue.{controls, answers_of, put_by, IsControl, all-put, all-controls}
 use Rattle.laws_trace.proofs.MovesOfLink.{ticks}
 use Rattle.laws_trace.proofs.StandingOfLink.{calm, rejected_behind}
+use Rattle.lapd_seq.specs.declared.numbers.Seq.{Seq}
 
 -- V(R), own busy and whether REJ stands while the link is up, before an event and behind it.
 abbrev pub number_after : Event → Link → ℕ
@@ -110,7 +111,7 @@ module _ (t : Terms) (l : Link) (m : ℕ) (busy rejected : Bool) (n : ℕ) (busy
   now = calm n busy_now rejected_now
 
   abbrev Answers : Event → List ControlFrame
-  Answers e = answers_of was now (state_number l.state) e
+  Answers e = answers_of t.n201 was now (state_number l.state) e
 
   -- numbers begin by no frame but these
   goes-on : (e : Event) → (restarts t e l ≡ true → ⊥) → restarts t e l ≡ false
@@ -135,32 +136,41 @@ module _ (t : Terms) (l : Link) (m : ℕ) (busy rejected : Bool) (n : ℕ) (busy
       (subst (λ b. xs ≡ D (calm m b l.rejecting) (calm number (busy_asked e b) (rejected_behind false takes e b l.rejecting))) (h.busy_is up)
       (subst (λ m. xs ≡ D (calm m l.own_busy l.rejecting) (calm number (busy_asked e l.own_busy) (rejected_behind false takes e l.own_busy l.rejecting))) (h.number_is up) due)))))
 
-  -- A frame whose information is not too long.
-  by-frame : (f : Parts) (control : Control) → let e = received (frame (record f { control = control })) in
-      as_heard t e ≡ e → Seen e → answers_to f.address.command control l ≡ answer_to was now (state_number l.state) f.address.command control
-  by-frame f (Information ns nr p) heard h =
+  -- A frame is heard as itself, but for an I-frame whose information is too long, which has no answer.
+  by-size : (f : Parts) (ns nr : Seq) (p long : Bool) → nat_lt t.n201 (length f.info) ≡ long → let e = received (frame (record f { control = Information ns nr p })) in
+      Seen e → answers (received (cond long overlong (frame (record f { control = Information ns nr p })))) l
+      ≡ answer_to was now (state_number l.state) f.address.command long (Information ns nr p)
+  by-size f ns nr p true is h = refl
+  by-size f ns nr p false is h =
       let e = received (frame (record f { control = Information ns nr p })) in
       both-up l.state (waiting.to_information (is_next ns l) p l) (to_information p was now)
       (λ up. as-seen e (to_information p) (waiting.to_information (is_next ns l) p l) h up (goes-on e (λ is. (establishes t l e is).by))
-      (subst (λ x. waiting.to_information (is_next ns l) p l ≡ to_information p (calm l.r l.own_busy l.rejecting)
-      (calm (number_after x l) (busy_asked e l.own_busy) (rejected_behind false (takes_contents x l) e l.own_busy l.rejecting))) (sym heard)
+      (subst (λ b. let x = received (cond b overlong (frame (record f { control = Information ns nr p }))) in
+      waiting.to_information (is_next ns l) p l ≡ to_information p (calm l.r l.own_busy l.rejecting)
+      (calm (number_after x l) (busy_asked e l.own_busy) (rejected_behind false (takes_contents x l) e l.own_busy l.rejecting))) (sym is)
       (by-information l.own_busy (is_next ns l) l.rejecting p l.r)))
-  by-frame f (ReceiveReady nr p) heard h =
+
+  by-frame : (f : Parts) (control : Control) → let e = received (frame (record f { control = control })) in
+      Seen e → answers (as_heard t e) l ≡ answer_to was now (state_number l.state) f.address.command (nat_lt t.n201 (length f.info)) control
+  by-frame f (Information ns nr p) h =
+      let long = nat_lt t.n201 (length f.info) in
+      by-size f ns nr p long refl h
+  by-frame f (ReceiveReady nr p) h =
       let e = received (frame (record f { control = ReceiveReady nr p })) in
       both-up l.state _ _ (λ up. as-seen e (λ was now. polled now (f.address.command && p)) (to_supervisory f.address.command p l) h up (goes-on e (λ is. (establishes t l e is).by)) refl)
-  by-frame f (ReceiveNotReady nr p) heard h =
+  by-frame f (ReceiveNotReady nr p) h =
       let e = received (frame (record f { control = ReceiveNotReady nr p })) in
       both-up l.state _ _ (λ up. as-seen e (λ was now. polled now (f.address.command && p)) (to_supervisory f.address.command p l) h up (goes-on e (λ is. (establishes t l e is).by)) refl)
-  by-frame f (Reject nr p) heard h =
+  by-frame f (Reject nr p) h =
       let e = received (frame (record f { control = Reject nr p })) in
       both-up l.state _ _ (λ up. as-seen e (λ was now. polled now (f.address.command && p)) (to_supervisory f.address.command p l) h up (goes-on e (λ is. (establishes t l e is).by)) refl)
-  by-frame f (Sabme p) heard h = ap as_response (by-sabme l.state p)
-  by-frame f (Disc p) heard h = ap as_response (by-disc l.state p)
-  by-frame f (Ui p) heard h = either-none (is_multiple_frame l.state)
-  by-frame f (Ua p) heard h = either-none (is_multiple_frame l.state)
-  by-frame f (Dm p) heard h = either-none (is_multiple_frame l.state)
-  by-frame f (Frmr p) heard h = either-none (is_multiple_frame l.state)
-  by-frame f (Xid p) heard h = either-none (is_multiple_frame l.state)
+  by-frame f (Sabme p) h = ap as_response (by-sabme l.state p)
+  by-frame f (Disc p) h = ap as_response (by-disc l.state p)
+  by-frame f (Ui p) h = either-none (is_multiple_frame l.state)
+  by-frame f (Ua p) h = either-none (is_multiple_frame l.state)
+  by-frame f (Dm p) h = either-none (is_multiple_frame l.state)
+  by-frame f (Frmr p) h = either-none (is_multiple_frame l.state)
+  by-frame f (Xid p) h = either-none (is_multiple_frame l.state)
 
   by-request : (r : Request) (full : Bool) → let e = requested r full in
       (xs : List ControlFrame) → Seen e → xs ≡ changed (calm l.r l.own_busy l.rejecting) (calm l.r (busy_asked e l.own_busy) l.rejecting)
@@ -169,23 +179,23 @@ module _ (t : Terms) (l : Link) (m : ℕ) (busy rejected : Bool) (n : ℕ) (busy
       let e = requested r full in
       both-up l.state xs (changed was now) (λ up. as-seen e changed xs h up (goes-on e (λ is. establishes t l e is)) due)
 
-  answers-are : (e : Event) → IsNoOther e → as_heard t e ≡ e → Seen e → answers e l ≡ Answers e
-  answers-are (received (frame f)) other heard h = by-frame f f.control heard h
-  answers-are (received undefined) other heard h = refl
-  answers-are (received wrong_size) other heard h = refl
-  answers-are (received overlong) other heard h = refl
-  answers-are (expired timer) other heard h = refl
-  answers-are (requested Establish full) other heard h = sym (either-none (is_multiple_frame l.state)) ∙ by-request Establish full [] h (by-none l.own_busy l.rejecting l.r)
-  answers-are (requested Release full) other heard h = sym (either-none (is_multiple_frame l.state)) ∙ by-request Release full [] h (by-none l.own_busy l.rejecting l.r)
-  answers-are (requested (Data contents) full) other heard h = sym (either-none (is_multiple_frame l.state)) ∙ by-request (Data contents) full [] h (by-none l.own_busy l.rejecting l.r)
-  answers-are (requested SetBusy full) other heard h =
+  answers-are : (e : Event) → IsNoOther e → Seen e → answers (as_heard t e) l ≡ Answers e
+  answers-are (received (frame f)) other h = by-frame f f.control h
+  answers-are (received undefined) other h = refl
+  answers-are (received wrong_size) other h = refl
+  answers-are (received overlong) other h = refl
+  answers-are (expired timer) other h = refl
+  answers-are (requested Establish full) other h = sym (either-none (is_multiple_frame l.state)) ∙ by-request Establish full [] h (by-none l.own_busy l.rejecting l.r)
+  answers-are (requested Release full) other h = sym (either-none (is_multiple_frame l.state)) ∙ by-request Release full [] h (by-none l.own_busy l.rejecting l.r)
+  answers-are (requested (Data contents) full) other h = sym (either-none (is_multiple_frame l.state)) ∙ by-request (Data contents) full [] h (by-none l.own_busy l.rejecting l.r)
+  answers-are (requested SetBusy full) other h =
       if-both (is_multiple_frame l.state) (not l.own_busy) (as_response (receipt_as true l.r false))
       ∙ by-request SetBusy full (cond (not l.own_busy) (as_response (receipt_as true l.r false)) []) h (by-set l.own_busy l.rejecting l.r)
-  answers-are (requested ClearBusy full) other heard h =
+  answers-are (requested ClearBusy full) other h =
       if-both (is_multiple_frame l.state) l.own_busy (as_response (receipt_as false l.r false))
       ∙ by-request ClearBusy full (cond l.own_busy (as_response (receipt_as false l.r false)) []) h (by-clear l.own_busy l.rejecting l.r)
-  answers-are offer other heard h = absurd other
-  answers-are cleared other heard h = absurd other
+  answers-are offer other h = absurd other
+  answers-are cleared other h = absurd other
 
   -- Commands: those of a state that awaits an answer, where T200 expires, or the link comes there.
   never-other : (e : Event) → IsNoOther e → let to = state_after t e l in (moves l.state to || waiting.is_time e l) ≡ true → leads enquiry to ≡ true → (timer : LinkTimer) × (e ≡ expired timer)
@@ -224,8 +234,10 @@ module _ (t : Terms) (l : Link) (m : ℕ) (busy rejected : Bool) (n : ℕ) (busy
       (by-expiry-up l.state timer (runs timer l.running) (may_repeat t l) (subst (λ e. leads enquiry (state_after t e l) ≡ true) is lead))
       (goes-on (expired timer) (λ is. establishes t l (expired timer) is)) refl
 
-  commands-are : (e : Event) → IsNoOther e → Seen e → let to = state_after t e l in
-      commands e l to ≡ cond (moves l.state to || waiting.is_time e l) (command_of now (Some (state_number to))) []
+  abbrev Timed : Event → Type 0
+  Timed e = let to = state_after t e l in commands e l to ≡ cond (moves l.state to || waiting.is_time e l) (command_of now (Some (state_number to))) []
+
+  commands-are : (e : Event) → IsNoOther e → Seen e → Timed e
   commands-are e other h = go (moves l.state to || waiting.is_time e l) refl
     where
       to : State
@@ -234,6 +246,37 @@ module _ (t : Terms) (l : Link) (m : ℕ) (busy rejected : Bool) (n : ℕ) (busy
       go : (b : Bool) → (moves l.state to || waiting.is_time e l) ≡ b → cond b (command_in to l) [] ≡ cond b (command_of now (Some (state_number to))) []
       go false move = refl
       go true move = command-is to (λ lead. let x = never-other e other move lead in enquired e x.0 x.1 h lead)
+
+  -- What is heard in place of a frame leads to no enquiry.
+  received-times : (what : Received) → Timed (received what)
+  received-times what = go (moves l.state to || waiting.is_time (received what) l) refl
+    where
+      to : State
+      to = state_after t (received what) l
+
+      go : (b : Bool) → (moves l.state to || waiting.is_time (received what) l) ≡ b → cond b (command_in to l) [] ≡ cond b (command_of now (Some (state_number to))) []
+      go false move = refl
+      go true move = command-is to (λ lead. absurd (true≢false (sym (caused enquiry t (received what) l tt move lead))))
+
+  heard-times : (e : Event) → IsNoOther e → Seen e → Timed (as_heard t e)
+  heard-times (received (frame f)) other h = received-times (cond (is_overlong t f.control f.info) overlong (frame f))
+  heard-times (received undefined) other h = received-times undefined
+  heard-times (received wrong_size) other h = received-times wrong_size
+  heard-times (received overlong) other h = received-times overlong
+  heard-times (expired timer) other h = commands-are (expired timer) tt h
+  heard-times (requested r full) other h = commands-are (requested r full) tt h
+  heard-times offer other h = absurd other
+  heard-times cleared other h = absurd other
+
+  same-ticks : (e : Event) → ticks (as_heard t e) ≡ ticks e
+  same-ticks (received (frame f)) = refl
+  same-ticks (received undefined) = refl
+  same-ticks (received wrong_size) = refl
+  same-ticks (received overlong) = refl
+  same-ticks (expired timer) = refl
+  same-ticks (requested r full) = refl
+  same-ticks offer = refl
+  same-ticks cleared = refl
 
   -- Where a command is due by the timer, T200 runs.
   again : (e : Event) → l.running ≡ Some T200 → waiting.is_time e l ≡ (ticks e == 1)
@@ -277,11 +320,13 @@ module _ (t : Terms) (l : Link) (m : ℕ) (busy rejected : Bool) (n : ℕ) (busy
   whenever e Established TimerRecovery is = refl
   whenever e TimerRecovery TimerRecovery is = while-there e TimerRecovery is
 
-  put-is : (e : Event) → IsNoOther e → as_heard t e ≡ e → HasItsTimer l → Seen e → let to = state_after t e l in put e l to ≡ put_by was now e l.state to
-  put-is e other heard timed h =
-      let to = state_after t e l in
-      ap (λ xs. xs ++ commands e l to) (answers-are e other heard h)
-      ∙ ap (λ xs. Answers e ++ xs) (commands-are e other h ∙ whenever e l.state to timed.running)
+  put-is : (e : Event) → IsNoOther e → HasItsTimer l → Seen e → let to = state_after t (as_heard t e) l in put (as_heard t e) l to ≡ put_by t.n201 was now e l.state to
+  put-is e other timed h =
+      let heard = as_heard t e in
+      let to = state_after t heard l in
+      ap (λ xs. xs ++ commands heard l to) (answers-are e other h)
+      ∙ ap (λ xs. Answers e ++ xs) (heard-times e other h ∙ whenever heard l.state to timed.running
+      ∙ ap (λ n. cond (moves l.state to || n == 1) (command_of now (Some (state_number to))) []) (same-ticks e))
 
 -- Of those that are put as many wait as there is room for.
 as-many : (n : ℕ) (xs : List ControlFrame) → take n xs ≡ take (length xs - length (drop n xs)) xs
@@ -301,13 +346,13 @@ as-many (suc n) (x ∷ xs) =
     one-more k d h = omega (arith, h)
 
 -- What waits behind those that waited.
-pub puts : (t : Terms) (e : Event) (l : Link) (m : ℕ) (busy rejected : Bool) (n : ℕ) (busy_now rejected_now : Bool) → IsNoOther e → as_heard t e ≡ e → HasItsTimer l
+pub puts : (t : Terms) (e : Event) (l : Link) (m : ℕ) (busy rejected : Bool) (n : ℕ) (busy_now rejected_now : Bool) → IsNoOther e → HasItsTimer l
     → IsNumbered t e l m busy rejected n busy_now rejected_now
-    → let due = put_by (calm m busy rejected) (calm n busy_now rejected_now) e l.state (links.after t e l).state in
+    → let due = put_by t.n201 (calm m busy rejected) (calm n busy_now rejected_now) e l.state (links.after t e l).state in
     controls (links.after t e l).waiting ≡ controls l.waiting ++ take (length due - (links.told t e l).lost) due
-puts t e l m busy rejected n busy_now rejected_now other heard timed h =
+puts t e l m busy rejected n busy_now rejected_now other timed h =
     ap controls waits ∙ flat_map-append (λ (f : ControlFrame). control_in f.command f.control) l.waiting (take (room t l) due)
-    ∙ ap (λ xs. controls l.waiting ++ xs) (all-controls (take (room t l) due) (All-take IsControl (room t l) due (all-put was now e l.state to)) ∙ as-many (room t l) due
+    ∙ ap (λ xs. controls l.waiting ++ xs) (all-controls (take (room t l) due) (All-take IsControl (room t l) due (all-put t.n201 was now e l.state to)) ∙ as-many (room t l) due
     ∙ ap (λ k. take (length due - k) due) (sym lost-is))
   where
     was : Standing
@@ -316,27 +361,33 @@ puts t e l m busy rejected n busy_now rejected_now other heard timed h =
     now : Standing
     now = calm n busy_now rejected_now
 
+    heard : Event
+    heard = as_heard t e
+
     to : State
     to = (links.after t e l).state
 
     due : List ControlFrame
-    due = put_by was now e l.state to
+    due = put_by t.n201 was now e l.state to
 
-    to-is : to ≡ state_after t e l
-    to-is = (event-follows t e l).leaves.state ∙ ap (λ e. state_after t e l) heard
+    to-is : to ≡ state_after t heard l
+    to-is = (event-follows t e l).leaves.state
 
-    is : put e l to ≡ due
-    is = subst (λ s. put e l s ≡ put_by was now e l.state s) (sym to-is) (put-is t l m busy rejected n busy_now rejected_now e other heard timed h)
+    is : put heard l to ≡ due
+    is = subst (λ s. put heard l s ≡ put_by t.n201 was now e l.state s) (sym to-is) (put-is t l m busy rejected n busy_now rejected_now e other timed h)
 
-    others : (e : Event) → IsNoOther e → waiting_left t e l to ≡ behind t l (put e l to)
-    others (received what) other = refl
+    others : (e : Event) → IsNoOther e → waiting_left t (as_heard t e) l to ≡ behind t l (put (as_heard t e) l to)
+    others (received (frame f)) other = refl
+    others (received undefined) other = refl
+    others (received wrong_size) other = refl
+    others (received overlong) other = refl
     others (expired timer) other = refl
     others (requested r full) other = refl
     others offer other = absurd other
     others cleared other = absurd other
 
     waits : (links.after t e l).waiting ≡ l.waiting ++ take (room t l) due
-    waits = (event-follows t e l).leaves.waiting ∙ ap (λ e. waiting_left t e l to) heard ∙ others e other ∙ ap (λ fs. l.waiting ++ take (room t l) fs) is
+    waits = (event-follows t e l).leaves.waiting ∙ others e other ∙ ap (λ fs. l.waiting ++ take (room t l) fs) is
 
     lost-is : (links.told t e l).lost ≡ length (drop (room t l) due)
-    lost-is = (event-follows t e l).leaves.lost_is ∙ ap (λ e. waiting.lost_by t e l to) heard ∙ ap (λ fs. length (drop (room t l) fs)) is
+    lost-is = (event-follows t e l).leaves.lost_is ∙ ap (λ fs. length (drop (room t l) fs)) is

@@ -1,7 +1,7 @@
 -- What is seen of the control frames of a link, and which are due by it.
-use Rattle.std.proofs.Common.{◌≡◌, ℕ, ◌==◌, ◌&&◌, ◌||◌, Bool, true, false, cond, List, [], ◌∷◌, ◌++◌, map, drop, Option, Some, None, option_map, refl, sym, ap, ◌∙◌, subst, ◌⊎◌, inl, inr, eqb-true, eq-eqb, append-nil, true≢false, Result, Ok, Err}
-use Rattle.std.specs.Prelude.{All, IfSome, flat_map, option_to_list}
-use Rattle.std.specs.Option.{option_map_or, unwrap_or}
+use Rattle.std.proofs.Common.{◌≡◌, ℕ, ◌==◌, ◌&&◌, ◌||◌, Bool, true, false, cond, List, [], ◌∷◌, ◌++◌, map, drop, Option, Some, None, refl, sym, ap, ◌∙◌, subst, ◌⊎◌, inl, inr, eqb-true, eq-eqb, append-nil, true≢false, Result, Ok, Err}
+use Rattle.std.specs.Prelude.{All, IfSome, flat_map, option_to_list, nat_lt, length}
+use Rattle.std.specs.Option.{unwrap_or}
 use Rattle.std.proofs.lemmas.List.Elements.{All-head, All-tail}
 use Rattle.model_bits.specs.Stream as stream
 use Rattle.lapd_frame.specs.declared.controls.Control.TheVariants.{ReceiveNotReady, ReceiveReady, Ui}
@@ -28,35 +28,34 @@ use Rattle.model_link.specs.Steps.{begun as course_begun}
 use Rattle.model_link.specs.Told.{Given, orders_for}
 use Rattle.model_link.proofs.Giving.{given_is_frame}
 use Rattle.model_line.specs.declared.config.Config.{Config}
-use Rattle.model_line.specs.Effect.{at_none}
-use Rattle.model_line.specs.Event.{Event, octet, expiry, request, pull, Answer, told, refused, pulled, nothing}
+use Rattle.model_line.specs.Effect.{Effect}
+use Rattle.model_line.specs.Event.{Event, hears, expiry, request, next, Answer, told, refused, gave}
 use Rattle.model_line.specs.Line.{Line, place_in, terms}
-use Rattle.model_line.specs.Machine.{aim_of}
-use Rattle.model_line.specs.Octet.{gained, heard_side, message_of, aim_of_reading, aim_of_heard}
-use Rattle.model_line.specs.Pull.{Taken, begun, frame_of}
+use Rattle.model_line.specs.Machine.{aim_of, answer, of_request, unless_refused_told}
+use Rattle.model_line.specs.Heard.{heard_side, message_of, aim_of_reading, aim_of_heard}
+use Rattle.model_line.specs.Taken.{frame_of}
 use Rattle.model_line.specs.Request.{Request}
 use Rattle.model_line.specs.Sides.{at_side}
-use Rattle.laws_line.specs.Heard.{Ends, Adds, IsMalformed, IsTooLong}
+use Rattle.laws_line.specs.Heard.{IsMalformed, IsTooLong}
 use Rattle.laws_line.specs.Requests as requests
 use Rattle.laws_line.specs.Share.{is_granted}
 use Rattle.laws_line.specs.Steady.{IsBy, Brings, BringsMalformed}
-use Rattle.laws_line.proofs.Ending.{gained-is}
 use Rattle.laws_line.proofs.Hearing.{sapi-is, same-sapi}
 use Rattle.laws_line.proofs.Obeyed.{both-true}
-use Rattle.model_card.specs.Pulled.{frame_taken, frame_in, octet_in}
-use Rattle.laws_trace.specs.ControlFrames.{of_link, control_in, controls_at, while_up, answer_to, changed, answers_at, acknowledged_by, acknowledged_at, IsPart}
+use Rattle.laws_trace.specs.ControlFrames.{of_link, control_in, controls_at, IsPart, while_up, answer_to, changed, answers_at, acknowledged_by, acknowledged_at, answers_to_frame}
 use Rattle.laws_trace.specs.Deliveries.{Standing}
-use Rattle.laws_trace.specs.Trace.{is_up}
-use Rattle.laws_trace.specs.Trace as traces
-use Rattle.laws_trace.specs.Trace.{Seen, heard, put, seen, seen_told, seen_granted}
+use Rattle.laws_trace.specs.Trace.{frame_in, is_up, Seen, heard, seen, seen_told, seen_granted}
 use Rattle.laws_trace.proofs.Addressed.{addressed-is}
 use Rattle.laws_trace.proofs.CommandsCaused.{same-itself}
 use Rattle.laws_trace.proofs.ControlsDue.{controls, answers_of}
 use Rattle.laws_trace.proofs.OneLink.{frames_given, IsForeign, is_at_link}
-use Rattle.laws_trace.proofs.Parts as parts
 use Rattle.laws_trace.proofs.Parts.{of-itself, of-nothing, both, more, through}
 use Rattle.laws_trace.proofs.ReadAgain.{read-again}
 use Rattle.laws_trace.proofs.Spelled.{whole-parts, given-spells}
+use Rattle.laws_trace.specs.Trace as traces
+use Rattle.laws_trace.proofs.Parts as parts
+use Rattle.model_line.specs.Refusal.{refusal}
+use Rattle.lapd_frame.specs.declared.refusals.Refusal.{Refusal}
 
 abbrev control_of : ControlFrame → List ControlFrame
 control_of f = control_in f.command f.control
@@ -81,33 +80,30 @@ module _ (c : Config) (service : Service) (tei : ℕ) where
   controls_begun t = flat_map (controls_at c service tei) t
 
   -- What is seen to go are the frames that begin.
-  none-told : (o : Option stream.Event) (a : Answer) → controls_begun (map heard (option_to_list o) ++ seen_told a) ≡ []
-  none-told None (told t) = refl
-  none-told None (refused why) = refl
-  none-told None (pulled value is_begun orders) = refl
-  none-told (Some e) (told t) = refl
-  none-told (Some e) (refused why) = refl
-  none-told (Some e) (pulled value is_begun orders) = refl
+  none-told : (a : Answer) → controls_begun (seen_told a) ≡ []
+  none-told (told t) = refl
+  none-told (refused why) = refl
+  none-told (gave given) = refl
+
+  none-given : (o : Option Refusal) (x : Effect) → [] ≡ flat_map begun_of (frame_in (unless_refused_told o x))
+  none-given None x = refl
+  none-given (Some why) x = refl
 
   none-granted : (r : Request) (a : Answer) → controls_begun (seen_granted r a ++ seen_told a) ≡ []
   none-granted r (told t) = refl
   none-granted r (refused why) = refl
-  none-granted r (pulled value is_begun orders) = refl
+  none-granted r (gave given) = refl
 
-  by-begun : (o : Option Taken) (a : Answer)
-      → controls_begun (map traces.begun (option_to_list (option_map frame_taken o)) ++ map put (octet_in a)) ≡ flat_map begun_of (option_to_list (option_map frame_taken o))
-  by-begun None (told t) = refl
-  by-begun None (refused why) = refl
-  by-begun None (pulled value is_begun orders) = refl
-  by-begun (Some t) (told u) = refl
-  by-begun (Some t) (refused why) = refl
-  by-begun (Some t) (pulled value is_begun orders) = refl
+  by-begun : (frames : List (List ℕ)) → controls_begun (map traces.begun frames) ≡ flat_map begun_of frames
+  by-begun [] = refl
+  by-begun (f ∷ frames) = ap (λ xs. begun_of f ++ xs) (by-begun frames)
 
-  pub begun-is : (e : Event) (l : Line) (a : Answer) → controls_begun (seen c e l a) ≡ flat_map begun_of (frame_in c e l)
-  begun-is (octet value) l a = none-told (gained c.n201 l.received value) a
-  begun-is (expiry timer) l a = none-told None a
-  begun-is (request r) l a = none-granted r a
-  begun-is pull l a = by-begun (begun c l) a
+  pub begun-is : (e : Event) (l : Line) → controls_begun (seen e (answer c e l)) ≡ flat_map begun_of (frame_in (answer c e l))
+  unfolding answer
+  begun-is (hears what) l = none-told (answer c (hears what) l)
+  begun-is (expiry timer) l = none-told (answer c (expiry timer) l)
+  begun-is (request r) l = none-granted r (answer c (request r) l) ∙ none-given (refusal c false r l) (of_request c r l)
+  begun-is next l = by-begun (frame_in (answer c next l))
 
   -- Frames of others are no control frames of this link.
   foreign : (frame : List ℕ) → IsForeign c service tei frame → begun_of frame ≡ []
@@ -136,15 +132,9 @@ module _ (c : Config) (service : Service) (tei : ℕ) where
   abbrev pub owed_of : Standing → ℕ → List ℕ → List ControlFrame
   owed_of w state octets = while_up state (of_link service tei (acknowledged_by w) (reading c.side octets))
 
-  pub by-owed : (w : Standing) (state : ℕ) (o : Option Taken) (a : Answer)
-      → flat_map (acknowledged_at c service tei w state) (map traces.begun (option_to_list (option_map frame_taken o)) ++ map put (octet_in a))
-      ≡ flat_map (owed_of w state) (option_to_list (option_map frame_taken o))
-  by-owed w state None (told t) = refl
-  by-owed w state None (refused why) = refl
-  by-owed w state None (pulled value is_begun orders) = refl
-  by-owed w state (Some t) (told u) = refl
-  by-owed w state (Some t) (refused why) = refl
-  by-owed w state (Some t) (pulled value is_begun orders) = refl
+  pub by-owed : (w : Standing) (state : ℕ) (frames : List (List ℕ)) → flat_map (acknowledged_at c service tei w state) (map traces.begun frames) ≡ flat_map (owed_of w state) frames
+  by-owed w state [] = refl
+  by-owed w state (f ∷ frames) = ap (λ xs. owed_of w state f ++ xs) (by-owed w state frames)
 
   -- What a link gives.
   given-is : (t : Terms) (g : Given) → IsPart (begun_of (frame_of c t g)) (control_of g.frame)
@@ -238,46 +228,36 @@ module _ (c : Config) (service : Service) (tei : ℕ) where
     answers_seen t = flat_map (answers_at c service tei was now state) t
 
     abbrev To : Result Parts ReadFault → List ControlFrame
-    To r = of_link service tei (answer_to was now state) r
+    To r = answers_to_frame c service tei was now state r
 
     told-none : (a : Answer) → answers_seen (seen_told a) ≡ []
     told-none (told t) = refl
     told-none (refused why) = refl
-    told-none (pulled value is_begun orders) = refl
+    told-none (gave given) = refl
 
-    begun-none : (o : Option Taken) (a : Answer) → answers_seen (map traces.begun (option_to_list (option_map frame_taken o)) ++ map put (octet_in a)) ≡ []
-    begun-none None (told t) = refl
-    begun-none None (refused why) = refl
-    begun-none None (pulled value is_begun orders) = refl
-    begun-none (Some t) (told u) = refl
-    begun-none (Some t) (refused why) = refl
-    begun-none (Some t) (pulled value is_begun orders) = refl
+    begun-none : (frames : List (List ℕ)) → answers_seen (map traces.begun frames) ≡ []
+    begun-none [] = refl
+    begun-none (f ∷ frames) = begun-none frames
 
-    heard-answers : (o : Option stream.Event) (a : Answer) → answers_seen (map heard (option_to_list o) ++ seen_told a) ≡ flat_map (λ e. answers_at c service tei was now state (heard e)) (option_to_list o)
-    heard-answers None a = told-none a
-    heard-answers (Some e) a = ap (λ xs. answers_at c service tei was now state (heard e) ++ xs) (told-none a)
-
-    octet-answers : (l : Line) (e : Event) (a : Answer) (value : ℕ) (what : stream.Event) → e ≡ octet value → gained c.n201 l.received value ≡ Some what
-        → answers_seen (seen c e l a) ≡ answers_at c service tei was now state (heard what)
-    octet-answers l e a value what is ends =
-        ap (λ e. answers_seen (seen c e l a)) is ∙ ap (λ o. answers_seen (map heard (option_to_list o) ++ seen_told a)) ends ∙ heard-answers (Some what) a
+    heard-answers : (e : Event) (a : Answer) (what : stream.Event) → e ≡ hears what → answers_seen (seen e a) ≡ answers_at c service tei was now state (heard what)
+    heard-answers e a what is =
+        ap (λ e. answers_seen (seen e a)) is ∙ ap (λ xs. answers_at c service tei was now state (heard what) ++ xs) (told-none a)
         ∙ append-nil (answers_at c service tei was now state (heard what))
 
     -- by an event of the link
-    frame-answers : (l : Line) (e : Event) (a : Answer) (frame : Parts) → Brings c l e service tei frame
-        → answers_seen (seen c e l a) ≡ answer_to was now state frame.address.command frame.control
-    frame-answers l e a frame x =
-        octet-answers l e a x.value (stream.frame x.octets) x.by (gained-is c l x.value (Some (stream.frame x.octets)) x.ends) ∙ ap To x.read
-        ∙ ap (λ b. cond b (answer_to was now state frame.address.command frame.control) []) here
+    frame-answers : (e : Event) (a : Answer) (frame : Parts) → Brings c e service tei frame
+        → answers_seen (seen e a) ≡ answer_to was now state frame.address.command (nat_lt c.n201 (length frame.info)) frame.control
+    frame-answers e a frame x =
+        heard-answers e a (stream.frame x.octets) x.by ∙ ap To x.read
+        ∙ ap (λ b. cond b (answer_to was now state frame.address.command (nat_lt c.n201 (length frame.info)) frame.control) []) here
       where
         here : (frame.address.sapi == sapi_of service && frame.address.tei == tei) ≡ true
         here =
             ap (λ b. b && frame.address.tei == tei) (eq-eqb frame.address.sapi (sapi_of service) (sapi-is frame.address.sapi service x.sapi))
             ∙ eq-eqb frame.address.tei tei x.tei_is
 
-    malformed-answers : (l : Line) (e : Event) (a : Answer) (what : link.Received) → BringsMalformed c l e service tei what → ((frame : Parts) → what ≡ link.frame frame → ⊥)
-        → answers_seen (seen c e l a) ≡ []
-    malformed-answers l e a what b no-frame = by-end b.ends
+    malformed-answers : (e : Event) (a : Answer) (what : link.Received) → BringsMalformed c e service tei what → answers_seen (seen e a) ≡ []
+    malformed-answers e a what b = by-end b.by
       where
         by-fault : (octets : List ℕ) (what : link.Received) → IsMalformed c b.address octets what → To (reading (heard_side c) octets) ≡ []
         by-fault octets link.undefined is = ap To is
@@ -285,25 +265,25 @@ module _ (c : Config) (service : Service) (tei : ℕ) where
         by-fault octets link.overlong is = absurd is
         by-fault octets (link.frame frame) is = absurd is
 
-        by-end : (Ends c l b.value b.octets × IsMalformed c b.address b.octets what) ⊎ (Adds c l b.value (stream.overlong b.octets ∷ []) × IsTooLong c b.address b.octets what)
-            → answers_seen (seen c e l a) ≡ []
-        by-end (inl y) = octet-answers l e a b.value (stream.frame b.octets) b.by (gained-is c l b.value (Some (stream.frame b.octets)) y.0) ∙ by-fault b.octets what y.1
-        by-end (inr y) = octet-answers l e a b.value (stream.overlong b.octets) b.by (gained-is c l b.value (Some (stream.overlong b.octets)) y.0)
+        by-end : ((e ≡ hears (stream.frame b.octets)) × IsMalformed c b.address b.octets what) ⊎ ((e ≡ hears (stream.overlong b.octets)) × IsTooLong c b.address b.octets what)
+            → answers_seen (seen e a) ≡ []
+        by-end (inl y) = heard-answers e a (stream.frame b.octets) y.0 ∙ by-fault b.octets what y.1
+        by-end (inr y) = heard-answers e a (stream.overlong b.octets) y.0
 
     asked-answers : (r : Request) (a : Answer) → is_granted a ≡ true → answers_seen (seen_granted r a ++ seen_told a) ≡ while_up state (changed was now)
     asked-answers r (told t) is = append-nil (while_up state (changed was now))
     asked-answers r (refused why) is = absurd (true≢false (sym is))
-    asked-answers r (pulled value is_begun orders) is = absurd (true≢false (sym is))
+    asked-answers r (gave given) is = absurd (true≢false (sym is))
 
-    pub event-answers : (l : Line) (e : Event) (a : Answer) (event : link.Event) → IsBy c l e a service tei event → answers_seen (seen c e l a) ≡ answers_of was now state event
-    event-answers l e a (link.received (link.frame frame)) x = frame-answers l e a frame x
-    event-answers l e a (link.received link.undefined) x = malformed-answers l e a link.undefined x (λ frame e. cc e)
-    event-answers l e a (link.received link.wrong_size) x = malformed-answers l e a link.wrong_size x (λ frame e. cc e)
-    event-answers l e a (link.received link.overlong) x = malformed-answers l e a link.overlong x (λ frame e. cc e)
-    event-answers l e a (link.expired timer) x = ap (λ e. answers_seen (seen c e l a)) x ∙ told-none a
-    event-answers l e a (link.requested asked full) x = ap (λ e. answers_seen (seen c e l a)) x.0 ∙ asked-answers (requests.of_link service tei asked) a x.1
-    event-answers l e a link.offer x = ap (λ e. answers_seen (seen c e l a)) x ∙ begun-none (begun c l) a
-    event-answers l e a link.cleared x = absurd x
+    pub event-answers : (e : Event) (a : Answer) (event : link.Event) → IsBy c e a service tei event → answers_seen (seen e a) ≡ answers_of c.n201 was now state event
+    event-answers e a (link.received (link.frame frame)) x = frame-answers e a frame x
+    event-answers e a (link.received link.undefined) x = malformed-answers e a link.undefined x
+    event-answers e a (link.received link.wrong_size) x = malformed-answers e a link.wrong_size x
+    event-answers e a (link.received link.overlong) x = malformed-answers e a link.overlong x
+    event-answers e a (link.expired timer) x = ap (λ e. answers_seen (seen e a)) x ∙ told-none a
+    event-answers e a (link.requested asked full) x = ap (λ e. answers_seen (seen e a)) x.0 ∙ asked-answers (requests.of_link service tei asked) a x.1
+    event-answers e a link.offer x = ap (λ e. answers_seen (seen e a)) x ∙ begun-none (frame_in a)
+    event-answers e a link.cleared x = absurd x
 
     -- by another event, while layer 3 is as busy as before
     module _ (l : Line) (place : ℕ) (on : place_in l tei ≡ Some place) where
@@ -319,24 +299,22 @@ module _ (c : Config) (service : Service) (tei : ℕ) where
               (eqb-true frame.address.sapi (sapi_of service) two.0) (eqb-true frame.address.tei tei two.1) on)
               ∙ ap (λ b. b && tei == tei) (same-itself service) ∙ eq-eqb tei tei refl
 
-          go : (b : Bool) → (frame.address.sapi == sapi_of service && frame.address.tei == tei) ≡ b → cond b (answer_to was now state frame.address.command frame.control) [] ≡ []
+          go : (b : Bool) → (frame.address.sapi == sapi_of service && frame.address.tei == tei) ≡ b → cond b (answer_to was now state frame.address.command (nat_lt c.n201 (length frame.info)) frame.control) [] ≡ []
           go true is = absurd (true≢false (sym (aimed is) ∙ aims))
           go false is = refl
 
-      heard-none : (o : Option stream.Event) → is_at_link service tei (option_map_or (aim_of_heard c l) o (at_none nothing)) ≡ false
-          → flat_map (λ e. answers_at c service tei was now state (heard e)) (option_to_list o) ≡ []
-      heard-none None aims = refl
-      heard-none (Some (stream.frame octets)) aims = append-nil _ ∙ read-none (reading (heard_side c) octets) aims
-      heard-none (Some (stream.overlong head)) aims = refl
-      heard-none (Some (stream.dropped cause)) aims = refl
+      heard-none : (e : stream.Event) → is_at_link service tei (aim_of_heard c l e) ≡ false → answers_at c service tei was now state (heard e) ≡ []
+      heard-none (stream.frame octets) aims = read-none (reading (heard_side c) octets) aims
+      heard-none (stream.overlong head) aims = refl
+      heard-none (stream.dropped cause) aims = refl
 
       request-none : (r : Request) (a : Answer) → while_up state (changed was now) ≡ [] → answers_seen (seen_granted r a ++ seen_told a) ≡ []
       request-none r (told t) same = append-nil (while_up state (changed was now)) ∙ same
       request-none r (refused why) same = refl
-      request-none r (pulled value is_begun orders) same = refl
+      request-none r (gave given) same = refl
 
-      pub none-answered : (e : Event) (a : Answer) → while_up state (changed was now) ≡ [] → is_at_link service tei (aim_of c e l) ≡ false → answers_seen (seen c e l a) ≡ []
-      none-answered (octet value) a same aims = heard-answers (gained c.n201 l.received value) a ∙ heard-none (gained c.n201 l.received value) aims
+      pub none-answered : (e : Event) (a : Answer) → while_up state (changed was now) ≡ [] → is_at_link service tei (aim_of c e l) ≡ false → answers_seen (seen e a) ≡ []
+      none-answered (hears what) a same aims = heard-answers (hears what) a what refl ∙ heard-none what aims
       none-answered (expiry timer) a same aims = told-none a
       none-answered (request r) a same aims = request-none r a same
-      none-answered pull a same aims = begun-none (begun c l) a
+      none-answered next a same aims = begun-none (frame_in a)

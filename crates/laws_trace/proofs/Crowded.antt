@@ -1,5 +1,6 @@
--- The control frames that wait on a link begin, where a line is only pulled; and where a line is full, as a trace shows it.
-use Rattle.std.proofs.Common.{◌≡◌, ℕ, zero, suc, ◌+◌, ◌≤◌, ◌<◌, ◌==◌, ◌&&◌, true, false, cond, List, [], ◌∷◌, ◌++◌, length, get_or, map, Option, Some, None, IfSome, option_map, refl, sym, ap, ◌∙◌, subst, ◌⊎◌, inl, inr, arith, true≢false, eq-eqb, append-nil, length-append}
+-- The control frames that wait on a link begin, where a line is only called for its next frame; and where a line is
+-- full, as a trace shows it.
+use Rattle.std.proofs.Common.{◌≡◌, ℕ, zero, suc, ◌+◌, ◌≤◌, ◌<◌, ◌==◌, ◌&&◌, true, false, cond, List, [], ◌∷◌, ◌++◌, length, get_or, map, Option, Some, None, IfSome, refl, sym, ap, ◌∙◌, subst, inl, inr, arith, true≢false, eq-eqb, append-nil, length-append}
 use Rattle.std.specs.Prelude.{All, flat_map, option_to_list, replicate}
 use Rattle.std.specs.Option.{option_map_or}
 use Rattle.std.proofs.lemmas.Bool.{and_parts}
@@ -26,25 +27,23 @@ use Rattle.model_link.specs.Steps.{begun as course_begun}
 use Rattle.model_link.specs.Told.{Given, orders_for}
 use Rattle.model_link.proofs.Giving.{given_is_frame}
 use Rattle.model_line.specs.declared.config.Config.{Config}
-use Rattle.model_line.specs.Event.{Answer, pull, told, refused, pulled}
+use Rattle.model_line.specs.Event.{next}
 use Rattle.model_line.specs.Line.{Line, fresh_line, link_in, link_of, link_number, place_in, has_tei, terms}
 use Rattle.model_line.specs.Machine as lines
 use Rattle.model_line.specs.Machine.{after, answer}
-use Rattle.model_line.specs.Pull.{Taken, begun, frame_of}
+use Rattle.model_line.specs.Taken.{frame_of}
 use Rattle.model_line.specs.Sound.{IsInRange, IsSound}
 use Rattle.model_line.proofs.LinksSound.{sound_in}
 use Rattle.model_line.proofs.Numbers.{number_within}
-use Rattle.laws_line.specs.Drains.{most_pulls}
-use Rattle.laws_line.specs.Pulls.{HasNothing}
-use Rattle.laws_card.specs.Among.{ArePullsAt, pulls_at}
-use Rattle.laws_card.proofs.Meanwhile.{card-drains}
+use Rattle.laws_line.specs.Drains.{most_frames}
+use Rattle.laws_line.specs.Served.{HasNothing}
+use Rattle.laws_card.specs.Among.{AreTakesAt, takes_at}
 use Rattle.laws_card.proofs.Wherever.{config-stays}
 use Rattle.model_line.proofs.Ranges.{terms_in_range}
 use Rattle.model_card.specs.Card.{Card, fresh, line_at, is_full}
 use Rattle.model_card.specs.Event as card
 use Rattle.model_card.specs.Event.{at}
 use Rattle.model_card.specs.Machine as cards
-use Rattle.model_card.specs.Pulled.{frame_taken, octet_in}
 use Rattle.model_card.specs.Run.{moments, after_all, IsAtLine, AreAtLines}
 use Rattle.model_card.specs.Sound as card_sound
 use Rattle.model_card.proofs.CardSound.{after_is_sound, always_sound, fresh_is_sound}
@@ -52,21 +51,20 @@ use Rattle.model_card.proofs.Steps.{has_lines, by_room, line_sound}
 use Rattle.laws_trace.specs.ControlFrames.{of_link, control_in as control_by, controls_at as control_at}
 use Rattle.laws_trace.specs.MessagesAreOwed.{messages_begun}
 use Rattle.laws_trace.specs.NoLossInVain.{IsCrowded, HasFullLink, HasFullQueue as IsFull, IsFull as IsFullAfter}
-use Rattle.laws_trace.specs.Trace as traces
-use Rattle.laws_trace.specs.Trace.{Seen, put, seen, trace, trace_of}
+use Rattle.laws_trace.specs.Trace.{frame_in, Seen, seen, trace, trace_of}
 use Rattle.laws_trace.specs.Units.{is_ui}
-use Rattle.laws_trace.proofs.StaysOn.{pull-keeps}
 use Rattle.laws_trace.proofs.DataAsked.{only-offered}
 use Rattle.laws_trace.proofs.OneLink.{frames_given, HasOne, HasNone, Goes, event-goes}
 use Rattle.laws_trace.proofs.AllDataGoesOut.{silent-there, line-at-end}
-use Rattle.laws_trace.proofs.AllFramesGoOut as frames
 use Rattle.laws_trace.proofs.MessagesAreOwed.{passes}
-use Rattle.laws_trace.proofs.PullRuns.{no-room}
+use Rattle.laws_trace.proofs.CallRuns.{no-room}
 use Rattle.laws_trace.proofs.Runs.{run-shows}
-use Rattle.laws_trace.proofs.TurnsMeanwhile.{pulls-alone, pulls-there}
 use Rattle.laws_trace.proofs.Units.{NoneWaits, fresh-none, Passes, rests, joins, steps}
-use Rattle.laws_trace.proofs.UnitsGoOut.{after-both}
+use Rattle.laws_trace.proofs.WaitedBegins.{after-both, drained}
+use Rattle.laws_trace.proofs.TurnsMeanwhile.{calls-alone, calls-there}
 use Rattle.laws_trace.proofs.Spelled.{whole-parts, given-spells}
+use Rattle.laws_trace.proofs.StaysOn.{next-keeps}
+use Rattle.laws_trace.specs.Trace as traces
 
 abbrev pub control_in : ControlFrame → List ControlFrame
 control_in f = control_by f.command f.control
@@ -109,14 +107,9 @@ module _ (service : Service) (tei : ℕ) where
   abbrev pub waits : Line → List ControlFrame
   waits l = controls (link_of service tei l).waiting
 
-  pull-shown : (c : Config) (o : Option Taken) (a : Answer)
-      → shown c (map traces.begun (option_to_list (option_map frame_taken o)) ++ map put (octet_in a)) ≡ flat_map (shown_in c) (option_to_list (option_map frame_taken o))
-  pull-shown c None (told u) = refl
-  pull-shown c None (refused why) = refl
-  pull-shown c None (pulled value is_begun orders) = refl
-  pull-shown c (Some t) (told u) = refl
-  pull-shown c (Some t) (refused why) = refl
-  pull-shown c (Some t) (pulled value is_begun orders) = refl
+  begun-shown : (c : Config) (frames : List (List ℕ)) → shown c (map traces.begun frames) ≡ flat_map (shown_in c) frames
+  begun-shown c [] = refl
+  begun-shown c (f ∷ frames) = ap (λ xs. shown_in c f ++ xs) (begun-shown c frames)
 
   -- What a link gives is read as it is.
   given-read : (c : Config) (g : Given) → IsGiven (terms c service tei) g.frame g.contents → shown_in c (frame_of c (terms c service tei) g) ≡ control_in g.frame
@@ -146,18 +139,18 @@ module _ (service : Service) (tei : ℕ) where
         → length (controls l.waiting) ≤ length (flat_map (shown_in c) (frames_given c t link.offer l)) + length (controls (links.after t link.offer l).waiting)
     offer-goes range sound = offered l.waiting (given_is_frame t range l sound)
 
-  -- A pull of a line.
+  -- A call for the next frame of a line.
   module _ (c : Config) (ranged : IsInRange c) (l : Line) (s : IsSound c l) where
-    abbrev next : Line
-    next = after c pull l
+    abbrev new : Line
+    new = after c next l
 
     abbrev now : List Seen
-    now = seen c pull l (answer c pull l)
+    now = seen next (answer c next l)
 
     abbrev Goes-on : Type 0
-    Goes-on = length (waits l) ≤ length (shown c now) + length (waits next)
+    Goes-on = length (waits l) ≤ length (shown c now) + length (waits new)
 
-    none-goes : HasNone c service tei pull l next (answer c pull l) → Goes-on
+    none-goes : HasNone c service tei next l new (answer c next l) → Goes-on
     none-goes x = go (place_in l tei) refl
       where
         go : (o : Option ℕ) → place_in l tei ≡ o → Goes-on
@@ -166,68 +159,68 @@ module _ (service : Service) (tei : ℕ) where
             omega (arith, none)
         go (Some place) on =
             let there : has_tei tei l ≡ true = is_on-at l.management.places place tei (place_of-is l.management.places tei place on).1 in
-            let same : length (waits next) ≡ length (waits l) = ap (λ (y : Link). length (controls y.waiting)) (x.stays there (pull-keeps tei c l s there)) in
+            let same : length (waits new) ≡ length (waits l) = ap (λ (y : Link). length (controls y.waiting)) (x.stays there (next-keeps tei c l s there)) in
             omega (arith, same)
 
-    one-goes : HasOne c service tei pull l next (answer c pull l) → Goes-on
+    one-goes : HasOne c service tei next l new (answer c next l) → Goes-on
     one-goes x =
         let t = terms c service tei in
         let own = link_of service tei l in
         let placed = (place_of-is l.management.places tei x.place x.placed).1 in
         let sound : link_sound.IsSound t own =
         subst (link_sound.IsSound t) (sym (ap (λ o. option_map_or (link_in l service) o fresh_link) x.placed)) (sound_in c ranged l s service tei x.place placed) in
-        let offered = only-offered c l (answer c pull l) service tei x.event x.by in
+        let offered = only-offered c (answer c next l) service tei x.event x.by in
         let given : shown c now ≡ flat_map (shown_in c) (frames_given c t link.offer own) =
-        pull-shown c (begun c l) (answer c pull l) ∙ ap (flat_map (shown_in c)) (x.begins ∙ ap (λ event. frames_given c t event own) offered) in
-        let left : length (waits next) ≡ length (controls (links.after t link.offer own).waiting) =
+        begun-shown c (frame_in (answer c next l)) ∙ ap (flat_map (shown_in c)) (x.begins ∙ ap (λ event. frames_given c t event own) offered) in
+        let left : length (waits new) ≡ length (controls (links.after t link.offer own).waiting) =
         ap (λ (y : Link). length (controls y.waiting)) (x.is ∙ ap (λ event. links.after t event own) offered) in
         let goes = offer-goes c own (terms_in_range c ranged service tei (s.management.table.range x.place tei placed)) sound in
         let many : length (shown c now) ≡ length (flat_map (shown_in c) (frames_given c t link.offer own)) = ap length given in
         omega (arith, goes, left, many)
 
-    pull-goes : Goes-on
-    pull-goes = go (event-goes c pull l service tei s)
+    next-goes : Goes-on
+    next-goes = go (event-goes c next l service tei s)
       where
-        go : Goes c service tei pull l next (answer c pull l) → Goes-on
+        go : Goes c service tei next l new (answer c next l) → Goes-on
         go (inl x) = none-goes x
         go (inr x) = one-goes x
 
-  -- A run of pulls.
+  -- A run of calls.
   module _ (number : ℕ) where
     abbrev one : card.Event
-    one = at number pull
+    one = at number next
 
     moment-goes : (m : Card) → card_sound.IsSound m → number < m.config.lines
-        → length (waits (line_at number m)) ≤ length (shown m.config (seen m.config pull (line_at number m) (cards.answer one m))) + length (waits (line_at number (cards.after one m)))
+        → length (waits (line_at number m)) ≤ length (shown m.config (seen next (cards.answer one m))) + length (waits (line_at number (cards.after one m)))
     moment-goes m s here =
         let c = m.config in
         let l = line_at number m in
-        by_room (λ ls a. length (waits l) ≤ length (shown c (seen c pull l a)) + length (waits (get_or ls number (fresh_line c)))) one m
-        (λ full. absurd (no-room c l (and_parts (lines.takes_slot c pull l) (is_full m) full).0))
+        by_room (λ ls a. length (waits l) ≤ length (shown c (seen next a)) + length (waits (get_or ls number (fresh_line c)))) one m
+        (λ full. absurd (no-room c l (and_parts (lines.takes_slot c next l) (is_full m) full).0))
         (λ room.
-        subst (λ (x : Line). length (waits l) ≤ length (shown c (seen c pull l (lines.answer c pull l))) + length (waits x))
-        (sym (get_or-set_same m.lines number (lines.after c pull l) (fresh_line c) (omega (arith, s.count, here)))) (pull-goes c s.config l (line_sound m number (has_lines m s) here)))
+        subst (λ (x : Line). length (waits l) ≤ length (shown c (seen next (lines.answer c next l))) + length (waits x))
+        (sym (get_or-set_same m.lines number (lines.after c next l) (fresh_line c) (omega (arith, s.count, here)))) (next-goes c s.config l (line_sound m number (has_lines m s) here)))
 
-    pub pulls-go : (m : Card) (n : ℕ) → card_sound.IsSound m → number < m.config.lines
+    pub calls-go : (m : Card) (n : ℕ) → card_sound.IsSound m → number < m.config.lines
         → length (waits (line_at number m)) ≤ length (shown m.config (trace number (moments m (replicate n one)))) + length (waits (line_at number (after_all m (replicate n one))))
     unfolding moments after_all
-    pulls-go m zero s here = omega arith
-    pulls-go m (suc n) s here =
+    calls-go m zero s here = omega arith
+    calls-go m (suc n) s here =
         let c = m.config in
-        let now = cond (number == number) (seen c pull (line_at number m) (cards.answer one m)) [] in
+        let now = cond (number == number) (seen next (cards.answer one m)) [] in
         let then = trace number (moments (cards.after one m) (replicate n one)) in
         let last = line_at number (after_all (cards.after one m) (replicate n one)) in
         let first : length (waits (line_at number m)) ≤ length (shown c now) + length (waits (line_at number (cards.after one m))) =
-        subst (λ b. length (waits (line_at number m)) ≤ length (shown c (cond b (seen c pull (line_at number m) (cards.answer one m)) [])) + length (waits (line_at number (cards.after one m))))
+        subst (λ b. length (waits (line_at number m)) ≤ length (shown c (cond b (seen next (cards.answer one m)) [])) + length (waits (line_at number (cards.after one m))))
         (sym (eq-eqb number number refl)) (moment-goes m s here) in
-        let rest : length (waits (line_at number (cards.after one m))) ≤ length (shown c then) + length (waits last) = pulls-go (cards.after one m) n (after_is_sound m one s here) here in
+        let rest : length (waits (line_at number (cards.after one m))) ≤ length (shown c then) + length (waits last) = calls-go (cards.after one m) n (after_is_sound m one s here) here in
         let both : length (shown c (now ++ then)) ≡ length (shown c now) + length (shown c then) =
         ap length (flat_map-append (control_at c service tei) now then) ∙ length-append (shown c now) (shown c then) in
         let goal : length (waits (line_at number m)) ≤ length (shown c (now ++ then)) + length (waits last) = omega (arith, first, rest, both) in
         goal
 
 -- What waits on a link begins.
-so-many : (number n : ℕ) → pulls_at number (replicate n (at number pull)) ≡ n
+so-many : (number n : ℕ) → takes_at number (replicate n (at number next)) ≡ n
 so-many number zero = refl
 so-many number (suc n) =
     let first : cond {A = ℕ} (number == number) 1 0 ≡ 1 = ap (λ b. cond {A = ℕ} b 1 0) (eq-eqb number number refl) in
@@ -238,8 +231,8 @@ module _ (c : Config) (events : List card.Event) (number : ℕ) (ranged : IsInRa
   abbrev m : Card
   m = after_all (fresh c) events
 
-  abbrev pulls : List card.Event
-  pulls = replicate (most_pulls c) (at number pull)
+  abbrev calls : List card.Event
+  calls = replicate (most_frames c) (at number next)
 
   kept : m.config ≡ c
   kept = config-stays (fresh c) events
@@ -250,30 +243,29 @@ module _ (c : Config) (events : List card.Event) (number : ℕ) (ranged : IsInRa
   here : number < m.config.lines
   here = subst (λ (c : Config). number < c.lines) (sym kept) within
 
-  all-there : AreAtLines (fresh c) (events ++ pulls)
-  all-there = All-append (IsAtLine (fresh c)) events pulls all (pulls-there (fresh c) number (most_pulls c) within)
+  all-there : AreAtLines (fresh c) (events ++ calls)
+  all-there = All-append (IsAtLine (fresh c)) events calls all (calls-there (fresh c) number (most_frames c) within)
 
-  enough : most_pulls c ≤ pulls_at number pulls
-  enough = let is = so-many number (most_pulls c) in omega (arith, is)
+  enough : most_frames c ≤ takes_at number calls
+  enough = let is = so-many number (most_frames c) in omega (arith, is)
 
-  only : ArePullsAt number pulls
-  only = pulls-alone number (most_pulls c)
+  only : AreTakesAt number calls
+  only = calls-alone number (most_frames c)
 
-  nothing : HasNothing c (line_at number (after_all m pulls))
+  nothing : HasNothing c (line_at number (after_all m calls))
   nothing =
-      subst (λ d. HasNothing d (line_at number (after_all m pulls))) kept
-      (card-drains m number pulls sound here (frames.later c (events ++ pulls) number ranged all-there within events pulls refl only enough) only
-      (frames.short c (events ++ pulls) number ranged all-there within events pulls refl only enough))
+      subst (λ x. HasNothing c (line_at number x)) (after-both (fresh c) events calls)
+      (drained c (events ++ calls) number ranged all-there within events calls refl only enough)
 
-  last-sound : IsSound c (line_at number (after_all m pulls))
-  last-sound = subst (λ x. IsSound c (line_at number x)) (after-both (fresh c) events pulls) (line-at-end c (events ++ pulls) number ranged all-there within)
+  last-sound : IsSound c (line_at number (after_all m calls))
+  last-sound = subst (λ x. IsSound c (line_at number x)) (after-both (fresh c) events calls) (line-at-end c (events ++ calls) number ranged all-there within)
 
-  none-left : (service : Service) (tei : ℕ) → waits service tei (line_at number (after_all m pulls)) ≡ []
-  none-left service tei = go (place_in (line_at number (after_all m pulls)) tei) refl
+  none-left : (service : Service) (tei : ℕ) → waits service tei (line_at number (after_all m calls)) ≡ []
+  none-left service tei = go (place_in (line_at number (after_all m calls)) tei) refl
     where
-      go : (o : Option ℕ) → place_in (line_at number (after_all m pulls)) tei ≡ o → waits service tei (line_at number (after_all m pulls)) ≡ []
-      go None off = ap (λ o. controls (option_map_or (link_in (line_at number (after_all m pulls)) service) o fresh_link).waiting) off
-      go (Some place) on = ap controls (silent-there c (line_at number (after_all m pulls)) last-sound nothing service tei place on).waiting
+      go : (o : Option ℕ) → place_in (line_at number (after_all m calls)) tei ≡ o → waits service tei (line_at number (after_all m calls)) ≡ []
+      go None off = ap (λ o. controls (option_map_or (link_in (line_at number (after_all m calls)) service) o fresh_link).waiting) off
+      go (Some place) on = ap controls (silent-there c (line_at number (after_all m calls)) last-sound nothing service tei place on).waiting
 
   plain : NoneWaits m.config (line_at number m)
   plain =
@@ -302,11 +294,11 @@ module _ (c : Config) (events : List card.Event) (number : ℕ) (ranged : IsInRa
 
   crowded : HasFullLink c (line_at number m) → IsCrowded m number
   crowded x =
-      let goes = pulls-go x.service x.tei number m (most_pulls c) sound here in
-      let none : length (waits x.service x.tei (line_at number (after_all m pulls))) ≡ 0 = ap length (none-left x.service x.tei) in
+      let goes = calls-go x.service x.tei number m (most_frames c) sound here in
+      let none : length (waits x.service x.tei (line_at number (after_all m calls))) ≡ 0 = ap length (none-left x.service x.tei) in
       let count = all-count x.service x.tei in
       let full : length (link_of x.service x.tei (line_at number m)).waiting ≡ m.config.control = x.as_many ∙ ap (λ (c : Config). c.control) (sym kept) in
-      record { service = x.service; tei = x.tei; pulls = most_pulls c; as_many = omega (arith, goes, none, count, full) }
+      record { service = x.service; tei = x.tei; calls = most_frames c; as_many = omega (arith, goes, none, count, full) }
 
   -- Four messages wait where all but four of those that are owed have begun.
   pub by-trace : IsFull c (line_at number m) → IsFullAfter c events number

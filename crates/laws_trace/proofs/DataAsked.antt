@@ -1,6 +1,7 @@
 -- What an event of a line is to the data of a link: what it asks for, and what it does not.
 use Rattle.std.proofs.Common.{◌≡◌, ℕ, ◌==◌, ◌&&◌, Bool, true, false, cond, List, [], ◌∷◌, Option, Some, None, refl, sym, ap, ◌∙◌, true≢false, eq-eqb}
 use Rattle.std.specs.Prelude.{is_some}
+use Rattle.model_bits.specs.Stream as stream
 use Rattle.lapd_frame.specs.declared.services.Service.{Service}
 use Rattle.lapd_frame.specs.Services.{same_service}
 use Rattle.lapd_tei.proofs.Tables.{not_not}
@@ -11,7 +12,7 @@ use Rattle.model_link.specs.Requests as requests
 use Rattle.laws_link.specs.Accepted.{accepted}
 use Rattle.laws_link.specs.Offered.{i_frames}
 use Rattle.model_line.specs.declared.config.Config.{Config}
-use Rattle.model_line.specs.Event.{Event, octet, request, pull, Answer}
+use Rattle.model_line.specs.Event.{Event, hears, request, next, Answer}
 use Rattle.model_line.specs.Line.{Line, has_tei, place_in}
 use Rattle.model_line.specs.Machine.{aim_of, answer, unless_refused}
 use Rattle.model_line.specs.Refusal.{refusal, bad_tei, no_link, wrong_state, too_long, queue_full, pool_full}
@@ -26,37 +27,38 @@ use Rattle.laws_line.proofs.Obeyed.{service-same}
 use Rattle.laws_line.proofs.Places.{is-off}
 use Rattle.laws_trace.specs.DataGoesOut.{data_asked}
 use Rattle.laws_trace.proofs.OneLink.{is_at_link}
+use Rattle.laws_trace.proofs.Deliveries.{heard-by}
 
--- What an event that is no request and no pull is to its link: it accepts nothing, and gives nothing.
-pub no-data : (c : Config) (l : Line) (e : Event) (a : Answer) (service : Service) (tei : ℕ) (t : Terms) (k : Link) → ((r : Request) → e ≡ request r → ⊥) → (e ≡ pull → ⊥)
-    → (le : link.Event) → IsBy c l e a service tei le → (accepted t le k ≡ []) × (i_frames t le k ≡ 0)
-no-data c l e a service tei t k no-request no-pull (link.received r) by = (refl, refl)
-no-data c l e a service tei t k no-request no-pull (link.expired timer) by = (refl, refl)
-no-data c l e a service tei t k no-request no-pull (link.requested what full) by = absurd (no-request (of_link service tei what) by.0)
-no-data c l e a service tei t k no-request no-pull link.offer by = absurd (no-pull by)
-no-data c l e a service tei t k no-request no-pull link.cleared by = absurd by
+-- What an event that is no request and no call is to its link: it accepts nothing, and gives nothing.
+pub no-data : (c : Config) (e : Event) (a : Answer) (service : Service) (tei : ℕ) (t : Terms) (k : Link) → ((r : Request) → e ≡ request r → ⊥) → (e ≡ next → ⊥)
+    → (le : link.Event) → IsBy c e a service tei le → (accepted t le k ≡ []) × (i_frames t le k ≡ 0)
+no-data c e a service tei t k no-request no-next (link.received r) by = (refl, refl)
+no-data c e a service tei t k no-request no-next (link.expired timer) by = (refl, refl)
+no-data c e a service tei t k no-request no-next (link.requested what full) by = absurd (no-request (of_link service tei what) by.0)
+no-data c e a service tei t k no-request no-next link.offer by = absurd (no-next by)
+no-data c e a service tei t k no-request no-next link.cleared by = absurd by
 
 -- What a request is to its link.
-pub only-requested : (c : Config) (l : Line) (r : Request) (a : Answer) (service : Service) (tei : ℕ) (le : link.Event) → IsBy c l (request r) a service tei le
+pub only-requested : (c : Config) (r : Request) (a : Answer) (service : Service) (tei : ℕ) (le : link.Event) → IsBy c (request r) a service tei le
     → (what : link.Request) × (full : Bool) × (le ≡ link.requested what full) × (r ≡ of_link service tei what) × (is_granted a ≡ true)
-only-requested c l r a service tei (link.received (link.frame f)) by = let e : request r ≡ octet by.value = by.by in cc e
-only-requested c l r a service tei (link.received link.undefined) by = let e : request r ≡ octet by.value = by.by in cc e
-only-requested c l r a service tei (link.received link.wrong_size) by = let e : request r ≡ octet by.value = by.by in cc e
-only-requested c l r a service tei (link.received link.overlong) by = let e : request r ≡ octet by.value = by.by in cc e
-only-requested c l r a service tei (link.expired timer) by = cc by
-only-requested c l r a service tei (link.requested what full) by = let e : request r ≡ request (of_link service tei what) = by.0 in (what, full, refl, cc e, by.1)
-only-requested c l r a service tei link.offer by = cc by
-only-requested c l r a service tei link.cleared by = absurd by
+only-requested c r a service tei (link.received (link.frame f)) by = let e : request r ≡ hears (stream.frame by.octets) = by.by in cc e
+only-requested c r a service tei (link.received link.undefined) by = let e = (heard-by c (request r) a service tei link.undefined by).1 in cc e
+only-requested c r a service tei (link.received link.wrong_size) by = let e = (heard-by c (request r) a service tei link.wrong_size by).1 in cc e
+only-requested c r a service tei (link.received link.overlong) by = let e = (heard-by c (request r) a service tei link.overlong by).1 in cc e
+only-requested c r a service tei (link.expired timer) by = cc by
+only-requested c r a service tei (link.requested what full) by = let e : request r ≡ request (of_link service tei what) = by.0 in (what, full, refl, cc e, by.1)
+only-requested c r a service tei link.offer by = cc by
+only-requested c r a service tei link.cleared by = absurd by
 
-pub only-offered : (c : Config) (l : Line) (a : Answer) (service : Service) (tei : ℕ) (le : link.Event) → IsBy c l pull a service tei le → le ≡ link.offer
-only-offered c l a service tei (link.received (link.frame f)) by = let e : pull ≡ octet by.value = by.by in cc e
-only-offered c l a service tei (link.received link.undefined) by = let e : pull ≡ octet by.value = by.by in cc e
-only-offered c l a service tei (link.received link.wrong_size) by = let e : pull ≡ octet by.value = by.by in cc e
-only-offered c l a service tei (link.received link.overlong) by = let e : pull ≡ octet by.value = by.by in cc e
-only-offered c l a service tei (link.expired timer) by = cc by
-only-offered c l a service tei (link.requested what full) by = let e : pull ≡ request (of_link service tei what) = by.0 in cc e
-only-offered c l a service tei link.offer by = refl
-only-offered c l a service tei link.cleared by = absurd by
+pub only-offered : (c : Config) (a : Answer) (service : Service) (tei : ℕ) (le : link.Event) → IsBy c next a service tei le → le ≡ link.offer
+only-offered c a service tei (link.received (link.frame f)) by = let e : next ≡ hears (stream.frame by.octets) = by.by in cc e
+only-offered c a service tei (link.received link.undefined) by = let e = (heard-by c next a service tei link.undefined by).1 in cc e
+only-offered c a service tei (link.received link.wrong_size) by = let e = (heard-by c next a service tei link.wrong_size by).1 in cc e
+only-offered c a service tei (link.received link.overlong) by = let e = (heard-by c next a service tei link.overlong by).1 in cc e
+only-offered c a service tei (link.expired timer) by = cc by
+only-offered c a service tei (link.requested what full) by = let e : next ≡ request (of_link service tei what) = by.0 in cc e
+only-offered c a service tei link.offer by = refl
+only-offered c a service tei link.cleared by = absurd by
 
 either-none : (b : Bool) → cond {A = List (List ℕ)} b [] [] ≡ []
 either-none true = refl

@@ -1,6 +1,6 @@
 -- Data goes out: one event of a line.
-use Rattle.std.proofs.Common.{◌≡◌, ℕ, ◌≤◌, ◌==◌, ◌&&◌, Bool, true, false, cond, List, [], ◌∷◌, ◌++◌, length, drop, map, Option, Some, None, option_map, refl, sym, ap, ◌∙◌, subst, arith, true≢false, eq-eqb, ◌⊎◌, inl, inr}
-use Rattle.std.specs.Prelude.{IfSome, option_to_list, unwrap_or}
+use Rattle.std.proofs.Common.{◌≡◌, ℕ, ◌≤◌, ◌==◌, ◌&&◌, Bool, true, false, cond, List, [], ◌∷◌, ◌++◌, length, drop, map, Option, Some, None, refl, sym, ap, ◌∙◌, subst, arith, true≢false, eq-eqb, ◌⊎◌, inl, inr}
+use Rattle.std.specs.Prelude.{IfSome, unwrap_or}
 use Rattle.std.specs.List.{list_any}
 use Rattle.std.specs.Option.{option_map_or}
 use Rattle.model_bits.specs.Stream as stream
@@ -17,18 +17,18 @@ use Rattle.model_link.specs.Sound as link_sound
 use Rattle.model_link.specs.Told.{Given}
 use Rattle.model_link.proofs.Giving.{given_is_frame}
 use Rattle.model_line.specs.declared.config.Config.{Config}
-use Rattle.model_line.specs.Event.{Answer, LineTold, told, refused, pulled}
+use Rattle.model_line.specs.Event.{NextFrame, Answer, LineTold, told, refused, gave}
 use Rattle.model_line.specs.Line.{terms}
-use Rattle.model_line.specs.Pull.{Taken, frame_of}
+use Rattle.model_line.specs.Taken.{frame_of}
 use Rattle.model_line.specs.Request.{Request}
 use Rattle.laws_line.specs.Heard.{notes_of}
 use Rattle.laws_line.specs.Share.{is_granted}
 use Rattle.laws_line.proofs.Hearing.{same-sapi}
-use Rattle.model_card.specs.Pulled.{frame_taken, octet_in}
 use Rattle.laws_trace.specs.Trace as traces
-use Rattle.laws_trace.specs.Trace.{seen, seen_told, seen_granted}
-use Rattle.laws_trace.specs.Deliveries.{Watched, frame_of as heard_frame, begins, counted}
-use Rattle.laws_trace.specs.DataGoesOut.{Going, Sent, sent_by, sent_in, HasNumber, data_asked, gone_with, is_indicated, Reaches}
+use Rattle.laws_trace.specs.Trace.{frame_in, seen_told, seen_granted}
+use Rattle.laws_trace.specs.Deliveries.{Watched, begins, counted}
+use Rattle.laws_trace.specs.LinkFrames.{frame_of as heard_frame, Sent, sent_by, sent_in}
+use Rattle.laws_trace.specs.DataGoesOut.{Going, HasNumber, data_asked, gone_with, is_indicated, Reaches}
 use Rattle.laws_trace.proofs.DataKnown.{Knows}
 use Rattle.laws_trace.proofs.OneLink.{IsForeign}
 use Rattle.laws_trace.proofs.ReadAgain.{read-again}
@@ -82,29 +82,30 @@ module _ (c : Config) (service : Service) (tei : ℕ) where
       ∙ ap (λ b. cond b (sent_by g.frame.control info) None) (ap (λ b. b && tei == tei) (eq-eqb (sapi_of service) (sapi_of service) refl) ∙ eq-eqb tei tei refl)
 
   -- What is seen of an event.
-  pub reach-told : (o : Option stream.Event) (t : LineTold) (m : ℕ) (all : List (List ℕ)) (gone n : ℕ) → ((n ≤ gone) × (list_any (is_indicated service tei) t.notes ≡ false)) ⊎ (length all ≤ n) →
-      let w : Watched = record { frame = option_map_or (heard_frame c) o None; count = m } in
+  pub reach-told : (t : LineTold) (o : Option Parts) (m : ℕ) (all : List (List ℕ)) (gone n : ℕ) → ((n ≤ gone) × (list_any (is_indicated service tei) t.notes ≡ false)) ⊎ (length all ≤ n) →
+      let w : Watched = record { frame = o; count = m } in
       let b = begins service tei w.frame t.notes in
-      Reaches c service tei (quiet m all gone) (map traces.heard (option_to_list o) ++ traces.noted t.notes t.contents ∷ traces.lost t.lost ∷ [])
+      Reaches c service tei (record { told = w; contents = all; gone = gone }) (traces.noted t.notes t.contents ∷ traces.lost t.lost ∷ [])
       (quiet (counted service tei w t.notes) (cond b (drop n all) all) (cond {A = ℕ} b 0 gone))
-  reach-told None t m all gone n may = (tt, (n, may, (tt, (0, inl (omega arith, refl), refl))))
-  reach-told (Some e) t m all gone n may = (tt, (0, inl (omega arith, refl), (tt, (n, may, (tt, (0, inl (omega arith, refl), refl))))))
+  reach-told t o m all gone n may = (tt, (n, may, (tt, (0, inl (omega arith, refl), refl))))
+
+  pub reach-heard : (e : stream.Event) (t : LineTold) (m : ℕ) (all : List (List ℕ)) (gone n : ℕ) → ((n ≤ gone) × (list_any (is_indicated service tei) t.notes ≡ false)) ⊎ (length all ≤ n) →
+      let w : Watched = record { frame = heard_frame c e; count = m } in
+      let b = begins service tei w.frame t.notes in
+      Reaches c service tei (quiet m all gone) (traces.heard e ∷ traces.noted t.notes t.contents ∷ traces.lost t.lost ∷ [])
+      (quiet (counted service tei w t.notes) (cond b (drop n all) all) (cond {A = ℕ} b 0 gone))
+  reach-heard e t m all gone n may = (tt, (0, inl (omega arith, refl), reach-told t (heard_frame c e) m all gone n may))
 
   pub reach-asked : (r : Request) (a : Answer) (m : ℕ) (all : List (List ℕ)) (gone : ℕ) → let w : Watched = record { frame = None; count = m } in
       Reaches c service tei (quiet m all gone) (seen_granted r a ++ seen_told a) (quiet (counted service tei w (notes_of a)) (cond (is_granted a) (all ++ data_asked service tei r) all) gone)
   reach-asked r (told t) m all gone = (tt, (0, inl (omega arith, refl), (tt, (length (all ++ data_asked service tei r), inr (omega arith), (tt, (0, inl (omega arith, refl), refl))))))
   reach-asked r (refused why) m all gone = refl
-  reach-asked r (pulled value is_begun orders) m all gone = refl
+  reach-asked r (gave given) m all gone = refl
 
-  abbrev pub sent_with : Option Taken → Option Sent
-  sent_with o = option_map_or (λ t. sent_of (frame_taken t)) o None
+  abbrev pub sent_with : Option NextFrame → Option Sent
+  sent_with o = option_map_or (λ f. sent_of (traces.octets_of f)) o None
 
-  pub reach-pulled : (o : Option Taken) (a : Answer) (m : ℕ) (all : List (List ℕ)) (gone : ℕ) → IfSome (sent_with o) (HasNumber (quiet m all gone))
-      → Reaches c service tei (quiet m all gone) (map traces.begun (option_to_list (option_map frame_taken o)) ++ map traces.put (octet_in a))
-      (quiet m all (gone_with gone (sent_with o)))
-  reach-pulled None (told t) m all gone h = refl
-  reach-pulled None (refused why) m all gone h = refl
-  reach-pulled None (pulled value is_begun orders) m all gone h = (tt, (0, inl (omega arith, refl), refl))
-  reach-pulled (Some t) (told u) m all gone h = (h, (0, inl (omega arith, refl), refl))
-  reach-pulled (Some t) (refused why) m all gone h = (h, (0, inl (omega arith, refl), refl))
-  reach-pulled (Some t) (pulled value is_begun orders) m all gone h = (h, (0, inl (omega arith, refl), (tt, (0, inl (omega arith, refl), refl))))
+  pub reach-gave : (o : Option NextFrame) (m : ℕ) (all : List (List ℕ)) (gone : ℕ) → IfSome (sent_with o) (HasNumber (quiet m all gone))
+      → Reaches c service tei (quiet m all gone) (map traces.begun (frame_in (gave o))) (quiet m all (gone_with gone (sent_with o)))
+  reach-gave None m all gone h = refl
+  reach-gave (Some f) m all gone h = (h, (0, inl (omega arith, refl), refl))

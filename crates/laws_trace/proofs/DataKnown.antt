@@ -30,10 +30,11 @@ use Rattle.laws_link.proofs.InOrder.{given-in-order}
 use Rattle.laws_link.proofs.Keeping.{event-done}
 use Rattle.laws_link.proofs.Offering.{given-is-offered}
 use Rattle.laws_trace.specs.Deliveries.{Watched}
-use Rattle.laws_line.specs.Pulls.{IsSilent}
-use Rattle.laws_trace.specs.DataGoesOut.{is_indicated, Sent, sent_by, HasNumber, gone_with}
+use Rattle.laws_trace.specs.DataGoesOut.{is_indicated, HasNumber, gone_with}
+use Rattle.laws_trace.specs.LinkFrames.{Sent, sent_by}
 use Rattle.laws_trace.proofs.Begins.{up-before}
 use Rattle.laws_trace.proofs.DataOfLink.{acknowledged-went, none-acknowledged, none-accepted, nothing-kept-down}
+use Rattle.laws_line.specs.Served.{IsSilent}
 
 -- An indication of an establishment tells that nothing is kept.
 or-false : (a b : Bool) → (a || b) ≡ false → b ≡ false

@@ -1,10 +1,11 @@
 -- Data goes out: over runs.
 use Rattle.std.proofs.Common.{◌≡◌, ℕ, ◌≤◌, ◌<◌, Bool, true, false, cond, List, [], ◌∷◌, ◌++◌, length, drop, map, Option, Some, None, option_map, refl, sym, ap, ◌∙◌, subst, arith, true≢false, ◌⊎◌, inl, inr, append-nil}
-use Rattle.std.specs.Prelude.{All, IfSome, option_to_list, unwrap_or}
+use Rattle.std.specs.Prelude.{All, IfSome, option_to_list, unwrap_or, option_map}
 use Rattle.std.specs.List.{list_any}
 use Rattle.std.specs.Option.{option_map_or}
 use Rattle.std.proofs.lemmas.List.{get_or-replicate}
 use Rattle.std.proofs.lemmas.List.Elements.{All-head}
+use Rattle.model_bits.specs.Stream as stream
 use Rattle.lapd_frame.specs.declared.services.Service.{Service}
 use Rattle.lapd_frame.specs.Grammar.{Parts}
 use Rattle.lapd_tei.proofs.Tables.{place_of-is}
@@ -21,11 +22,10 @@ use Rattle.laws_link.specs.Accepted.{accepted}
 use Rattle.laws_link.specs.Offered.{i_frames}
 use Rattle.model_line.specs.declared.config.Config.{Config}
 use Rattle.model_line.specs.Effect.{at_link}
-use Rattle.model_line.specs.Event.{Event, octet, expiry, request, pull}
+use Rattle.model_line.specs.Event.{Event, hears, expiry, request, next, NextFrame, gave}
 use Rattle.model_line.specs.Line.{Line, fresh_line, link_in, link_of, place_in, terms}
-use Rattle.model_line.specs.Machine.{aim_of, after, answer, of_octet, unless_refused}
-use Rattle.model_line.specs.Octet.{gained}
-use Rattle.model_line.specs.Pull.{Taken, begun, frame_of}
+use Rattle.model_line.specs.Machine.{aim_of, after, answer, unless_refused, of_heard}
+use Rattle.model_line.specs.Taken.{taken, frame_of, next_of}
 use Rattle.model_line.specs.Refusal.{refusal}
 use Rattle.model_line.specs.Request.{Request, Data}
 use Rattle.model_line.specs.Requested.{at_requested}
@@ -41,15 +41,15 @@ use Rattle.laws_line.proofs.Obeyed.{both-true}
 use Rattle.laws_line.proofs.TimersFollow.{nowhere}
 use Rattle.model_card.specs.Card.{line_at}
 use Rattle.model_card.specs.Card as cards
-use Rattle.model_card.specs.Pulled.{frame_taken}
 use Rattle.model_card.proofs.CardSound.{fresh_is_sound}
 use Rattle.model_card.specs.Event as card
 use Rattle.model_card.specs.Run.{after_all, AreAtLines}
-use Rattle.laws_trace.specs.Trace.{Seen, seen, trace_of, Always}
-use Rattle.laws_trace.specs.Deliveries.{Watched, is_for, begins_by, begins, counted}
-use Rattle.laws_trace.specs.DataGoesOut.{Going, Sent, sent_by, HasNumber, data_asked, gone_with, goes_on, none_yet, Reaches, DataGoesOut, is_indicated}
+use Rattle.laws_trace.specs.Trace.{frame_in, Seen, seen, trace_of, Always}
+use Rattle.laws_trace.specs.Deliveries.{Watched, begins_by, begins, counted}
+use Rattle.laws_trace.specs.LinkFrames.{is_for, Sent, sent_by}
+use Rattle.laws_trace.specs.DataGoesOut.{Going, HasNumber, data_asked, gone_with, goes_on, none_yet, Reaches, DataGoesOut, is_indicated}
 use Rattle.laws_trace.proofs.DataKnown.{Knows, goes-on-so, begins-anew, given-known, none-given-known}
-use Rattle.laws_trace.proofs.DataGoesOut.{quiet, fresh-known, foreign, own-sent, sent_of, sent_with, reach-told, reach-asked, reach-pulled}
+use Rattle.laws_trace.proofs.DataGoesOut.{quiet, fresh-known, foreign, own-sent, sent_of, sent_with, reach-heard, reach-asked, reach-gave}
 use Rattle.laws_trace.proofs.Deliveries.{frame_by, one-begins}
 use Rattle.laws_trace.proofs.DeliveriesRun.{IsCount, event-aims, event-told}
 use Rattle.laws_trace.proofs.OneLink.{frames_given, IsForeign, HasOne, HasNone, Goes, event-goes}
@@ -71,7 +71,7 @@ module _ (c : Config) (ranged : IsInRange c) (l : Line) (s : IsSound c l) (servi
     gone_now : ℕ
     counts : IsCount (link_of service tei (after c e l)) count_now
     knows : Knows (link_of service tei (after c e l)) all_now gone_now
-    reaches : Reaches c service tei (quiet m all gone) (seen c e l (answer c e l)) (quiet count_now all_now gone_now)
+    reaches : Reaches c service tei (quiet m all gone) (seen e (answer c e l)) (quiet count_now all_now gone_now)
 
   own-sound : (place : ℕ) → place_in l tei ≡ Some place → link_sound.IsSound t k
   own-sound place is =
@@ -91,14 +91,14 @@ module _ (c : Config) (ranged : IsInRange c) (l : Line) (s : IsSound c l) (servi
 
   -- What is heard, and what expires.
   abbrev anew : Event → Bool
-  anew e = begins service tei (frame_by c e l) (notes_of (answer c e l))
+  anew e = begins service tei (frame_by c e) (notes_of (answer c e l))
 
   record Chosen (e : Event) : Type 0 where
     n : ℕ
     may : ((n ≤ gone) × (list_any (is_indicated service tei) (notes_of (answer c e l)) ≡ false)) ⊎ (length all ≤ n)
     knows : Knows (link_of service tei (after c e l)) (cond (anew e) (drop n all) all) (cond {A = ℕ} (anew e) 0 gone)
 
-  module _ (e : Event) (no-request : (r : Request) → e ≡ request r → ⊥) (no-pull : e ≡ pull → ⊥) where
+  module _ (e : Event) (no-request : (r : Request) → e ≡ request r → ⊥) (no-next : e ≡ next → ⊥) where
     chosen-one : HasOne c service tei e l (after c e l) (answer c e l) → Chosen e
     chosen-one x = go (restarts t x.event k) refl
       where
@@ -106,10 +106,10 @@ module _ (c : Config) (ranged : IsInRange c) (l : Line) (s : IsSound c l) (servi
         sound = own-sound x.place x.placed
 
         begins-is : anew e ≡ restarts t x.event k
-        begins-is = ap (begins service tei (frame_by c e l)) x.notes ∙ one-begins c l e (answer c e l) service tei x.event x.by k
+        begins-is = ap (begins service tei (frame_by c e)) x.notes ∙ one-begins c e (answer c e l) service tei x.event x.by k
 
         bare : (accepted t x.event k ≡ []) × (i_frames t x.event k ≡ 0)
-        bare = no-data c l e (answer c e l) service tei t k no-request no-pull x.event x.by
+        bare = no-data c e (answer c e l) service tei t k no-request no-next x.event x.by
 
         go : (b : Bool) → restarts t x.event k ≡ b → Chosen e
         go true is =
@@ -133,19 +133,19 @@ module _ (c : Config) (ranged : IsInRange c) (l : Line) (s : IsSound c l) (servi
             }
 
     chosen-none : HasNone c service tei e l (after c e l) (answer c e l) → Chosen e
-    chosen-none x = go (frame_by c e l) refl (anew e) refl
+    chosen-none x = go (frame_by c e) refl (anew e) refl
       where
-        off-line : (f : Parts) → frame_by c e l ≡ Some f → is_for service tei f.address ≡ true → (o : Option ℕ) → place_in l tei ≡ o → k ≡ fresh
+        off-line : (f : Parts) → frame_by c e ≡ Some f → is_for service tei f.address ≡ true → (o : Option ℕ) → place_in l tei ≡ o → k ≡ fresh
         off-line f is for None off = ap (λ o. option_map_or (link_in l service) o fresh) off
         off-line f is for (Some place) on = absurd (true≢false (sym (event-aims c l service tei place on e f is for) ∙ x.aims))
 
-        by-frame : (o : Option Parts) → frame_by c e l ≡ o → begins service tei o (notes_of (answer c e l)) ≡ true → k ≡ fresh
+        by-frame : (o : Option Parts) → frame_by c e ≡ o → begins service tei o (notes_of (answer c e l)) ≡ true → k ≡ fresh
         by-frame None is b = absurd (true≢false (sym b))
         by-frame (Some f) is b = off-line f is (both-true (is_for service tei f.address) (begins_by f.control (notes_of (answer c e l))) b).0 (place_in l tei) refl
 
-        go : (o : Option Parts) → frame_by c e l ≡ o → (b : Bool) → anew e ≡ b → Chosen e
+        go : (o : Option Parts) → frame_by c e ≡ o → (b : Bool) → anew e ≡ b → Chosen e
         go o is true starts =
-            let new = by-frame (frame_by c e l) refl starts in
+            let new = by-frame (frame_by c e) refl starts in
             record {
               n = length all;
               may = inr (omega arith);
@@ -165,21 +165,21 @@ module _ (c : Config) (ranged : IsInRange c) (l : Line) (s : IsSound c l) (servi
         go (inl x) = chosen-none x
         go (inr x) = chosen-one x
 
-  counts-on : (e : Event) → IsCount (link_of service tei (after c e l)) (counted service tei (record { frame = frame_by c e l; count = m }) (notes_of (answer c e l)))
+  counts-on : (e : Event) → IsCount (link_of service tei (after c e l)) (counted service tei (record { frame = frame_by c e; count = m }) (notes_of (answer c e l)))
   counts-on e = (event-told c ranged l s e service tei m count).1
 
-  octet-shown : (value : ℕ) → Shown (octet value)
+  heard-shown : (what : stream.Event) → Shown (hears what)
   unfolding answer
-  octet-shown value =
-      let e = octet value in
+  heard-shown what =
+      let e = hears what in
       let x = chosen e (λ r same. cc same) (λ same. cc same) in
       record {
-        count_now = counted service tei (record { frame = frame_by c e l; count = m }) (notes_of (answer c e l));
+        count_now = counted service tei (record { frame = frame_by c e; count = m }) (notes_of (answer c e l));
         all_now = cond (anew e) (drop x.n all) all;
         gone_now = cond {A = ℕ} (anew e) 0 gone;
         counts = counts-on e;
         knows = x.knows;
-        reaches = reach-told c service tei (gained c.n201 l.received value) (of_octet c value l).told m all gone x.n x.may;
+        reaches = reach-heard c service tei what (of_heard c what l).told m all gone x.n x.may;
       }
 
   -- A request.
@@ -205,7 +205,7 @@ module _ (c : Config) (ranged : IsInRange c) (l : Line) (s : IsSound c l) (servi
 
   added-one : (r : Request) → HasOne c service tei (request r) l (after c (request r) l) (answer c (request r) l) → Added r
   added-one r x =
-      let y = only-requested c l r (answer c (request r) l) service tei x.event x.by in
+      let y = only-requested c r (answer c (request r) l) service tei x.event x.by in
       let sound = own-sound x.place x.placed in
       let on = never-anew y.0 y.1 (restarts t (link.requested y.0 y.1) k) refl in
       let z = goes-on-so t k sound (link.requested y.0 y.1) all gone known on refl in
@@ -231,7 +231,7 @@ module _ (c : Config) (ranged : IsInRange c) (l : Line) (s : IsSound c l) (servi
 
       not-full : (what : link.Request) (full : Bool) (contents : List ℕ) → what ≡ link.Data contents → x.event ≡ link.requested what full → r ≡ of_link service tei what
           → is_granted (answer c (request r) l) ≡ true
-          → (request r ≡ pull) ⊎ (aim_of c (request r) l ≡ at_link service tei x.place x.event) → requests.refusal t k full (link.Data contents) ≡ None
+          → (request r ≡ next) ⊎ (aim_of c (request r) l ≡ at_link service tei x.place x.event) → requests.refusal t k full (link.Data contents) ≡ None
       not-full what full contents is event asked g (inl e) = cc e
       not-full what full contents is event asked g (inr aim) =
           let named : r ≡ Data service tei contents = asked ∙ ap (of_link service tei) is in
@@ -250,38 +250,40 @@ module _ (c : Config) (ranged : IsInRange c) (l : Line) (s : IsSound c l) (servi
       go (inl x) = added-none r x
       go (inr x) = added-one r x
 
-  -- A pull.
+  -- A call for the next frame.
   record Gave : Type 0 where
-    sent : IfSome (sent_with c service tei (begun c l)) (HasNumber (quiet m all gone))
-    knows : Knows (link_of service tei (after c pull l)) all (gone_with gone (sent_with c service tei (begun c l)))
+    sent : IfSome (sent_with c service tei (option_map next_of (taken c l))) (HasNumber (quiet m all gone))
+    knows : Knows (link_of service tei (after c next l)) all (gone_with gone (sent_with c service tei (option_map next_of (taken c l))))
 
-  gave-with : (o : Option Sent) → sent_with c service tei (begun c l) ≡ o → IfSome o (HasNumber (quiet m all gone))
-      → Knows (link_of service tei (after c pull l)) all (gone_with gone o) → Gave
+  gave-with : (o : Option Sent) → sent_with c service tei (option_map next_of (taken c l)) ≡ o → IfSome o (HasNumber (quiet m all gone))
+      → Knows (link_of service tei (after c next l)) all (gone_with gone o) → Gave
   gave-with o is h known' = record {
     sent = subst (λ o. IfSome o (HasNumber (quiet m all gone))) (sym is) h;
-    knows = subst (λ o. Knows (link_of service tei (after c pull l)) all (gone_with gone o)) (sym is) known';
+    knows = subst (λ o. Knows (link_of service tei (after c next l)) all (gone_with gone o)) (sym is) known';
   }
 
-  gave-none : HasNone c service tei pull l (after c pull l) (answer c pull l) → Gave
-  gave-none x = gave-with None (go (begun c l) x.begins) tt (kept-same pull all gone known x)
+  gave-none : HasNone c service tei next l (after c next l) (answer c next l) → Gave
+  unfolding answer
+  gave-none x = gave-with None (go (option_map next_of (taken c l)) x.begins) tt (kept-same next all gone known x)
     where
-      go : (o : Option Taken) → All (IsForeign c service tei) (option_to_list (option_map frame_taken o)) → sent_with c service tei o ≡ None
+      go : (o : Option NextFrame) → All (IsForeign c service tei) (frame_in (gave o)) → sent_with c service tei o ≡ None
       go None h = refl
-      go (Some taken) h = foreign c service tei (frame_taken taken) (All-head (IsForeign c service tei) (frame_taken taken) [] h)
+      go (Some f) h = foreign c service tei f.octets (All-head (IsForeign c service tei) f.octets [] h)
 
-  none-sent : (o : Option Taken) → option_to_list (option_map frame_taken o) ≡ [] → sent_with c service tei o ≡ None
+  none-sent : (o : Option NextFrame) → frame_in (gave o) ≡ [] → sent_with c service tei o ≡ None
   none-sent None e = refl
-  none-sent (Some taken) e = cc e
+  none-sent (Some f) e = cc e
 
-  its-sent : (o : Option Taken) (frame : List ℕ) → option_to_list (option_map frame_taken o) ≡ frame ∷ [] → sent_with c service tei o ≡ sent_of c service tei frame
+  its-sent : (o : Option NextFrame) (frame : List ℕ) → frame_in (gave o) ≡ frame ∷ [] → sent_with c service tei o ≡ sent_of c service tei frame
   its-sent None frame e = cc e
-  its-sent (Some taken) frame e = let same : frame_taken taken ≡ frame = cc e in ap (sent_of c service tei) same
+  its-sent (Some f) frame e = let same : f.octets ≡ frame = cc e in ap (sent_of c service tei) same
 
-  gave-one : HasOne c service tei pull l (after c pull l) (answer c pull l) → Gave
+  gave-one : HasOne c service tei next l (after c next l) (answer c next l) → Gave
+  unfolding answer
   gave-one x = go (links.given t k) refl (x.begins ∙ ap (λ e. frames_given c t e k) offered)
     where
       offered : x.event ≡ link.offer
-      offered = only-offered c l (answer c pull l) service tei x.event x.by
+      offered = only-offered c (answer c next l) service tei x.event x.by
 
       sound : link_sound.IsSound t k
       sound = own-sound x.place x.placed
@@ -289,33 +291,33 @@ module _ (c : Config) (ranged : IsInRange c) (l : Line) (s : IsSound c l) (servi
       range : link_sound.IsInRange t
       range = own-range x.place x.placed
 
-      next : link_of service tei (after c pull l) ≡ links.after t link.offer k
-      next = x.is ∙ ap (λ e. links.after t e k) offered
+      new : link_of service tei (after c next l) ≡ links.after t link.offer k
+      new = x.is ∙ ap (λ e. links.after t e k) offered
 
-      known-next : (gone' : ℕ) → Knows (links.after t link.offer k) (all ++ []) gone' → Knows (link_of service tei (after c pull l)) all gone'
-      known-next gone' h = subst (λ k. Knows k all gone') (sym next) (subst (λ xs. Knows (links.after t link.offer k) xs gone') (append-nil all) h)
+      known-next : (gone' : ℕ) → Knows (links.after t link.offer k) (all ++ []) gone' → Knows (link_of service tei (after c next l)) all gone'
+      known-next gone' h = subst (λ k. Knows k all gone') (sym new) (subst (λ xs. Knows (links.after t link.offer k) xs gone') (append-nil all) h)
 
       w : Watched
       w = record { frame = None; count = m }
 
-      go : (g : Option Given) → links.given t k ≡ g → option_to_list (option_map frame_taken (begun c l)) ≡ map (frame_of c t) (option_to_list (links.given t k)) → Gave
+      go : (g : Option Given) → links.given t k ≡ g → frame_in (gave (option_map next_of (taken c l))) ≡ map (frame_of c t) (option_to_list (links.given t k)) → Gave
       go None is same =
-          gave-with None (none-sent (begun c l) (same ∙ ap (λ o. map (frame_of c t) (option_to_list o)) is)) tt
+          gave-with None (none-sent (option_map next_of (taken c l)) (same ∙ ap (λ o. map (frame_of c t) (option_to_list o)) is)) tt
           (known-next gone (none-given-known t k sound range.k_high w all gone known count is))
       go (Some g) is same =
           let y = given-known t k sound range.k_high w all gone known count g is in
           let sent = sent_by g.frame.control (unwrap_or g.contents []) in
-          gave-with sent (its-sent (begun c l) (frame_of c t g) (same ∙ ap (λ o. map (frame_of c t) (option_to_list o)) is) ∙ own-sent c service tei k range sound g is)
+          gave-with sent (its-sent (option_map next_of (taken c l)) (frame_of c t g) (same ∙ ap (λ o. map (frame_of c t) (option_to_list o)) is) ∙ own-sent c service tei k range sound g is)
           y.0 (known-next (gone_with gone sent) y.1)
 
-  gave : Gave
-  gave = go (event-goes c pull l service tei s)
+  call-gave : Gave
+  call-gave = go (event-goes c next l service tei s)
     where
-      go : Goes c service tei pull l (after c pull l) (answer c pull l) → Gave
+      go : Goes c service tei next l (after c next l) (answer c next l) → Gave
       go (inl x) = gave-none x
       go (inr x) = gave-one x
 
-  expiry-shown : (e : Event) → frame_by c e l ≡ None → Chosen e → Reaches c service tei (quiet m all gone) (seen c e l (answer c e l))
+  expiry-shown : (e : Event) → frame_by c e ≡ None → Chosen e → Reaches c service tei (quiet m all gone) (seen e (answer c e l))
       (quiet (counted service tei (record { frame = None; count = m }) (notes_of (answer c e l))) all gone) → Shown e
   expiry-shown e none x reaches = record {
     count_now = counted service tei (record { frame = None; count = m }) (notes_of (answer c e l));
@@ -331,17 +333,17 @@ module _ (c : Config) (ranged : IsInRange c) (l : Line) (s : IsSound c l) (servi
 
   event-shown : (e : Event) → Shown e
   unfolding answer
-  event-shown (octet value) = octet-shown value
+  event-shown (hears what) = heard-shown what
   event-shown (expiry timer) =
       expiry-shown (expiry timer) refl (chosen (expiry timer) (λ r same. cc same) (λ same. cc same)) (tt, (length all, inr (omega arith), (tt, (0, inl (omega arith, refl), refl))))
   event-shown (request r) = request-shown r (added r)
-  event-shown pull = record {
+  event-shown next = record {
     count_now = m;
     all_now = all;
-    gone_now = gone_with gone (sent_with c service tei (begun c l));
-    counts = counts-on pull;
-    knows = gave.knows;
-    reaches = reach-pulled c service tei (begun c l) (answer c pull l) m all gone gave.sent;
+    gone_now = gone_with gone (sent_with c service tei (option_map next_of (taken c l)));
+    counts = counts-on next;
+    knows = call-gave.knows;
+    reaches = reach-gave c service tei (option_map next_of (taken c l)) m all gone call-gave.sent;
   }
 
 -- Over runs.
@@ -367,7 +369,7 @@ joins c k l m t u h i service tei n all gone count known =
     let y = i service tei x.0 x.1 x.2 x.3 x.4 in
     (y.0, y.1, y.2, y.3, y.4, reaches-both c service tei (quiet n all gone) (quiet x.0 x.1 x.2) (quiet y.0 y.1 y.2) t u x.5 y.5)
 
-steps : (c : Config) → IsInRange c → (e : Event) (l : Line) → IsSound c l → Stands c l → Shows c l (seen c e l (answer c e l)) (after c e l) × Stands c (after c e l)
+steps : (c : Config) → IsInRange c → (e : Event) (l : Line) → IsSound c l → Stands c l → Shows c l (seen e (answer c e l)) (after c e l) × Stands c (after c e l)
 steps c ranged e l s stands = (
   λ service tei m all gone count known.
       let x = event-shown c ranged l s service tei m all gone count known e in

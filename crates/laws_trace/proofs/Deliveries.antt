@@ -30,31 +30,31 @@ use Rattle.model_link.proofs.OwnNotes.{notes-own}
 use Rattle.laws_link.proofs.Restarts.{establishes}
 use Rattle.laws_link.specs.Heard.{unit_heard, in_ui_frame}
 use Rattle.model_line.specs.declared.config.Config.{Config}
-use Rattle.model_line.specs.Event.{Event, octet, expiry, request, pull, Answer}
+use Rattle.model_line.specs.Event.{Event, hears, expiry, request, next, Answer}
 use Rattle.model_line.specs.Line.{Line, link_in, link_of, place_in, state_in, state_of, terms}
 use Rattle.model_line.specs.Machine.{aim_of, answer}
-use Rattle.model_line.specs.Octet.{gained, heard_side, group_tei}
+use Rattle.model_line.specs.Heard.{heard_side, group_tei}
 use Rattle.model_line.specs.Sound.{IsInRange, IsSound}
-use Rattle.laws_line.specs.Heard.{Ends, Adds, IsMalformed, IsTooLong, notes_of, contents_in, is_data_of, is_unit_of, tells_contents}
+use Rattle.laws_line.specs.Heard.{IsMalformed, IsTooLong, notes_of, contents_in, is_data_of, is_unit_of, tells_contents}
 use Rattle.laws_line.specs.Heard as line_heard
 use Rattle.laws_line.specs.Steady.{IsBy, Brings, BringsMalformed}
-use Rattle.laws_line.proofs.Ending.{gained-is}
 use Rattle.laws_line.proofs.HandedOn.{contents-heard}
-use Rattle.laws_line.proofs.Hearing.{sapi-is, frame-aim, one-event}
+use Rattle.laws_line.proofs.Hearing.{sapi-is, read-aim, read-event}
 use Rattle.laws_line.proofs.ToldOnce.{told-once}
-use Rattle.laws_line.proofs.Grouping.{group-unit}
-use Rattle.laws_trace.specs.Deliveries.{parts_of, frame_of, is_for, begins_by, begins, number_in, IsOfFrame}
+use Rattle.laws_line.proofs.Grouping.{group-read}
+use Rattle.laws_trace.specs.LinkFrames.{parts_of, frame_of, is_for}
+use Rattle.laws_trace.specs.Deliveries.{begins_by, begins, number_in, IsOfFrame}
 use Rattle.laws_trace.specs.Trace.{is_up}
 use Rattle.laws_trace.specs.Units.{is_ui}
 use Rattle.laws_trace.proofs.Begins.{unless, begins-is}
 use Rattle.laws_trace.proofs.OneLink.{is_at_link}
 
 -- The frame that an event brings, as the grammar reads it.
-abbrev pub frame_by : Config → Event → Line → Option Parts
-frame_by c (octet value) l = option_map_or (frame_of c) (gained c.n201 l.received value) None
-frame_by c (expiry timer) l = None
-frame_by c (request r) l = None
-frame_by c pull l = None
+abbrev pub frame_by : Config → Event → Option Parts
+frame_by c (hears what) = frame_of c what
+frame_by c (expiry timer) = None
+frame_by c (request r) = None
+frame_by c next = None
 
 -- A link is up where the number of its state says so.
 pub up-is : (service : Service) (tei : ℕ) (l : Line) → option_map_or is_up (state_of service tei l) false ≡ is_multiple_frame (link_of service tei l).state
@@ -168,10 +168,10 @@ module _ (c : Config) (ranged : IsInRange c) (l : Line) (s : IsSound c l) (e : E
       → list_any q (notes_of a) ≡ true → (contents : List ℕ) → line_heard.IsHeardAtLink c l e a contents → is_at_link service tei (aim_of c e l) ≡ true
   noted-aim q own some contents x =
       let t = terms c x.service x.tei in
-      let aims = frame-aim c l x.value x.service x.tei x.place x.parts x.octets x.ends x.whose in
-      let one = one-event c l x.value x.service x.tei x.place x.parts x.octets x.ends x.whose in
+      let aims = read-aim c l x.service x.tei x.place x.parts x.octets x.read x.whose in
+      let one = read-event c l x.service x.tei x.place x.parts x.octets x.read x.whose in
       let le = link.received (link.frame x.parts) in
-      let same : answer c (octet x.value) l ≡ a = ap (λ e. answer c e l) (sym x.by) in
+      let same : answer c (hears (stream.frame x.octets)) l ≡ a = ap (λ e. answer c e l) (sym x.by) in
       let told : notes_of a ≡ (links.told t le (link_in l x.service x.place)).notes = ap notes_of (sym same ∙ one.answer_is.is) ∙ one.answer_is.notes in
       ap (λ e. is_at_link service tei (aim_of c e l)) x.by ∙ ap (is_at_link service tei) aims
       ∙ some-own t q ((same_service x.service service && x.tei == tei) ≡ true) (own t) (links.told t le (link_in l x.service x.place)).notes
@@ -180,32 +180,29 @@ module _ (c : Config) (ranged : IsInRange c) (l : Line) (s : IsSound c l) (e : E
   pub none-noted : (q : Note → Bool) → ((n : Note) → q n ≡ true → tells_contents n ≡ true)
       → ((t : Terms) (n : Note) → IsOwn t n → q n ≡ true → (same_service t.service service && t.tei == tei) ≡ true)
       → is_at_link service tei (aim_of c e l) ≡ false → list_any q (notes_of a) ≡ true
-      → (contents : List ℕ) × (contents_in a ≡ Some contents) × line_heard.IsHeardByGroup c l e a contents
+      → (contents : List ℕ) × (contents_in a ≡ Some contents) × line_heard.IsHeardByGroup c e a contents
   none-noted q tells own none some =
       let x = has-contents q tells some (contents_in a) refl in
       (x.0, x.1, go x.0 (contents-heard c e l x.0 ranged s x.1))
     where
-      go : (contents : List ℕ) → line_heard.IsHeard c l e a contents → line_heard.IsHeardByGroup c l e a contents
+      go : (contents : List ℕ) → line_heard.IsHeard c l e a contents → line_heard.IsHeardByGroup c e a contents
       go contents (inl at) = absurd (true≢false (sym (noted-aim q own some contents at) ∙ none))
       go contents (inr group) = group
 
   -- the notes of the group's unit data
-  pub group-notes : (contents : List ℕ) (x : line_heard.IsHeardByGroup c l e a contents) → notes_of a ≡ notes.Unit x.service group_tei ∷ []
+  pub group-notes : (contents : List ℕ) (x : line_heard.IsHeardByGroup c e a contents) → notes_of a ≡ notes.Unit x.service group_tei ∷ []
   group-notes contents x =
       ap (λ e. notes_of (answer c e l)) x.by
-      ∙ ap notes_of (group-unit c l x.value x.parts x.octets x.service s x.ends x.spelled x.whose).answer_is
+      ∙ ap notes_of (group-read c l x.parts x.octets x.service s x.read x.whose).answer_is
 
 -- The frame that an event of the link brings.
-module _ (c : Config) (l : Line) (e : Event) (a : Answer) (service : Service) (tei : ℕ) where
+module _ (c : Config) (e : Event) (a : Answer) (service : Service) (tei : ℕ) where
   its-address : (f : Parts) → service_of f.address.sapi ≡ Some service → f.address.tei ≡ tei → is_for service tei f.address ≡ true
   its-address f sapi is =
       ap (λ b. b && f.address.tei == tei) (eq-eqb f.address.sapi (sapi_of service) (sapi-is f.address.sapi service sapi)) ∙ eq-eqb f.address.tei tei is
 
-  pub brings-frame : (f : Parts) → Brings c l e service tei f → (frame_by c e l ≡ Some f) × (is_for service tei f.address ≡ true)
-  brings-frame f x = (
-    ap (λ e. frame_by c e l) x.by ∙ ap (λ o. option_map_or (frame_of c) o None) (gained-is c l x.value (Some (stream.frame x.octets)) x.ends) ∙ ap parts_of x.read,
-    its-address f x.sapi x.tei_is,
-  )
+  pub brings-frame : (f : Parts) → Brings c e service tei f → (frame_by c e ≡ Some f) × (is_for service tei f.address ≡ true)
+  brings-frame f x = (ap (frame_by c) x.by ∙ ap parts_of x.read, its-address f x.sapi x.tei_is)
 
   is-fault : (address : Address) (octets : List ℕ) (what : link.Received) → IsMalformed c address octets what → parts_of (reading (heard_side c) octets) ≡ None
   is-fault address octets link.undefined is = ap parts_of is
@@ -213,23 +210,29 @@ module _ (c : Config) (l : Line) (e : Event) (a : Answer) (service : Service) (t
   is-fault address octets link.overlong is = absurd is
   is-fault address octets (link.frame parts) is = absurd is
 
-  pub brings-none : (what : link.Received) → BringsMalformed c l e service tei what → frame_by c e l ≡ None
-  brings-none what x = ap (λ e. frame_by c e l) x.by ∙ go x.ends
+  pub brings-none : (what : link.Received) → BringsMalformed c e service tei what → frame_by c e ≡ None
+  brings-none what x = go x.by
     where
-      go : (Ends c l x.value x.octets × IsMalformed c x.address x.octets what) ⊎ (Adds c l x.value (stream.overlong x.octets ∷ []) × IsTooLong c x.address x.octets what)
-          → option_map_or (frame_of c) (gained c.n201 l.received x.value) None ≡ None
-      go (inl y) =
-          ap (λ o. option_map_or (frame_of c) o None) (gained-is c l x.value (Some (stream.frame x.octets)) y.0)
-          ∙ is-fault x.address x.octets what y.1
-      go (inr y) = ap (λ o. option_map_or (frame_of c) o None) (gained-is c l x.value (Some (stream.overlong x.octets)) y.0)
+      go : ((e ≡ hears (stream.frame x.octets)) × IsMalformed c x.address x.octets what) ⊎ ((e ≡ hears (stream.overlong x.octets)) × IsTooLong c x.address x.octets what)
+          → frame_by c e ≡ None
+      go (inl y) = ap (frame_by c) y.0 ∙ is-fault x.address x.octets what y.1
+      go (inr y) = ap (frame_by c) y.0
 
-  none-begins : (le : link.Event) (k : Link) → ((restarts (terms c service tei) le k ≡ true) → ⊥) → (ns : List Note) → frame_by c e l ≡ None
-      → begins service tei (frame_by c e l) ns ≡ restarts (terms c service tei) le k
+  pub heard-by : (what : link.Received) → BringsMalformed c e service tei what → (heard : stream.Event) × (e ≡ hears heard)
+  heard-by what x = go x.by
+    where
+      go : ((e ≡ hears (stream.frame x.octets)) × IsMalformed c x.address x.octets what) ⊎ ((e ≡ hears (stream.overlong x.octets)) × IsTooLong c x.address x.octets what)
+          → (heard : stream.Event) × (e ≡ hears heard)
+      go (inl y) = (stream.frame x.octets, y.0)
+      go (inr y) = (stream.overlong x.octets, y.0)
+
+  none-begins : (le : link.Event) (k : Link) → ((restarts (terms c service tei) le k ≡ true) → ⊥) → (ns : List Note) → frame_by c e ≡ None
+      → begins service tei (frame_by c e) ns ≡ restarts (terms c service tei) le k
   none-begins le k never ns none = ap (λ o. begins service tei o ns) none ∙ unless (restarts (terms c service tei) le k) never
 
   -- whether the numbers begin with it
-  pub one-begins : (le : link.Event) → IsBy c l e a service tei le → (k : Link)
-      → begins service tei (frame_by c e l) (links.told (terms c service tei) le k).notes ≡ restarts (terms c service tei) le k
+  pub one-begins : (le : link.Event) → IsBy c e a service tei le → (k : Link)
+      → begins service tei (frame_by c e) (links.told (terms c service tei) le k).notes ≡ restarts (terms c service tei) le k
   one-begins (link.received (link.frame f)) by k =
       let t = terms c service tei in
       let x = brings-frame f by in
@@ -238,9 +241,9 @@ module _ (c : Config) (l : Line) (e : Event) (a : Answer) (service : Service) (t
   one-begins (link.received link.undefined) by k = none-begins (link.received link.undefined) k (establishes (terms c service tei) k (link.received link.undefined)) (links.told (terms c service tei) (link.received link.undefined) k).notes (brings-none link.undefined by)
   one-begins (link.received link.wrong_size) by k = none-begins (link.received link.wrong_size) k (establishes (terms c service tei) k (link.received link.wrong_size)) (links.told (terms c service tei) (link.received link.wrong_size) k).notes (brings-none link.wrong_size by)
   one-begins (link.received link.overlong) by k = none-begins (link.received link.overlong) k (establishes (terms c service tei) k (link.received link.overlong)) (links.told (terms c service tei) (link.received link.overlong) k).notes (brings-none link.overlong by)
-  one-begins (link.expired timer) by k = none-begins (link.expired timer) k (establishes (terms c service tei) k (link.expired timer)) (links.told (terms c service tei) (link.expired timer) k).notes (ap (λ e. frame_by c e l) by)
-  one-begins (link.requested asked full) by k = none-begins (link.requested asked full) k (establishes (terms c service tei) k (link.requested asked full)) (links.told (terms c service tei) (link.requested asked full) k).notes (ap (λ e. frame_by c e l) by.0)
-  one-begins link.offer by k = none-begins link.offer k (establishes (terms c service tei) k link.offer) (links.told (terms c service tei) link.offer k).notes (ap (λ e. frame_by c e l) by)
+  one-begins (link.expired timer) by k = none-begins (link.expired timer) k (establishes (terms c service tei) k (link.expired timer)) (links.told (terms c service tei) (link.expired timer) k).notes (ap (frame_by c) by)
+  one-begins (link.requested asked full) by k = none-begins (link.requested asked full) k (establishes (terms c service tei) k (link.requested asked full)) (links.told (terms c service tei) (link.requested asked full) k).notes (ap (frame_by c) by.0)
+  one-begins link.offer by k = none-begins link.offer k (establishes (terms c service tei) k link.offer) (links.told (terms c service tei) link.offer k).notes (ap (frame_by c) by)
   one-begins link.cleared by k = absurd by
 
   -- an I-frame that is delivered
@@ -283,9 +286,9 @@ module _ (c : Config) (l : Line) (e : Event) (a : Answer) (service : Service) (t
   carried t k (control.Frmr f) octets i h = absurd (none-some i h)
   carried t k (control.Xid pf) octets i h = absurd (none-some i h)
 
-  pub data-of : (le : link.Event) → IsBy c l e a service tei le → (k : Link) (n : ℕ) → (is_multiple_frame k.state ≡ true → k.r ≡ n) → (contents : List ℕ)
+  pub data-of : (le : link.Event) → IsBy c e a service tei le → (k : Link) (n : ℕ) → (is_multiple_frame k.state ≡ true → k.r ≡ n) → (contents : List ℕ)
       → (i : Arrived) → eligible (terms c service tei) le k ≡ Some i → i.contents ≡ contents → i.ns.value ≡ k.r % 128
-      → IsOfFrame service tei (record { frame = frame_by c e l; count = n }) (λ control. number_in control ≡ Some (n % 128)) (Some contents)
+      → IsOfFrame service tei (record { frame = frame_by c e; count = n }) (λ control. number_in control ≡ Some (n % 128)) (Some contents)
   data-of (link.received (link.frame f)) by k n up contents i h same number =
       let x = brings-frame f by in
       let y = carried (terms c service tei) k f.control f.info i h in
@@ -319,8 +322,8 @@ module _ (c : Config) (l : Line) (e : Event) (a : Answer) (service : Service) (t
   ui-of f contents (control.Frmr b) is h = absurd (none-some contents h)
   ui-of f contents (control.Xid pf) is h = absurd (none-some contents h)
 
-  pub unit-of : (le : link.Event) → IsBy c l e a service tei le → (n : ℕ) (contents : List ℕ) → unit_heard le ≡ Some contents
-      → IsOfFrame service tei (record { frame = frame_by c e l; count = n }) (λ control. is_ui control ≡ true) (Some contents)
+  pub unit-of : (le : link.Event) → IsBy c e a service tei le → (n : ℕ) (contents : List ℕ) → unit_heard le ≡ Some contents
+      → IsOfFrame service tei (record { frame = frame_by c e; count = n }) (λ control. is_ui control ≡ true) (Some contents)
   unit-of (link.received (link.frame f)) by n contents h =
       let x = brings-frame f by in
       let y = ui-of f contents f.control refl h in

@@ -1,6 +1,6 @@
 -- What layer 3 is told of what is heard: data only while it is not busy.
-use Rattle.std.proofs.Common.{◌≡◌, ℕ, ◌<◌, Bool, true, false, List, [], ◌∷◌, ◌++◌, map, Option, Some, None, option_map, refl, sym, ap, ◌∙◌, subst}
-use Rattle.std.specs.Prelude.{fold, option_to_list}
+use Rattle.std.proofs.Common.{◌≡◌, ℕ, ◌<◌, Bool, true, false, List, [], ◌∷◌, ◌++◌, map, Option, None, refl, sym, ap, ◌∙◌, subst}
+use Rattle.std.specs.Prelude.{fold}
 use Rattle.std.specs.List.{list_any}
 use Rattle.std.specs.Option.{option_map_or}
 use Rattle.std.proofs.lemmas.List.{get_or-replicate}
@@ -10,11 +10,9 @@ use Rattle.lapd_frame.specs.declared.notes.Note.{Note}
 use Rattle.lapd_frame.specs.declared.services.Service.{Service}
 use Rattle.model_link.specs.Link.{Link, fresh}
 use Rattle.model_line.specs.declared.config.Config.{Config}
-use Rattle.model_line.specs.Event.{Event, octet, expiry, request, pull, Answer, LineTold, told, refused, pulled}
+use Rattle.model_line.specs.Event.{Event, hears, expiry, request, next, Answer, LineTold, told, refused, gave}
 use Rattle.model_line.specs.Line.{Line, link_in, link_of, fresh_line}
-use Rattle.model_line.specs.Machine.{after, answer, of_octet}
-use Rattle.model_line.specs.Octet.{gained}
-use Rattle.model_line.specs.Pull.{Taken, begun}
+use Rattle.model_line.specs.Machine.{after, answer, of_heard}
 use Rattle.model_line.specs.Request.{Request}
 use Rattle.model_line.specs.Sound.{IsInRange, IsSound}
 use Rattle.laws_line.specs.Heard.{notes_of, is_data_of}
@@ -22,12 +20,11 @@ use Rattle.laws_line.proofs.TimersFollow.{nowhere}
 use Rattle.model_card.specs.Card as cards
 use Rattle.model_card.specs.Card.{line_at}
 use Rattle.model_card.specs.Event as card
-use Rattle.model_card.specs.Pulled.{frame_taken, octet_in}
 use Rattle.model_card.specs.Run.{after_all, AreAtLines}
 use Rattle.model_card.proofs.CardSound.{fresh_is_sound}
 use Rattle.laws_trace.specs.Trace as traces
-use Rattle.laws_trace.specs.Trace.{Seen, heard, noted, lost, put, seen, seen_told, seen_granted, trace_of, Always}
-use Rattle.laws_trace.specs.Deliveries.{Standing, at_first, IsHeard, Deliveries, watch, stand}
+use Rattle.laws_trace.specs.Trace.{frame_in, Seen, heard, noted, lost, seen, seen_told, seen_granted, trace_of, Always}
+use Rattle.laws_trace.specs.Deliveries.{Standing, at_first, IsHeard, Deliveries, stand, watch}
 use Rattle.laws_trace.proofs.DeliveriesRun.{IsCount, always-heard}
 use Rattle.laws_trace.proofs.Runs.{run-shows}
 use Rattle.laws_trace.proofs.Standing.{granted_busy, standing, stand-is, event-stands, event-counts, fresh-stands}
@@ -48,51 +45,45 @@ module _ (c : Config) (service : Service) (tei : ℕ) where
       let now = standing service tei c w t in
       AreFree w t × (now.told.frame ≡ None) × IsCount k now.told.count × IsStanding k now.busy now.rejected
 
-  free-heard : (g : Option stream.Event) (m : ℕ) (busy rejected : Bool) (t : LineTold) → (list_any (is_data_of service tei) t.notes ≡ true → busy ≡ false)
-      → AreFree (calm m busy rejected) (map heard (option_to_list g) ++ noted t.notes t.contents ∷ lost t.lost ∷ [])
-  free-heard None m busy rejected t h = (h, (tt, tt))
-  free-heard (Some e) m busy rejected t h = (tt, (h, (tt, tt)))
+  free-heard : (e : stream.Event) (m : ℕ) (busy rejected : Bool) (t : LineTold) → (list_any (is_data_of service tei) t.notes ≡ true → busy ≡ false)
+      → AreFree (calm m busy rejected) (heard e ∷ noted t.notes t.contents ∷ lost t.lost ∷ [])
+  free-heard e m busy rejected t h = (tt, (h, (tt, tt)))
 
   free-told : (m : ℕ) (busy rejected : Bool) (a : Answer) → (list_any (is_data_of service tei) (notes_of a) ≡ true → busy ≡ false) → AreFree (calm m busy rejected) (seen_told a)
   free-told m busy rejected (told t) h = (h, (tt, tt))
   free-told m busy rejected (refused why) h = tt
-  free-told m busy rejected (pulled value is_begun orders) h = tt
+  free-told m busy rejected (gave given) h = tt
 
   free-asked : (r : Request) (m : ℕ) (busy rejected : Bool) (a : Answer) → (list_any (is_data_of service tei) (notes_of a) ≡ true → granted_busy service tei r a busy ≡ false)
       → AreFree (calm m busy rejected) (seen_granted r a ++ seen_told a)
   free-asked r m busy rejected (told t) h = (tt, (h, (tt, tt)))
   free-asked r m busy rejected (refused why) h = tt
-  free-asked r m busy rejected (pulled value is_begun orders) h = tt
+  free-asked r m busy rejected (gave given) h = tt
 
-  free-pulled : (o : Option Taken) (m : ℕ) (busy rejected : Bool) (a : Answer)
-      → AreFree (calm m busy rejected) (map traces.begun (option_to_list (option_map frame_taken o)) ++ map put (octet_in a))
-  free-pulled None m busy rejected (told t) = tt
-  free-pulled None m busy rejected (refused why) = tt
-  free-pulled None m busy rejected (pulled value is_begun orders) = (tt, tt)
-  free-pulled (Some t) m busy rejected (told u) = (tt, tt)
-  free-pulled (Some t) m busy rejected (refused why) = (tt, tt)
-  free-pulled (Some t) m busy rejected (pulled value is_begun orders) = (tt, (tt, tt))
+  free-begun : (frames : List (List ℕ)) (w : Standing) → AreFree w (map traces.begun frames)
+  free-begun [] w = tt
+  free-begun (f ∷ frames) w = (tt, free-begun frames (stand c service tei w (traces.begun f)))
 
   event-free : IsInRange c → (e : Event) (l : Line) → IsSound c l → (m : ℕ) (busy rejected : Bool) → IsCount (link_of service tei l) m
-      → IsStanding (link_of service tei l) busy rejected → AreFree (calm m busy rejected) (seen c e l (answer c e l))
+      → IsStanding (link_of service tei l) busy rejected → AreFree (calm m busy rejected) (seen e (answer c e l))
   unfolding answer
-  event-free ranged (octet value) l s m busy rejected count stands =
-      free-heard (gained c.n201 l.received value) m busy rejected (of_octet c value l).told (event-stands service tei c ranged l s (octet value) m count busy rejected stands).1
+  event-free ranged (hears what) l s m busy rejected count stands =
+      free-heard what m busy rejected (of_heard c what l).told (event-stands service tei c ranged l s (hears what) m count busy rejected stands).1
   event-free ranged (expiry timer) l s m busy rejected count stands =
       free-told m busy rejected (answer c (expiry timer) l) (event-stands service tei c ranged l s (expiry timer) m count busy rejected stands).1
   event-free ranged (request r) l s m busy rejected count stands =
       free-asked r m busy rejected (answer c (request r) l) (event-stands service tei c ranged l s (request r) m count busy rejected stands).1
-  event-free ranged pull l s m busy rejected count stands = free-pulled (begun c l) m busy rejected (answer c pull l)
+  event-free ranged next l s m busy rejected count stands = free-begun (frame_in (answer c next l)) (calm m busy rejected)
 
   pub event-passes : IsInRange c → (e : Event) (l : Line) → IsSound c l → (m : ℕ) (busy rejected : Bool) → IsCount (link_of service tei l) m
-      → IsStanding (link_of service tei l) busy rejected → Passes (calm m busy rejected) (seen c e l (answer c e l)) (link_of service tei (after c e l))
+      → IsStanding (link_of service tei l) busy rejected → Passes (calm m busy rejected) (seen e (answer c e l)) (link_of service tei (after c e l))
   event-passes ranged e l s m busy rejected count stands =
       let is = stand-is service tei c e l m busy rejected in
-      let next = link_of service tei (after c e l) in (
+      let new = link_of service tei (after c e l) in (
         event-free ranged e l s m busy rejected count stands,
         ap (λ (w : Standing). w.told.frame) is,
-        subst (λ (w : Standing). IsCount next w.told.count) (sym is) (event-counts service tei c ranged l s e m count busy rejected stands),
-        subst (λ (w : Standing). IsStanding next w.busy w.rejected) (sym is) (event-stands service tei c ranged l s e m count busy rejected stands).0,
+        subst (λ (w : Standing). IsCount new w.told.count) (sym is) (event-counts service tei c ranged l s e m count busy rejected stands),
+        subst (λ (w : Standing). IsStanding new w.busy w.rejected) (sym is) (event-stands service tei c ranged l s e m count busy rejected stands).0,
       )
 
   -- one trace behind another
@@ -136,7 +127,7 @@ joins c k l m t u h i service tei n busy rejected count stands =
       subst (λ (w : Standing). IsStanding (link_of service tei m) w.busy w.rejected) (sym both) second.3,
     )
 
-steps : (c : Config) → IsInRange c → (e : Event) (l : Line) → IsSound c l → Stands c l → Shows c l (seen c e l (answer c e l)) (after c e l) × Stands c (after c e l)
+steps : (c : Config) → IsInRange c → (e : Event) (l : Line) → IsSound c l → Stands c l → Shows c l (seen e (answer c e l)) (after c e l) × Stands c (after c e l)
 steps c ranged e l s stands = ((λ service tei m busy rejected count own. event-passes c service tei ranged e l s m busy rejected count own), tt)
 
 pub run-stands : (c : Config) (events : List card.Event) (number : ℕ) → IsInRange c → AreAtLines (cards.fresh c) events → number < c.lines → (service : Service) (tei : ℕ)

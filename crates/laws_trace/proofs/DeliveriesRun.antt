@@ -1,6 +1,6 @@
 -- What is told is what was heard: over runs.
 use Rattle.std.proofs.Common.{◌≡◌, ℕ, ◌+◌, ◌%◌, ◌<◌, ◌&&◌, ◌||◌, Bool, true, false, cond, List, [], ◌∷◌, ◌++◌, map, Option, Some, None, option_map, refl, sym, ap, ◌∙◌, subst, eqb-true, eq-eqb, ◌==◌, Result, Ok, Err, true≢false, ◌⊎◌, inl, inr}
-use Rattle.std.specs.Prelude.{fold, option_to_list, is_some}
+use Rattle.std.specs.Prelude.{fold, is_some}
 use Rattle.lapd_frame.specs.declared.notes.Note.{Note}
 use Rattle.std.specs.List.{list_any}
 use Rattle.std.specs.Option.{option_or, option_map_or}
@@ -13,7 +13,6 @@ use Rattle.lapd_frame.specs.Reading.{reading}
 use Rattle.lapd_frame.specs.Services.{sapi_of, same_service}
 use Rattle.lapd_frame.specs.declared.services.Service.{Service}
 use Rattle.lapd_frame.specs.Grammar.{Parts}
-use Rattle.lapd_frame.proofs.Spelling.{reading-again}
 use Rattle.model_link.specs.declared.terms.Terms.{Terms}
 use Rattle.model_link.specs.Deliveries.{restarts}
 use Rattle.model_link.specs.Events as link
@@ -29,12 +28,11 @@ use Rattle.laws_link.proofs.Keeping.{event-unit}
 use Rattle.laws_link.proofs.Once.{within-is}
 use Rattle.lapd_tei.proofs.Tables.{place_of-is}
 use Rattle.model_line.specs.declared.config.Config.{Config}
-use Rattle.model_line.specs.Effect.{at_none}
-use Rattle.model_line.specs.Event.{Event, octet, expiry, request, pull, Answer, LineTold, told, refused, pulled, nothing}
+use Rattle.model_line.specs.Event.{Event, hears, expiry, request, next, Answer, LineTold, told, refused, gave, NextFrame}
 use Rattle.model_line.specs.Line.{Line, place_in, link_in, link_of, terms, fresh_line}
-use Rattle.model_line.specs.Machine.{aim_of, of_octet, after, answer}
-use Rattle.model_line.specs.Octet.{gained, aim_of_heard, aim_of_reading, message_of, heard_side, group_tei}
-use Rattle.model_line.specs.Pull.{Taken, begun}
+use Rattle.model_line.specs.Machine.{aim_of, after, answer, of_heard}
+use Rattle.model_line.specs.Heard.{aim_of_heard, aim_of_reading, message_of, heard_side, group_tei}
+use Rattle.model_line.specs.Taken.{taken, next_of}
 use Rattle.model_line.specs.Request.{Request}
 use Rattle.model_line.specs.Sound.{IsInRange, IsSound}
 use Rattle.model_line.proofs.LinksSound.{sound_in}
@@ -45,16 +43,15 @@ use Rattle.laws_line.proofs.Hearing.{addressed-is, sapi-is, same-sapi}
 use Rattle.laws_line.proofs.Obeyed.{service-same, both-true}
 use Rattle.laws_line.proofs.ToldOnce.{told-once}
 use Rattle.laws_line.proofs.TimersFollow.{nowhere}
-use Rattle.laws_line.proofs.Ending.{gained-is}
 use Rattle.model_card.specs.Card.{line_at}
 use Rattle.model_card.specs.Card as cards
 use Rattle.model_card.specs.Event as card
-use Rattle.model_card.specs.Pulled.{frame_taken, octet_in}
 use Rattle.model_card.specs.Run.{after_all, AreAtLines}
 use Rattle.model_card.proofs.CardSound.{fresh_is_sound}
 use Rattle.laws_trace.specs.Trace as traces
-use Rattle.laws_trace.specs.Trace.{Seen, seen_told, seen}
-use Rattle.laws_trace.specs.Deliveries.{Watched, nothing_yet, parts_of, frame_of, is_for, begins, counted, watch, number_in, IsOfFrame, IsHeard}
+use Rattle.laws_trace.specs.Trace.{frame_in, Seen, seen_told, seen}
+use Rattle.laws_trace.specs.Deliveries.{Watched, nothing_yet, begins, counted, watch, number_in, IsOfFrame, IsHeard}
+use Rattle.laws_trace.specs.LinkFrames.{parts_of, frame_of, is_for}
 use Rattle.laws_trace.specs.Units.{is_ui}
 use Rattle.laws_trace.proofs.Begins.{unless, up-before}
 use Rattle.laws_trace.proofs.Deliveries.{frame_by, data-tells, unit-tells, data-own, unit-own, none-noted, one-begins, data-of, unit-of, group-notes}
@@ -77,20 +74,18 @@ its-aim c l service tei place on (Ok g) f is for =
     (addressed-is l g.address service tei place (link.frame g) (message_of g.control g.info) (eqb-true g.address.sapi (sapi_of service) parts.0) (eqb-true g.address.tei tei parts.1) on))
     ∙ ap (λ b. b && tei == tei) (service-same service) ∙ eq-eqb tei tei refl
 
-heard-aims-at : (c : Config) (l : Line) (service : Service) (tei place : ℕ) → place_in l tei ≡ Some place → (o : Option stream.Event) (f : Parts)
-    → option_map_or (frame_of c) o None ≡ Some f → is_for service tei f.address ≡ true
-    → is_at_link service tei (option_map_or (aim_of_heard c l) o (at_none nothing)) ≡ true
-heard-aims-at c l service tei place on None f is for = absurd (none-some f is)
-heard-aims-at c l service tei place on (Some (stream.frame octets)) f is for = its-aim c l service tei place on (reading (heard_side c) octets) f is for
-heard-aims-at c l service tei place on (Some (stream.overlong head)) f is for = absurd (none-some f is)
-heard-aims-at c l service tei place on (Some (stream.dropped cause)) f is for = absurd (none-some f is)
+heard-aims-at : (c : Config) (l : Line) (service : Service) (tei place : ℕ) → place_in l tei ≡ Some place → (e : stream.Event) (f : Parts)
+    → frame_of c e ≡ Some f → is_for service tei f.address ≡ true → is_at_link service tei (aim_of_heard c l e) ≡ true
+heard-aims-at c l service tei place on (stream.frame octets) f is for = its-aim c l service tei place on (reading (heard_side c) octets) f is for
+heard-aims-at c l service tei place on (stream.overlong head) f is for = absurd (none-some f is)
+heard-aims-at c l service tei place on (stream.dropped cause) f is for = absurd (none-some f is)
 
-pub event-aims : (c : Config) (l : Line) (service : Service) (tei place : ℕ) → place_in l tei ≡ Some place → (e : Event) (f : Parts) → frame_by c e l ≡ Some f
+pub event-aims : (c : Config) (l : Line) (service : Service) (tei place : ℕ) → place_in l tei ≡ Some place → (e : Event) (f : Parts) → frame_by c e ≡ Some f
     → is_for service tei f.address ≡ true → is_at_link service tei (aim_of c e l) ≡ true
-event-aims c l service tei place on (octet value) f is for = heard-aims-at c l service tei place on (gained c.n201 l.received value) f is for
+event-aims c l service tei place on (hears what) f is for = heard-aims-at c l service tei place on what f is for
 event-aims c l service tei place on (expiry timer) f is for = absurd (none-some f is)
 event-aims c l service tei place on (request r) f is for = absurd (none-some f is)
-event-aims c l service tei place on pull f is for = absurd (none-some f is)
+event-aims c l service tei place on next f is for = absurd (none-some f is)
 
 and-false : (a b : Bool) → (a ≡ true → ⊥) → (a && b) ≡ false
 and-false true b h = absurd (h refl)
@@ -104,7 +99,7 @@ module _ (c : Config) (ranged : IsInRange c) (l : Line) (s : IsSound c l) (e : E
   k = link_of service tei l
 
   abbrev w : Watched
-  w = record { frame = frame_by c e l; count = n }
+  w = record { frame = frame_by c e; count = n }
 
   abbrev Data : Option (List ℕ) → Type 0
   Data contents = IsOfFrame service tei w (λ control. number_in control ≡ Some (n % 128)) contents
@@ -138,7 +133,7 @@ module _ (c : Config) (ranged : IsInRange c) (l : Line) (s : IsSound c l) (e : E
         go (Some contents) is =
             let y = delivered-at_once t x.event k contents is in
             let told : contents_in a ≡ Some contents = x.contents ∙ ap (λ o. option_or o (links.told t x.event k).unit) is in
-            subst Data (sym told) (data-of c l e a service tei x.event x.by k n before contents y.0 y.1 y.2 y.3)
+            subst Data (sym told) (data-of c e a service tei x.event x.by k n before contents y.0 y.1 y.2 y.3)
 
     one-unit : list_any (is_unit_of service tei) (notes_of a) ≡ true → UnitData (contents_in a)
     one-unit some = go (links.told t x.event k).unit refl
@@ -154,13 +149,13 @@ module _ (c : Config) (ranged : IsInRange c) (l : Line) (s : IsSound c l) (e : E
             let none = alone contents is (event-tells t x.event k).2 in
             let told : contents_in a ≡ Some contents = x.contents ∙ ap (λ o. option_or o (links.told t x.event k).unit) none ∙ is in
             let heard = within-is t.n201 (unit_heard x.event) contents (sym (event-unit t k own-sound x.event) ∙ is) in
-            subst UnitData (sym told) (unit-of c l e a service tei x.event x.by n contents heard)
+            subst UnitData (sym told) (unit-of c e a service tei x.event x.by n contents heard)
 
     one-counts : IsCount (link_of service tei (after c e l)) (counted service tei w (notes_of a))
     one-counts up = go (restarts t x.event k) refl
       where
-        begins-is : begins service tei (frame_by c e l) (notes_of a) ≡ restarts t x.event k
-        begins-is = ap (begins service tei (frame_by c e l)) x.notes ∙ one-begins c l e a service tei x.event x.by k
+        begins-is : begins service tei (frame_by c e) (notes_of a) ≡ restarts t x.event k
+        begins-is = ap (begins service tei (frame_by c e)) x.notes ∙ one-begins c e a service tei x.event x.by k
 
         r-is : (link_of service tei (after c e l)).r ≡ (links.after t x.event k).r
         r-is = ap (λ (y : Link). y.r) x.is
@@ -203,9 +198,7 @@ module _ (c : Config) (ranged : IsInRange c) (l : Line) (s : IsSound c l) (e : E
         record {
           frame = f;
           heard =
-              ap (λ e. frame_by c e l) h.by
-              ∙ ap (λ o. option_map_or (frame_of c) o None) (gained-is c l h.value (Some (stream.frame h.octets)) h.ends)
-              ∙ ap parts_of (reading-again (heard_side c) f h.octets h.spelled);
+              ap (frame_by c) h.by ∙ ap parts_of h.read;
           whose =
               ap (λ n. n == sapi_of service && f.address.tei == tei) (sapi-is f.address.sapi h.service h.whose.sapi)
               ∙ ap (λ n. sapi_of h.service == sapi_of service && n == tei) h.whose.group
@@ -221,12 +214,12 @@ module _ (c : Config) (ranged : IsInRange c) (l : Line) (s : IsSound c l) (e : E
     none-counts : IsCount (link_of service tei (after c e l)) (counted service tei w (notes_of a))
     none-counts up = go x.is
       where
-        fresh-down : (p : Option ℕ) → place_in l tei ≡ p → is_multiple_frame k.state ≡ true → (f : Parts) → frame_by c e l ≡ Some f
+        fresh-down : (p : Option ℕ) → place_in l tei ≡ p → is_multiple_frame k.state ≡ true → (f : Parts) → frame_by c e ≡ Some f
             → is_for service tei f.address ≡ true → ⊥
         fresh-down None off up f is for = true≢false (sym up ∙ ap (λ o. is_multiple_frame (option_map_or (link_in l service) o fresh).state) off)
         fresh-down (Some place) on up f is for = true≢false (sym (event-aims c l service tei place on e f is for) ∙ x.aims)
 
-        by-frame : (o : Option Parts) → frame_by c e l ≡ o → is_multiple_frame k.state ≡ true → begins service tei o (notes_of a) ≡ false
+        by-frame : (o : Option Parts) → frame_by c e ≡ o → is_multiple_frame k.state ≡ true → begins service tei o (notes_of a) ≡ false
         by-frame None is up = refl
         by-frame (Some f) is up = and-false (is_for service tei f.address) _ (λ for. fresh-down (place_in l tei) refl up f is for)
 
@@ -235,8 +228,8 @@ module _ (c : Config) (ranged : IsInRange c) (l : Line) (s : IsSound c l) (e : E
         go (inl same) =
             let was = ap (λ (y : Link). is_multiple_frame y.state) (sym same) ∙ up in
             ap (λ (y : Link). y.r) same ∙ before was
-            ∙ ap (λ b. cond b 0 n) (sym (by-frame (frame_by c e l) refl was))
-            ∙ ap (λ d. cond (begins service tei (frame_by c e l) (notes_of a)) 0 (cond d (n + 1) n)) (unless _ no-data)
+            ∙ ap (λ b. cond b 0 n) (sym (by-frame (frame_by c e) refl was))
+            ∙ ap (λ d. cond (begins service tei (frame_by c e) (notes_of a)) 0 (cond d (n + 1) n)) (unless _ no-data)
         go (inr new) = absurd (true≢false (sym up ∙ ap (λ (y : Link). is_multiple_frame y.state) new))
 
   -- So of every event.
@@ -273,48 +266,42 @@ module _ (c : Config) (service : Service) (tei : ℕ) where
   abbrev pub Passes : Watched → List Seen → Link → Type 0
   Passes w t k = AreHeard c service tei w t × ((fold (watch c service tei) w t).frame ≡ None) × IsCount k (fold (watch c service tei) w t).count
 
-  after-heard : (g : Option stream.Event) (n : ℕ) (k : Link) (t : LineTold) → let w : Watched = record { frame = option_map_or (frame_of c) g None; count = n } in
+  after-heard : (e : stream.Event) (n : ℕ) (k : Link) (t : LineTold) → let w : Watched = record { frame = frame_of c e; count = n } in
       IsHeard service tei w t.notes t.contents → IsCount k (counted service tei w t.notes)
-      → Passes (record { frame = None; count = n }) (map traces.heard (option_to_list g) ++ traces.noted t.notes t.contents ∷ traces.lost t.lost ∷ []) k
-  after-heard None n k t h count = ((h, (tt, tt)), refl, count)
-  after-heard (Some e) n k t h count = ((tt, (h, (tt, tt))), refl, count)
+      → Passes (record { frame = None; count = n }) (traces.heard e ∷ traces.noted t.notes t.contents ∷ traces.lost t.lost ∷ []) k
+  after-heard e n k t h count = ((tt, (h, (tt, tt))), refl, count)
 
   after-told : (n : ℕ) (k : Link) (a : Answer) → let w : Watched = record { frame = None; count = n } in
       IsHeard service tei w (notes_of a) (contents_in a) → IsCount k (counted service tei w (notes_of a)) → Passes w (seen_told a) k
   after-told n k (told t) h count = ((h, (tt, tt)), refl, count)
   after-told n k (refused why) h count = (tt, refl, count)
-  after-told n k (pulled value is_begun orders) h count = (tt, refl, count)
+  after-told n k (gave given) h count = (tt, refl, count)
 
   after-asked : (r : Request) (n : ℕ) (k : Link) (a : Answer) → let w : Watched = record { frame = None; count = n } in
       IsHeard service tei w (notes_of a) (contents_in a) → IsCount k (counted service tei w (notes_of a)) → Passes w (traces.seen_granted r a ++ seen_told a) k
   after-asked r n k (told t) h count = ((tt, (h, (tt, tt))), refl, count)
   after-asked r n k (refused why) h count = (tt, refl, count)
-  after-asked r n k (pulled value is_begun orders) h count = (tt, refl, count)
+  after-asked r n k (gave given) h count = (tt, refl, count)
 
-  after-pull : (o : Option Taken) (n : ℕ) (k : Link) (a : Answer) → IsCount k n
-      → Passes (record { frame = None; count = n }) (map traces.begun (option_to_list (option_map frame_taken o)) ++ map traces.put (octet_in a)) k
-  after-pull None n k (told t) count = (tt, refl, count)
-  after-pull None n k (refused why) count = (tt, refl, count)
-  after-pull None n k (pulled value is_begun orders) count = ((tt, tt), refl, count)
-  after-pull (Some t) n k (told u) count = ((tt, tt), refl, count)
-  after-pull (Some t) n k (refused why) count = ((tt, tt), refl, count)
-  after-pull (Some t) n k (pulled value is_begun orders) count = ((tt, (tt, tt)), refl, count)
+  after-next : (o : Option NextFrame) (n : ℕ) (k : Link) → IsCount k n → Passes (record { frame = None; count = n }) (map traces.begun (frame_in (gave o))) k
+  after-next None n k count = (tt, refl, count)
+  after-next (Some f) n k count = ((tt, tt), refl, count)
 
   pub event-passes : IsInRange c → (e : Event) (l : Line) → IsSound c l → (n : ℕ) → IsCount (link_of service tei l) n
-      → Passes (record { frame = None; count = n }) (seen c e l (answer c e l)) (link_of service tei (after c e l))
+      → Passes (record { frame = None; count = n }) (seen e (answer c e l)) (link_of service tei (after c e l))
   unfolding answer
-  event-passes ranged (octet value) l s n before =
-      let h = event-told c ranged l s (octet value) service tei n before in
-      after-heard (gained c.n201 l.received value) n (link_of service tei (after c (octet value) l)) (of_octet c value l).told h.0 h.1
+  event-passes ranged (hears what) l s n before =
+      let h = event-told c ranged l s (hears what) service tei n before in
+      after-heard what n (link_of service tei (after c (hears what) l)) (of_heard c what l).told h.0 h.1
   event-passes ranged (expiry timer) l s n before =
       let h = event-told c ranged l s (expiry timer) service tei n before in
       after-told n (link_of service tei (after c (expiry timer) l)) (answer c (expiry timer) l) h.0 h.1
   event-passes ranged (request r) l s n before =
       let h = event-told c ranged l s (request r) service tei n before in
       after-asked r n (link_of service tei (after c (request r) l)) (answer c (request r) l) h.0 h.1
-  event-passes ranged pull l s n before =
-      let h = event-told c ranged l s pull service tei n before in
-      after-pull (begun c l) n (link_of service tei (after c pull l)) (answer c pull l) h.1
+  event-passes ranged next l s n before =
+      let h = event-told c ranged l s next service tei n before in
+      after-next (option_map next_of (taken c l)) n (link_of service tei (after c next l)) h.1
 
   -- one trace behind another
   pub heard-append : (w : Watched) (t u : List Seen) → AreHeard c service tei w t → AreHeard c service tei (fold (watch c service tei) w t) u → AreHeard c service tei w (t ++ u)
@@ -342,7 +329,7 @@ joins c k l m t u h i service tei n count =
       λ up. second.2 up ∙ sym (ap (λ (w : Watched). w.count) (fold-append (watch c service tei) (record { frame = None; count = n }) t u)),
     )
 
-steps : (c : Config) → IsInRange c → (e : Event) (l : Line) → IsSound c l → Stands c l → Shows c l (seen c e l (answer c e l)) (after c e l) × Stands c (after c e l)
+steps : (c : Config) → IsInRange c → (e : Event) (l : Line) → IsSound c l → Stands c l → Shows c l (seen e (answer c e l)) (after c e l) × Stands c (after c e l)
 steps c ranged e l s stands = ((λ service tei n count. event-passes c service tei ranged e l s n count), tt)
 
 -- What is told in a run is heard, and V(R) is what was counted.

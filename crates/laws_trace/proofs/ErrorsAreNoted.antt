@@ -3,6 +3,7 @@ use Rattle.std.proofs.Common.{◌≡◌, ℕ, ◌<◌, ◌==◌, ◌&&◌, ◌||
 use Rattle.std.specs.List.{list_any}
 use Rattle.std.proofs.lemmas.Bool.{and_parts}
 use Rattle.std.proofs.lemmas.List.{get_or-set_same}
+use Rattle.model_bits.specs.Stream as stream
 use Rattle.lapd_frame.specs.declared.services.Service.{Service}
 use Rattle.laws_link.specs.States.{as_heard, moves, state_after}
 use Rattle.laws_link.specs.Telling.{told_by}
@@ -15,7 +16,7 @@ use Rattle.model_link.specs.Events as link
 use Rattle.model_link.specs.Link.{Link, fresh as fresh_link, state_number}
 use Rattle.model_link.specs.Machine as links
 use Rattle.model_line.specs.declared.config.Config.{Config}
-use Rattle.model_line.specs.Event.{Event, octet, Answer}
+use Rattle.model_line.specs.Event.{Event, hears, Answer}
 use Rattle.model_line.specs.Line.{Line, fresh_line, link_of, place_in, state_of, terms}
 use Rattle.model_line.specs.Machine as lines
 use Rattle.model_line.specs.Sound.{IsSound}
@@ -29,10 +30,10 @@ use Rattle.model_card.specs.Sound as card_sound
 use Rattle.model_card.proofs.CardSound.{fresh_is_sound, always_sound}
 use Rattle.model_card.proofs.Steps.{has_lines, by_room, line_sound}
 use Rattle.laws_card.proofs.Wherever.{all-left, config-stays}
-use Rattle.laws_trace.specs.ErrorsAreNoted.{is_error, ErrorsAreNoted}
-use Rattle.laws_trace.specs.TimersAreTimely.{is_state, differ}
+use Rattle.laws_trace.specs.ErrorsAreNoted.{is_error}
+use Rattle.laws_trace.proofs.ErrorsWatched.{ErrorsAreNoted}
+use Rattle.laws_trace.specs.States.{is_state, differ}
 use Rattle.laws_trace.specs.Trace.{Always}
-use Rattle.laws_trace.proofs.Addressed.{as-is}
 use Rattle.laws_trace.proofs.CommandsCaused.{sabme, leads, caused}
 use Rattle.laws_trace.proofs.LinksMove.{differs, differ-self}
 use Rattle.laws_trace.proofs.OneLink.{HasOne, Goes, event-goes}
@@ -53,15 +54,15 @@ module _ (service : Service) (tei : ℕ) where
   abbrev ComesTo5 : Line → Line → Type 0
   ComesTo5 l next = (differ (state_of service tei l) (state_of service tei next) && is_state 5 (state_of service tei next)) ≡ true
 
-  module _ (c : Config) (value : ℕ) (l : Line) (s : IsSound c l) where
+  module _ (c : Config) (what : stream.Event) (l : Line) (s : IsSound c l) where
     abbrev e : Event
-    e = octet value
+    e = hears what
 
     abbrev a : Answer
-    a = lines.answer c (octet value) l
+    a = lines.answer c (hears what) l
 
     abbrev next : Line
-    next = lines.after c (octet value) l
+    next = lines.after c (hears what) l
 
     abbrev own : Link
     own = link_of service tei l
@@ -87,25 +88,34 @@ module _ (service : Service) (tei : ℕ) where
         ∙ ap (differ (state_of service tei l)) (state-on service tei next there stays ∙ ap (λ (k : Link). Some (state_number k.state)) same ∙ sym (state-on service tei l here on))
         ∙ differ-self (state_of service tei l))
 
-    module _ (x : HasOne c service tei (octet value) l next a) where
-      heard : as_heard t x.event ≡ x.event
-      heard = as-is c l e a service tei x.event x.by
+    module _ (x : HasOne c service tei (hears what) l next a) where
+      abbrev heard : link.Event
+      heard = as_heard t x.event
 
       abbrev to : State
-      to = state_after t x.event own
+      to = state_after t heard own
 
       to-is : (links.after t x.event own).state ≡ to
-      to-is = (event-follows t x.event own).leaves.state ∙ ap (λ e. state_after t e own) heard
+      to-is = (event-follows t x.event own).leaves.state
 
-      notes-are : notes_of a ≡ told_by t x.event own to
-      notes-are = x.notes ∙ (event-follows t x.event own).leaves.tells ∙ ap (λ e. told_by t e own (links.after t x.event own).state) heard ∙ ap (told_by t x.event own) to-is
+      notes-are : notes_of a ≡ told_by t heard own to
+      notes-are = x.notes ∙ (event-follows t x.event own).leaves.tells ∙ ap (told_by t heard own) to-is
 
-      noted : (event : link.Event) → x.event ≡ event → IsBy c l e a service tei event → moves own.state to ≡ true → leads sabme to ≡ true → list_any (is_error service tei) (notes_of a) ≡ true
+      abbrev Causes : link.Event → Type 0
+      Causes event =
+          (moves own.state (state_after t event own) || is_time event own) ≡ true → leads sabme (state_after t event own) ≡ true
+          → list_any (is_error service tei) (told_by t event own (state_after t event own)) ≡ true
+
+      causes : (what : link.Received) → Causes (as_heard t (link.received what))
+      causes (link.frame f) = caused sabme t (as_heard t (link.received (link.frame f))) own tt
+      causes link.undefined = caused sabme t (link.received link.undefined) own tt
+      causes link.wrong_size = caused sabme t (link.received link.wrong_size) own tt
+      causes link.overlong = caused sabme t (link.received link.overlong) own tt
+
+      noted : (event : link.Event) → x.event ≡ event → IsBy c e a service tei event → moves own.state to ≡ true → leads sabme to ≡ true → list_any (is_error service tei) (notes_of a) ≡ true
       noted (link.received what) is by move lead =
           ap (list_any (is_error service tei)) notes-are
-          ∙ subst (λ event. (moves own.state (state_after t event own) || is_time event own) ≡ true → leads sabme (state_after t event own) ≡ true
-          → list_any (is_error service tei) (told_by t event own (state_after t event own)) ≡ true) (sym is) (caused sabme t (link.received what) own tt)
-          (either-way (moves own.state to) (is_time x.event own) move) lead
+          ∙ subst (λ event. Causes (as_heard t event)) (sym is) (causes what) (either-way (moves own.state to) (is_time heard own) move) lead
       noted (link.expired timer) is by move lead = absurd (cc by)
       noted (link.requested asked full) is by move lead = absurd (cc by.0)
       noted link.offer is by move lead = absurd (cc by)
@@ -127,23 +137,23 @@ module _ (service : Service) (tei : ℕ) where
         go (inl x) = absurd (never (place_in l tei) refl (place_in next tei) refl x.is comes)
         go (inr x) = one-noted x (place_in next tei) refl comes
 
-  own-noted : (m : Card) (number value : ℕ) → card_sound.IsSound m → number < m.config.lines → let e = at number (octet value) in
+  own-noted : (m : Card) (number : ℕ) (what : stream.Event) → card_sound.IsSound m → number < m.config.lines → let e = at number (hears what) in
       ComesTo5 (line_at number m) (line_at number (cards.after e m)) → list_any (is_error service tei) (notes_of (cards.answer e m)) ≡ true
-  own-noted m number value s here comes =
+  own-noted m number what s here comes =
       let c = m.config in
-      let e = at number (octet value) in
+      let e = at number (hears what) in
       let l = line_at number m in
       by_room (λ ls a. ComesTo5 l (get_or ls number (fresh_line c)) → list_any (is_error service tei) (notes_of a) ≡ true) e m
       (λ full comes.
       absurd (true≢false (sym (and_parts (differ (state_of service tei l) (state_of service tei l)) (is_state 5 (state_of service tei l)) comes).0 ∙ differ-self (state_of service tei l))))
       (λ room comes.
-      event-noted c value l (line_sound m number (has_lines m s) here)
-      (subst (ComesTo5 l) (get_or-set_same m.lines number (lines.after c (octet value) l) (fresh_line c) (omega (arith, s.count, here))) comes))
+      event-noted c what l (line_sound m number (has_lines m s) here)
+      (subst (ComesTo5 l) (get_or-set_same m.lines number (lines.after c (hears what) l) (fresh_line c) (omega (arith, s.count, here))) comes))
       comes
 
 pub errors-are-noted : Always ErrorsAreNoted
-errors-are-noted c events number ranged all within service tei before value behind split comes =
+errors-are-noted c events number ranged all within service tei before what behind split comes =
     let whole = subst (AreAtLines (fresh c)) split all in
     let m = after_all (fresh c) before in
-    let first = all-left (IsAtLine (fresh c)) before (at number (octet value) ∷ behind) whole in
-    own-noted service tei m number value (always_sound (fresh c) before (fresh_is_sound c ranged) first) (subst (λ (c : Config). number < c.lines) (sym (config-stays (fresh c) before)) within) comes
+    let first = all-left (IsAtLine (fresh c)) before (at number (hears what) ∷ behind) whole in
+    own-noted service tei m number what (always_sound (fresh c) before (fresh_is_sound c ranged) first) (subst (λ (c : Config). number < c.lines) (sym (config-stays (fresh c) before)) within) comes

@@ -1,4 +1,14 @@
 -- Lemmas.
+pub mod TimersWatched
+pub mod MovesWatched
+pub mod NewsWatched
+pub mod ErrorsWatched
+pub mod AgainWatched
+pub mod ObservedMoves
+pub mod Observed
+pub mod ObservedRun
+pub mod ObservedFacts
+pub mod ObservedLaws
 pub mod Runs
 pub mod Configurations
 pub mod OfferTells
@@ -10,22 +20,14 @@ pub mod Reading
 pub mod NoUi
 pub mod Units
 pub mod UnitsGoOut
-pub mod Bits
-pub mod Octets
-pub mod AsOctets
-pub mod Fitting
-pub mod FramesGoOut
 pub mod Spelled
 pub mod SmallMessages
 pub mod SmallMessagesWait
 pub mod OctetsBegin
-pub mod Flags
-pub mod Heads
-pub mod AllFramesGoOut
-pub mod UnitsAreHeard
+pub mod WaitedBegins
 pub mod Walking
 pub mod Turns
-pub mod PullRuns
+pub mod CallRuns
 pub mod LinksTakeTurns
 pub mod TurnsMeanwhile
 pub mod MessagesComeFirst
@@ -40,7 +42,6 @@ pub mod DataGoesOut
 pub mod DataAsked
 pub mod DataRun
 pub mod AllDataGoesOut
-pub mod HeardLengths
 pub mod CommandsCaused
 pub mod ErrorsAreNoted
 pub mod ReceiptsNumbered
@@ -92,3 +93,9 @@ pub mod TeisAreGiven
 pub mod LossesOfParts
 pub mod Crowded
 pub mod NoLossInVain
+pub mod WindowsAreKept
+pub mod RoomsAreTold
+pub mod UnitsAreTold
+pub mod CountersCount
+pub mod KeptOfLink
+pub mod PlacesAreKept

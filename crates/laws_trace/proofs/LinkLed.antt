@@ -1,6 +1,6 @@
 -- Which state a link moves to: one event of a line, by what is seen of it.
-use Rattle.std.proofs.Common.{◌≡◌, ℕ, ◌==◌, ◌&&◌, Bool, true, false, cond, List, [], ◌∷◌, ◌++◌, length, map, Option, Some, None, option_map, Result, Ok, Err, refl, sym, ap, ◌∙◌, eqb-true, eq-eqb, true≢false, ◌⊎◌, inl, inr}
-use Rattle.std.specs.Prelude.{fold, nat_lt, option_to_list}
+use Rattle.std.proofs.Common.{◌≡◌, ℕ, ◌==◌, ◌&&◌, Bool, true, false, cond, List, [], ◌∷◌, ◌++◌, length, map, Option, Some, None, Result, Ok, Err, refl, sym, ap, ◌∙◌, eqb-true, eq-eqb, true≢false, ◌⊎◌, inl, inr}
+use Rattle.std.specs.Prelude.{fold, nat_lt}
 use Rattle.std.specs.Option.{option_map_or}
 use Rattle.model_bits.specs.Stream as stream
 use Rattle.model_bits.specs.declared.heard.Cause.TheVariants.{Unserved}
@@ -21,32 +21,31 @@ use Rattle.model_link.specs.declared.timers.LinkTimer.{LinkTimer}
 use Rattle.model_link.specs.declared.timers.LinkTimer.TheVariants.{T200, T203}
 use Rattle.model_link.specs.Events as link
 use Rattle.model_line.specs.declared.config.Config.{Config}
-use Rattle.model_line.specs.Effect.{Aim, Effect, at_none, at_link}
-use Rattle.model_line.specs.Event.{Event, octet, expiry, request, pull, Answer, told, refused, pulled, nothing}
+use Rattle.model_line.specs.Effect.{Aim, Effect, at_link}
+use Rattle.model_line.specs.Event.{Event, hears, expiry, request, next, Answer, told, refused, gave}
 use Rattle.model_line.specs.Expiry.{aim_of_expiry, at_timer}
 use Rattle.model_line.specs.Line.{Line, has_tei, place_in, terms}
 use Rattle.model_line.specs.Machine.{aim_of, answer, unless_refused, unless_refused_told, of_request}
-use Rattle.model_line.specs.Octet.{gained, heard_side, addressed, aim_of_heard, aim_of_reading, aim_of_long, drop_for, message_of}
-use Rattle.model_line.specs.Pull.{Taken, begun}
+use Rattle.model_line.specs.Heard.{heard_side, addressed, aim_of_heard, aim_of_reading, aim_of_long, drop_for, message_of}
 use Rattle.model_line.specs.Refusal.{refusal}
 use Rattle.model_line.specs.Request.{Request, Establish, Release, Data, Assign, Remove, Check, SetBusy, ClearBusy}
 use Rattle.model_line.specs.Requested.{aim_of_request, at_requested}
 use Rattle.model_line.specs.Sides.{at_side}
-use Rattle.model_card.specs.Pulled.{frame_taken, octet_in}
 use Rattle.laws_line.specs.Requests as requests
-use Rattle.laws_line.specs.Heard.{Ends, Adds, IsMalformed, IsTooLong}
+use Rattle.laws_line.specs.Heard.{IsMalformed, IsTooLong}
 use Rattle.laws_line.specs.Share.{is_granted}
 use Rattle.laws_line.specs.Steady.{IsBy, BringsMalformed, timer_of}
-use Rattle.laws_line.proofs.Ending.{gained-is}
 use Rattle.laws_line.proofs.Hearing.{addressed-is, sapi-is}
 use Rattle.laws_line.proofs.Obeyed.{service-same, both-true}
-use Rattle.laws_trace.specs.Deliveries.{parts_of, is_for}
-use Rattle.laws_trace.specs.LinksMove.{by_frame, is_faulty, is_faulty_long, by_parts, by_request, by_seen, by_expiry, expired_of, one_more, led}
-use Rattle.laws_trace.specs.TimersAreTimely.{Known}
-use Rattle.laws_trace.specs.Trace as traces
-use Rattle.laws_trace.specs.Trace.{is_own, seen, seen_told, seen_granted, is_up}
+use Rattle.laws_trace.specs.LinkFrames.{parts_of, is_for, is_faulty, is_faulty_long}
+use Rattle.laws_trace.proofs.MovesWatched.{by_frame, by_parts, by_request, by_seen, by_expiry, led}
+use Rattle.laws_trace.specs.States.{expired_of, one_more}
+use Rattle.laws_trace.proofs.TimersWatched.{Known}
+use Rattle.laws_trace.specs.Trace.{frame_in, is_own, seen, seen_told, seen_granted, is_up}
 use Rattle.laws_trace.proofs.MovesOfLink.{expected, ticks}
+use Rattle.laws_trace.proofs.Deliveries.{heard-by}
 use Rattle.laws_trace.proofs.OneLink.{is_at_link}
+use Rattle.laws_trace.specs.Trace as traces
 
 and-false : (b : Bool) → (b && false) ≡ false
 and-false true = refl
@@ -82,31 +81,21 @@ module _ (c : Config) (service : Service) (tei : ℕ) (k : Known) where
   told-leads : (x : ℕ) (a : Answer) → by_all x (seen_told a) ≡ x
   told-leads x (told t) = refl
   told-leads x (refused why) = refl
-  told-leads x (pulled value is_begun orders) = refl
-
-  octet-leads : (x : ℕ) (o : Option stream.Event) (a : Answer) → by_all x (map traces.heard (option_to_list o) ++ seen_told a) ≡ option_map_or (by_heard x) o x
-  octet-leads x None a = told-leads x a
-  octet-leads x (Some e) a = told-leads (by_heard x e) a
+  told-leads x (gave given) = refl
 
   granted-leads : (x : ℕ) (r : Request) (a : Answer) → is_granted a ≡ true → by_all x (seen_granted r a ++ seen_told a) ≡ by_request service tei x r
   granted-leads x r (told t) e = refl
   granted-leads x r (refused why) e = absurd (true≢false (sym e))
-  granted-leads x r (pulled value is_begun orders) e = absurd (true≢false (sym e))
+  granted-leads x r (gave given) e = absurd (true≢false (sym e))
 
   refused-leads : (x : ℕ) (r : Request) (a : Answer) → is_granted a ≡ false → by_all x (seen_granted r a ++ seen_told a) ≡ x
   refused-leads x r (told t) e = absurd (true≢false e)
   refused-leads x r (refused why) e = refl
-  refused-leads x r (pulled value is_begun orders) e = refl
+  refused-leads x r (gave given) e = refl
 
-  put-leads : (x : ℕ) (a : Answer) → by_all x (map traces.put (octet_in a)) ≡ x
-  put-leads x (told t) = refl
-  put-leads x (refused why) = refl
-  put-leads x (pulled value is_begun orders) = refl
-
-  pull-leads : (x : ℕ) (o : Option Taken) (a : Answer)
-      → by_all x (map traces.begun (option_to_list (option_map frame_taken o)) ++ map traces.put (octet_in a)) ≡ x
-  pull-leads x None a = put-leads x a
-  pull-leads x (Some t) a = put-leads x a
+  begun-leads : (x : ℕ) (frames : List (List ℕ)) → by_all x (map traces.begun frames) ≡ x
+  begun-leads x [] = refl
+  begun-leads x (f ∷ frames) = begun-leads x frames
 
   -- a frame as it is read, and one that was too long to keep
   abbrev by_reading : ℕ → Result Parts ReadFault → ℕ
@@ -161,11 +150,10 @@ module _ (c : Config) (service : Service) (tei : ℕ) (k : Known) where
     long-none x (Ok (long.Information address)) aims = no-fault x x (is_for service tei address) (addressed-none address link.overlong (drop_for Unserved) aims)
     long-none x (Ok (long.Unnumbered address)) aims = no-fault x x false refl
 
-    heard-none : (x : ℕ) (o : Option stream.Event) → is_at_link service tei (option_map_or (aim_of_heard c l) o (at_none nothing)) ≡ false → option_map_or (by_heard x) o x ≡ x
-    heard-none x None aims = refl
-    heard-none x (Some (stream.frame octets)) aims = read-none x (reading (heard_side c) octets) aims
-    heard-none x (Some (stream.overlong head)) aims = long-none x (long_reading (heard_side c) head) aims
-    heard-none x (Some (stream.dropped cause)) aims = no-fault x x false refl
+    heard-none : (x : ℕ) (e : stream.Event) → is_at_link service tei (aim_of_heard c l e) ≡ false → by_heard x e ≡ x
+    heard-none x (stream.frame octets) aims = read-none x (reading (heard_side c) octets) aims
+    heard-none x (stream.overlong head) aims = long-none x (long_reading (heard_side c) head) aims
+    heard-none x (stream.dropped cause) aims = no-fault x x false refl
 
     -- an expiry, or a request, of another link
     pub elsewhere : (its : Service) (by : ℕ) (what : link.Event) (to : Option ℕ → Aim) → ((p : ℕ) → to (Some p) ≡ at_link its by p what)
@@ -199,14 +187,13 @@ module _ (c : Config) (service : Service) (tei : ℕ) (k : Known) where
     none-asked x (ClearBusy its by) aims = refl
 
     pub none-ticks : (e : Event) → is_at_link service tei (aim_of c e l) ≡ false → expired_of service tei e ≡ None
-    none-ticks (octet value) aims = refl
+    none-ticks (hears what) aims = refl
     none-ticks (expiry timer) aims = none-expired timer aims
     none-ticks (request r) aims = refl
-    none-ticks pull aims = refl
+    none-ticks next aims = refl
 
-    pub none-led : (n x : ℕ) (e : Event) → is_at_link service tei (aim_of c e l) ≡ false → led c service tei k n e (seen c e l (answer c e l)) x ≡ x
-    none-led n x (octet value) aims =
-        octet-leads x (gained c.n201 l.received value) (answer c (octet value) l) ∙ heard-none x (gained c.n201 l.received value) aims
+    pub none-led : (n x : ℕ) (e : Event) → is_at_link service tei (aim_of c e l) ≡ false → led c service tei k n e (seen e (answer c e l)) x ≡ x
+    none-led n x (hears what) aims = told-leads (by_heard x what) (answer c (hears what) l) ∙ heard-none x what aims
     none-led n x (expiry timer) aims =
         told-leads (option_map_or (by_expiry c.n200 k n x) (expired_of service tei (expiry timer)) x) (answer c (expiry timer) l)
         ∙ ap (λ o. option_map_or (by_expiry c.n200 k n x) o x) (none-expired timer aims)
@@ -217,30 +204,27 @@ module _ (c : Config) (service : Service) (tei : ℕ) (k : Known) where
         go true e =
             granted-leads x r (answer c (request r) l) e
             ∙ none-asked x r (ap (λ o. is_at_link service tei (unless_refused o (aim_of_request r l))) (sym (none-refused c r l e)) ∙ aims)
-    none-led n x pull aims = pull-leads x (begun c l) (answer c pull l)
+    none-led n x next aims = begun-leads x (frame_in (answer c next l))
 
   -- One event of the link.
-  module _ (l : Line) (a : Answer) where
+  module _ (a : Answer) where
     own-address : (address : Address) → service_of address.sapi ≡ Some service → address.tei ≡ tei → is_for service tei address ≡ true
     own-address address sapi is =
         ap (λ b. b && address.tei == tei) (eq-eqb address.sapi (sapi_of service) (sapi-is address.sapi service sapi)) ∙ eq-eqb address.tei tei is
 
-    heard-leads : (n x value : ℕ) (o : Option stream.Event) → gained c.n201 l.received value ≡ o → led c service tei k n (octet value) (seen c (octet value) l a) x ≡ option_map_or (by_heard x) o x
-    heard-leads n x value o is = octet-leads x (gained c.n201 l.received value) a ∙ ap (λ o. option_map_or (by_heard x) o x) is
-
-    malformed-leads : (n x value : ℕ) (address : Address) (octets : List ℕ) (what : link.Received) → is_for service tei address ≡ true
-        → (Ends c l value octets × IsMalformed c address octets what) ⊎ (Adds c l value (stream.overlong octets ∷ []) × IsTooLong c address octets what)
-        → led c service tei k n (octet value) (seen c (octet value) l a) x ≡ cond (is_up x) 5 x
-    malformed-leads n x value address octets what for (inl y) =
-        heard-leads n x value (Some (stream.frame octets)) (gained-is c l value (Some (stream.frame octets)) y.0) ∙ go what y.1
+    malformed-leads : (n x : ℕ) (e : Event) (address : Address) (octets : List ℕ) (what : link.Received) → is_for service tei address ≡ true
+        → ((e ≡ hears (stream.frame octets)) × IsMalformed c address octets what) ⊎ ((e ≡ hears (stream.overlong octets)) × IsTooLong c address octets what)
+        → led c service tei k n e (seen e a) x ≡ cond (is_up x) 5 x
+    malformed-leads n x e address octets what for (inl y) =
+        ap (λ e. led c service tei k n e (seen e a) x) y.0 ∙ told-leads (by_heard x (stream.frame octets)) a ∙ go what y.1
       where
         go : (what : link.Received) → IsMalformed c address octets what → by_reading x (reading (heard_side c) octets) ≡ cond (is_up x) 5 x
         go link.undefined is = ap (by_reading x) is ∙ a-fault x x (is_for service tei address) for
         go link.wrong_size is = ap (by_reading x) is ∙ a-fault x x (is_for service tei address) for
         go link.overlong is = absurd is
         go (link.frame f) is = absurd is
-    malformed-leads n x value address octets what for (inr y) =
-        heard-leads n x value (Some (stream.overlong octets)) (gained-is c l value (Some (stream.overlong octets)) y.0) ∙ go what y.1
+    malformed-leads n x e address octets what for (inr y) =
+        ap (λ e. led c service tei k n e (seen e a) x) y.0 ∙ told-leads (by_heard x (stream.overlong octets)) a ∙ go what y.1
       where
         go : (what : link.Received) → IsTooLong c address octets what → by_long x (long_reading (heard_side c) octets) ≡ cond (is_up x) 5 x
         go link.undefined is = ap (by_long x) is ∙ a-fault x x (is_for service tei address) for
@@ -249,11 +233,10 @@ module _ (c : Config) (service : Service) (tei : ℕ) (k : Known) where
         go (link.frame f) is = absurd is
 
     abbrev Leads : ℕ → ℕ → Event → link.Event → Type 0
-    Leads n x e event = led c service tei k n e (seen c e l a) x ≡ expected (terms c service tei) k n event x
+    Leads n x e event = led c service tei k n e (seen e a) x ≡ expected (terms c service tei) k n event x
 
-    brings-malformed : (n x : ℕ) (e : Event) (what : link.Received) → BringsMalformed c l e service tei what → led c service tei k n e (seen c e l a) x ≡ cond (is_up x) 5 x
-    brings-malformed n x e what y =
-        ap (λ e. led c service tei k n e (seen c e l a) x) y.by ∙ malformed-leads n x y.value y.address y.octets what (own-address y.address y.sapi y.tei_is) y.ends
+    brings-malformed : (n x : ℕ) (e : Event) (what : link.Received) → BringsMalformed c e service tei what → led c service tei k n e (seen e a) x ≡ cond (is_up x) 5 x
+    brings-malformed n x e what y = malformed-leads n x e y.address y.octets what (own-address y.address y.sapi y.tei_is) y.by
 
     asked-leads : (x : ℕ) (asked : link.Request) → by_request service tei x (requests.of_link service tei asked) ≡ expected (terms c service tei) k 0 (link.requested asked false) x
     asked-leads x link.Establish = ap (λ b. cond (b && x == 4) 5 x) (own-is service tei)
@@ -273,29 +256,31 @@ module _ (c : Config) (service : Service) (tei : ℕ) (k : Known) where
     ticked T200 = ap (λ b. cond b (Some T200) None) (own-is service tei)
     ticked T203 = ap (λ b. cond b (Some T203) None) (own-is service tei)
 
-    pub one-led : (n x : ℕ) (e : Event) (event : link.Event) → IsBy c l e a service tei event → Leads n x e event
+    pub one-led : (n x : ℕ) (e : Event) (event : link.Event) → IsBy c e a service tei event → Leads n x e event
     one-led n x e (link.received (link.frame f)) y =
-        ap (λ e. led c service tei k n e (seen c e l a) x) y.by
-        ∙ heard-leads n x y.value (Some (stream.frame y.octets)) (gained-is c l y.value (Some (stream.frame y.octets)) y.ends)
-        ∙ ap (by_reading x) y.read ∙ own-frame x f (own-address f.address y.sapi y.tei_is)
+        ap (λ e. led c service tei k n e (seen e a) x) y.by
+        ∙ told-leads (by_heard x (stream.frame y.octets)) a ∙ ap (by_reading x) y.read ∙ own-frame x f (own-address f.address y.sapi y.tei_is)
     one-led n x e (link.received link.undefined) y = brings-malformed n x e link.undefined y
     one-led n x e (link.received link.wrong_size) y = brings-malformed n x e link.wrong_size y
     one-led n x e (link.received link.overlong) y = brings-malformed n x e link.overlong y
     one-led n x e (link.expired timer) y =
-        ap (λ e. led c service tei k n e (seen c e l a) x) y
+        ap (λ e. led c service tei k n e (seen e a) x) y
         ∙ told-leads (option_map_or (by_expiry c.n200 k n x) (expired_of service tei (expiry (timer_of service tei timer))) x) a
         ∙ ap (λ o. option_map_or (by_expiry c.n200 k n x) o x) (ticked timer)
     one-led n x e (link.requested asked full) y =
-        ap (λ e. led c service tei k n e (seen c e l a) x) y.0
+        ap (λ e. led c service tei k n e (seen e a) x) y.0
         ∙ granted-leads x (requests.of_link service tei asked) a y.1 ∙ asked-leads x asked ∙ full-or-not n x asked full
-    one-led n x e link.offer y = ap (λ e. led c service tei k n e (seen c e l a) x) y ∙ pull-leads x (begun c l) a
+    one-led n x e link.offer y = ap (λ e. led c service tei k n e (seen e a) x) y ∙ begun-leads x (frame_in a)
     one-led n x e link.cleared y = absurd y
 
-    pub one-ticks : (e : Event) (event : link.Event) → IsBy c l e a service tei event → option_map_or one_more (expired_of service tei e) 0 ≡ ticks event
+    malformed-ticks : (e : Event) (what : link.Received) → BringsMalformed c e service tei what → option_map_or one_more (expired_of service tei e) 0 ≡ 0
+    malformed-ticks e what y = ap (λ e. option_map_or one_more (expired_of service tei e) 0) (heard-by c e a service tei what y).1
+
+    pub one-ticks : (e : Event) (event : link.Event) → IsBy c e a service tei event → option_map_or one_more (expired_of service tei e) 0 ≡ ticks event
     one-ticks e (link.received (link.frame f)) y = ap (λ e. option_map_or one_more (expired_of service tei e) 0) y.by
-    one-ticks e (link.received link.undefined) y = ap (λ e. option_map_or one_more (expired_of service tei e) 0) y.by
-    one-ticks e (link.received link.wrong_size) y = ap (λ e. option_map_or one_more (expired_of service tei e) 0) y.by
-    one-ticks e (link.received link.overlong) y = ap (λ e. option_map_or one_more (expired_of service tei e) 0) y.by
+    one-ticks e (link.received link.undefined) y = malformed-ticks e link.undefined y
+    one-ticks e (link.received link.wrong_size) y = malformed-ticks e link.wrong_size y
+    one-ticks e (link.received link.overlong) y = malformed-ticks e link.overlong y
     one-ticks e (link.expired timer) y = ap (λ e. option_map_or one_more (expired_of service tei e) 0) y ∙ ap (λ o. option_map_or one_more o 0) (ticked timer)
     one-ticks e (link.requested asked full) y = ap (λ e. option_map_or one_more (expired_of service tei e) 0) y.0
     one-ticks e link.offer y = ap (λ e. option_map_or one_more (expired_of service tei e) 0) y

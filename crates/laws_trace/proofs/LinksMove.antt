@@ -33,13 +33,14 @@ use Rattle.laws_line.specs.Steady.{IsBy}
 use Rattle.laws_line.specs.Timers.{HaveTheirTimers}
 use Rattle.laws_line.proofs.TimersFollow.{nowhere}
 use Rattle.laws_link.specs.States.{moves}
-use Rattle.laws_trace.specs.LinksMove.{by_expiry, expired_of, one_more, repeated, led, LinksMove}
-use Rattle.laws_trace.specs.TimersAreTimely.{Known, nothing_yet, watch, differ}
+use Rattle.laws_trace.proofs.MovesWatched.{by_expiry, repeated, led, LinksMove}
+use Rattle.laws_trace.specs.States.{expired_of, one_more, differ}
+use Rattle.laws_trace.proofs.TimersWatched.{Known, nothing_yet, watch}
 use Rattle.laws_trace.specs.Trace.{seen, Always}
 use Rattle.laws_trace.proofs.LinkLed.{on-line, none-led, none-ticks, one-led, one-ticks}
 use Rattle.laws_trace.proofs.MovesOfLink.{Counts, event-leads, event-counted}
 use Rattle.laws_trace.proofs.OneLink.{HasOne, HasNone, Goes, event-goes}
-use Rattle.laws_trace.proofs.PullRuns.{apart}
+use Rattle.laws_trace.proofs.CallRuns.{apart}
 use Rattle.laws_trace.proofs.Runs.{nothing-seen}
 use Rattle.laws_trace.proofs.TimerClaims.{told_state}
 use Rattle.laws_trace.proofs.TimersAreTimely.{moment-known, begins-true, sound-now, timely-now, config-now, true-now, front-at, itself}
@@ -50,17 +51,17 @@ use Rattle.laws_trace.proofs.TimersOfEvent as events
 abbrev pub IsCountOf : Service → ℕ → ℕ → Line → Type 0
 IsCountOf service tei n l = let x = link_of service tei l in Counts x.state n x.repeats
 
-pub no-event : (event : link.Event) (c : Config) (l : Line) (e : line_event.Event) (a : Answer) (service : Service) (tei : ℕ) → IsBy c l e a service tei event → event ≡ link.cleared → ⊥
-no-event (link.received what) c l e a service tei by same = cc same
-no-event (link.expired timer) c l e a service tei by same = cc same
-no-event (link.requested asked full) c l e a service tei by same = cc same
-no-event link.offer c l e a service tei by same = cc same
-no-event link.cleared c l e a service tei by same = by
+pub no-event : (event : link.Event) (c : Config) (e : line_event.Event) (a : Answer) (service : Service) (tei : ℕ) → IsBy c e a service tei event → event ≡ link.cleared → ⊥
+no-event (link.received what) c e a service tei by same = cc same
+no-event (link.expired timer) c e a service tei by same = cc same
+no-event (link.requested asked full) c e a service tei by same = cc same
+no-event link.offer c e a service tei by same = cc same
+no-event link.cleared c e a service tei by same = by
 
 no-more : (n m : ℕ) → m ≡ 0 → n + m ≡ n
 no-more n m none = omega (arith, none)
 
-same-way : (a b : ℕ) → (a == b) ≡ (b == a)
+pub same-way : (a b : ℕ) → (a == b) ≡ (b == a)
 same-way a b = go (a == b) refl (b == a) refl
   where
     go : (x : Bool) → (a == b) ≡ x → (y : Bool) → (b == a) ≡ y → x ≡ y
@@ -99,7 +100,7 @@ module _ (c : Config) (ranged : IsInRange c) (l : Line) (s : IsSound c l) (timed
   -- where the TEI is on the line before and after
   module _ (place there : ℕ) (on : place_in l tei ≡ Some place) (stays : place_in (lines.after c e l) tei ≡ Some there) where
     abbrev Leads : Type 0
-    Leads = state_number next.state ≡ led c service tei k n e (seen c e l a) (state_number own.state)
+    Leads = state_number next.state ≡ led c service tei k n e (seen e a) (state_number own.state)
 
     none-leads : HasNone c service tei e l (lines.after c e l) a → Leads
     none-leads x =
@@ -115,8 +116,8 @@ module _ (c : Config) (ranged : IsInRange c) (l : Line) (s : IsSound c l) (timed
         let small : t.k ≤ 127 = range.k_high in
         ap (λ (y : Link). state_number y.state) x.is
         ∙ event-leads t k own n ordered (omega (arith, window, small)) (events.own-timed c ranged l s timed service tei k agrees e x.place x.placed) agrees counts x.event
-        (no-event x.event c l e a service tei x.by)
-        ∙ sym (one-led c service tei k l a n (state_number own.state) e x.event x.by)
+        (no-event x.event c e a service tei x.by)
+        ∙ sym (one-led c service tei k a n (state_number own.state) e x.event x.by)
 
     leads : Leads
     leads = go (event-goes c e l service tei s)
@@ -139,8 +140,8 @@ module _ (c : Config) (ranged : IsInRange c) (l : Line) (s : IsSound c l) (timed
         subst (λ (y : Link). Counts y.state (counted (told_state own.state) (told_state y.state)) y.repeats) (sym x.is)
         (subst (λ b. Counts y.state (cond b 0 (n + option_map_or one_more (expired_of service tei e) 0)) y.repeats) (sym (differs own.state y.state))
         (subst (λ m. Counts y.state (cond (moves own.state y.state) 0 (n + m)) y.repeats)
-        (sym (one-ticks c service tei k l a e x.event x.by))
-        (event-counted t own n x.event (no-event x.event c l e a service tei x.by) (events.own-timed c ranged l s timed service tei k agrees e x.place x.placed) counts)))
+        (sym (one-ticks c service tei k a e x.event x.by))
+        (event-counted t own n x.event (no-event x.event c e a service tei x.by) (events.own-timed c ranged l s timed service tei k agrees e x.place x.placed) counts)))
 
     stays-counted : Counts next.state (counted (told_state own.state) (told_state next.state)) next.repeats
     stays-counted = go (event-goes c e l service tei s)
@@ -180,7 +181,7 @@ module _ (c : Config) (ranged : IsInRange c) (l : Line) (s : IsSound c l) (timed
           (stays-counted place there on stays)
 
   abbrev Led : Option ℕ → Option ℕ → Type 0
-  Led from to = IfSome to (λ state. state ≡ option_map_or (led c service tei k n e (seen c e l a)) from 4)
+  Led from to = IfSome to (λ state. state ≡ option_map_or (led c service tei k n e (seen e a)) from 4)
 
   pub event-led : Led (state_of service tei l) (state_of service tei (lines.after c e l))
   event-led = go (place_in l tei) refl (place_in (lines.after c e l) tei) refl
@@ -189,18 +190,18 @@ module _ (c : Config) (ranged : IsInRange c) (l : Line) (s : IsSound c l) (timed
       go o on None off = subst (Led (state_of service tei l)) (sym (off-state service tei (lines.after c e l) off)) tt
       go None off (Some there) stays =
           subst (Led (state_of service tei l)) (sym (state-on service tei (lines.after c e l) there stays))
-          (ap (λ (y : Link). state_number y.state) (comes off) ∙ sym (ap (λ o. option_map_or (led c service tei k n e (seen c e l a)) o 4) (off-state service tei l off)))
+          (ap (λ (y : Link). state_number y.state) (comes off) ∙ sym (ap (λ o. option_map_or (led c service tei k n e (seen e a)) o 4) (off-state service tei l off)))
       go (Some place) on (Some there) stays =
           subst (Led (state_of service tei l)) (sym (state-on service tei (lines.after c e l) there stays))
-          (leads place there on stays ∙ sym (ap (λ o. option_map_or (led c service tei k n e (seen c e l a)) o 4) (state-on service tei l place on)))
+          (leads place there on stays ∙ sym (ap (λ o. option_map_or (led c service tei k n e (seen e a)) o 4) (state-on service tei l place on)))
 
 -- A request that finds the pool full.
 pub none-expires : (c : Config) (service : Service) (tei : ℕ) (e : line_event.Event) (l : Line) → lines.takes_slot c e l ≡ true → expired_of service tei e ≡ None
 unfolding lines.takes_slot
-none-expires c service tei (line_event.octet value) l takes = refl
+none-expires c service tei (line_event.hears what) l takes = refl
 none-expires c service tei (line_event.expiry timer) l takes = absurd (true≢false (sym takes))
 none-expires c service tei (line_event.request r) l takes = refl
-none-expires c service tei line_event.pull l takes = refl
+none-expires c service tei line_event.next l takes = refl
 
 pub differ-self : (o : Option ℕ) → differ o o ≡ false
 differ-self None = refl
@@ -238,10 +239,10 @@ module _ (service : Service) (tei number : ℕ) where
     abbrev IsLed : Line → Answer → Type 0
     IsLed x b =
         IfSome (state_of service tei x)
-        (λ state. state ≡ option_map_or (led card.config service tei k n e.what (seen card.config e.what l b)) (state_of service tei l) 4)
+        (λ state. state ≡ option_map_or (led card.config service tei k n e.what (seen e.what b)) (state_of service tei l) 4)
 
-    unmoved : (o : Option ℕ) → expired_of service tei e.what ≡ None → (b : Answer) → seen card.config e.what l b ≡ []
-        → IfSome o (λ state. state ≡ option_map_or (led card.config service tei k n e.what (seen card.config e.what l b)) o 4)
+    unmoved : (o : Option ℕ) → expired_of service tei e.what ≡ None → (b : Answer) → seen e.what b ≡ []
+        → IfSome o (λ state. state ≡ option_map_or (led card.config service tei k n e.what (seen e.what b)) o 4)
     unmoved None none b nothing = tt
     unmoved (Some state) none b nothing =
         sym (ap (λ t. led card.config service tei k n e.what t state) nothing ∙ ap (λ o. option_map_or (λ timer. by_expiry card.config.n200 k n state timer) o state) none)
@@ -306,10 +307,10 @@ links-move c events number ranged all within service tei before what behind is =
     let n = fold (repeated service tei number) 0 (moments (fresh c) before) in
     let here : number < card.config.lines = subst (λ (c : Config). number < c.lines) (sym (config-now c before number ranged front within service tei)) within in
     subst (λ b. IfSome (state_of service tei (line_at number (after e card)))
-    (λ state. state ≡ option_map_or (led c service tei k n what (cond b (seen card.config what (line_at number card) (answer e card)) [])) (state_of service tei (line_at number card)) 4))
+    (λ state. state ≡ option_map_or (led c service tei k n what (cond b (seen what (answer e card)) [])) (state_of service tei (line_at number card)) 4))
     (sym (itself number))
     (subst (λ (d : Config). IfSome (state_of service tei (line_at number (after e card)))
-    (λ state. state ≡ option_map_or (led d service tei k n what (seen card.config what (line_at number card) (answer e card))) (state_of service tei (line_at number card)) 4))
+    (λ state. state ≡ option_map_or (led d service tei k n what (seen what (answer e card))) (state_of service tei (line_at number card)) 4))
     (config-now c before number ranged front within service tei)
     (own-led service tei number card (sound-now c before number ranged front within service tei) (timely-now c before number ranged front within service tei) e here k n
     (true-now c before number ranged front within service tei) (count-now c before number ranged front within service tei)))

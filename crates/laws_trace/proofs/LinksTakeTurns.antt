@@ -1,6 +1,6 @@
--- Links take turns: over runs of a card of which a line is only pulled.
+-- Links take turns: over runs of a card of which a line is only called for its next frame.
 use Rattle.std.proofs.Common.{◌≡◌, ℕ, ◌<◌, ⊎_elim, true, false, cond, List, [], ◌∷◌, ◌++◌, get_or, map, Option, Some, None, option_map, refl, sym, ap, ◌∙◌, subst, inl, inr, arith, true≢false}
-use Rattle.std.specs.Prelude.{filter, option_to_list}
+use Rattle.std.specs.Prelude.{filter}
 use Rattle.std.specs.Option.{unwrap_or}
 use Rattle.std.proofs.lemmas.Bool.{cases_eq}
 use Rattle.std.proofs.lemmas.List.{map-append, get_or-set_other}
@@ -13,23 +13,22 @@ use Rattle.model_link.specs.Link.{Link}
 use Rattle.model_link.specs.Link.{fresh as fresh_link}
 use Rattle.laws_link.specs.InOrder.{IsInOrder}
 use Rattle.model_line.specs.declared.config.Config.{Config}
-use Rattle.model_line.specs.Event.{pull}
+use Rattle.model_line.specs.Event.{next, gave}
 use Rattle.model_line.specs.Line.{Line, link_count, link_at, place_at, service_at, terms}
 use Rattle.model_line.specs.Machine as lines
-use Rattle.model_line.specs.Pull.{Taken, begun}
+use Rattle.model_line.specs.Taken.{Taken, taken, next_of}
 use Rattle.model_line.specs.Sound as line
 use Rattle.model_line.proofs.Ranges.{ranges_of}
-use Rattle.laws_line.specs.Pulls.{IsSilent, IsSilentAt, IsOfLink, IsOwed, IsIdle, contents_of}
-use Rattle.laws_line.proofs.Leaving.{pull-moves}
+use Rattle.laws_line.specs.Served.{IsSilent, IsSilentAt, IsOfLink, IsOwed, IsIdle, contents_of}
+use Rattle.laws_line.proofs.Leaving.{next-moves}
 use Rattle.laws_line.proofs.Serving.{served}
 use Rattle.model_card.specs.Card.{fresh, line_at}
-use Rattle.model_card.specs.Pulled.{frame_taken}
 use Rattle.model_card.specs.Run.{moments, after_all}
-use Rattle.laws_trace.specs.Trace.{Always, seen, trace, frames_begun}
+use Rattle.laws_trace.specs.Trace.{frame_in, Always, seen, trace, frames_begun}
 use Rattle.laws_trace.specs.LinksTakeTurns.{TakeTurns, LinkName, named_in, is_of_a_link, links_begun, LinksTakeTurns}
-use Rattle.laws_trace.proofs.PullRuns.{pulled-behind}
+use Rattle.laws_trace.proofs.CallRuns.{called-behind}
 use Rattle.laws_trace.proofs.Turns.{link-frame, ui-frame, name-is}
-use Rattle.laws_trace.proofs.Units.{NoneWaits, pulled-frames, plain-order, first-of}
+use Rattle.laws_trace.proofs.Units.{NoneWaits, plain-order, first-of, given-frames}
 use Rattle.laws_trace.proofs.Walking.{named, Stays, Walk, still, goes, ends, take-turns}
 use Rattle.laws_card.proofs.Wherever.{config-stays}
 
@@ -37,23 +36,23 @@ small-sapi : (service : Service) → sapi_of service < 64
 small-sapi Call = omega arith
 small-sapi Packet = omega arith
 
--- One pull.
+-- One call.
 module _ (c : Config) (ranged : line.IsInRange c) (l : Line) (s : line.IsSound c l) (plain : NoneWaits c l) where
-  abbrev next : Line
-  next = lines.after c pull l
+  abbrev new : Line
+  new = lines.after c next l
 
-  places : next.management.places ≡ l.management.places
-  places = (pull-moves c 0 l s (omega (arith, (ranges_of c ranged).terminals.least))).places
+  places : new.management.places ≡ l.management.places
+  places = (next-moves c 0 l s (omega (arith, (ranges_of c ranged).terminals.least))).places
 
-  silent-there : (number : ℕ) → link_at number next ≡ link_at number l → IsSilentAt c l number → IsSilentAt c next number
+  silent-there : (number : ℕ) → link_at number new ≡ link_at number l → IsSilentAt c l number → IsSilentAt c new number
   silent-there number same q tei at =
       subst (λ (x : Link). IsSilent (terms c (service_at number) tei) x) (sym same) (q tei (subst (λ ps. get_or ps (place_at number) None ≡ Some tei) places at))
 
-  links-stay : next.links ≡ l.links → Stays c l next
+  links-stay : new.links ≡ l.links → Stays c l new
   links-stay same = record { places = places; stays_silent = λ number few q. silent-there number (ap (λ ls. get_or ls number fresh_link) same) q }
 
   abbrev names-of : Option Taken → List LinkName
-  names-of o = map named_in (filter (is_of_a_link c.side) (option_to_list (option_map frame_taken o)))
+  names-of o = map named_in (filter (is_of_a_link c.side) (frame_in (gave (option_map next_of o))))
 
   no-name : (t : Taken) (names : List LinkName) → is_of_a_link c.side t.frame ≡ false → Walk c l names → Walk c l (names-of (Some t) ++ names)
   no-name t names none walk = subst (λ b. Walk c l (map named_in (cond b (t.frame ∷ []) []) ++ names)) (sym none) walk
@@ -62,10 +61,10 @@ module _ (c : Config) (ranged : line.IsInRange c) (l : Line) (s : line.IsSound c
   a-name t name names one is walk =
       subst (λ b. Walk c l (map named_in (cond b (t.frame ∷ []) []) ++ names)) (sym one) (subst (λ n. Walk c l (n ∷ names)) (sym is) walk)
 
-  of-link : (t : Taken) (x : IsOfLink c (contents_of l) l next t.frame) (names : List LinkName) → Walk c next names → Walk c l (names-of (Some t) ++ names)
+  of-link : (t : Taken) (x : IsOfLink c (contents_of l) l new t.frame) (names : List LinkName) → Walk c new names → Walk c l (names-of (Some t) ++ names)
   of-link t x names walk =
-      a-name t (named x.number x.tei) names (ap (is_of_a_link c.side) x.spelled ∙ link-frame c.side (record { sapi = sapi_of (service_at x.number); command = x.command; tei = x.tei }) x.control (plain-order c l next t.frame plain x) (unwrap_or x.information [])) (ap named_in x.spelled ∙ name-is c.side (record { sapi = sapi_of (service_at x.number); command = x.command; tei = x.tei }) x.control (unwrap_or x.information []))
-      (goes l next x.number x.tei names s (record { places = places; stays_silent = stays }) (record {
+      a-name t (named x.number x.tei) names (ap (is_of_a_link c.side) x.spelled ∙ link-frame c.side (record { sapi = sapi_of (service_at x.number); command = x.command; tei = x.tei }) x.control (plain-order c l new t.frame plain x) (unwrap_or x.information [])) (ap named_in x.spelled ∙ name-is c.side (record { sapi = sapi_of (service_at x.number); command = x.command; tei = x.tei }) x.control (unwrap_or x.information []))
+      (goes l new x.number x.tei names s (record { places = places; stays_silent = stays }) (record {
         few = x.few;
         on_line = x.on_line;
         passed = x.its_turn.passed;
@@ -80,28 +79,29 @@ module _ (c : Config) (ranged : line.IsInRange c) (l : Line) (s : line.IsSound c
       speaks q = by-order (q x.tei x.on_line) x.in_order
         where
           by-order : IsSilent (terms c (service_at x.number) x.tei) (link_at x.number l)
-              → IsInOrder (terms c (service_at x.number) x.tei) (link_at x.number l) (link_at x.number next) (record { command = x.command; control = x.control }) → ⊥
+              → IsInOrder (terms c (service_at x.number) x.tei) (link_at x.number l) (link_at x.number new) (record { command = x.command; control = x.control }) → ⊥
           by-order silent (inl oldest) = let both = sym oldest.waited ∙ silent.waiting in cc both
           by-order silent (inr (inl information)) = silent.information information.may
           by-order silent (inr (inr acknowledgement)) = true≢false (sym acknowledgement.was_owed ∙ silent.pending)
 
-      stays : (number : ℕ) → number < link_count c → IsSilentAt c l number → IsSilentAt c next number
+      stays : (number : ℕ) → number < link_count c → IsSilentAt c l number → IsSilentAt c new number
       stays number few q =
-          ⊎_elim (λ same. absurd (speaks (subst (IsSilentAt c l) same q))) (λ apart. silent-there number (ap (λ (l : Line). link_at number l) x.line ∙ get_or-set_other l.links x.number number (link_at x.number next) fresh_link apart) q) (cases_eq number x.number)
+          ⊎_elim (λ same. absurd (speaks (subst (IsSilentAt c l) same q))) (λ apart. silent-there number (ap (λ (l : Line). link_at number l) x.line ∙ get_or-set_other l.links x.number number (link_at x.number new) fresh_link apart) q) (cases_eq number x.number)
 
-  by-pull : (o : Option Taken) → elim o as (λ o. Type 0) [ None ↦ IsIdle c l next | Some t ↦ IsOwed c (contents_of l) l next t.frame ]
-      → (names : List LinkName) → Walk c next names → Walk c l (names-of o ++ names)
-  by-pull None x names walk = still l next names (links-stay (ap (λ (l : Line). l.links) x.line)) (ap (λ (l : Line). l.turn) x.line) walk
-  by-pull (Some t) (inl x) names walk =
-      no-name t names (ap (is_of_a_link c.side) x.spelled ∙ ui-frame c.side (record { sapi = 63; command = true; tei = 127 }) (information_of x.message) (omega arith) (omega arith) refl) (still l next names (links-stay (ap (λ (l : Line). l.links) x.line)) (ap (λ (l : Line). l.turn) x.line) walk)
-  by-pull (Some t) (inr (inl x)) names walk =
+  by-next : (o : Option Taken) → elim o as (λ o. Type 0) [ None ↦ IsIdle c l new | Some t ↦ IsOwed c (contents_of l) l new t.frame ]
+      → (names : List LinkName) → Walk c new names → Walk c l (names-of o ++ names)
+  by-next None x names walk = still l new names (links-stay (ap (λ (l : Line). l.links) x.line)) (ap (λ (l : Line). l.turn) x.line) walk
+  by-next (Some t) (inl x) names walk =
+      no-name t names (ap (is_of_a_link c.side) x.spelled ∙ ui-frame c.side (record { sapi = 63; command = true; tei = 127 }) (information_of x.message) (omega arith) (omega arith) refl) (still l new names (links-stay (ap (λ (l : Line). l.links) x.line)) (ap (λ (l : Line). l.turn) x.line) walk)
+  by-next (Some t) (inr (inl x)) names walk =
       no-name t names (ap (is_of_a_link c.side) x.spelled ∙ ui-frame c.side (record { sapi = sapi_of x.unit.service; command = true; tei = x.unit.tei }) x.unit.contents (small-sapi x.unit.service) (let small = first-of c l.units x.unit x.oldest s.units in omega (arith, small)) refl)
-      (still l next names (links-stay (ap (λ (l : Line). l.links) x.line)) (ap (λ (l : Line). l.turn) x.line) walk)
-  by-pull (Some t) (inr (inr x)) names walk = of-link t x names walk
+      (still l new names (links-stay (ap (λ (l : Line). l.links) x.line)) (ap (λ (l : Line). l.turn) x.line) walk)
+  by-next (Some t) (inr (inr x)) names walk = of-link t x names walk
 
-  pub pull-walks : (names : List LinkName) → Walk c next names → Walk c l (links_begun c (seen c pull l (lines.answer c pull l)) ++ names)
-  pull-walks names walk =
-      subst (λ fs. Walk c l (map named_in (filter (is_of_a_link c.side) fs) ++ names)) (sym (pulled-frames (begun c l) (lines.answer c pull l))) (by-pull (begun c l) (served c l s) names walk)
+  pub next-walks : (names : List LinkName) → Walk c new names → Walk c l (links_begun c (seen next (lines.answer c next l)) ++ names)
+  unfolding lines.answer
+  next-walks names walk =
+      subst (λ fs. Walk c l (map named_in (filter (is_of_a_link c.side) fs) ++ names)) (sym (given-frames (option_map next_of (taken c l)))) (by-next (taken c l) (served c l s) names walk)
 
 -- A run.
 abbrev pub WalksBy : Config → Line → List (List ℕ) → Type 0
@@ -110,15 +110,15 @@ WalksBy c l frames = Walk c l (map named_in (filter (is_of_a_link c.side) frames
 names-append : (c : Config) (front behind : List (List ℕ)) → map named_in (filter (is_of_a_link c.side) (front ++ behind)) ≡ map named_in (filter (is_of_a_link c.side) front) ++ map named_in (filter (is_of_a_link c.side) behind)
 names-append c front behind = ap (map named_in) (filter-append (is_of_a_link c.side) front behind) ∙ map-append named_in (filter (is_of_a_link c.side) front) (filter (is_of_a_link c.side) behind)
 
-pub pull-walks-by : (c : Config) → line.IsInRange c → (l : Line) → line.IsSound c l → NoneWaits c l → (frames : List (List ℕ)) → WalksBy c (lines.after c pull l) frames
-    → WalksBy c l (frames_begun (seen c pull l (lines.answer c pull l)) ++ frames)
-pull-walks-by c ranged l s plain frames walk =
-    subst (Walk c l) (sym (names-append c (frames_begun (seen c pull l (lines.answer c pull l))) frames)) (pull-walks c ranged l s plain (map named_in (filter (is_of_a_link c.side) frames)) walk)
+pub next-walks-by : (c : Config) → line.IsInRange c → (l : Line) → line.IsSound c l → NoneWaits c l → (frames : List (List ℕ)) → WalksBy c (lines.after c next l) frames
+    → WalksBy c l (frames_begun (seen next (lines.answer c next l)) ++ frames)
+next-walks-by c ranged l s plain frames walk =
+    subst (Walk c l) (sym (names-append c (frames_begun (seen next (lines.answer c next l))) frames)) (next-walks c ranged l s plain (map named_in (filter (is_of_a_link c.side) frames)) walk)
 
 pub links-take-turns : Always LinksTakeTurns
-links-take-turns c events number ranged all within before pulls split only =
+links-take-turns c events number ranged all within before calls split only =
     let card = after_all (fresh c) before in
     let kept = config-stays (fresh c) before in
-    subst (λ (c : Config). TakeTurns (links_begun c (trace number (moments card pulls)))) kept
-    (take-turns card.config (line_at number card) (links_begun card.config (trace number (moments card pulls)))
-    (pulled-behind WalksBy (λ c l. ends l) (λ c ranged l s plain frames walk. pull-walks-by c ranged l s plain frames walk) c events number ranged all within before pulls split only))
+    subst (λ (c : Config). TakeTurns (links_begun c (trace number (moments card calls)))) kept
+    (take-turns card.config (line_at number card) (links_begun card.config (trace number (moments card calls)))
+    (called-behind WalksBy (λ c l. ends l) (λ c ranged l s plain frames walk. next-walks-by c ranged l s plain frames walk) c events number ranged all within before calls split only))

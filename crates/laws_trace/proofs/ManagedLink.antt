@@ -1,5 +1,5 @@
--- What an event of TEI management is to the link of a service with a TEI: it stays as it is, or its TEI comes or leaves; and none of
--- its timers is started.
+-- What an event of TEI management is to the link of a service with a TEI: it stays as it is, or its TEI comes or
+-- leaves; and none of its timers is started.
 use Rattle.std.proofs.Common.{◌≡◌, ℕ, ◌==◌, Bool, true, false, List, ◌++◌, Option, Some, None, refl, sym, ap, ◌∙◌, eqb-true, eq-eqb, true≢false, ◌⊎◌, inl, inr}
 use Rattle.std.specs.Prelude.{is_some}
 use Rattle.std.proofs.lemmas.Option.{none-some}
@@ -42,7 +42,7 @@ module _ (c : Config) (l : Line) (s : IsSound c l) (service : Service) (tei : �
       ⊎ ((link_of service tei next ≡ fresh) × (has_tei tei l ≡ true → has_tei tei next ≡ true → ⊥))
 
   -- An event of TEI management: a TEI comes, or leaves, or none does.
-  module _ (received : List ℕ) (me : teis.Event) (fits : tei_laws.IsInRange me) where
+  module _ (me : teis.Event) (fits : tei_laws.IsInRange me) where
     abbrev m : Management
     m = teis.after me l.management
 
@@ -50,7 +50,7 @@ module _ (c : Config) (l : Line) (s : IsSound c l) (service : Service) (tei : �
     table = (tei_lemmas.sound-after me l.management fits s.management).table
 
     abbrev next : Option Change → Line
-    next o = (of_change c o (told_of_management (teis.told me l.management)) (record l { received = received; management = m })).line
+    next o = (of_change c o (told_of_management (teis.told me l.management)) (record l { management = m })).line
 
     abbrev Stays : Option Change → Type 0
     Stays o = Remains (next o)
@@ -88,11 +88,11 @@ module _ (c : Config) (l : Line) (s : IsSound c l) (service : Service) (tei : �
     own-start-none : StartNone service tei own_orders
     own-start-none = management-starts-none service tei (is_some l.management.check) own_orders (is_some m.check) (t201_follows me l.management)
 
-    pub starts-none : (o : Option Change) → StartNone service tei (of_change c o (told_of_management (teis.told me l.management)) (record l { received = received; management = m })).told.orders
+    pub starts-none : (o : Option Change) → StartNone service tei (of_change c o (told_of_management (teis.told me l.management)) (record l { management = m })).told.orders
     starts-none None = own-start-none
     starts-none (Some (Gained by place)) = own-start-none
     starts-none (Some (Left by place)) =
-        let at = record l { received = received; management = m } in
+        let at = record l { management = m } in
         let call = of_link c Call by place link.cleared at in
         let x = link_in at Call place in
         let y = link_in call.line Packet place in

@@ -12,7 +12,7 @@ use Rattle.lapd_tei.specs.Rows as rows
 use Rattle.lapd_tei.specs.Sound.{IsSound}
 use Rattle.lapd_tei.specs.Table.{free_place}
 use Rattle.lapd_tei.specs.Words as words
-use Rattle.lapd_tei.specs.Words.{Course, begun, no_room, with_message, lost_after}
+use Rattle.lapd_tei.specs.Words.{Course, begun, with_message}
 use Rattle.laws_trace.specs.Managing.{Checked, Managed, with_check, without, with_on, check_without, asked_again, ended_by}
 use Rattle.laws_trace.specs.TeisAgree.{IsTrue, AreTold, is_unanswered}
 use Rattle.laws_trace.proofs.ManagingTables.{on-coming}

@@ -13,7 +13,7 @@ use Rattle.lapd_tei.specs.Sound.{IsSound, IsSoundCheck}
 use Rattle.lapd_tei.specs.Table.{is_on}
 use Rattle.lapd_tei.specs.Words.{Course, no_room, with_message, lost_after}
 use Rattle.laws_trace.specs.Managing as managing
-use Rattle.laws_trace.specs.Managing.{Checked, Managed, may_check, with_check, without, with_on, check_without, answered_with, heard_with, noted_with, Said, asks, responds, verifies, asking, said_of_type, said_of, latest, asked_again, ended_by, is_for, answer, verified, owed_noted}
+use Rattle.laws_trace.specs.Managing.{Checked, Managed, check_without, noted_with, Said, asking, answer, owed_noted}
 use Rattle.laws_trace.specs.TeisAgree.{AreTold, is_doubled}
 
 abbrev pub is_second : Period → Bool

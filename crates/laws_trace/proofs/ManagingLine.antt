@@ -1,5 +1,5 @@
 -- What whoever watches a line knows of its TEIs, and which messages are owed: one event of a line.
-use Rattle.std.proofs.Common.{◌≡◌, ℕ, ◌==◌, Bool, true, false, cond, not, List, [], ◌∷◌, ◌++◌, map, drop, slice_get, All, fold, filter, flat_map, Option, Some, None, IfSome, is_some, option_map, option_to_list, refl, sym, ap, ◌∙◌, subst, append-nil, true≢false, inl, inr, arith}
+use Rattle.std.proofs.Common.{◌≡◌, ℕ, ◌==◌, Bool, true, false, cond, not, List, [], ◌∷◌, ◌++◌, map, drop, slice_get, All, fold, filter, flat_map, Option, Some, None, IfSome, is_some, option_map, refl, sym, ap, ◌∙◌, subst, append-nil, true≢false, inl, inr, arith}
 use Rattle.std.specs.Option.{option_map_or, unwrap_or}
 use Rattle.std.proofs.lemmas.List.Elements.{All-nil, All-cons}
 use Rattle.model_bits.specs.Stream as stream
@@ -17,8 +17,7 @@ use Rattle.lapd_frame.proofs.Spelling.{reading-again}
 use Rattle.lapd_tei.specs.Events as teis
 use Rattle.lapd_tei.specs.Machine.{Management}
 use Rattle.lapd_tei.specs.declared.messages.Message.{Message}
-use Rattle.lapd_tei.specs.Messages.{frame_of, information_of, heard_in}
-use Rattle.lapd_tei.specs.Rows as rows
+use Rattle.lapd_tei.specs.Messages.{frame_of, information_of}
 use Rattle.lapd_tei.specs.Table.{free_place}
 use Rattle.lapd_tei.specs.Words as words
 use Rattle.lapd_tei.specs.Words.{Course}
@@ -28,45 +27,44 @@ use Rattle.model_link.specs.declared.timers.LinkTimer.{LinkTimer}
 use Rattle.model_link.specs.declared.timers.LinkTimer.TheVariants as link_timer
 use Rattle.model_line.specs.declared.config.Config.{Config}
 use Rattle.model_line.specs.Effect.{Aim, at_none, at_link, at_management, of_aim}
-use Rattle.model_line.specs.Event.{Event, octet, expiry, request, pull, Answer, LineTold, told, refused, pulled, nothing}
+use Rattle.model_line.specs.Event.{Event, hears, expiry, request, next, NextFrame, Answer, LineTold, told, refused, gave, nothing}
 use Rattle.model_line.specs.Expiry.{at_timer}
 use Rattle.model_line.specs.Line.{Line, link_in, place_in, terms, has_tei, service_at}
 use Rattle.model_line.specs.Machine.{after, answer, unless_refused, unless_refused_told}
-use Rattle.model_line.specs.Octet.{gained, aim_of_heard, with_received, management_sapi}
-use Rattle.model_line.specs.Pull.{Taken, begun, taken, is_due, with_item, after_pull}
+use Rattle.model_line.specs.Heard.{aim_of_heard, management_sapi}
+use Rattle.model_line.specs.Taken.{Taken, taken, next_of, line_of}
 use Rattle.model_line.specs.Refusal.{refusal, wrong_side, bad_tei, no_link, tei_taken, table_full, check_running, control_full}
 use Rattle.model_line.specs.Request.{Request, Establish, Release, Data, Unit, Assign, Remove, Check, SetBusy, ClearBusy}
 use Rattle.model_line.specs.Requested.{at_requested, aim_of_request}
 use Rattle.model_line.specs.Sides.{group_told}
 use Rattle.model_line.specs.Sound.{IsSound}
 use Rattle.model_line.proofs.ProperAims.{heard_aims}
-use Rattle.model_card.specs.Pulled.{frame_taken, octet_in}
 use Rattle.laws_line.specs.Frames.{lost_in}
 use Rattle.laws_line.proofs.Asked.{passed}
-use Rattle.laws_line.specs.Pulls.{IsOwed, IsIdle, contents_of}
+use Rattle.laws_line.specs.Served.{IsOwed, IsIdle, contents_of}
 use Rattle.laws_line.proofs.LinkMoves.{IsOne, taken-one}
 use Rattle.laws_line.proofs.Serving.{served}
 use Rattle.laws_trace.specs.Managing.{Said, Managed, manage, heard_with, said_of, noted_with, verified, expired_with, owed_again, owed_granted, granted_with, owed_through, said_in}
 use Rattle.laws_trace.specs.MessagesAreOwed.{messages_begun, of_management, is_message}
 use Rattle.laws_trace.specs.TeisAgree.{AreTold, Agrees, AgreeThrough}
-use Rattle.laws_trace.specs.Trace as traces
-use Rattle.laws_trace.specs.Trace.{Seen, seen, seen_told, seen_granted, heard, put}
+use Rattle.laws_trace.specs.Trace.{frame_in, Seen, seen, seen_told, seen_granted, heard}
 use Rattle.laws_trace.proofs.ManagingNotes.{IsOther, link-others, others-change, noted-on, owed-on, told-on, behind, Cases, is_management, heard-cases}
 use Rattle.laws_trace.proofs.ReadAgain.{read-again}
 use Rattle.laws_trace.proofs.ManagingKnown.{Knows, seen_check, hearing, Few, twice-none, few-known, Tells, owed_notes}
 use Rattle.laws_trace.proofs.ManagingTeis.{serve-tells}
 use Rattle.laws_trace.proofs.ManagingChecks.{expire-tells, assign-tells, remove-tells, check-tells}
-use Rattle.laws_trace.proofs.Units.{pulled-frames}
+use Rattle.laws_trace.proofs.Units.{given-frames}
+use Rattle.laws_trace.specs.Trace as traces
 
 -- What is told in a moment, after what was known of it before: front is owed, and what is owed for the notes.
-pub record Leads (w : Managed) (m next : Management) (t : LineTold) (front : List Message) : Type 0 where
-  pub knows : Knows (hearing [] (fold noted_with w t.notes)) next
-  pub waits : next.waiting ≡ m.waiting ++ cond (t.lost == 0) (front ++ owed_notes w t.notes) []
+pub record Leads (w : Managed) (m new : Management) (t : LineTold) (front : List Message) : Type 0 where
+  pub knows : Knows (hearing [] (fold noted_with w t.notes)) new
+  pub waits : new.waiting ≡ m.waiting ++ cond (t.lost == 0) (front ++ owed_notes w t.notes) []
   pub told_is : AreTold w t.notes
 
-by-course : (w : Managed) (m next : Management) (t : LineTold) (front : List Message) (x : Course) → Tells w m x (front ++ owed_notes w x.told.notes) → next ≡ x.now
-    → (others : List Note) → All IsOther others → t.notes ≡ x.told.notes ++ others → t.lost ≡ x.told.lost → Leads w m next t front
-by-course w m next t front x h now others are notes lost = record {
+by-course : (w : Managed) (m new : Management) (t : LineTold) (front : List Message) (x : Course) → Tells w m x (front ++ owed_notes w x.told.notes) → new ≡ x.now
+    → (others : List Note) → All IsOther others → t.notes ≡ x.told.notes ++ others → t.lost ≡ x.told.lost → Leads w m new t front
+by-course w m new t front x h now others are notes lost = record {
   knows =
       subst (Knows (hearing [] (fold noted_with w t.notes))) (sym now)
       (subst (λ (v : Managed). Knows (hearing [] v) x.now) (sym (ap (fold noted_with w) notes ∙ noted-on w x.told.notes others are))
@@ -88,11 +86,11 @@ managed c l me w front h =
     by-course w l.management (of_aim c (at_management me) l).line.management (of_aim c (at_management me) l).told front x h b.stays b.others b.are b.notes b.lost
 
 -- No event of it.
-unmanaged : (w : Managed) (m next : Management) (t : LineTold) → Knows (hearing [] w) m → Few w.check → next ≡ m → All IsOther t.notes → Leads (hearing [] w) m next t []
-unmanaged w m next t h few now others =
+unmanaged : (w : Managed) (m new : Management) (t : LineTold) → Knows (hearing [] w) m → Few w.check → new ≡ m → All IsOther t.notes → Leads (hearing [] w) m new t []
+unmanaged w m new t h few now others =
     let x = others-change (hearing [] w) t.notes others in
     record {
-      knows = subst (λ (v : Managed). Knows (hearing [] v) next) (sym x.0) (subst (Knows (hearing [] w)) (sym now) h);
+      knows = subst (λ (v : Managed). Knows (hearing [] v) new) (sym x.0) (subst (Knows (hearing [] w)) (sym now) h);
       waits =
           ap (λ (m : Management). m.waiting) now ∙ sym (append-nil m.waiting)
           ∙ ap (λ xs. m.waiting ++ xs) (sym (either (t.lost == 0)) ∙ ap (λ xs. cond (t.lost == 0) xs []) (sym x.1));
@@ -127,17 +125,17 @@ module _ (c : Config) (l : Line) where
   asked-aims service tei asked (Some place) = link-aims service tei place (link.requested asked false)
 
 -- A moment's messages: those that wait before it and behind it, and those that it owes.
-pub record Moves (c : Config) (w : Managed) (before next : Management) (e : Event) (a : Answer) (t : List Seen) : Type 0 where
-  pub knows : Knows (fold (manage c) (expired_with e w) t) next
+pub record Moves (c : Config) (w : Managed) (before new : Management) (e : Event) (a : Answer) (t : List Seen) : Type 0 where
+  pub knows : Knows (fold (manage c) (expired_with e w) t) new
   pub quiet_is : fold (manage c) (expired_with e w) t ≡ hearing [] (fold (manage c) (expired_with e w) t)
-  pub waits : messages_begun c t ++ map (frame_of c.side) next.waiting ≡ map (frame_of c.side) (before.waiting ++ cond (lost_in a == 0) (owed_again e w ++ owed_through c (expired_with e w) t) [])
+  pub waits : messages_begun c t ++ map (frame_of c.side) new.waiting ≡ map (frame_of c.side) (before.waiting ++ cond (lost_in a == 0) (owed_again e w ++ owed_through c (expired_with e w) t) [])
   pub agrees : AgreeThrough c (expired_with e w) t
 
 -- What an answer shows, of an event that begins no frame.
-told-moves : (c : Config) (w : Managed) (m next : Management) (e : Event) (t : LineTold) (front : List Message) → owed_again e w ≡ front
-    → Leads (expired_with e w) m next t front → Moves c w m next e (told t) (seen_told (told t))
+told-moves : (c : Config) (w : Managed) (m new : Management) (e : Event) (t : LineTold) (front : List Message) → owed_again e w ≡ front
+    → Leads (expired_with e w) m new t front → Moves c w m new e (told t) (seen_told (told t))
 unfolding owed_through
-told-moves c w m next e t front again h = record {
+told-moves c w m new e t front again h = record {
   knows = h.knows;
   quiet_is = refl;
   waits =
@@ -146,10 +144,10 @@ told-moves c w m next e t front again h = record {
   agrees = (h.told_is, (tt, tt));
 }
 
-heard-moves : (c : Config) (w : Managed) (m next : Management) (value : ℕ) (e : stream.Event) (t : LineTold) → Leads (manage c w (heard e)) m next t (flat_map (verified w) (said_in c e))
-    → Moves c w m next (octet value) (told t) (heard e ∷ seen_told (told t))
+heard-moves : (c : Config) (w : Managed) (m new : Management) (e : stream.Event) (t : LineTold) → Leads (manage c w (heard e)) m new t (flat_map (verified w) (said_in c e))
+    → Moves c w m new (hears e) (told t) (heard e ∷ seen_told (told t))
 unfolding owed_through
-heard-moves c w m next value e t h = record {
+heard-moves c w m new e t h = record {
   knows = h.knows;
   quiet_is = refl;
   waits =
@@ -158,10 +156,10 @@ heard-moves c w m next value e t h = record {
   agrees = (tt, (h.told_is, (tt, tt)));
 }
 
-granted-moves : (c : Config) (w : Managed) (m next : Management) (r : Request) (t : LineTold) → Agrees w (traces.granted r) → Leads (hearing [] (granted_with r w)) m next t (owed_granted r)
-    → Moves c w m next (request r) (told t) (traces.granted r ∷ seen_told (told t))
+granted-moves : (c : Config) (w : Managed) (m new : Management) (r : Request) (t : LineTold) → Agrees w (traces.granted r) → Leads (hearing [] (granted_with r w)) m new t (owed_granted r)
+    → Moves c w m new (request r) (told t) (traces.granted r ∷ seen_told (told t))
 unfolding owed_through
-granted-moves c w m next r t agrees h = record {
+granted-moves c w m new r t agrees h = record {
   knows = h.knows;
   quiet_is = refl;
   waits =
@@ -174,7 +172,7 @@ none-moves : (c : Config) (w : Managed) (m : Management) (r : Request) (why : Re
 unfolding owed_through
 none-moves c w m r why h = record { knows = h; quiet_is = refl; waits = ap (map (frame_of c.side)) (sym (append-nil m.waiting)); agrees = tt }
 
--- An octet.
+-- What is heard.
 module _ (c : Config) (l : Line) (s : IsSound c l) (w : Managed) (h : Knows (hearing [] w) l.management) where
   abbrev v : Managed
   v = hearing [] w
@@ -185,46 +183,34 @@ module _ (c : Config) (l : Line) (s : IsSound c l) (w : Managed) (h : Knows (hea
   abbrev heard-now : Managed → List Said → Managed
   heard-now w said = fold heard_with (hearing said w) said
 
-  abbrev Hears : Line → ℕ → Aim → List Said → Type 0
-  Hears now value aim said = Leads (heard-now v said) now.management (of_aim c aim now).line.management (of_aim c aim now).told (flat_map (verified v) said)
+  abbrev Hears : Aim → List Said → Type 0
+  Hears aim said = Leads (heard-now v said) l.management (of_aim c aim l).line.management (of_aim c aim l).told (flat_map (verified v) said)
 
-  message-leads : (now : Line) → now.management ≡ l.management → (value : ℕ) (info : List ℕ) → Hears now value (at_management (teis.message info)) (said_of info)
+  message-leads : (info : List ℕ) → Hears (at_management (teis.message info)) (said_of info)
   unfolding teis.course teis.refusal
-  message-leads now same value info =
-      managed c now (teis.message info) (heard-now v (said_of info)) (flat_map (verified v) (said_of info))
-      (subst (λ (m : Management). let said = said_of info in let x = rows.serve (heard_in info) (words.begun m) in
-      Tells (heard-now v said) m x (flat_map (verified v) said ++ owed_notes (heard-now v said) x.told.notes)) (sym same)
-      (serve-tells v l.management h s.management info))
+  message-leads info = managed c l (teis.message info) (heard-now v (said_of info)) (flat_map (verified v) (said_of info)) (serve-tells v l.management h s.management info)
 
-  other-leads : (now : Line) → now.management ≡ l.management → (value : ℕ) (aim : Aim) → IsUnmanaged c now aim → Hears now value aim []
-  other-leads now same value aim x = unmanaged v now.management (of_aim c aim now).line.management (of_aim c aim now).told (subst (Knows (hearing [] v)) (sym same) h) few x.stays x.others
+  other-leads : (aim : Aim) → IsUnmanaged c l aim → Hears aim []
+  other-leads aim x = unmanaged v l.management (of_aim c aim l).line.management (of_aim c aim l).told h few x.stays x.others
 
-  octet-moves : (value : ℕ) → Moves c v l.management (after c (octet value) l).management (octet value) (answer c (octet value) l) (seen c (octet value) l (answer c (octet value) l))
+  heard-moves-on : (e : stream.Event) → Moves c v l.management (after c (hears e) l).management (hears e) (answer c (hears e) l) (seen (hears e) (answer c (hears e) l))
   unfolding after answer
-  octet-moves value = go (gained c.n201 l.received value)
+  heard-moves-on e = heard-moves c v l.management (of_aim c aim l).line.management e (of_aim c aim l).told (by-cases (heard-cases c l e))
     where
-      now : Line
-      now = with_received value l
+      aim : Aim
+      aim = aim_of_heard c l e
 
-      aim-is : stream.Event → Aim
-      aim-is e = aim_of_heard c l e
+      plain-aim : is_management (aim_of_heard c l e) ≡ false → IsUnmanaged c l (aim_of_heard c l e)
+      plain-aim none =
+          heard_aims c l (λ aim. is_management aim ≡ false → IsUnmanaged c l aim) (λ cause none. none-aims c l _ refl)
+          (λ service tei place what at none. link-aims c l service tei place (link.received what)) (λ info none. absurd (true≢false none)) (λ parts service to none. none-aims-unit c l service parts.info) e none
 
-      plain-aim : (e : stream.Event) → is_management (aim_of_heard c l e) ≡ false → IsUnmanaged c now (aim_of_heard c l e)
-      plain-aim e none =
-          heard_aims c l (λ aim. is_management aim ≡ false → IsUnmanaged c now aim) (λ cause none. none-aims c now _ refl)
-          (λ service tei place what at none. link-aims c now service tei place (link.received what)) (λ info none. absurd (true≢false none)) (λ parts service to none. none-aims-unit c now service parts.info) e none
-
-      by-cases : (e : stream.Event) → Cases (aim_of_heard c l e) (said_in c e) → Hears now value (aim_of_heard c l e) (said_in c e)
-      by-cases e (inl x) = subst (λ aim. Hears now value aim (said_in c e)) (sym x.aim_is) (subst (Hears now value (at_management (teis.message x.info))) (sym x.said_is) (message-leads now refl value x.info))
-      by-cases e (inr x) = subst (Hears now value (aim_of_heard c l e)) (sym x.said_is) (other-leads now refl value (aim_of_heard c l e) (plain-aim e x.aim_is))
-
-      go : (g : Option stream.Event) → let x = of_aim c (option_map_or (aim_of_heard c l) g (at_none nothing)) now in
-          Moves c v l.management x.line.management (octet value) (told x.told) (map heard (option_to_list g) ++ seen_told (told x.told))
-      go None = told-moves c v l.management l.management (octet value) nothing [] refl (unmanaged v l.management l.management nothing h few refl (All-nil IsOther))
-      go (Some e) = heard-moves c v l.management (of_aim c (aim_of_heard c l e) now).line.management value e (of_aim c (aim_of_heard c l e) now).told (by-cases e (heard-cases c l e))
+      by-cases : Cases (aim_of_heard c l e) (said_in c e) → Hears (aim_of_heard c l e) (said_in c e)
+      by-cases (inl x) = subst (λ aim. Hears aim (said_in c e)) (sym x.aim_is) (subst (Hears (at_management (teis.message x.info))) (sym x.said_is) (message-leads x.info))
+      by-cases (inr x) = subst (Hears (aim_of_heard c l e)) (sym x.said_is) (other-leads (aim_of_heard c l e) (plain-aim x.aim_is))
 
   -- An expiry.
-  expiry-moves : (timer : Timer) → Moves c v l.management (after c (expiry timer) l).management (expiry timer) (answer c (expiry timer) l) (seen c (expiry timer) l (answer c (expiry timer) l))
+  expiry-moves : (timer : Timer) → Moves c v l.management (after c (expiry timer) l).management (expiry timer) (answer c (expiry timer) l) (seen (expiry timer) (answer c (expiry timer) l))
   unfolding after answer teis.course teis.refusal
   expiry-moves (T200 service tei) =
       let aim = at_timer service tei link_timer.T200 (place_in l tei) in
@@ -305,7 +291,7 @@ module _ (c : Config) (l : Line) (s : IsSound c l) (w : Managed) (h : Knows (hea
         by-step (teis.check tei) (granted_with (Check tei) v) (owed_granted (Check tei)) (three _ _ _ _ _ _ unknown.0 running.0 full.0) (check-tells v l.management h s.management tei),
       )
 
-  request-moves : (r : Request) → Moves c v l.management (after c (request r) l).management (request r) (answer c (request r) l) (seen c (request r) l (answer c (request r) l))
+  request-moves : (r : Request) → Moves c v l.management (after c (request r) l).management (request r) (answer c (request r) l) (seen (request r) (answer c (request r) l))
   unfolding after answer
   request-moves r = go (refusal c false r l) refl
     where
@@ -314,35 +300,26 @@ module _ (c : Config) (l : Line) (s : IsSound c l) (w : Managed) (h : Knows (hea
       go None none = let x = grants r none in granted-moves c v l.management (of_aim c (aim_of_request r l) l).line.management r (of_aim c (aim_of_request r l) l).told x.0 x.1
       go (Some why) is = none-moves c v l.management r why h
 
-  -- A pull.
-  pull-shows : (o : Option Taken) (a : Answer) → let t = map traces.begun (option_to_list (option_map frame_taken o)) ++ map put (octet_in a) in
-      (fold (manage c) v t ≡ v) × (owed_through c v t ≡ []) × AgreeThrough c v t
+  -- A call for the next frame.
+  next-shows : (o : Option NextFrame) → let t = map traces.begun (frame_in (gave o)) in (fold (manage c) v t ≡ v) × (owed_through c v t ≡ []) × AgreeThrough c v t
   unfolding owed_through
-  pull-shows None (told u) = (refl, refl, tt)
-  pull-shows None (refused why) = (refl, refl, tt)
-  pull-shows None (pulled value is_begun orders) = (refl, refl, (tt, tt))
-  pull-shows (Some t) (told u) = (refl, refl, (tt, tt))
-  pull-shows (Some t) (refused why) = (refl, refl, (tt, tt))
-  pull-shows (Some t) (pulled value is_begun orders) = (refl, refl, (tt, (tt, tt)))
-
-  abbrev Keeps : Management → Type 0
-  Keeps m = Knows v m
+  next-shows None = (refl, refl, tt)
+  next-shows (Some f) = (refl, refl, (tt, tt))
 
   kept : (waiting : List Message) → Knows v (record l.management { waiting = waiting })
   kept waiting = record { on = h.on; held = h.held; check = h.check; order = h.order }
 
-  pull-knows : Knows v (after_pull c l).management
-  pull-knows = go (is_due l) (taken c l) (taken-one c l s)
+  next-knows : Knows v (option_map_or line_of (taken c l) l).management
+  next-knows = go (taken c l) (taken-one c l s)
     where
       took : (t : Taken) → IsOne c l t → Knows v t.line.management
       took t (inl x) = subst (λ (u : Taken). Knows v u.line.management) (sym x.1) (kept (drop 1 l.management.waiting))
       took t (inr (inl x)) = subst (λ (u : Taken). Knows v u.line.management) (sym x.1) h
       took t (inr (inr x)) = subst (λ (u : Taken). Knows v u.line.management) (sym x.is) h
 
-      go : (due : Bool) (o : Option Taken) → IfSome o (IsOne c l) → Knows v (cond due (with_item o l) l).management
-      go false o x = h
-      go true None x = h
-      go true (Some t) x = took t x
+      go : (o : Option Taken) → IfSome o (IsOne c l) → Knows v (option_map_or line_of o l).management
+      go None x = h
+      go (Some t) x = took t x
 
   message-is : (message : Message) → is_message c (frame_of c.side message) ≡ true
   message-is message =
@@ -360,40 +337,41 @@ module _ (c : Config) (l : Line) (s : IsSound c l) (w : Managed) (h : Knows (hea
   first-goes [] m is = absurd (cc is)
   first-goes (n ∷ ms) m is = let same : n ≡ m = cc is in ap (λ x. frame_of c.side x ∷ map (frame_of c.side) ms) (sym same)
 
-  pull-waits : (next : Line) (o : Option Taken) → elim o as (λ o. Type 0) [ None ↦ IsIdle c l next | Some t ↦ IsOwed c (contents_of l) l next t.frame ]
-      → filter (is_message c) (option_to_list (option_map frame_taken o)) ++ map (frame_of c.side) next.management.waiting ≡ map (frame_of c.side) l.management.waiting
-  pull-waits next None x = ap (λ (l : Line). map (frame_of c.side) l.management.waiting) x.line
-  pull-waits next (Some t) (inl x) =
-      ap (λ fs. fs ++ map (frame_of c.side) next.management.waiting) (kept-of t.frame true (ap (is_message c) x.spelled ∙ message-is x.message))
+  next-waits : (new : Line) (o : Option Taken) → elim o as (λ o. Type 0) [ None ↦ IsIdle c l new | Some t ↦ IsOwed c (contents_of l) l new t.frame ]
+      → filter (is_message c) (frame_in (gave (option_map next_of o))) ++ map (frame_of c.side) new.management.waiting ≡ map (frame_of c.side) l.management.waiting
+  next-waits new None x = ap (λ (l : Line). map (frame_of c.side) l.management.waiting) x.line
+  next-waits new (Some t) (inl x) =
+      ap (λ fs. fs ++ map (frame_of c.side) new.management.waiting) (kept-of t.frame true (ap (is_message c) x.spelled ∙ message-is x.message))
       ∙ ap (λ (l : Line). t.frame ∷ map (frame_of c.side) l.management.waiting) x.line ∙ ap (λ f. f ∷ map (frame_of c.side) (drop 1 l.management.waiting)) x.spelled
       ∙ first-goes l.management.waiting x.message x.oldest
-  pull-waits next (Some t) (inr (inl x)) =
-      ap (λ fs. fs ++ map (frame_of c.side) next.management.waiting) (kept-of t.frame false (ap (is_message c) x.spelled
+  next-waits new (Some t) (inr (inl x)) =
+      ap (λ fs. fs ++ map (frame_of c.side) new.management.waiting) (kept-of t.frame false (ap (is_message c) x.spelled
       ∙ read-again c.side (λ r. of_management r ≡ false) (record { sapi = sapi_of x.unit.service; command = true; tei = x.unit.tei }) (Ui false) (λ info. no-sapi x.unit.service) (λ fault. refl) x.unit.contents))
       ∙ ap (λ (l : Line). map (frame_of c.side) l.management.waiting) x.line
-  pull-waits next (Some t) (inr (inr x)) =
-      ap (λ fs. fs ++ map (frame_of c.side) next.management.waiting) (kept-of t.frame false (ap (is_message c) x.spelled
+  next-waits new (Some t) (inr (inr x)) =
+      ap (λ fs. fs ++ map (frame_of c.side) new.management.waiting) (kept-of t.frame false (ap (is_message c) x.spelled
       ∙ read-again c.side (λ r. of_management r ≡ false) (record { sapi = sapi_of (service_at x.number); command = x.command; tei = x.tei }) x.control (λ info. no-sapi (service_at x.number)) (λ fault. refl)
       (unwrap_or x.information [])))
       ∙ ap (λ (l : Line). map (frame_of c.side) l.management.waiting) x.line
 
-  pull-moves : Moves c v l.management (after c pull l).management pull (answer c pull l) (seen c pull l (answer c pull l))
+  next-moves : Moves c v l.management (after c next l).management next (answer c next l) (seen next (answer c next l))
   unfolding after answer
-  pull-moves =
-      let a = answer c pull l in
-      let shows = pull-shows (begun c l) a in
+  next-moves =
+      let o = option_map next_of (taken c l) in
+      let new = option_map_or line_of (taken c l) l in
+      let shows = next-shows o in
       record {
-        knows = subst (λ (u : Managed). Knows u (after_pull c l).management) (sym shows.0) pull-knows;
+        knows = subst (λ (u : Managed). Knows u new.management) (sym shows.0) next-knows;
         quiet_is = subst (λ (u : Managed). u ≡ hearing [] u) (sym shows.0) refl;
         waits =
-            ap (λ fs. filter (is_message c) fs ++ map (frame_of c.side) (after_pull c l).management.waiting) (pulled-frames (begun c l) a)
-            ∙ pull-waits (after c pull l) (begun c l) (served c l s)
+            ap (λ fs. filter (is_message c) fs ++ map (frame_of c.side) new.management.waiting) (given-frames o)
+            ∙ next-waits new (taken c l) (served c l s)
             ∙ ap (map (frame_of c.side)) (sym (append-nil l.management.waiting) ∙ ap (λ xs. l.management.waiting ++ xs) (sym shows.1));
         agrees = shows.2;
       }
 
-  pub event-moves : (e : Event) → Moves c v l.management (after c e l).management e (answer c e l) (seen c e l (answer c e l))
-  event-moves (octet value) = octet-moves value
+  pub event-moves : (e : Event) → Moves c v l.management (after c e l).management e (answer c e l) (seen e (answer c e l))
+  event-moves (hears what) = heard-moves-on what
   event-moves (expiry timer) = expiry-moves timer
   event-moves (request r) = request-moves r
-  event-moves pull = pull-moves
+  event-moves next = next-moves

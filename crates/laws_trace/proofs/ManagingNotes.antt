@@ -36,7 +36,7 @@ use Rattle.model_link.proofs.OwnNotes.{IsOwn, notes-own}
 use Rattle.model_line.specs.declared.config.Config.{Config}
 use Rattle.model_line.specs.Effect.{Aim, at_none, at_link, at_management, at_units, told_of_management, of_link, of_change}
 use Rattle.model_line.specs.Line.{Line, link_in, terms, place_in}
-use Rattle.model_line.specs.Octet.{management_sapi, group_tei, drop_for, at_place, to_service, addressed, message_of, aim_of_reading, unless_at_link, aim_of_long, aim_of_heard, heard_side}
+use Rattle.model_line.specs.Heard.{management_sapi, group_tei, drop_for, at_place, to_service, addressed, message_of, aim_of_reading, unless_at_link, aim_of_long, aim_of_heard, heard_side}
 use Rattle.model_line.specs.Sides.{managed_at, at_side, has_management}
 use Rattle.laws_trace.specs.Managing.{Said, Checked, Managed, asking, answer, said_of, is_message_to, said_by, said_in, noted_with, owed_noted}
 use Rattle.laws_trace.specs.TeisAgree.{IsTrue, AreTold, is_unanswered, is_removed, is_doubled}

@@ -28,9 +28,6 @@ pub on-coming : (places : Places) (place tei x : ℕ) → free_place places ≡ 
 on-coming places place tei x free = let at = free_place-is places place free in set-any x tei places place at.0 at.1
 
 -- A TEI that leaves.
-has-own : (x : ℕ) → has x (Some x) ≡ true
-has-own x = eq-eqb x x refl
-
 holder : (x : ℕ) (o : Option ℕ) → has x o ≡ true → o ≡ Some x
 holder x None is = absurd (true≢false (sym is))
 holder x (Some own) is = ap Some (eqb-true own x is)

@@ -17,7 +17,7 @@ use Rattle.lapd_tei.specs.Rows as rows
 use Rattle.lapd_tei.specs.Sound.{IsSound, IsSoundCheck}
 use Rattle.lapd_tei.specs.Table.{is_on, place_of, free_place, free_tei}
 use Rattle.lapd_tei.specs.Words as words
-use Rattle.lapd_tei.specs.Words.{Course, begun, no_room, with_message, lost_after}
+use Rattle.lapd_tei.specs.Words.{Course, begun, no_room, with_message}
 use Rattle.lapd_tei.proofs.Tables.{free_tei-is}
 use Rattle.laws_trace.specs.Managing.{Checked, Managed, may_check, with_check, without, check_without, answered_with, heard_with, noted_with, Said, asks, responds, verifies, said_of_type, said_of, latest, is_for, answer, verified}
 use Rattle.laws_trace.specs.TeisAgree.{IsTrue, AreTold}

@@ -20,9 +20,8 @@ use Rattle.model_line.specs.Event.{Answer, refused}
 use Rattle.model_line.specs.Line.{Line, fresh_line}
 use Rattle.model_line.specs.Machine as lines
 use Rattle.model_line.specs.Sound as line
-use Rattle.laws_line.specs.Drains.{most_pulls}
+use Rattle.laws_line.specs.Drains.{most_frames}
 use Rattle.laws_line.specs.Frames.{lost_in}
-use Rattle.laws_line.specs.Pulls.{HasNothing}
 use Rattle.model_card.specs.Card.{Card, fresh, line_at, is_full}
 use Rattle.model_card.specs.Event.{Event}
 use Rattle.model_card.specs.Machine.{after, answer}
@@ -30,37 +29,36 @@ use Rattle.model_card.specs.Run.{moments, after_all, IsAtLine, AreAtLines}
 use Rattle.model_card.specs.Sound as card_sound
 use Rattle.model_card.proofs.CardSound.{after_is_sound, fresh_is_sound, cards_stay_sound}
 use Rattle.model_card.proofs.Steps.{has_lines, by_room, line_sound as sound-at}
-use Rattle.laws_card.specs.Among.{ArePullsAt, pulls_at}
-use Rattle.laws_card.proofs.Enough.{enough-pulls}
-use Rattle.laws_card.proofs.Wherever.{begins-with-few, config-stays}
+use Rattle.laws_card.specs.Among.{AreTakesAt, takes_at}
+use Rattle.laws_card.proofs.Wherever.{config-stays}
 use Rattle.laws_trace.specs.Managing.{Managed, none_on, is_on, manage, expired_with, owed_again, owed_through}
 use Rattle.laws_trace.specs.TeisAgree.{AgreeThrough, AreAgreed, TeisAgree, HeldForOne}
 use Rattle.laws_trace.specs.MessagesAreOwed.{led, owed, is_message, messages_begun, all_owed, MessagesAreOwed, AllMessagesGoOut}
-use Rattle.laws_trace.specs.Trace as traces
 use Rattle.laws_trace.specs.Trace.{Seen, seen, trace, trace_of, frames_begun, Always}
 use Rattle.laws_trace.proofs.ManagingLine.{Moves, event-moves}
 use Rattle.laws_trace.proofs.ManagingKnown.{Knows, hearing}
-use Rattle.laws_trace.proofs.PullRuns.{apart}
-use Rattle.laws_trace.proofs.UnitsGoOut.{after-both}
+use Rattle.laws_trace.proofs.CallRuns.{apart}
+use Rattle.laws_trace.proofs.WaitedBegins.{drained}
+use Rattle.laws_trace.specs.Trace as traces
 
 -- A request that finds the pool full moves nothing.
 refused-moves : (c : Config) (e : line_event.Event) (l : Line) (w : Managed) → lines.takes_slot c e l ≡ true → Knows (hearing [] w) l.management
-    → Moves c (hearing [] w) l.management l.management e (refused PoolFull) (seen c e l (refused PoolFull))
+    → Moves c (hearing [] w) l.management l.management e (refused PoolFull) (seen e (refused PoolFull))
 unfolding lines.takes_slot owed_through
-refused-moves c (line_event.octet value) l w takes h = absurd (true≢false (sym takes))
+refused-moves c (line_event.hears what) l w takes h = absurd (true≢false (sym takes))
 refused-moves c (line_event.expiry timer) l w takes h = absurd (true≢false (sym takes))
 refused-moves c (line_event.request r) l w takes h = record { knows = h; quiet_is = refl; waits = ap (map (frame_of c.side)) (sym (append-nil l.management.waiting)); agrees = tt }
-refused-moves c line_event.pull l w takes h = absurd (true≢false (sym takes))
+refused-moves c line_event.next l w takes h = absurd (true≢false (sym takes))
 
 own-line : (k : Card) (e : Event) (w : Managed) → card_sound.IsSound k → IsAtLine k e → let l = line_at e.line k in Knows (hearing [] w) l.management
-    → Moves k.config (hearing [] w) l.management (line_at e.line (after e k)).management e.what (answer e k) (seen k.config e.what l (answer e k))
+    → Moves k.config (hearing [] w) l.management (line_at e.line (after e k)).management e.what (answer e k) (seen e.what (answer e k))
 own-line k e w s at-line h =
     let c = k.config in
     let l = line_at e.line k in
-    by_room (λ ls a. Moves c (hearing [] w) l.management (get_or ls e.line (fresh_line c)).management e.what a (seen c e.what l a)) e k
+    by_room (λ ls a. Moves c (hearing [] w) l.management (get_or ls e.line (fresh_line c)).management e.what a (seen e.what a)) e k
     (λ full. refused-moves c e.what l w (and_parts (lines.takes_slot c e.what l) (is_full k) full).0 h)
     (λ room.
-    subst (λ (x : Line). Moves c (hearing [] w) l.management x.management e.what (lines.answer c e.what l) (seen c e.what l (lines.answer c e.what l)))
+    subst (λ (x : Line). Moves c (hearing [] w) l.management x.management e.what (lines.answer c e.what l) (seen e.what (lines.answer c e.what l)))
     (sym (get_or-set_same k.lines e.line (lines.after c e.what l) (fresh_line c) (omega (arith, s.count, at-line))))
     (event-moves c l (sound-at k e.line (has_lines k s) at-line) w h e.what))
 
@@ -71,15 +69,15 @@ known-by b e w = cond b (expired_with e w) w
 abbrev owed-by : Config → Bool → line_event.Event → Answer → Managed → List Seen → List Message
 owed-by c b e a w t = cond (lost_in a == 0) (cond b (owed_again e w) [] ++ owed_through c (known-by b e w) t) []
 
-record Passes (c : Config) (b : Bool) (w : Managed) (before next : Management) (e : line_event.Event) (a : Answer) (t : List Seen) : Type 0 where
-  knows : Knows (fold (manage c) (known-by b e w) t) next
-  quiet_is : fold (manage c) (known-by b e w) t ≡ hearing [] (fold (manage c) (known-by b e w) t)
-  waits : messages_begun c t ++ map (frame_of c.side) next.waiting ≡ map (frame_of c.side) (before.waiting ++ owed-by c b e a w t)
-  agrees : AgreeThrough c (known-by b e w) t
+pub record Passes (c : Config) (b : Bool) (w : Managed) (before next : Management) (e : line_event.Event) (a : Answer) (t : List Seen) : Type 0 where
+  pub knows : Knows (fold (manage c) (known-by b e w) t) next
+  pub quiet_is : fold (manage c) (known-by b e w) t ≡ hearing [] (fold (manage c) (known-by b e w) t)
+  pub waits : messages_begun c t ++ map (frame_of c.side) next.waiting ≡ map (frame_of c.side) (before.waiting ++ owed-by c b e a w t)
+  pub agrees : AgreeThrough c (known-by b e w) t
 
-moment : (k : Card) (e : Event) (number : ℕ) (w : Managed) → card_sound.IsSound k → IsAtLine k e → Knows (hearing [] w) (line_at number k).management → (b : Bool) → (e.line == number) ≡ b
+pub moment : (k : Card) (e : Event) (number : ℕ) (w : Managed) → card_sound.IsSound k → IsAtLine k e → Knows (hearing [] w) (line_at number k).management → (b : Bool) → (e.line == number) ≡ b
     → Passes k.config b (hearing [] w) (line_at number k).management (line_at number (after e k)).management e.what (answer e k)
-    (cond b (seen k.config e.what (line_at number k) (answer e k)) [])
+    (cond b (seen e.what (answer e k)) [])
 unfolding owed_through
 moment k e number w s at-line h false other =
     let same = apart k e number (λ same. true≢false (sym (eq-eqb e.line number (sym same)) ∙ other)) in
@@ -97,11 +95,11 @@ moment k e number w s at-line h false other =
     either false = refl
 moment k e number w s at-line h true is =
     let same = eqb-true e.line number is in
-    subst (λ n. Passes k.config true (hearing [] w) (line_at n k).management (line_at n (after e k)).management e.what (answer e k) (seen k.config e.what (line_at n k) (answer e k))) same
+    subst (λ n. Passes k.config true (hearing [] w) (line_at n k).management (line_at n (after e k)).management e.what (answer e k) (seen e.what (answer e k))) same
     (of-moves (own-line k e w s at-line (subst (λ n. Knows (hearing [] w) (line_at n k).management) (sym same) h)))
   where
-    of-moves : Moves k.config (hearing [] w) (line_at e.line k).management (line_at e.line (after e k)).management e.what (answer e k) (seen k.config e.what (line_at e.line k) (answer e k))
-        → Passes k.config true (hearing [] w) (line_at e.line k).management (line_at e.line (after e k)).management e.what (answer e k) (seen k.config e.what (line_at e.line k) (answer e k))
+    of-moves : Moves k.config (hearing [] w) (line_at e.line k).management (line_at e.line (after e k)).management e.what (answer e k) (seen e.what (answer e k))
+        → Passes k.config true (hearing [] w) (line_at e.line k).management (line_at e.line (after e k)).management e.what (answer e k) (seen e.what (answer e k))
     of-moves x = record { knows = x.knows; quiet_is = x.quiet_is; waits = x.waits; agrees = x.agrees }
 
 -- One thing behind the other.
@@ -130,7 +128,7 @@ run k (e ∷ events) number w s all h =
     let at-line = All-head (IsAtLine k) e events all in
     let later = after e k in
     let b = e.line == number in
-    let first = cond b (seen k.config e.what (line_at number k) (answer e k)) [] in
+    let first = cond b (seen e.what (answer e k)) [] in
     let rest = trace number (moments later events) in
     let x = moment k e number w s at-line h b refl in
     let v = fold (manage k.config) (known-by b e.what (hearing [] w)) first in
@@ -152,12 +150,8 @@ none-there : (x n : ℕ) → table.is_on x (replicate n None) ≡ false
 none-there x zero = refl
 none-there x (suc n) = none-there x n
 
-fresh-known : (c : Config) → Knows (hearing [] none_on) (fresh_line c).management
+pub fresh-known : (c : Config) → Knows (hearing [] none_on) (fresh_line c).management
 fresh-known c = record { on = λ tei. sym (none-there tei c.terminals); held = refl; check = refl; order = tt }
-
-no-messages : (c : Config) (card : Card) (number : ℕ) → HasNothing c (line_at number (after_all card [])) → (line_at number card).management.waiting ≡ []
-unfolding after_all
-no-messages c card number h = h.messages
 
 module _ (c : Config) (events : List Event) (number : ℕ) (ranged : line.IsInRange c) (all : AreAtLines (fresh c) events) (within : number < c.lines) where
   start : line_at number (fresh c) ≡ fresh_line c
@@ -175,19 +169,13 @@ module _ (c : Config) (events : List Event) (number : ℕ) (ranged : line.IsInRa
   pub front : MessagesAreOwed c events number
   front = record { rest = map (frame_of c.side) end.management.waiting; whole_is = sym passes }
 
-  nothing-left : (before pulls : List Event) → events ≡ before ++ pulls → ArePullsAt number pulls → most_pulls c ≤ pulls_at number pulls → end.management.waiting ≡ []
-  nothing-left before pulls split only enough =
-      let kept = config-stays (fresh c) before in
-      let idle = (enough-pulls (fresh c) events (fresh_is_sound c ranged) all number within (begins-with-few c number within)).ends before pulls split
-      pulls [] (sym (append-nil pulls)) only (subst (λ c. most_pulls c ≤ pulls_at number pulls) (sym kept) enough) in
-      ap (λ events. (line_at number (after_all (fresh c) events)).management.waiting) split
-      ∙ ap (λ card. (line_at number card).management.waiting) (after-both (fresh c) before pulls)
-      ∙ no-messages (after_all (after_all (fresh c) before) pulls).config (after_all (after_all (fresh c) before) pulls) number idle.nothing
+  nothing-left : (before calls : List Event) → events ≡ before ++ calls → AreTakesAt number calls → most_frames c ≤ takes_at number calls → end.management.waiting ≡ []
+  nothing-left before calls split only enough = (drained c events number ranged all within before calls split only enough).messages
 
   pub whole : AllMessagesGoOut c events number
-  whole before pulls split only enough =
+  whole before calls split only enough =
       sym (append-nil (messages_begun c (trace_of c events number)))
-      ∙ ap (λ ms. messages_begun c (trace_of c events number) ++ map (frame_of c.side) ms) (sym (nothing-left before pulls split only enough)) ∙ passes
+      ∙ ap (λ ms. messages_begun c (trace_of c events number) ++ map (frame_of c.side) ms) (sym (nothing-left before calls split only enough)) ∙ passes
 
 pub messages-are-owed : Always MessagesAreOwed
 messages-are-owed c events number ranged all within = front c events number ranged all within

@@ -1,6 +1,6 @@
--- Messages of TEI management come first, then unit data, then frames of links: in pulls alone.
+-- Messages of TEI management come first, then unit data, then frames of links: in calls alone.
 use Rattle.std.proofs.Common.{◌≡◌, ℕ, ◌≤◌, ◌<◌, true, false, cond, List, [], ◌∷◌, ◌++◌, slice_get, Option, Some, None, option_map, refl, sym, ap, ◌∙◌, subst, inl, inr, arith}
-use Rattle.std.specs.Prelude.{All, option_to_list}
+use Rattle.std.specs.Prelude.{All}
 use Rattle.std.specs.Option.{unwrap_or}
 use Rattle.std.proofs.lemmas.List.Elements.{All-nil, All-cons, All-head}
 use Rattle.lapd_frame.specs.declared.addresses.Side.{Side}
@@ -11,30 +11,29 @@ use Rattle.lapd_frame.specs.declared.services.Service.TheVariants.{Call, Packet}
 use Rattle.lapd_frame.specs.Services.{sapi_of}
 use Rattle.lapd_tei.specs.Messages.{information_of}
 use Rattle.model_line.specs.declared.config.Config.{Config}
-use Rattle.model_line.specs.Event.{pull}
+use Rattle.model_line.specs.Event.{next, gave}
 use Rattle.model_line.specs.Line.{Line, service_at}
 use Rattle.model_line.specs.Machine.{after, answer}
-use Rattle.model_line.specs.Pull.{Taken, begun}
+use Rattle.model_line.specs.Taken.{Taken, taken, next_of}
 use Rattle.model_line.specs.Sound.{IsSound}
-use Rattle.model_card.specs.Pulled.{frame_taken}
 use Rattle.model_card.specs.Card.{fresh}
 use Rattle.model_card.specs.Run.{moments, after_all}
 use Rattle.laws_card.proofs.Wherever.{all-right, config-stays}
-use Rattle.laws_line.specs.Pulls.{IsMessage, IsUnit, IsOfLink, IsOwed, IsIdle, contents_of}
+use Rattle.laws_line.specs.Served.{IsMessage, IsUnit, IsOfLink, IsOwed, IsIdle, contents_of}
 use Rattle.laws_line.proofs.Serving.{served}
 use Rattle.laws_trace.specs.LinksTakeTurns.{is_of_a_link}
 use Rattle.laws_trace.specs.MessagesComeFirst.{rank, AreByRank, MessagesComeFirst}
-use Rattle.laws_trace.specs.Trace.{Always, seen, frames_begun, trace}
+use Rattle.laws_trace.specs.Trace.{frame_in, Always, seen, frames_begun, trace}
 use Rattle.laws_trace.specs.Units.{is_unit}
-use Rattle.laws_trace.proofs.PullRuns.{pulled-behind}
+use Rattle.laws_trace.proofs.CallRuns.{called-behind}
 use Rattle.laws_trace.proofs.Reading.{other-frame, unit-is}
 use Rattle.laws_trace.proofs.Turns.{link-frame, ui-frame}
-use Rattle.laws_trace.proofs.Units.{NoneWaits, pulled-frames, plain-order, first-of}
+use Rattle.laws_trace.proofs.Units.{NoneWaits, plain-order, first-of, given-frames}
 
 abbrev AtLeast : Side → ℕ → List ℕ → Type 0
 AtLeast side n frame = n ≤ rank side frame
 
--- What pulls of a line begin: where no message waits, none; where no unit data waits either, frames of links alone.
+-- What calls of a line begin: where no message waits, none; where no unit data waits either, frames of links alone.
 pub record ByRank (c : Config) (l : Line) (frames : List (List ℕ)) : Type 0 where
   pub ranked : AreByRank c.side frames
   pub units : l.management.waiting ≡ [] → All (AtLeast c.side 1) frames
@@ -70,18 +69,18 @@ none-first [] x is none = cc is
 none-first (y ∷ xs) x is none = cc none
 
 module _ (c : Config) (l : Line) (s : IsSound c l) (plain : NoneWaits c l) (frames : List (List ℕ)) where
-  abbrev next : Line
-  next = after c pull l
+  abbrev new : Line
+  new = after c next l
 
-  idle-pull : IsIdle c l next → ByRank c next frames → ByRank c l frames
-  idle-pull x h = record {
+  of-none : IsIdle c l new → ByRank c new frames → ByRank c l frames
+  of-none x h = record {
     ranked = h.ranked;
     units = λ m. h.units ((ap (λ (l : Line). l.management.waiting) x.line) ∙ m);
     links = λ m u. h.links ((ap (λ (l : Line). l.management.waiting) x.line) ∙ m) ((ap (λ (l : Line). l.units) x.line) ∙ u);
   }
 
-  message-pull : (frame : List ℕ) → IsMessage c l next frame → ByRank c next frames → ByRank c l (frame ∷ frames)
-  message-pull frame x h =
+  of-message : (frame : List ℕ) → IsMessage c l new frame → ByRank c new frames → ByRank c l (frame ∷ frames)
+  of-message frame x h =
       let a : Address = record { sapi = 63; command = true; tei = 127 } in
       let of_link : is_of_a_link c.side frame ≡ false = ap (is_of_a_link c.side) x.spelled ∙ ui-frame c.side a (information_of x.message) (omega arith) (omega arith) refl in
       let unit : is_unit c.side frame ≡ false = ap (is_unit c.side) x.spelled ∙ other-frame c.side a (Ui false) refl (information_of x.message) in
@@ -92,8 +91,8 @@ module _ (c : Config) (l : Line) (s : IsSound c l) (plain : NoneWaits c l) (fram
         links = λ m u. absurd (none-first l.management.waiting x.message x.oldest m);
       }
 
-  unit-pull : (frame : List ℕ) → IsUnit c l next frame → ByRank c next frames → ByRank c l (frame ∷ frames)
-  unit-pull frame x h =
+  of-unit : (frame : List ℕ) → IsUnit c l new frame → ByRank c new frames → ByRank c l (frame ∷ frames)
+  of-unit frame x h =
       let small = first-of c l.units x.unit x.oldest s.units in
       let a : Address = record { sapi = sapi_of x.unit.service; command = true; tei = x.unit.tei } in
       let of_link : is_of_a_link c.side frame ≡ false = ap (is_of_a_link c.side) x.spelled ∙ ui-frame c.side a x.unit.contents (small-sapi x.unit.service) (omega (arith, small)) refl in
@@ -106,10 +105,10 @@ module _ (c : Config) (l : Line) (s : IsSound c l) (plain : NoneWaits c l) (fram
         links = λ m u. absurd (none-first l.units x.unit x.oldest u);
       }
 
-  link-pull : (frame : List ℕ) → IsOfLink c (contents_of l) l next frame → ByRank c next frames → ByRank c l (frame ∷ frames)
-  link-pull frame x h =
+  of-link : (frame : List ℕ) → IsOfLink c (contents_of l) l new frame → ByRank c new frames → ByRank c l (frame ∷ frames)
+  of-link frame x h =
       let a : Address = record { sapi = sapi_of (service_at x.number); command = x.command; tei = x.tei } in
-      let of_link : is_of_a_link c.side frame ≡ true = ap (is_of_a_link c.side) x.spelled ∙ link-frame c.side a x.control (plain-order c l next frame plain x) (unwrap_or x.information []) in
+      let of_link : is_of_a_link c.side frame ≡ true = ap (is_of_a_link c.side) x.spelled ∙ link-frame c.side a x.control (plain-order c l new frame plain x) (unwrap_or x.information []) in
       let two : rank c.side frame ≡ 2 = ap (λ b. cond b 2 (cond (is_unit c.side frame) 1 0)) of_link in
       let behind : All (AtLeast c.side 2) frames = h.links ((ap (λ (l : Line). l.management.waiting) x.line) ∙ x.its_turn.no_message) ((ap (λ (l : Line). l.units) x.line) ∙ x.its_turn.no_unit) in
       record {
@@ -118,18 +117,19 @@ module _ (c : Config) (l : Line) (s : IsSound c l) (plain : NoneWaits c l) (fram
         links = λ m u. All-cons (AtLeast c.side 2) frame frames (omega (arith, two)) behind;
       }
 
-  by-pull : (o : Option Taken) → elim o as (λ o. Type 0) [ None ↦ IsIdle c l next | Some t ↦ IsOwed c (contents_of l) l next t.frame ]
-      → ByRank c next frames → ByRank c l (option_to_list (option_map frame_taken o) ++ frames)
-  by-pull None x h = idle-pull x h
-  by-pull (Some t) (inl x) h = message-pull t.frame x h
-  by-pull (Some t) (inr (inl x)) h = unit-pull t.frame x h
-  by-pull (Some t) (inr (inr x)) h = link-pull t.frame x h
+  by-next : (o : Option Taken) → elim o as (λ o. Type 0) [ None ↦ IsIdle c l new | Some t ↦ IsOwed c (contents_of l) l new t.frame ]
+      → ByRank c new frames → ByRank c l (frame_in (gave (option_map next_of o)) ++ frames)
+  by-next None x h = of-none x h
+  by-next (Some t) (inl x) h = of-message t.frame x h
+  by-next (Some t) (inr (inl x)) h = of-unit t.frame x h
+  by-next (Some t) (inr (inr x)) h = of-link t.frame x h
 
-  pub pull-ranks : ByRank c next frames → ByRank c l (frames_begun (seen c pull l (answer c pull l)) ++ frames)
-  pull-ranks h = subst (λ fs. ByRank c l (fs ++ frames)) (sym (pulled-frames (begun c l) (answer c pull l))) (by-pull (begun c l) (served c l s) h)
+  pub next-ranks : ByRank c new frames → ByRank c l (frames_begun (seen next (answer c next l)) ++ frames)
+  unfolding answer
+  next-ranks h = subst (λ fs. ByRank c l (fs ++ frames)) (sym (given-frames (option_map next_of (taken c l)))) (by-next (taken c l) (served c l s) h)
 
 pub messages-come-first : Always MessagesComeFirst
-messages-come-first c events number ranged all within before pulls split only =
+messages-come-first c events number ranged all within before calls split only =
     let card = after_all (fresh c) before in
-    subst (λ (c : Config). AreByRank c.side (frames_begun (trace number (moments card pulls)))) (config-stays (fresh c) before)
-    (pulled-behind ByRank nothing-begun (λ c ranged l s plain frames h. pull-ranks c l s plain frames h) c events number ranged all within before pulls split only).ranked
+    subst (λ (c : Config). AreByRank c.side (frames_begun (trace number (moments card calls)))) (config-stays (fresh c) before)
+    (called-behind ByRank nothing-begun (λ c ranged l s plain frames h. next-ranks c l s plain frames h) c events number ranged all within before calls split only).ranked

@@ -26,8 +26,10 @@ use Rattle.laws_link.specs.States.{as_heard, state_after, moves}
 use Rattle.laws_link.specs.Waiting.{is_time}
 use Rattle.laws_link.proofs.Follows.{event-follows}
 use Rattle.laws_trace.specs.Trace.{is_up}
-use Rattle.laws_trace.specs.LinksMove.{steps, is_invalid, by_frame, by_expiry, one_more}
-use Rattle.laws_trace.specs.TimersAreTimely.{Known, awaits}
+use Rattle.laws_trace.specs.Observer.{steps}
+use Rattle.laws_trace.proofs.MovesWatched.{is_invalid, by_frame, by_expiry}
+use Rattle.laws_trace.specs.States.{one_more}
+use Rattle.laws_trace.proofs.TimersWatched.{Known, awaits}
 use Rattle.laws_trace.proofs.TimerClaims.{IsKnown, Agrees}
 use Rattle.laws_trace.proofs.TimerRows.{in_state}
 use Rattle.laws_trace.proofs.TimersAreTimely.{by-state}

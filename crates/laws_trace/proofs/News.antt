@@ -11,7 +11,7 @@ use Rattle.lapd_frame.specs.declared.services.Service.{Service}
 use Rattle.model_link.specs.Link.{Link, fresh as fresh_link}
 use Rattle.model_line.specs.declared.config.Config.{Config}
 use Rattle.model_line.specs.Event as line_event
-use Rattle.model_line.specs.Event.{octet, expiry, request, pull, Answer, refused}
+use Rattle.model_line.specs.Event.{hears, expiry, request, next, Answer, refused}
 use Rattle.model_line.specs.Line.{Line, fresh_line, link_of, link_in, state_of}
 use Rattle.model_line.specs.Machine as lines
 use Rattle.model_line.specs.Request.{Request, Establish, Release, Data, Assign, Remove, Check, SetBusy, ClearBusy}
@@ -26,12 +26,14 @@ use Rattle.laws_card.specs.Timers.{AllHaveTheirTimers}
 use Rattle.laws_card.proofs.TimersRun.{timely-after, begins-timely-card}
 use Rattle.laws_line.specs.Heard.{notes_of}
 use Rattle.laws_line.proofs.TimersFollow.{nowhere}
-use Rattle.laws_trace.specs.News.{is_news, is_sabme, is_xid, establishes, releases, asked, Owing, none_owed, owing, due, NewsIsTold}
-use Rattle.laws_trace.specs.TimersAreTimely.{brings, Known, watch, is_state, differ}
+use Rattle.laws_trace.specs.News.{is_news, is_sabme, is_xid, releases}
+use Rattle.laws_trace.proofs.NewsWatched.{establishes, asked, Owing, none_owed, owing, due, NewsIsTold}
+use Rattle.laws_trace.proofs.TimersWatched.{brings, Known, watch}
+use Rattle.laws_trace.specs.States.{is_state, differ}
 use Rattle.laws_trace.specs.Trace.{seen, Always}
 use Rattle.laws_trace.proofs.LinksMove.{differ-self}
 use Rattle.laws_trace.proofs.NewsOfLink.{Asks}
-use Rattle.laws_trace.proofs.PullRuns.{apart}
+use Rattle.laws_trace.proofs.CallRuns.{apart}
 use Rattle.laws_trace.proofs.OwedOfEvent.{IsOwed, known-owes, five-owes}
 use Rattle.laws_trace.proofs.TimersAreTimely.{moment-known, begins-true, sound-now, config-now, front-at, itself}
 use Rattle.laws_trace.proofs.TimersOfEvent.{IsTrueOf}
@@ -72,12 +74,12 @@ module _ (service : Service) (tei number : ℕ) where
     IsDue x b =
         (from : ℕ) → state_of service tei l ≡ Some from →
         filter (is_news service tei) (notes_of b)
-        ≡ due service tei was (list_any (brings is_xid card.config service tei) (seen card.config e.what l b)) (list_any (brings is_sabme card.config service tei) (seen card.config e.what l b)) (releases service tei e.what b) outstanding from (unwrap_or (state_of service tei x) 4)
+        ≡ due service tei was (list_any (brings is_xid card.config service tei) (seen e.what b)) (list_any (brings is_sabme card.config service tei) (seen e.what b)) (releases service tei e.what b) outstanding from (unwrap_or (state_of service tei x) 4)
 
     refused-due : (what : line_event.Event) → lines.takes_slot card.config what l ≡ true → (from to : ℕ) → from ≡ to
-        → [] ≡ due service tei was (list_any (brings is_xid card.config service tei) (seen card.config what l (refused PoolFull))) (list_any (brings is_sabme card.config service tei) (seen card.config what l (refused PoolFull))) (releases service tei what (refused PoolFull)) outstanding from to
+        → [] ≡ due service tei was (list_any (brings is_xid card.config service tei) (seen what (refused PoolFull))) (list_any (brings is_sabme card.config service tei) (seen what (refused PoolFull))) (releases service tei what (refused PoolFull)) outstanding from to
     unfolding lines.takes_slot
-    refused-due (octet value) takes from to same = absurd (true≢false (sym takes))
+    refused-due (hears what) takes from to same = absurd (true≢false (sym takes))
     refused-due (expiry timer) takes from to same = absurd (true≢false (sym takes))
     refused-due (request r) takes from to same =
         sym (ap (λ b. due service tei was false false b outstanding from to) (no-release r) ∙ ap (λ n. due service tei was false false false outstanding n to) same ∙ nothing-due to)
@@ -100,7 +102,7 @@ module _ (service : Service) (tei number : ℕ) where
             go true is y other = subst (λ n. due service tei was false false false outstanding n n ≡ []) (sym (eqb-true n 7 is)) refl
             go false is true other = subst (λ n. due service tei was false false false outstanding n n ≡ []) (sym (eqb-true n 4 other)) refl
             go false is false other = rw (is, other) refl
-    refused-due pull takes from to same = absurd (true≢false (sym takes))
+    refused-due next takes from to same = absurd (true≢false (sym takes))
 
     pub own-due : IsDue (line_at e.line (after e card)) (answer e card)
     own-due =
@@ -161,18 +163,18 @@ module _ (service : Service) (tei number : ℕ) where
     moment-stands : (was : Bool) (w : Owing) → Stands was w (line_at number card) → Stands (asked service tei number was m) (owing card.config service tei number w m) later
     moment-stands was w h = (moment-asked was h.0 w.outstanding h.2, known, go (is_state 5 (state_of service tei later)) refl)
       where
-        next : Known
-        next = watch card.config service tei number w.known m
+        new : Known
+        new = watch card.config service tei number w.known m
 
-        known : IsTrueOf service tei next later
+        known : IsTrueOf service tei new later
         known = moment-known service tei number card s timely e here w.known h.1
 
         sound-later : card_sound.IsSound (after e card)
         sound-later = after_is_sound card e s here
 
-        go : (b : Bool) → is_state 5 (state_of service tei later) ≡ b → IsOwed service tei (cond b w.outstanding (not (next.next == next.acknowledged))) later
+        go : (b : Bool) → is_state 5 (state_of service tei later) ≡ b → IsOwed service tei (cond b w.outstanding (not (new.next == new.acknowledged))) later
         go true in_5 = five-stays w.known h.1 w.outstanding h.2 in_5
-        go false off = known-owes card.config s.config later (line_sound (after e card) number (has_lines (after e card) sound-later) within) service tei next known off
+        go false off = known-owes card.config s.config later (line_sound (after e card) number (has_lines (after e card) sound-later) within) service tei new known off
 
   run-stands : (card : Card) (events : List Event) → card_sound.IsSound card → AllHaveTheirTimers card → AreAtLines card events → number < card.config.lines → (was : Bool) (w : Owing)
       → Stands was w (line_at number card)
@@ -201,10 +203,10 @@ news-is-told c events number ranged all within service tei before what behind is
     (subst (λ (y : Link). Asks y.state false y.asked) (sym off) tt, begins-true c before number ranged front within service tei, sym (ap (λ (y : Link). not (y.s == y.a)) off)) in
     let h = run-stands service tei number (fresh c) before (fresh_is_sound c ranged) (begins-timely-card c) front within false none_owed begun in
     subst (λ b. filter (is_news service tei) (notes_of (answer e card))
-    ≡ due service tei was (list_any (brings is_xid c service tei) (cond b (seen card.config what (line_at number card) (answer e card)) []))
-    (list_any (brings is_sabme c service tei) (cond b (seen card.config what (line_at number card) (answer e card)) [])) (releases service tei what (answer e card)) w.outstanding from (unwrap_or (state_of service tei (line_at number (after e card))) 4))
+    ≡ due service tei was (list_any (brings is_xid c service tei) (cond b (seen what (answer e card)) []))
+    (list_any (brings is_sabme c service tei) (cond b (seen what (answer e card)) [])) (releases service tei what (answer e card)) w.outstanding from (unwrap_or (state_of service tei (line_at number (after e card))) 4))
     (sym (itself number))
     (subst (λ (d : Config). filter (is_news service tei) (notes_of (answer e card))
-    ≡ due service tei was (list_any (brings is_xid d service tei) (seen card.config what (line_at number card) (answer e card)))
-    (list_any (brings is_sabme d service tei) (seen card.config what (line_at number card) (answer e card))) (releases service tei what (answer e card)) w.outstanding from (unwrap_or (state_of service tei (line_at number (after e card))) 4)) kept
+    ≡ due service tei was (list_any (brings is_xid d service tei) (seen what (answer e card)))
+    (list_any (brings is_sabme d service tei) (seen what (answer e card))) (releases service tei what (answer e card)) w.outstanding from (unwrap_or (state_of service tei (line_at number (after e card))) 4)) kept
     (own-due service tei number card (sound-now c before number ranged front within service tei) e here was h.0 w.outstanding h.2 from was_in))

@@ -21,8 +21,10 @@ use Rattle.model_line.specs.Sound.{IsSound}
 use Rattle.laws_line.specs.Heard.{notes_of}
 use Rattle.laws_line.proofs.Places.{is-off}
 use Rattle.laws_link.specs.States.{moves}
-use Rattle.laws_trace.specs.News.{is_news, is_sabme, is_xid, establishes, releases, due}
-use Rattle.laws_trace.specs.TimersAreTimely.{brings, is_state, differ}
+use Rattle.laws_trace.specs.News.{is_news, is_sabme, is_xid, releases}
+use Rattle.laws_trace.proofs.NewsWatched.{establishes, due}
+use Rattle.laws_trace.proofs.TimersWatched.{brings}
+use Rattle.laws_trace.specs.States.{is_state, differ}
 use Rattle.laws_trace.specs.Trace.{seen}
 use Rattle.laws_trace.proofs.LinkLed.{on-line}
 use Rattle.laws_trace.proofs.LinksMove.{differs, no-event}
@@ -54,10 +56,6 @@ module _ (c : Config) (l : Line) (s : IsSound c l) (service : Service) (tei : �
   abbrev next : Link
   next = link_of service tei (lines.after c e l)
 
-  no-bit : (b : Bool) → (b && false) ≡ false
-  no-bit true = refl
-  no-bit false = refl
-
   -- nothing is due where the link stays in its state
   unmoved : (state : State) (outstanding : Bool) → due service tei was false false false outstanding (state_number state) (state_number state) ≡ []
   unmoved TeiAssigned outstanding = refl
@@ -80,7 +78,7 @@ module _ (c : Config) (l : Line) (s : IsSound c l) (service : Service) (tei : �
   asked-in from to = ap (λ b. cond ((state_number to == 5) && b) (establishes service tei e a) was) (differs from to)
 
   abbrev heard : (Control → Bool) → Bool
-  heard which = list_any (brings which c service tei) (seen c e l a)
+  heard which = list_any (brings which c service tei) (seen e a)
 
   abbrev Due : ℕ → ℕ → Type 0
   Due from to =
@@ -121,7 +119,7 @@ module _ (c : Config) (l : Line) (s : IsSound c l) (service : Service) (tei : �
     -- one event of the link
     module _ (x : HasOne c service tei e l (lines.after c e l) a) where
       some : x.event ≡ link.cleared → ⊥
-      some = no-event x.event c l e a service tei x.by
+      some = no-event x.event c e a service tei x.by
 
       asked-now : (state : State) → Asks state was own.asked → (xid sabme released outstanding : Bool) (to : ℕ)
           → due service tei own.asked xid sabme released outstanding (state_number state) to ≡ due service tei was xid sabme released outstanding (state_number state) to
@@ -138,9 +136,9 @@ module _ (c : Config) (l : Line) (s : IsSound c l) (service : Service) (tei : �
           ap (filter (is_news service tei)) x.notes ∙ event-news t own x.event some
           ∙ ap (λ b. due service tei own.asked (xid_of x.event) (sabme_of x.event) (released_of x.event) b (state_number own.state) (state_number later.state)) (sym owes)
           ∙ asked-now own.state asks (xid_of x.event) (sabme_of x.event) (released_of x.event) outstanding (state_number later.state)
-          ∙ ap (λ b. due service tei was b (sabme_of x.event) (released_of x.event) outstanding (state_number own.state) (state_number later.state)) (sym (one-begins c service tei is_xid e l a x.event x.by))
-          ∙ ap (λ b. due service tei was (heard is_xid) b (released_of x.event) outstanding (state_number own.state) (state_number later.state)) (sym (one-begins c service tei is_sabme e l a x.event x.by))
-          ∙ ap (λ b. due service tei was (heard is_xid) (heard is_sabme) b outstanding (state_number own.state) (state_number later.state)) (sym (one-releases c service tei is_sabme e l a x.event x.by))
+          ∙ ap (λ b. due service tei was b (sabme_of x.event) (released_of x.event) outstanding (state_number own.state) (state_number later.state)) (sym (one-begins c service tei is_xid e a x.event x.by))
+          ∙ ap (λ b. due service tei was (heard is_xid) b (released_of x.event) outstanding (state_number own.state) (state_number later.state)) (sym (one-begins c service tei is_sabme e a x.event x.by))
+          ∙ ap (λ b. due service tei was (heard is_xid) (heard is_sabme) b outstanding (state_number own.state) (state_number later.state)) (sym (one-releases c service tei is_sabme e a x.event x.by))
           ∙ ap (λ (y : Link). due service tei was (heard is_xid) (heard is_sabme) (releases service tei e a) outstanding (state_number own.state) (state_number y.state)) (sym x.is)
 
       one-asked : Asks next.state (then_asked (told_state own.state) (told_state next.state)) next.asked
@@ -148,7 +146,7 @@ module _ (c : Config) (l : Line) (s : IsSound c l) (service : Service) (tei : �
           let y = links.after t x.event own in
           subst (λ (y : Link). Asks y.state (then_asked (told_state own.state) (told_state y.state)) y.asked) (sym x.is)
           (subst (λ b. Asks y.state b y.asked)
-          (sym (asked-in own.state y.state ∙ ap (λ b. cond ((state_number y.state == 5) && moves own.state y.state) b was) (one-establishes c service tei is_sabme e l a x.event x.by)))
+          (sym (asked-in own.state y.state ∙ ap (λ b. cond ((state_number y.state == 5) && moves own.state y.state) b was) (one-establishes c service tei is_sabme e a x.event x.by)))
           (event-asking t own was x.event some asks))
 
     stays-due : Due (state_number own.state) (state_number next.state)

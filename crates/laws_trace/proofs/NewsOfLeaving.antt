@@ -1,5 +1,5 @@
 -- Where the TEI of a link leaves its line, what is told of the link is what the end of the TEI tells.
-use Rattle.std.proofs.Common.{◌≡◌, ℕ, ◌==◌, ◌&&◌, ◌||◌, not, Bool, true, false, List, [], ◌∷◌, ◌++◌, Option, Some, None, refl, sym, ap, ◌∙◌, subst, arith, eqb-true, eq-eqb, true≢false, ◌⊎◌, inl, inr, append-nil}
+use Rattle.std.proofs.Common.{◌≡◌, ℕ, ◌==◌, ◌&&◌, ◌||◌, not, Bool, true, false, List, [], ◌++◌, Option, Some, None, refl, sym, ap, ◌∙◌, subst, arith, eqb-true, eq-eqb, true≢false, ◌⊎◌, inl, inr, append-nil}
 use Rattle.std.specs.Prelude.{filter}
 use Rattle.std.specs.Option.{option_map_or}
 use Rattle.std.proofs.lemmas.List.{get_or-set_other}
@@ -32,11 +32,11 @@ use Rattle.model_link.specs.Link.{Link, fresh, state_number}
 use Rattle.model_link.specs.Machine as links
 use Rattle.model_line.specs.declared.config.Config.{Config}
 use Rattle.model_line.specs.Effect.{Aim, at_none, at_link, at_management, of_aim, of_change, of_link, told_of_management}
-use Rattle.model_line.specs.Event.{Answer, Event, octet, expiry, request, pull, nothing, dropped}
+use Rattle.model_line.specs.Event.{Answer, Event, hears, expiry, request, next, dropped}
 use Rattle.model_line.specs.Expiry.{at_timer, aim_of_expiry}
 use Rattle.model_line.specs.Line.{Line, has_tei, link_in, link_of, link_number, place_in, terms}
 use Rattle.model_line.specs.Machine.{aim_of, after, answer, unless_refused, unless_refused_told}
-use Rattle.model_line.specs.Octet.{gained, aim_of_heard, with_received}
+use Rattle.model_line.specs.Heard.{aim_of_heard}
 use Rattle.model_line.specs.Refusal.{refusal}
 use Rattle.model_line.specs.Request.{Request, Establish, Release, Data, Assign, Remove, Check, SetBusy, ClearBusy}
 use Rattle.model_line.specs.Requested.{at_requested, aim_of_request}
@@ -47,11 +47,12 @@ use Rattle.model_line.proofs.ProperAims.{heard_aims, request_proper}
 use Rattle.laws_line.specs.Heard.{notes_of}
 use Rattle.laws_line.proofs.Places.{has-place}
 use Rattle.laws_line.proofs.TeiNotes.{ByChange, noted}
-use Rattle.laws_trace.specs.News.{is_news, releases, due}
-use Rattle.laws_trace.proofs.StaysOn.{pull-keeps}
+use Rattle.laws_trace.specs.News.{is_news, releases}
+use Rattle.laws_trace.proofs.NewsWatched.{due}
 use Rattle.laws_trace.proofs.LinkLed.{own-is}
 use Rattle.laws_trace.proofs.ManagingTables.{on-coming, on-leaving}
 use Rattle.laws_trace.proofs.NewsOfOthers.{none-filtered, tei-note, other-link}
+use Rattle.laws_trace.proofs.StaysOn.{next-keeps}
 
 -- What the end of a TEI tells of its link is due as the link would come to state 4.
 cleared-due : (t : Terms) (l : Link) (was outstanding : Bool)
@@ -65,10 +66,7 @@ cleared-due t l was outstanding = ap (filter (is_news t.service t.tei)) (event-f
     by-state Established = rw (own-is t.service t.tei) refl
     by-state TimerRecovery = rw (own-is t.service t.tei) refl
 
-module _ (service : Service) (tei : ℕ) (c : Config) (l : Line) (s : IsSound c l) (place : ℕ) (on : place_in l tei ≡ Some place) (received : List ℕ) where
-  abbrev now : Line
-  now = record l { received = received }
-
+module _ (service : Service) (tei : ℕ) (c : Config) (l : Line) (s : IsSound c l) (place : ℕ) (on : place_in l tei ≡ Some place) where
   abbrev own : Link
   own = link_of service tei l
 
@@ -79,12 +77,12 @@ module _ (service : Service) (tei : ℕ) (c : Config) (l : Line) (s : IsSound c 
   Leaves ns = news ns ≡ news (links.told (terms c service tei) link.cleared own).notes
 
   abbrev Gone : Aim → Type 0
-  Gone aim = has_tei tei (of_aim c aim now).line ≡ false → Leaves (of_aim c aim now).told.notes
+  Gone aim = has_tei tei (of_aim c aim l).line ≡ false → Leaves (of_aim c aim l).told.notes
 
   there : has_tei tei l ≡ true
   there = is_on-at l.management.places place tei (place_of-is l.management.places tei place on).1
 
-  stays : (aim : Aim) → has_tei tei (of_aim c aim now).line ≡ has_tei tei l → Gone aim
+  stays : (aim : Aim) → has_tei tei (of_aim c aim l).line ≡ has_tei tei l → Gone aim
   stays aim same = λ off. absurd (true≢false (sym (same ∙ there) ∙ off))
 
   -- An event of TEI management.
@@ -93,7 +91,7 @@ module _ (service : Service) (tei : ℕ) (c : Config) (l : Line) (s : IsSound c 
     m = teis.after me l.management
 
     abbrev at : Line
-    at = record l { received = received; management = m }
+    at = record l { management = m }
 
     abbrev ns : List Note
     ns = (teis.told me l.management).notes
@@ -178,9 +176,8 @@ module _ (service : Service) (tei : ℕ) (c : Config) (l : Line) (s : IsSound c 
   asked-gone its by what None = stays (at_requested its by what None) refl
   asked-gone its by what (Some place') = stays (at_requested its by what (Some place')) refl
 
-  pub heard-gone : (o : Option stream.Event) → Gone (option_map_or (aim_of_heard c l) o (at_none nothing))
-  heard-gone None = stays (at_none nothing) refl
-  heard-gone (Some e) =
+  pub heard-gone : (e : stream.Event) → Gone (aim_of_heard c l e)
+  heard-gone e =
       heard_aims c l Gone (λ cause. stays (at_none (dropped cause)) refl) (λ its by place' what at. stays (at_link its by place' (link.received what)) refl) (λ info. managed (teis.message info) tt)
       (λ parts its to. stays (at_none (group_told its parts.info)) refl) e
 
@@ -204,17 +201,17 @@ module _ (service : Service) (tei : ℕ) (c : Config) (l : Line) (s : IsSound c 
 leaves : (service : Service) (tei : ℕ) (c : Config) (e : Event) (l : Line) → IsSound c l → (place : ℕ) → place_in l tei ≡ Some place → has_tei tei (after c e l) ≡ false
     → filter (is_news service tei) (notes_of (answer c e l)) ≡ filter (is_news service tei) (links.told (terms c service tei) link.cleared (link_of service tei l)).notes
 unfolding after answer
-leaves service tei c (octet value) l s place on off = heard-gone service tei c l s place on (l.received ++ value ∷ []) (gained c.n201 l.received value) off
-leaves service tei c (expiry timer) l s place on off = expiry-gone service tei c l s place on l.received timer off
+leaves service tei c (hears what) l s place on off = heard-gone service tei c l s place on what off
+leaves service tei c (expiry timer) l s place on off = expiry-gone service tei c l s place on timer off
 leaves service tei c (request r) l s place on off = go (refusal c false r l) (request_proper c l r) off
   where
     go : (o : Option Refusal) → IsProper c l (unless_refused o (aim_of_request r l)) → has_tei tei (of_aim c (unless_refused o (aim_of_request r l)) l).line ≡ false
         → filter (is_news service tei) (notes_of (unless_refused_told o (of_aim c (unless_refused o (aim_of_request r l)) l)))
         ≡ filter (is_news service tei) (links.told (terms c service tei) link.cleared (link_of service tei l)).notes
-    go None proper off = request-gone service tei c l s place on l.received r proper off
+    go None proper off = request-gone service tei c l s place on r proper off
     go (Some why) proper off = absurd (true≢false (sym (is_on-at l.management.places place tei (place_of-is l.management.places tei place on).1) ∙ off))
-leaves service tei c pull l s place on off =
-    absurd (true≢false (sym (pull-keeps tei c l s (is_on-at l.management.places place tei (place_of-is l.management.places tei place on).1)) ∙ off))
+leaves service tei c next l s place on off =
+    absurd (true≢false (sym (next-keeps tei c l s (is_on-at l.management.places place tei (place_of-is l.management.places tei place on).1)) ∙ off))
 
 pub leaving-due : (service : Service) (tei : ℕ) (c : Config) (e : Event) (l : Line) → IsSound c l → (place : ℕ) → place_in l tei ≡ Some place → has_tei tei (after c e l) ≡ false
     → (was outstanding : Bool) → filter (is_news service tei) (notes_of (answer c e l)) ≡ due service tei was false false false outstanding (state_number (link_of service tei l).state) 4
@@ -224,9 +221,9 @@ leaving-due service tei c e l s place on off was outstanding =
 -- No request to release a link takes its TEI off the line.
 pub none-released : (service : Service) (tei : ℕ) (c : Config) (e : Event) (l : Line) → has_tei tei l ≡ true → has_tei tei (after c e l) ≡ false → (a : Answer) → releases service tei e a ≡ false
 unfolding after
-none-released service tei c (octet value) l on off a = refl
+none-released service tei c (hears what) l on off a = refl
 none-released service tei c (expiry timer) l on off a = refl
-none-released service tei c pull l on off a = refl
+none-released service tei c next l on off a = refl
 none-released service tei c (request (Establish its by)) l on off a = refl
 none-released service tei c (request (Data its by contents)) l on off a = refl
 none-released service tei c (request (Request.Unit its by contents)) l on off a = refl
@@ -244,13 +241,13 @@ none-released service tei c (request (Release its by)) l on off a = go (refusal 
 
 -- An event of a link keeps its TEI on the line.
 pub one-stays : (service : Service) (tei : ℕ) (c : Config) (e : Event) (l : Line) → IsSound c l → has_tei tei l ≡ true → (place : ℕ) (event : link.Event)
-    → (e ≡ pull) ⊎ (aim_of c e l ≡ at_link service tei place event) → has_tei tei (after c e l) ≡ true
+    → (e ≡ next) ⊎ (aim_of c e l ≡ at_link service tei place event) → has_tei tei (after c e l) ≡ true
 unfolding after
-one-stays service tei c e l s on place event (inl is) = subst (λ e. has_tei tei (after c e l) ≡ true) (sym is) (pull-keeps tei c l s on)
+one-stays service tei c e l s on place event (inl is) = subst (λ e. has_tei tei (after c e l) ≡ true) (sym is) (next-keeps tei c l s on)
 one-stays service tei c e l s on place event (inr aimed) = by-event e aimed
   where
     by-event : (e : Event) → aim_of c e l ≡ at_link service tei place event → has_tei tei (after c e l) ≡ true
-    by-event (octet value) aimed = ap (λ aim. has_tei tei (of_aim c aim (with_received value l)).line) aimed ∙ on
+    by-event (hears what) aimed = ap (λ aim. has_tei tei (of_aim c aim l).line) aimed ∙ on
     by-event (expiry timer) aimed = ap (λ aim. has_tei tei (of_aim c aim l).line) aimed ∙ on
     by-event (request r) aimed = ap (λ aim. has_tei tei (of_aim c aim l).line) aimed ∙ on
-    by-event pull aimed = pull-keeps tei c l s on
+    by-event next aimed = next-keeps tei c l s on

@@ -16,7 +16,8 @@ use Rattle.laws_link.specs.Flags.{asked_left, asks_establishment}
 use Rattle.laws_link.specs.States.{as_heard, state_after, moves, by_expiry}
 use Rattle.laws_link.specs.Telling.{told_by, told_expired}
 use Rattle.laws_link.proofs.Follows.{event-follows}
-use Rattle.laws_trace.specs.News.{is_news, due}
+use Rattle.laws_trace.specs.News.{is_news}
+use Rattle.laws_trace.proofs.NewsWatched.{due}
 use Rattle.laws_trace.proofs.NewsRows.{all-news, xid_of, sabme_of, released_of, Fits, Told, nothing-fits, by-control}
 
 module _ (t : Terms) (l : Link) where

@@ -2,7 +2,6 @@
 use Rattle.std.proofs.Common.{◌≡◌, ℕ, ◌==◌, ◌&&◌, Bool, true, false, cond, List, [], ◌∷◌, ◌++◌, Option, Some, None, refl, sym, ap, ◌∙◌, subst, eqb-true, true≢false}
 use Rattle.std.specs.Prelude.{All, filter}
 use Rattle.std.proofs.lemmas.List.Elements.{All-nil, All-cons, All-append, All-head, All-tail, All-weaker}
-use Rattle.std.specs.Option.{option_map_or}
 use Rattle.model_bits.specs.Stream as stream
 use Rattle.lapd_frame.specs.declared.notes.Note.{Note}
 use Rattle.lapd_frame.specs.declared.notes.Note.TheVariants as notes
@@ -28,12 +27,12 @@ use Rattle.model_link.specs.Link.{Link, fresh}
 use Rattle.model_link.specs.Machine as links
 use Rattle.model_link.proofs.OwnNotes.{notes-own}
 use Rattle.model_line.specs.declared.config.Config.{Config}
-use Rattle.model_line.specs.Effect.{Aim, at_none, at_link, at_management, of_aim, of_change, of_link, told_of_management}
-use Rattle.model_line.specs.Event.{Event, octet, expiry, request, pull, nothing}
+use Rattle.model_line.specs.Effect.{Aim, at_link, at_management, of_aim, of_change, of_link, told_of_management}
+use Rattle.model_line.specs.Event.{Event, hears, expiry, request, next}
 use Rattle.model_line.specs.Expiry.{at_timer, aim_of_expiry}
 use Rattle.model_line.specs.Line.{Line, has_tei, link_in, place_in, terms}
 use Rattle.model_line.specs.Machine.{aim_of, after, answer, unless_refused, unless_refused_told}
-use Rattle.model_line.specs.Octet.{gained, aim_of_heard, group_tei}
+use Rattle.model_line.specs.Heard.{aim_of_heard, group_tei}
 use Rattle.model_line.specs.Refusal.{refusal}
 use Rattle.model_line.specs.Request.{Request, Establish, Release, Data, Assign, Remove, Check, SetBusy, ClearBusy}
 use Rattle.model_line.specs.Requested.{at_requested, aim_of_request}
@@ -89,12 +88,9 @@ module _ (service : Service) (tei : ℕ) where
   tei-note (teis.remove asked) (Some (Left by place)) ns is = subst (All No) (sym is.1) (All-nil No)
   tei-note (teis.check asked) (Some (Left by place)) ns is = absurd is
 
-  module _ (c : Config) (l : Line) (s : IsSound c l) (received : List ℕ) where
-    abbrev now : Line
-    now = record l { received = received }
-
+  module _ (c : Config) (l : Line) (s : IsSound c l) where
     abbrev Silent : Aim → Type 0
-    Silent aim = is_at_link service tei aim ≡ false → has_tei tei (of_aim c aim now).line ≡ true → All No (of_aim c aim now).told.notes
+    Silent aim = is_at_link service tei aim ≡ false → has_tei tei (of_aim c aim l).line ≡ true → All No (of_aim c aim l).told.notes
 
     -- An event of TEI management: links of another TEI are cleared.
     module _ (me : teis.Event) (fits : tei_laws.IsInRange me) where
@@ -102,7 +98,7 @@ module _ (service : Service) (tei : ℕ) where
       m = teis.after me l.management
 
       abbrev at : Line
-      at = record l { received = received; management = m }
+      at = record l { management = m }
 
       abbrev ns : List Note
       ns = (teis.told me l.management).notes
@@ -142,7 +138,7 @@ module _ (service : Service) (tei : ℕ) where
           changed (teis.told me l.management).change (tei_lemmas.changes_are_told me l.management fits s.management) (noted me l.management s.management) there
 
     of-link : (its : Service) (by place : ℕ) (what : link.Event) → Silent (at_link its by place what)
-    of-link its by place what aims there = other-link (terms c its by) aims what (link_in now its place)
+    of-link its by place what aims there = other-link (terms c its by) aims what (link_in l its place)
 
     timer-silent : (its : Service) (by : ℕ) (timer : LinkTimer) (o : Option ℕ) → Silent (at_timer its by timer o)
     timer-silent its by timer None aims there = All-nil No
@@ -152,9 +148,8 @@ module _ (service : Service) (tei : ℕ) where
     asked-silent its by what None aims there = All-nil No
     asked-silent its by what (Some place) aims there = of-link its by place (link.requested what false) aims there
 
-    pub heard-silent : (o : Option stream.Event) → Silent (option_map_or (aim_of_heard c l) o (at_none nothing))
-    heard-silent None = λ aims there. All-nil No
-    heard-silent (Some e) =
+    pub heard-silent : (e : stream.Event) → Silent (aim_of_heard c l e)
+    heard-silent e =
         heard_aims c l Silent (λ cause aims there. All-nil No) (λ its by place what on. of-link its by place (link.received what)) (λ info. managed (teis.message info) tt)
         (λ parts its to aims there. All-cons No (notes.Unit its group_tei) [] refl (All-nil No)) e
 
@@ -177,13 +172,13 @@ module _ (service : Service) (tei : ℕ) where
   -- Any event of a line.
   pub others-silent : (c : Config) (e : Event) (l : Line) → IsSound c l → is_at_link service tei (aim_of c e l) ≡ false → has_tei tei (after c e l) ≡ true → All No (notes_of (answer c e l))
   unfolding after answer
-  others-silent c (octet value) l s aims there = heard-silent c l s (l.received ++ value ∷ []) (gained c.n201 l.received value) aims there
-  others-silent c (expiry timer) l s aims there = expiry-silent c l s l.received timer aims there
+  others-silent c (hears what) l s aims there = heard-silent c l s what aims there
+  others-silent c (expiry timer) l s aims there = expiry-silent c l s timer aims there
   others-silent c (request r) l s aims there = go (refusal c false r l) (request_proper c l r) aims there
     where
       go : (o : Option Refusal) → IsProper c l (unless_refused o (aim_of_request r l)) → is_at_link service tei (unless_refused o (aim_of_request r l)) ≡ false
           → has_tei tei (of_aim c (unless_refused o (aim_of_request r l)) l).line ≡ true
           → All No (notes_of (unless_refused_told o (of_aim c (unless_refused o (aim_of_request r l)) l)))
-      go None proper aims there = request-silent c l s l.received r proper aims there
+      go None proper aims there = request-silent c l s r proper aims there
       go (Some why) proper aims there = All-nil No
-  others-silent c pull l s aims there = All-nil No
+  others-silent c next l s aims there = All-nil No

@@ -21,7 +21,8 @@ use Rattle.laws_link.specs.Flags.{takes_contents}
 use Rattle.laws_link.specs.States.{as_heard, state_after, by_frame}
 use Rattle.laws_link.specs.Telling.{told_by, numbered_as, final_as}
 use Rattle.laws_trace.specs.Trace.{is_own}
-use Rattle.laws_trace.specs.News.{is_news, is_sabme, due, is_xid}
+use Rattle.laws_trace.specs.News.{is_news, is_sabme, is_xid}
+use Rattle.laws_trace.proofs.NewsWatched.{due}
 use Rattle.laws_trace.proofs.LinkLed.{own-is}
 use Rattle.laws_trace.proofs.TimerRows.{in_state}
 

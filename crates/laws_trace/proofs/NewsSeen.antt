@@ -8,7 +8,7 @@ use Rattle.model_link.specs.declared.timers.LinkTimer.TheVariants.{T200, T203}
 use Rattle.model_link.specs.Events as link
 use Rattle.model_line.specs.declared.config.Config.{Config}
 use Rattle.model_line.specs.Event as line_event
-use Rattle.model_line.specs.Event.{octet, expiry, request, pull, Answer, told, refused, pulled}
+use Rattle.model_line.specs.Event.{hears, expiry, request, next, Answer}
 use Rattle.model_line.specs.Line.{Line, place_in}
 use Rattle.model_line.specs.Machine as lines
 use Rattle.model_line.specs.Request.{Request, Establish, Release, Data, Assign, Remove, Check, SetBusy, ClearBusy}
@@ -17,11 +17,12 @@ use Rattle.laws_line.specs.Share.{is_granted}
 use Rattle.laws_line.specs.Steady.{IsBy}
 use Rattle.laws_link.specs.Flags.{asks_establishment}
 use Rattle.lapd_frame.specs.Grammar.{Parts}
-use Rattle.laws_trace.specs.Deliveries.{is_for}
-use Rattle.laws_trace.specs.News.{establishes, releases}
-use Rattle.laws_trace.specs.TimersAreTimely.{nothing_yet, control_in, brings}
+use Rattle.laws_trace.specs.LinkFrames.{is_for}
+use Rattle.laws_trace.proofs.NewsWatched.{establishes}
+use Rattle.laws_trace.specs.News.{releases}
+use Rattle.laws_trace.proofs.TimersWatched.{nothing_yet, control_in, brings}
 use Rattle.laws_trace.specs.Trace.{is_own, seen}
-use Rattle.laws_trace.proofs.Deliveries.{frame_by, brings-frame, brings-none}
+use Rattle.laws_trace.proofs.Deliveries.{frame_by, brings-frame, brings-none, heard-by}
 use Rattle.laws_trace.proofs.DeliveriesRun.{event-aims}
 use Rattle.laws_trace.proofs.LinkLed.{own-is, none-refused, elsewhere}
 use Rattle.laws_trace.proofs.NewsRows.{heard_of, released_of}
@@ -29,31 +30,31 @@ use Rattle.laws_trace.proofs.OneLink.{is_at_link}
 use Rattle.laws_trace.proofs.TimersOfLine.{seen-brings}
 
 module _ (c : Config) (service : Service) (tei : ℕ) (which : Control → Bool) where
-  module _ (e : line_event.Event) (l : Line) (a : Answer) where
-    none-brought : frame_by c e l ≡ None → option_map_or which (control_in service tei (frame_by c e l)) false ≡ false
+  module _ (e : line_event.Event) (a : Answer) where
+    none-brought : frame_by c e ≡ None → option_map_or which (control_in service tei (frame_by c e)) false ≡ false
     none-brought none = ap (λ o. option_map_or which (control_in service tei o) false) none
 
     -- one event of the link
-    pub one-begins : (event : link.Event) → IsBy c l e a service tei event → list_any (brings which c service tei) (seen c e l a) ≡ heard_of which event
-    one-begins event by = seen-brings c service tei which e l a ∙ go event by
+    pub one-begins : (event : link.Event) → IsBy c e a service tei event → list_any (brings which c service tei) (seen e a) ≡ heard_of which event
+    one-begins event by = seen-brings c service tei which e a ∙ go event by
       where
-        go : (event : link.Event) → IsBy c l e a service tei event → option_map_or which (control_in service tei (frame_by c e l)) false ≡ heard_of which event
+        go : (event : link.Event) → IsBy c e a service tei event → option_map_or which (control_in service tei (frame_by c e)) false ≡ heard_of which event
         go (link.received (link.frame f)) by =
-            let x = brings-frame c l e a service tei f by in
+            let x = brings-frame c e a service tei f by in
             ap (λ o. option_map_or which (control_in service tei o) false) x.0 ∙ ap (λ b. option_map_or which (cond b (Some f.control) None) false) x.1
-        go (link.received link.undefined) by = none-brought (brings-none c l e a service tei link.undefined by)
-        go (link.received link.wrong_size) by = none-brought (brings-none c l e a service tei link.wrong_size by)
-        go (link.received link.overlong) by = none-brought (brings-none c l e a service tei link.overlong by)
-        go (link.expired timer) by = none-brought (ap (λ e. frame_by c e l) by)
-        go (link.requested what full) by = none-brought (ap (λ e. frame_by c e l) by.0)
-        go link.offer by = none-brought (ap (λ e. frame_by c e l) by)
+        go (link.received link.undefined) by = none-brought (brings-none c e a service tei link.undefined by)
+        go (link.received link.wrong_size) by = none-brought (brings-none c e a service tei link.wrong_size by)
+        go (link.received link.overlong) by = none-brought (brings-none c e a service tei link.overlong by)
+        go (link.expired timer) by = none-brought (ap (λ e. frame_by c e) by)
+        go (link.requested what full) by = none-brought (ap (λ e. frame_by c e) by.0)
+        go link.offer by = none-brought (ap (λ e. frame_by c e) by)
         go link.cleared by = absurd by
 
-    pub one-releases : (event : link.Event) → IsBy c l e a service tei event → releases service tei e a ≡ released_of event
+    pub one-releases : (event : link.Event) → IsBy c e a service tei event → releases service tei e a ≡ released_of event
     one-releases (link.received (link.frame f)) by = ap (λ e. releases service tei e a) by.by
-    one-releases (link.received link.undefined) by = ap (λ e. releases service tei e a) by.by
-    one-releases (link.received link.wrong_size) by = ap (λ e. releases service tei e a) by.by
-    one-releases (link.received link.overlong) by = ap (λ e. releases service tei e a) by.by
+    one-releases (link.received link.undefined) by = ap (λ e. releases service tei e a) (heard-by c e a service tei link.undefined by).1
+    one-releases (link.received link.wrong_size) by = ap (λ e. releases service tei e a) (heard-by c e a service tei link.wrong_size by).1
+    one-releases (link.received link.overlong) by = ap (λ e. releases service tei e a) (heard-by c e a service tei link.overlong by).1
     one-releases (link.expired T200) by = ap (λ e. releases service tei e a) by
     one-releases (link.expired T203) by = ap (λ e. releases service tei e a) by
     one-releases (link.requested link.Establish full) by = ap (λ e. releases service tei e a) by.0
@@ -64,11 +65,11 @@ module _ (c : Config) (service : Service) (tei : ℕ) (which : Control → Bool)
     one-releases link.offer by = ap (λ e. releases service tei e a) by
     one-releases link.cleared by = absurd by
 
-    pub one-establishes : (event : link.Event) → IsBy c l e a service tei event → establishes service tei e a ≡ asks_establishment event
+    pub one-establishes : (event : link.Event) → IsBy c e a service tei event → establishes service tei e a ≡ asks_establishment event
     one-establishes (link.received (link.frame f)) by = ap (λ e. establishes service tei e a) by.by
-    one-establishes (link.received link.undefined) by = ap (λ e. establishes service tei e a) by.by
-    one-establishes (link.received link.wrong_size) by = ap (λ e. establishes service tei e a) by.by
-    one-establishes (link.received link.overlong) by = ap (λ e. establishes service tei e a) by.by
+    one-establishes (link.received link.undefined) by = ap (λ e. establishes service tei e a) (heard-by c e a service tei link.undefined by).1
+    one-establishes (link.received link.wrong_size) by = ap (λ e. establishes service tei e a) (heard-by c e a service tei link.wrong_size by).1
+    one-establishes (link.received link.overlong) by = ap (λ e. establishes service tei e a) (heard-by c e a service tei link.overlong by).1
     one-establishes (link.expired T200) by = ap (λ e. establishes service tei e a) by
     one-establishes (link.expired T203) by = ap (λ e. establishes service tei e a) by
     one-establishes (link.requested link.Establish full) by = ap (λ e. establishes service tei e a) by.0 ∙ ap (λ b. b && is_own service tei service tei) by.1 ∙ own-is service tei
@@ -81,14 +82,14 @@ module _ (c : Config) (service : Service) (tei : ℕ) (which : Control → Bool)
 
   -- and none
   module _ (l : Line) (place : ℕ) (on : place_in l tei ≡ Some place) where
-    pub none-begins : (e : line_event.Event) → is_at_link service tei (lines.aim_of c e l) ≡ false → (a : Answer) → list_any (brings which c service tei) (seen c e l a) ≡ false
-    none-begins e aims a = seen-brings c service tei which e l a ∙ go (frame_by c e l) refl
+    pub none-begins : (e : line_event.Event) → is_at_link service tei (lines.aim_of c e l) ≡ false → (a : Answer) → list_any (brings which c service tei) (seen e a) ≡ false
+    none-begins e aims a = seen-brings c service tei which e a ∙ go (frame_by c e) refl
       where
-        by-whom : (f : Parts) → frame_by c e l ≡ Some f → (b : Bool) → is_for service tei f.address ≡ b → option_map_or which (cond b (Some f.control) None) false ≡ false
+        by-whom : (f : Parts) → frame_by c e ≡ Some f → (b : Bool) → is_for service tei f.address ≡ b → option_map_or which (cond b (Some f.control) None) false ≡ false
         by-whom f is true for = absurd (true≢false (sym (event-aims c l service tei place on e f is for) ∙ aims))
         by-whom f is false for = refl
 
-        go : (o : Option Parts) → frame_by c e l ≡ o → option_map_or which (control_in service tei o) false ≡ false
+        go : (o : Option Parts) → frame_by c e ≡ o → option_map_or which (control_in service tei o) false ≡ false
         go None is = refl
         go (Some f) is = by-whom f is (is_for service tei f.address) refl
 
@@ -120,9 +121,9 @@ module _ (c : Config) (service : Service) (tei : ℕ) (which : Control → Bool)
     not-own (ClearBusy its by) a aims = refl
 
     pub none-releases : (e : line_event.Event) → is_at_link service tei (lines.aim_of c e l) ≡ false → releases service tei e (lines.answer c e l) ≡ false
-    none-releases (octet value) aims = refl
+    none-releases (hears what) aims = refl
     none-releases (expiry timer) aims = refl
-    none-releases pull aims = refl
+    none-releases next aims = refl
     none-releases (request r) aims = go (is_granted (lines.answer c (request r) l)) refl
       where
         go : (b : Bool) → is_granted (lines.answer c (request r) l) ≡ b → releases service tei (request r) (lines.answer c (request r) l) ≡ false

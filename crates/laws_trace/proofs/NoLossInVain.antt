@@ -1,6 +1,6 @@
 -- Nothing is told as lost in vain: the law.
-use Rattle.std.proofs.Common.{◌≡◌, ℕ, ◌<◌, ◌==◌, ◌&&◌, Bool, true, false, cond, List, [], ◌∷◌, ◌++◌, length, map, get_or, Option, Some, None, option_map, refl, sym, ap, ◌∙◌, subst, arith, eqb-true, eq-eqb, true≢false, ◌⊎◌, inl, inr, append-nil}
-use Rattle.std.specs.Prelude.{flat_map, option_to_list}
+use Rattle.std.proofs.Common.{◌≡◌, ℕ, ◌<◌, ◌==◌, ◌&&◌, Bool, true, false, cond, List, [], ◌∷◌, ◌++◌, length, map, get_or, Option, Some, None, refl, sym, ap, ◌∙◌, subst, arith, eqb-true, eq-eqb, true≢false, ◌⊎◌, inl, inr, append-nil}
+use Rattle.std.specs.Prelude.{flat_map}
 use Rattle.std.specs.Option.{option_map_or}
 use Rattle.std.proofs.lemmas.Bool.{and_parts}
 use Rattle.std.proofs.lemmas.Grind.{flat_map-append}
@@ -13,7 +13,6 @@ use Rattle.lapd_frame.specs.declared.timers.Timer.{Timer}
 use Rattle.lapd_frame.specs.declared.timers.Timer.TheVariants as timers
 use Rattle.lapd_tei.specs.Events as teis
 use Rattle.lapd_tei.specs.Machine.{Management}
-use Rattle.lapd_tei.specs.Sound.{IsSound as IsSoundManagement}
 use Rattle.lapd_tei.specs.Words.{Course}
 use Rattle.lapd_tei.proofs.Tables.{place_of-is}
 use Rattle.laws_link.specs.Waiting.{behind}
@@ -24,14 +23,12 @@ use Rattle.model_link.specs.Link.{Link, fresh}
 use Rattle.model_link.specs.Sound as link_sound
 use Rattle.model_line.specs.declared.config.Config.{Config}
 use Rattle.model_line.specs.Effect.{Aim, at_none, at_link, at_management, at_units, of_aim}
-use Rattle.model_line.specs.Event.{Event, octet, expiry, request, pull, Answer, told, refused, pulled, nothing}
+use Rattle.model_line.specs.Event.{Event, hears, expiry, request, next, Answer, told, refused, gave}
 use Rattle.model_line.specs.Expiry.{at_timer, aim_of_expiry}
 use Rattle.model_line.specs.Line.{Line, link_in, link_of, place_in, terms, fresh_line}
 use Rattle.model_line.specs.Machine as lines
 use Rattle.model_line.specs.Machine.{aim_of, unless_refused, unless_refused_told}
-use Rattle.model_line.specs.Octet.{gained, aim_of_heard, aim_of_octet, with_received}
-use Rattle.model_line.specs.Pull.{Taken}
-use Rattle.model_line.specs.Pull as pulls
+use Rattle.model_line.specs.Heard.{aim_of_heard}
 use Rattle.model_line.specs.Refusal.{refusal}
 use Rattle.model_line.specs.Request.{Request, Establish, Release, Data, Assign, Remove, Check as Checking, SetBusy, ClearBusy}
 use Rattle.model_line.specs.Requested.{at_requested, aim_of_request}
@@ -42,7 +39,6 @@ use Rattle.model_card.specs.Card as cards
 use Rattle.model_card.specs.Card.{Card, line_at, is_full}
 use Rattle.model_card.specs.Event as card
 use Rattle.model_card.specs.Machine.{after, answer}
-use Rattle.model_card.specs.Pulled.{frame_taken, octet_in}
 use Rattle.model_card.specs.Run.{moments, after_all, IsAtLine, AreAtLines}
 use Rattle.model_card.specs.Sound as card_sound
 use Rattle.model_card.proofs.CardSound.{fresh_is_sound, always_sound}
@@ -52,16 +48,16 @@ use Rattle.laws_line.specs.Frames.{lost_in}
 use Rattle.laws_line.specs.Steady.{IsBy}
 use Rattle.laws_line.proofs.Obeyed.{service-same}
 use Rattle.laws_trace.specs.NoLossInVain.{NoLossInVain, QueuesAreFull, HasFullQueue as IsFull}
-use Rattle.laws_trace.specs.Trace as traces
-use Rattle.laws_trace.specs.Trace.{Seen, heard, noted, lost, seen, seen_told, seen_granted, trace_of, IsAmong, Always}
+use Rattle.laws_trace.specs.Trace.{frame_in, Seen, heard, noted, lost, seen, seen_told, seen_granted, IsAmong, Always}
 use Rattle.laws_trace.proofs.AllAreTold.{none-among}
 use Rattle.laws_trace.proofs.CommandsCaused.{IsNoOther}
-use Rattle.laws_trace.proofs.ManagingNotes as managing
 use Rattle.laws_trace.proofs.OneLink.{Goes, is_at_link, event-goes}
 use Rattle.laws_trace.proofs.Runs.{nothing-seen}
 use Rattle.laws_trace.proofs.LossesOfParts.{management-kept, link-full}
 use Rattle.laws_trace.proofs.Crowded.{by-trace}
-use Rattle.laws_trace.proofs.UnitsGoOut.{after-both}
+use Rattle.laws_trace.proofs.WaitedBegins.{after-both}
+use Rattle.laws_trace.specs.Trace as traces
+use Rattle.laws_trace.proofs.ManagingNotes as managing
 
 -- One event of a line.
 abbrev NoLoss : Aim → Type 0
@@ -69,12 +65,8 @@ NoLoss (at_none what) = what.lost ≡ 0
 NoLoss other = Unit {0}
 
 module _ (c : Config) (l : Line) where
-  octet-none : (value : ℕ) → NoLoss (aim_of_octet c value l)
-  octet-none value = go (gained c.n201 l.received value)
-    where
-      go : (o : Option stream.Event) → NoLoss (option_map_or (aim_of_heard c l) o (at_none nothing))
-      go None = refl
-      go (Some e) = heard_aims c l NoLoss (λ cause. refl) (λ its by place what at. tt) (λ info. tt) (λ parts service to. refl) e
+  heard-none : (e : stream.Event) → NoLoss (aim_of_heard c l e)
+  heard-none e = heard_aims c l NoLoss (λ cause. refl) (λ its by place what at. tt) (λ info. tt) (λ parts service to. refl) e
 
   timer-none : (its : Service) (by : ℕ) (k : LinkTimer) (o : Option ℕ) → NoLoss (at_timer its by k o)
   timer-none its by k None = refl
@@ -100,17 +92,17 @@ module _ (c : Config) (l : Line) where
   request-none (SetBusy its by) = asked-none its by link.SetBusy (place_in l by)
   request-none (ClearBusy its by) = asked-none its by link.ClearBusy (place_in l by)
 
-no-pull : (c : Config) (l : Line) (e : Event) (a : Answer) (service : Service) (tei : ℕ) (le : link.Event) → (e ≡ pull → ⊥) → IsBy c l e a service tei le → IsNoOther le
-no-pull c l e a service tei (link.received (link.frame f)) other by = tt
-no-pull c l e a service tei (link.received link.undefined) other by = tt
-no-pull c l e a service tei (link.received link.wrong_size) other by = tt
-no-pull c l e a service tei (link.received link.overlong) other by = tt
-no-pull c l e a service tei (link.expired timer) other by = tt
-no-pull c l e a service tei (link.requested r full) other by = tt
-no-pull c l e a service tei link.offer other by = absurd (other by)
-no-pull c l e a service tei link.cleared other by = absurd by
+no-next : (c : Config) (e : Event) (a : Answer) (service : Service) (tei : ℕ) (le : link.Event) → (e ≡ next → ⊥) → IsBy c e a service tei le → IsNoOther le
+no-next c e a service tei (link.received (link.frame f)) other by = tt
+no-next c e a service tei (link.received link.undefined) other by = tt
+no-next c e a service tei (link.received link.wrong_size) other by = tt
+no-next c e a service tei (link.received link.overlong) other by = tt
+no-next c e a service tei (link.expired timer) other by = tt
+no-next c e a service tei (link.requested r full) other by = tt
+no-next c e a service tei link.offer other by = absurd (other by)
+no-next c e a service tei link.cleared other by = absurd by
 
-module _ (c : Config) (ranged : IsInRange c) (l : Line) (s : IsSound c l) (e : Event) (other : e ≡ pull → ⊥) where
+module _ (c : Config) (ranged : IsInRange c) (l : Line) (s : IsSound c l) (e : Event) (other : e ≡ next → ⊥) where
   abbrev a : Answer
   a = lines.answer c e l
 
@@ -133,22 +125,21 @@ module _ (c : Config) (ranged : IsInRange c) (l : Line) (s : IsSound c l) (e : E
             service = service;
             tei = tei;
             as_many = ap (λ (k : Link). length k.waiting) x.is
-                ∙ link-full t x.event own sound (no-pull c l e a service tei x.event other x.by) (subst (λ n. 0 < n) x.lost some);
+                ∙ link-full t x.event own sound (no-next c e a service tei x.event other x.by) (subst (λ n. 0 < n) x.lost some);
           })
 
-  by-aim : (now : Line) → now.management ≡ l.management → (aim : Aim) → aim_of c e l ≡ aim → NoLoss aim → lost_in a ≡ (of_aim c aim now).told.lost → then ≡ (of_aim c aim now).line
-      → 0 < lost_in a → IsFull c then
-  by-aim now same (at_none what) is none lost_is line some = let zero : lost_in a ≡ 0 = lost_is ∙ none in absurd (omega (arith, some, zero))
-  by-aim now same (at_units unit) is none lost_is line some = let zero : lost_in a ≡ 0 = lost_is in absurd (omega (arith, some, zero))
-  by-aim now same (at_link service tei place event) is none lost_is line some =
+  by-aim : (aim : Aim) → aim_of c e l ≡ aim → NoLoss aim → lost_in a ≡ (of_aim c aim l).told.lost → then ≡ (of_aim c aim l).line → 0 < lost_in a → IsFull c then
+  by-aim (at_none what) is none lost_is line some = let zero : lost_in a ≡ 0 = lost_is ∙ none in absurd (omega (arith, some, zero))
+  by-aim (at_units unit) is none lost_is line some = let zero : lost_in a ≡ 0 = lost_is in absurd (omega (arith, some, zero))
+  by-aim (at_link service tei place event) is none lost_is line some =
       by-link service tei (ap (is_at_link service tei) is ∙ ap (λ b. b && tei == tei) (service-same service) ∙ eq-eqb tei tei refl) some
-  by-aim now same (at_management me) is none lost_is line some = inl (go (management-kept now.management (subst IsSoundManagement (sym same) s.management) me))
+  by-aim (at_management me) is none lost_is line some = inl (go (management-kept l.management s.management me))
     where
       y : Course
-      y = teis.course me now.management
+      y = teis.course me l.management
 
-      b : managing.Behind c y.told (record now { management = y.now }) y.told.change
-      b = managing.behind c y.told (record now { management = y.now }) y.told.change
+      b : managing.Behind c y.told (record l { management = y.now }) y.told.change
+      b = managing.behind c y.told (record l { management = y.now }) y.told.change
 
       go : (y.told.lost ≡ 0) ⊎ (length y.now.waiting ≡ 4) → length then.management.waiting ≡ 4
       go (inl nothing_lost) = let zero : lost_in a ≡ 0 = lost_is ∙ b.lost ∙ nothing_lost in absurd (omega (arith, some, zero))
@@ -157,14 +148,10 @@ module _ (c : Config) (ranged : IsInRange c) (l : Line) (s : IsSound c l) (e : E
 none-less : 0 < 0 → ⊥
 none-less some = omega (arith, some)
 
-octet-apart : (value : ℕ) → octet value ≡ pull → ⊥
-octet-apart value e = cc e
-
 event-full : (c : Config) → IsInRange c → (l : Line) → IsSound c l → (e : Event) → 0 < lost_in (lines.answer c e l) → IsFull c (lines.after c e l)
 unfolding lines.after lines.answer
-event-full c ranged l s (octet value) some =
-    by-aim c ranged l s (octet value) (octet-apart value) (with_received value l) refl (aim_of_octet c value l) refl (octet-none c l value) refl refl some
-event-full c ranged l s (expiry timer) some = by-aim c ranged l s (expiry timer) (λ e. cc e) l refl (aim_of_expiry timer l) refl (expiry-none c l timer) refl refl some
+event-full c ranged l s (hears what) some = by-aim c ranged l s (hears what) (λ e. cc e) (aim_of_heard c l what) refl (heard-none c l what) refl refl some
+event-full c ranged l s (expiry timer) some = by-aim c ranged l s (expiry timer) (λ e. cc e) (aim_of_expiry timer l) refl (expiry-none c l timer) refl refl some
 event-full c ranged l s (request r) some = go (refusal c false r l) refl some
   where
     go : (o : Option Refusal) → refusal c false r l ≡ o → 0 < lost_in (unless_refused_told o (of_aim c (unless_refused o (aim_of_request r l)) l)) → IsFull c (of_aim c (unless_refused o (aim_of_request r l)) l).line
@@ -174,49 +161,41 @@ event-full c ranged l s (request r) some = go (refusal c false r l) refl some
         granted : refusal c false r l ≡ None → 0 < (of_aim c (aim_of_request r l) l).told.lost → IsFull c (of_aim c (aim_of_request r l) l).line
         granted is some =
             subst (λ (o : Option Refusal). IsFull c (of_aim c (unless_refused o (aim_of_request r l)) l).line) is
-            (by-aim c ranged l s (request r) (λ e. cc e) l refl (aim_of_request r l) (ap (λ o. unless_refused o (aim_of_request r l)) is) (request-none c l r)
+            (by-aim c ranged l s (request r) (λ e. cc e) (aim_of_request r l) (ap (λ o. unless_refused o (aim_of_request r l)) is) (request-none c l r)
             (ap (λ o. lost_in (unless_refused_told o (of_aim c (unless_refused o (aim_of_request r l)) l))) is)
             (ap (λ o. (of_aim c (unless_refused o (aim_of_request r l)) l).line) is)
             (subst (λ (o : Option Refusal). 0 < lost_in (unless_refused_told o (of_aim c (unless_refused o (aim_of_request r l)) l))) (sym is) some))
-event-full c ranged l s pull some = absurd (none-less some)
+event-full c ranged l s next some = absurd (none-less some)
 
 -- What a trace tells as lost.
 lost-one : Seen → List ℕ
 lost-one (lost n) = n ∷ []
 lost-one (heard e) = []
 lost-one (traces.begun octets) = []
-lost-one (traces.put value) = []
 lost-one (noted ns contents) = []
 lost-one (traces.granted r) = []
 
 abbrev lost_told : Answer → List ℕ
 lost_told (told t) = t.lost ∷ []
 lost_told (refused why) = []
-lost_told (pulled value is_begun orders) = []
+lost_told (gave given) = []
 
-lost-seen : (o : Option stream.Event) (a : Answer) → flat_map lost-one (map heard (option_to_list o) ++ seen_told a) ≡ lost_told a
+lost-seen : (a : Answer) → flat_map lost-one (seen_told a) ≡ lost_told a
 unfolding lost-one
-lost-seen None (told t) = refl
-lost-seen None (refused why) = refl
-lost-seen None (pulled value is_begun orders) = refl
-lost-seen (Some e) (told t) = refl
-lost-seen (Some e) (refused why) = refl
-lost-seen (Some e) (pulled value is_begun orders) = refl
+lost-seen (told t) = refl
+lost-seen (refused why) = refl
+lost-seen (gave given) = refl
 
 lost-asked : (r : Request) (a : Answer) → flat_map lost-one (seen_granted r a ++ seen_told a) ≡ lost_told a
 unfolding lost-one
 lost-asked r (told t) = refl
 lost-asked r (refused why) = refl
-lost-asked r (pulled value is_begun orders) = refl
+lost-asked r (gave given) = refl
 
-lost-pulled : (o : Option Taken) (a : Answer) → flat_map lost-one (map traces.begun (option_to_list (option_map frame_taken o)) ++ map traces.put (octet_in a)) ≡ []
+lost-begun : (frames : List (List ℕ)) → flat_map lost-one (map traces.begun frames) ≡ []
 unfolding lost-one
-lost-pulled None (told t) = refl
-lost-pulled None (refused why) = refl
-lost-pulled None (pulled value is_begun orders) = refl
-lost-pulled (Some t) (told u) = refl
-lost-pulled (Some t) (refused why) = refl
-lost-pulled (Some t) (pulled value is_begun orders) = refl
+lost-begun [] = refl
+lost-begun (f ∷ frames) = lost-begun frames
 
 none-in : (n : ℕ) (front back : List ℕ) → [] ≡ front ++ n ∷ back → ⊥
 none-in n [] back e = cc e
@@ -227,37 +206,37 @@ one-in n (told t) [] back e = cc e
 one-in n (told t) (x ∷ []) back e = absurd (cc e)
 one-in n (told t) (x ∷ y ∷ front) back e = absurd (cc e)
 one-in n (refused why) front back e = absurd (none-in n front back e)
-one-in n (pulled value is_begun orders) front back e = absurd (none-in n front back e)
+one-in n (gave given) front back e = absurd (none-in n front back e)
 
-is-lost : (c : Config) (e : Event) (l : Line) (a : Answer) (n : ℕ) → IsAmong (lost n) (seen c e l a) → lost_in a ≡ n
+is-lost : (e : Event) (a : Answer) (n : ℕ) → IsAmong (lost n) (seen e a) → lost_in a ≡ n
 unfolding lost-one
-is-lost c (octet value) l a n among =
+is-lost (hears what) a n among =
     one-in n a (flat_map lost-one among.front) (flat_map lost-one among.back)
-    (sym (lost-seen (gained c.n201 l.received value) a) ∙ ap (flat_map lost-one) among.split ∙ flat_map-append lost-one among.front (lost n ∷ among.back))
-is-lost c (expiry timer) l a n among =
+    (sym (lost-seen a) ∙ ap (flat_map lost-one) among.split ∙ flat_map-append lost-one among.front (lost n ∷ among.back))
+is-lost (expiry timer) a n among =
     one-in n a (flat_map lost-one among.front) (flat_map lost-one among.back)
-    (sym (lost-seen None a) ∙ ap (flat_map lost-one) among.split ∙ flat_map-append lost-one among.front (lost n ∷ among.back))
-is-lost c (request r) l a n among =
+    (sym (lost-seen a) ∙ ap (flat_map lost-one) among.split ∙ flat_map-append lost-one among.front (lost n ∷ among.back))
+is-lost (request r) a n among =
     one-in n a (flat_map lost-one among.front) (flat_map lost-one among.back)
     (sym (lost-asked r a) ∙ ap (flat_map lost-one) among.split ∙ flat_map-append lost-one among.front (lost n ∷ among.back))
-is-lost c pull l a n among =
+is-lost next a n among =
     absurd (none-in n (flat_map lost-one among.front) (flat_map lost-one among.back)
-    (sym (lost-pulled (pulls.begun c l) a) ∙ ap (flat_map lost-one) among.split ∙ flat_map-append lost-one among.front (lost n ∷ among.back)))
+    (sym (lost-begun (frame_in a)) ∙ ap (flat_map lost-one) among.split ∙ flat_map-append lost-one among.front (lost n ∷ among.back)))
 
 -- One event of a card.
 module _ (m : Card) (e : card.Event) (s : card_sound.IsSound m) (n : ℕ) (some : 0 < n) where
   abbrev Fulls : ℕ → List Seen → Type 0
   Fulls number t = IsAmong (lost n) t → IsFull m.config (line_at number (after e m))
 
-  own : IsAtLine m e → Fulls e.line (seen m.config e.what (line_at e.line m) (answer e m))
+  own : IsAtLine m e → Fulls e.line (seen e.what (answer e m))
   own here among =
-      by_room (λ ls a. IsAmong (lost n) (seen c e.what l a) → IsFull c (get_or ls e.line (fresh_line c))) e m
+      by_room (λ ls a. IsAmong (lost n) (seen e.what a) → IsFull c (get_or ls e.line (fresh_line c))) e m
       (λ full among.
       let nothing_there = subst (IsAmong (lost n)) (nothing-seen c e.what l (and_parts (lines.takes_slot c e.what l) (is_full m) full).0) among in
       absurd (none-among (lost n) nothing_there.front nothing_there.back nothing_there.split))
       (λ room among.
       subst (IsFull c) (sym (get_or-set_same m.lines e.line (lines.after c e.what l) (fresh_line c) (omega (arith, s.count, here))))
-      (event-full c s.config l (line_sound m e.line (has_lines m s) here) e.what (subst (λ n. 0 < n) (sym (is-lost c e.what l (lines.answer c e.what l) n among)) some)))
+      (event-full c s.config l (line_sound m e.line (has_lines m s) here) e.what (subst (λ n. 0 < n) (sym (is-lost e.what (lines.answer c e.what l) n among)) some)))
       among
     where
       c : Config
@@ -266,9 +245,9 @@ module _ (m : Card) (e : card.Event) (s : card_sound.IsSound m) (n : ℕ) (some 
       l : Line
       l = line_at e.line m
 
-  at-card : (number : ℕ) → IsAtLine m e → (b : Bool) → (e.line == number) ≡ b → Fulls number (cond b (seen m.config e.what (line_at number m) (answer e m)) [])
+  at-card : (number : ℕ) → IsAtLine m e → (b : Bool) → (e.line == number) ≡ b → Fulls number (cond b (seen e.what (answer e m)) [])
   at-card number here true is among =
-      subst (λ number. Fulls number (seen m.config e.what (line_at number m) (answer e m))) (eqb-true e.line number is) (own here) among
+      subst (λ number. Fulls number (seen e.what (answer e m))) (eqb-true e.line number is) (own here) among
   at-card number here false other among = absurd (none-among (lost n) among.front among.back among.split)
 
 pub queues-are-full : Always QueuesAreFull
@@ -279,7 +258,7 @@ queues-are-full c events number ranged all within before e behind split n among 
     let first = all-left (IsAtLine (cards.fresh c)) before (e ∷ behind) these in
     let here = All-head (IsAtLine (cards.fresh c)) e behind (all-right (IsAtLine (cards.fresh c)) before (e ∷ behind) these) in
     let kept : m.config ≡ c = config-stays (cards.fresh c) before in
-    let t = cond (e.line == number) (seen m.config e.what (line_at number m) (answer e m)) [] in
+    let t = cond (e.line == number) (seen e.what (answer e m)) [] in
     subst (λ d. IsFull d (line_at number (after e m))) kept
     (at-card m e (always_sound (cards.fresh c) before (fresh_is_sound c ranged) first) n some number (subst (λ (c : Config). e.line < c.lines) (sym kept) here) (e.line == number) refl
     (subst (IsAmong (lost n)) (append-nil t) among))

@@ -1,6 +1,7 @@
--- Where the contents that are granted are octets, so are those of each frame that begins: the law.
-use Rattle.std.proofs.Common.{◌≡◌, ℕ, zero, suc, ◌<◌, ◌≤◌, Bool, true, false, cond, List, [], ◌∷◌, ◌++◌, map, drop, get_or, replicate, slice_get, Option, Some, None, IfSome, option_map, refl, sym, ap, ◌∙◌, subst, arith, ◌⊎◌, inl, inr}
-use Rattle.std.specs.Prelude.{All, option_to_list, is_some}
+-- Where the contents that are granted, and the frames that are heard, are octets, so are those of each frame that
+-- begins: the law.
+use Rattle.std.proofs.Common.{◌≡◌, ℕ, zero, suc, ◌<◌, ◌≤◌, Bool, true, false, cond, List, [], ◌∷◌, ◌++◌, drop, get_or, replicate, slice_get, Option, Some, None, IfSome, option_map, refl, sym, ap, ◌∙◌, subst, arith, ◌⊎◌, inl, inr}
+use Rattle.std.specs.Prelude.{All, is_some}
 use Rattle.std.specs.Option.{option_or, option_map_or, unwrap_or}
 use Rattle.std.proofs.lemmas.Grind.{flat_map-append}
 use Rattle.std.proofs.lemmas.List.{get_or-replicate}
@@ -30,19 +31,17 @@ use Rattle.model_link.specs.Sound as link_sound
 use Rattle.model_link.specs.Told.{Given}
 use Rattle.model_link.specs.declared.terms.Terms.{Terms}
 use Rattle.model_line.specs.declared.config.Config.{Config}
-use Rattle.model_line.specs.Event.{Event, octet, expiry, request, pull, Answer, told, refused, pulled}
+use Rattle.model_line.specs.Event.{Event, hears, expiry, request, next, Answer, told, refused, gave}
 use Rattle.model_line.specs.Line.{Line, UnitData, link_count, link_number, service_at, place_at, place_in, tei_at, link_at, link_in, link_of, terms, fresh_line}
 use Rattle.model_line.specs.Machine.{after, answer}
-use Rattle.model_line.specs.Octet.{gained}
-use Rattle.model_line.specs.Pull as pulls
-use Rattle.model_line.specs.Pull.{Taken, with_message, with_unit, unit_frame, first_taken, round, taken, is_due, with_item, after_pull}
+use Rattle.model_line.specs.Taken.{Taken, with_message, with_unit, unit_frame, first_taken, round, taken, next_of, line_of}
 use Rattle.model_line.specs.Request as asked
 use Rattle.model_line.specs.Request.{Request}
 use Rattle.model_line.specs.Sound.{IsInRange, IsSoundAt, IsSound, IsUnitData}
 use Rattle.model_line.proofs.LinksSound.{sound_in}
-use Rattle.model_line.proofs.PullSound.{round_below}
+use Rattle.model_line.proofs.TakenWalk.{round_below}
 use Rattle.lapd_tei.proofs.Tables.{place_of-is}
-use Rattle.laws_line.specs.Pulls.{unit_asked, units_asked}
+use Rattle.laws_line.specs.Served.{unit_asked, units_asked}
 use Rattle.laws_line.specs.Share.{is_granted}
 use Rattle.laws_line.specs.Steady.{IsBy}
 use Rattle.laws_line.proofs.LinkMoves.{OfLink, of-links, IsOne, taken-one}
@@ -50,23 +49,19 @@ use Rattle.laws_line.proofs.Places.{has-place}
 use Rattle.laws_line.proofs.Serving.{units-wait}
 use Rattle.laws_line.proofs.TimersFollow.{number-is}
 use Rattle.model_card.specs.Card.{fresh}
-use Rattle.model_card.specs.Pulled.{frame_taken}
 use Rattle.model_card.proofs.CardSound.{fresh_is_sound}
 use Rattle.laws_card.proofs.Wherever.{all-left as all-front, all-right as all-back}
-use Rattle.laws_trace.specs.FramesAreRead.{contents_given, GivesOctets, FramesAreOctets, FramesGoOutAsTheyAre}
-use Rattle.laws_trace.specs.FramesGoOut.{as_octets, GoOut}
-use Rattle.laws_trace.specs.Trace as traces
-use Rattle.laws_trace.specs.Trace.{Seen, granted, seen_told, seen, trace_of, frames_begun, octets_put, Always}
-use Rattle.laws_trace.proofs.Fitting.{Anything}
-use Rattle.laws_trace.proofs.FramesGoOut.{frames-go-out}
-use Rattle.laws_card.proofs.Spelling.{head}
-use Rattle.laws_trace.proofs.Heads.{few-sapi, exact}
-use Rattle.laws_trace.proofs.Octets.{no-frame, no-frame-asked}
+use Rattle.laws_trace.specs.FramesAreRead.{contents_given, GivesOctets, FramesAreOctets}
+use Rattle.laws_trace.specs.Trace.{frame_in, Seen, granted, seen_told, seen, frames_begun, Always}
 use Rattle.laws_trace.proofs.OneLink.{Goes, event-goes}
 use Rattle.laws_trace.proofs.Runs.{run-shows}
 use Rattle.laws_trace.proofs.SmallMessages.{IsSmall, message-octets}
-use Rattle.laws_trace.proofs.Units.{pulled-frames}
 use Rattle.laws_trace.proofs.SmallMessagesWait.{messages-after}
+use Rattle.laws_trace.proofs.Units.{none-told, none-requested, given-frames}
+use Rattle.laws_trace.proofs.Spelled.{Anything}
+use Rattle.laws_trace.specs.Trace as traces
+use Rattle.laws_card.proofs.Spelling.{head}
+use Rattle.lapd_frame.specs.declared.services.Service.TheVariants.{Call, Packet}
 
 abbrev IsUnit : UnitData → Type 0
 IsUnit u = AreOctets u.contents
@@ -78,6 +73,10 @@ record AreKept (l : Line) : Type 0 where
   links : (service : Service) (tei : ℕ) → All AreOctets (queue_of (link_of service tei l))
 
 -- What begins: a head, and information of octets.
+few-sapi : (service : Service) → sapi_of service < 64
+few-sapi Call = omega arith
+few-sapi Packet = omega arith
+
 whole-octets : (side : Side) (a : Address) (c : Control) (info : List ℕ) → a.sapi < 64 → a.tei < 128 → AreOctets info → AreOctets (head_of side a c ++ info)
 whole-octets side a c info sapi tei h = All-append (λ octet. octet < 256) (head_of side a c) info (head side a c sapi tei) h
 
@@ -145,25 +144,24 @@ module _ (c : Config) (ranged : IsInRange c) (l : Line) (s : IsSound c l) (k : A
   taken-exact : IfSome (taken c l) IsExact
   taken-exact = any-exact l.management.waiting l.units k.messages s.management.queue.actions s.units k.units
 
-by-pull : (due : Bool) (o : Option Taken) → IfSome o (λ t. AreOctets t.frame) → All AreOctets (option_to_list (option_map frame_taken (cond due o None)))
-by-pull true None h = All-nil AreOctets
-by-pull true (Some t) h = All-cons AreOctets t.frame [] h (All-nil AreOctets)
-by-pull false o h = All-nil AreOctets
+by-next : (o : Option Taken) → IfSome o (λ t. AreOctets t.frame) → All AreOctets (frame_in (gave (option_map next_of o)))
+by-next None h = All-nil AreOctets
+by-next (Some t) h = All-cons AreOctets t.frame [] h (All-nil AreOctets)
 
-event-exact : (c : Config) → IsInRange c → (e : Event) (l : Line) → IsSound c l → AreKept l → All AreOctets (frames_begun (seen c e l (answer c e l)))
-event-exact c ranged (octet value) l s k = subst (All AreOctets) (sym (no-frame (gained c.n201 l.received value) (answer c (octet value) l))) (All-nil AreOctets)
-event-exact c ranged (expiry timer) l s k = subst (All AreOctets) (sym (no-frame None (answer c (expiry timer) l))) (All-nil AreOctets)
-event-exact c ranged (request r) l s k = subst (All AreOctets) (sym (no-frame-asked r (answer c (request r) l))) (All-nil AreOctets)
-event-exact c ranged pull l s k =
-    subst (All AreOctets) (sym (pulled-frames (pulls.begun c l) (answer c pull l))) (by-pull (is_due l) (taken c l) (taken-exact c ranged l s k))
+event-exact : (c : Config) → IsInRange c → (e : Event) (l : Line) → IsSound c l → AreKept l → All AreOctets (frames_begun (seen e (answer c e l)))
+unfolding answer
+event-exact c ranged (hears what) l s k = subst (All AreOctets) (sym (none-told (answer c (hears what) l))) (All-nil AreOctets)
+event-exact c ranged (expiry timer) l s k = subst (All AreOctets) (sym (none-told (answer c (expiry timer) l))) (All-nil AreOctets)
+event-exact c ranged (request r) l s k = subst (All AreOctets) (sym (none-requested r (answer c (request r) l))) (All-nil AreOctets)
+event-exact c ranged next l s k = subst (All AreOctets) (sym (given-frames (option_map next_of (taken c l)))) (by-next (taken c l) (taken-exact c ranged l s k))
 
 -- What a link keeps, where what is granted are octets.
 granted-seen : (r : Request) (a : Answer) → is_granted a ≡ true → All GivesOctets (traces.seen_granted r a ++ seen_told a) → AreOctets (contents_given r)
 granted-seen r (told t) is h = All-head GivesOctets (granted r) (seen_told (told t)) h
 granted-seen r (refused why) is h = absurd (cc is)
-granted-seen r (pulled value is_begun orders) is h = absurd (cc is)
+granted-seen r (gave given) is h = absurd (cc is)
 
-module _ (c : Config) (e : Event) (l : Line) (s : IsSound c l) (ranged : IsInRange c) (k : AreKept l) (gives : All GivesOctets (seen c e l (answer c e l))) (service : Service) (tei : ℕ) where
+module _ (c : Config) (e : Event) (l : Line) (s : IsSound c l) (ranged : IsInRange c) (k : AreKept l) (gives : All GivesOctets (seen e (answer c e l))) (service : Service) (tei : ℕ) where
   by-refusal : (o : Option Refusal) (contents : List ℕ) → AreOctets contents → All AreOctets (cond (is_some o) [] (contents ∷ []))
   by-refusal None contents h = All-cons AreOctets contents [] h (All-nil AreOctets)
   by-refusal (Some why) contents h = All-nil AreOctets
@@ -172,10 +170,10 @@ module _ (c : Config) (e : Event) (l : Line) (s : IsSound c l) (ranged : IsInRan
   none-accepted None = All-nil AreOctets
   none-accepted (Some why) = All-nil AreOctets
 
-  accepted-octets : (t : Terms) (x : Link) (event : link.Event) → IsBy c l e (answer c e l) service tei event → All AreOctets (accepted t event x)
+  accepted-octets : (t : Terms) (x : Link) (event : link.Event) → IsBy c e (answer c e l) service tei event → All AreOctets (accepted t event x)
   accepted-octets t x (link.requested (link.Data contents) full) by =
       by-refusal (link_requests.refusal t x full (link.Data contents)) contents
-      (granted-seen (asked.Data service tei contents) (answer c e l) by.1 (subst (λ event. All GivesOctets (seen c event l (answer c e l))) by.0 gives))
+      (granted-seen (asked.Data service tei contents) (answer c e l) by.1 (subst (λ event. All GivesOctets (seen event (answer c e l))) by.0 gives))
   accepted-octets t x (link.requested link.Establish full) by = none-accepted (link_requests.refusal t x full link.Establish)
   accepted-octets t x (link.requested link.Release full) by = none-accepted (link_requests.refusal t x full link.Release)
   accepted-octets t x (link.requested link.SetBusy full) by = none-accepted (link_requests.refusal t x full link.SetBusy)
@@ -224,28 +222,27 @@ asked-exact (asked.ClearBusy service tei) h = All-nil IsUnit
 by-grant : (r : Request) (a : Answer) → All GivesOctets (traces.seen_granted r a ++ seen_told a) → All IsUnit (units_asked (request r) a)
 by-grant r (told t) h = asked-exact r (granted-seen r (told t) refl h)
 by-grant r (refused why) h = All-nil IsUnit
-by-grant r (pulled value is_begun orders) h = All-nil IsUnit
+by-grant r (gave given) h = All-nil IsUnit
 
-pull-units : (c : Config) (l : Line) → IsSound c l → All IsUnit l.units → All IsUnit (after_pull c l).units
-pull-units c l s h = go (is_due l) (taken c l) (taken-one c l s)
+next-units : (c : Config) (l : Line) → IsSound c l → All IsUnit l.units → All IsUnit (option_map_or line_of (taken c l) l).units
+next-units c l s h = go (taken c l) (taken-one c l s)
   where
     took : (t : Taken) → IsOne c l t → All IsUnit t.line.units
     took t (inl x) = subst (λ (u : Taken). All IsUnit u.line.units) (sym x.1) h
     took t (inr (inl x)) = subst (λ (u : Taken). All IsUnit u.line.units) (sym x.1) (All-drop IsUnit 1 l.units h)
     took t (inr (inr x)) = subst (λ (u : Taken). All IsUnit u.line.units) (sym x.is) h
 
-    go : (due : Bool) (o : Option Taken) → IfSome o (IsOne c l) → All IsUnit (cond due (with_item o l) l).units
-    go false o x = h
-    go true None x = h
-    go true (Some t) x = took t x
+    go : (o : Option Taken) → IfSome o (IsOne c l) → All IsUnit (option_map_or line_of o l).units
+    go None x = h
+    go (Some t) x = took t x
 
-units-after : (c : Config) (e : Event) (l : Line) → IsSound c l → All GivesOctets (seen c e l (answer c e l)) → All IsUnit l.units → All IsUnit (after c e l).units
+units-after : (c : Config) (e : Event) (l : Line) → IsSound c l → All GivesOctets (seen e (answer c e l)) → All IsUnit l.units → All IsUnit (after c e l).units
 unfolding after
-units-after c (octet value) l s gives h = subst (All IsUnit) (sym (units-wait c (octet value) l)) h
+units-after c (hears what) l s gives h = subst (All IsUnit) (sym (units-wait c (hears what) l)) h
 units-after c (expiry timer) l s gives h = subst (All IsUnit) (sym (units-wait c (expiry timer) l)) h
 units-after c (request r) l s gives h =
     subst (All IsUnit) (sym (units-wait c (request r) l)) (All-append IsUnit l.units (units_asked (request r) (answer c (request r) l)) h (by-grant r (answer c (request r) l) gives))
-units-after c pull l s gives h = pull-units c l s h
+units-after c next l s gives h = next-units c l s h
 
 -- Of a trace.
 abbrev AreExact : Config → Line → List Seen → Line → Type 0
@@ -263,12 +260,12 @@ joins c k l m t u h i gives kept =
     )
 
 steps : (c : Config) → IsInRange c → (e : Event) (l : Line) → IsSound c l → Anything c l
-    → AreExact c l (seen c e l (answer c e l)) (after c e l) × Anything c (after c e l)
+    → AreExact c l (seen e (answer c e l)) (after c e l) × Anything c (after c e l)
 steps c ranged e l s h = (
   λ gives k. (
     event-exact c ranged e l s k,
     record {
-      messages = messages-after c e l s k.messages;
+      messages = messages-after c e l (answer c e l) s gives k.messages;
       units = units-after c e l s gives k.units;
       links = λ service tei. link-after c e l s ranged k gives service tei (event-goes c e l service tei s);
     },
@@ -293,13 +290,3 @@ pub frames-are-octets : Always FramesAreOctets
 frames-are-octets c events number ranged all within gives =
     ((run-shows Anything AreExact rests joins steps (fresh c) events number (fresh_is_sound c ranged) all tt).0 gives
     (subst AreKept (sym (get_or-replicate c.lines number (fresh_line c) (fresh_line c) within)) (fresh-kept c))).0
-
-all-exact : (frames : List (List ℕ)) → All AreOctets frames → map as_octets frames ≡ frames
-all-exact [] h = refl
-all-exact (frame ∷ frames) h =
-    ap (λ f. f ∷ map as_octets frames) (exact frame (All-head AreOctets frame frames h)) ∙ ap (λ fs. frame ∷ fs) (all-exact frames (All-tail AreOctets frame frames h))
-
-pub frames-go-out-as-they-are : Always FramesGoOutAsTheyAre
-frames-go-out-as-they-are c events number ranged all within gives =
-    let t = trace_of c events number in
-    subst (GoOut c.n201 (octets_put t)) (all-exact (frames_begun t) (frames-are-octets c events number ranged all within gives)) (frames-go-out c events number ranged all within)

@@ -1,5 +1,6 @@
--- What an event of a line is to the link of a service with a TEI, at whatever place the TEI is: one event of this link, or none.
-use Rattle.std.proofs.Common.{◌≡◌, ℕ, ◌==◌, ◌&&◌, Bool, true, false, cond, List, [], ◌∷◌, map, slice_get, Option, Some, None, IfSome, option_map, refl, sym, ap, ◌∙◌, subst, eqb-true, ◌⊎◌, inl, inr}
+-- What an event of a line is to the link of a service with a TEI, at whatever place the TEI is: one event of this link,
+-- or none.
+use Rattle.std.proofs.Common.{◌≡◌, ℕ, ◌==◌, ◌&&◌, Bool, true, false, List, [], ◌∷◌, map, slice_get, Option, Some, None, IfSome, option_map, refl, sym, ap, ◌∙◌, subst, eqb-true, ◌⊎◌, inl, inr}
 use Rattle.std.specs.Prelude.{All, option_to_list}
 use Rattle.std.specs.Option.{option_or, option_map_or}
 use Rattle.std.proofs.lemmas.List.Elements.{All-nil, All-cons}
@@ -24,22 +25,21 @@ use Rattle.model_link.specs.Told.{Given}
 use Rattle.model_link.specs.declared.timers.LinkTimer.{LinkTimer}
 use Rattle.model_link.specs.declared.timers.LinkTimer.TheVariants as link_timer
 use Rattle.model_line.specs.declared.config.Config.{Config}
-use Rattle.model_line.specs.Event.{Event, octet, expiry, request, pull, Answer, told, nothing}
+use Rattle.model_line.specs.Event.{Event, hears, expiry, request, next, Answer, told, gave}
 use Rattle.model_line.specs.Effect.{Aim, at_none, at_link, at_management, at_units, of_aim}
 use Rattle.model_line.specs.Expiry.{at_timer, aim_of_expiry}
 use Rattle.model_line.specs.Laws.{orders_in}
 use Rattle.model_line.specs.Line.{Line, UnitData, link_number, service_at, place_at, place_in, has_tei, link_at, link_in, link_of, terms, with_link}
 use Rattle.model_line.specs.Machine.{aim_of, after, answer, unless_refused, unless_refused_told}
-use Rattle.model_line.specs.Octet.{gained, aim_of_heard, aim_of_octet, with_received}
-use Rattle.model_line.specs.Pull.{Taken, begun, with_message, with_unit, unit_frame, with_given_frame, frame_of, taken, is_due, orders_of, with_item, after_pull, answer_to_pull, first_taken, round}
+use Rattle.model_line.specs.Heard.{aim_of_heard}
+use Rattle.model_line.specs.Taken.{Taken, taken, with_message, with_unit, unit_frame, with_given_frame, frame_of, first_taken, round, next_of, line_of}
 use Rattle.model_line.specs.Refusal.{refusal}
 use Rattle.model_line.specs.Request.{Request, Establish, Release, Data, Assign, Remove, Check, SetBusy, ClearBusy}
 use Rattle.model_line.specs.Requested.{at_requested, aim_of_request}
 use Rattle.model_line.specs.Sound.{IsSound}
 use Rattle.model_line.proofs.AimsSound.{IsProper}
-use Rattle.model_line.proofs.ProperAims.{heard_aims, octet_proper, expiry_proper, request_proper}
-use Rattle.model_line.proofs.PullSound.{round_below}
-use Rattle.model_card.specs.Pulled.{frame_taken, frame_in}
+use Rattle.model_line.proofs.ProperAims.{heard_aims, heard_proper, expiry_proper, request_proper}
+use Rattle.model_line.proofs.TakenWalk.{round_below}
 use Rattle.laws_line.specs.Frames.{lost_in}
 use Rattle.laws_line.specs.Heard.{notes_of, contents_in}
 use Rattle.laws_line.specs.Steady.{IsBy}
@@ -47,8 +47,9 @@ use Rattle.laws_line.proofs.LinkMoves.{OfLink, of-links}
 use Rattle.laws_line.proofs.Obeyed.{services-equal, both-true}
 use Rattle.laws_line.proofs.Places.{has-place}
 use Rattle.laws_line.proofs.Readings as read
-use Rattle.laws_line.proofs.Tied.{Ties, octet-ties, expiry-ties, request-ties}
+use Rattle.laws_line.proofs.Tied.{Ties, heard-ties, expiry-ties, request-ties}
 use Rattle.laws_line.proofs.TimersFollow.{number-is}
+use Rattle.laws_trace.specs.Trace.{frame_in}
 use Rattle.laws_trace.proofs.ManagedLink.{alike, Remains, managed, starts-none}
 use Rattle.laws_trace.proofs.OfferTells.{offer-tells_nothing}
 use Rattle.laws_trace.proofs.OrdersOfLink.{StartNone, none-ordered, other-starts-none}
@@ -71,15 +72,15 @@ pub record HasOne (c : Config) (service : Service) (tei : ℕ) (e : Event) (befo
   pub place : ℕ
   pub placed : place_in before tei ≡ Some place
   pub event : link.Event
-  pub by : IsBy c before e a service tei event
-  pub aimed : (e ≡ pull) ⊎ (aim_of c e before ≡ at_link service tei place event)
+  pub by : IsBy c e a service tei event
+  pub aimed : (e ≡ next) ⊎ (aim_of c e before ≡ at_link service tei place event)
   pub is : link_of service tei after ≡ links.after (terms c service tei) event (link_of service tei before)
   pub notes : notes_of a ≡ (links.told (terms c service tei) event (link_of service tei before)).notes
   pub contents : contents_in a ≡ option_or (links.told (terms c service tei) event (link_of service tei before)).delivered
       (links.told (terms c service tei) event (link_of service tei before)).unit
   pub lost : lost_in a ≡ (links.told (terms c service tei) event (link_of service tei before)).lost
   pub orders : orders_in a ≡ (links.told (terms c service tei) event (link_of service tei before)).orders
-  pub begins : frame_in c e before ≡ frames_given c (terms c service tei) event (link_of service tei before)
+  pub begins : frame_in a ≡ frames_given c (terms c service tei) event (link_of service tei before)
 
 -- A frame of TEI management, unit data, or a frame of another link.
 abbrev pub IsForeign : Config → Service → ℕ → List ℕ → Type 0
@@ -94,7 +95,7 @@ pub record HasNone (c : Config) (service : Service) (tei : ℕ) (e : Event) (bef
   pub stays : has_tei tei before ≡ true → has_tei tei after ≡ true → link_of service tei after ≡ link_of service tei before
   pub aims : is_at_link service tei (aim_of c e before) ≡ false
   pub orders : StartNone service tei (orders_in a)
-  pub begins : All (IsForeign c service tei) (frame_in c e before)
+  pub begins : All (IsForeign c service tei) (frame_in a)
 
 abbrev pub Goes : Config → Service → ℕ → Event → Line → Line → Answer → Type 0
 Goes c service tei e before after a = HasNone c service tei e before after a ⊎ HasOne c service tei e before after a
@@ -110,12 +111,8 @@ module _ (c : Config) (l : Line) where
   Silent (at_management me) = Unit {0}
   Silent (at_units unit) = Unit {0}
 
-  octet-silent : (value : ℕ) → Silent (aim_of_octet c value l)
-  octet-silent value = go (gained c.n201 l.received value)
-    where
-      go : (o : Option stream.Event) → Silent (option_map_or (aim_of_heard c l) o (at_none nothing))
-      go None = refl
-      go (Some e) = heard_aims c l Silent (λ cause. refl) (λ its by place what at. refl) (λ info. tt) (λ parts service to. refl) e
+  heard-silent : (what : stream.Event) → Silent (aim_of_heard c l what)
+  heard-silent what = heard_aims c l Silent (λ cause. refl) (λ its by place what at. refl) (λ info. tt) (λ parts service to. refl) what
 
   timer-silent : (its : Service) (by : ℕ) (k : LinkTimer) (o : Option ℕ) → Silent (at_timer its by k o)
   timer-silent its by k None = refl
@@ -159,19 +156,16 @@ module _ (c : Config) (l : Line) (s : IsSound c l) (service : Service) (tei : �
     own-after : link_of its by (with_link (link_number place its) y l) ≡ links.after (terms c its by) event (link_of its by l)
     own-after = read.own-after fresh itself c l s its by place at y ∙ ap (links.after (terms c its by) event) (sym own-before)
 
-  -- What an aim comes to, whatever was received with it.
-  module _ (received : List ℕ) (e : Event) (a : Answer) (none_begins : frame_in c e l ≡ []) where
-    abbrev now : Line
-    now = record l { received = received }
-
-    no-frame : All (IsForeign c service tei) (frame_in c e l)
+  -- What an aim comes to.
+  module _ (e : Event) (a : Answer) (none_begins : frame_in a ≡ []) where
+    no-frame : All (IsForeign c service tei) (frame_in a)
     no-frame = subst (All (IsForeign c service tei)) (sym none_begins) (All-nil (IsForeign c service tei))
 
-    stays : (aim : Aim) → aim_of c e l ≡ aim → is_at_link service tei aim ≡ false → StartNone service tei (orders_in a) → (next : Line) → Remains c l s service tei next
-        → Goes c service tei e l next a
-    stays aim is none starts next (inl same) =
+    stays : (aim : Aim) → aim_of c e l ≡ aim → is_at_link service tei aim ≡ false → StartNone service tei (orders_in a) → (new : Line) → Remains c l s service tei new
+        → Goes c service tei e l new a
+    stays aim is none starts new (inl same) =
         inl (record { is = inl same; stays = λ was there. same; aims = ap (is_at_link service tei) is ∙ none; orders = starts; begins = no-frame })
-    stays aim is none starts next (inr anew) =
+    stays aim is none starts new (inr anew) =
         inl (record {
           is = inr anew.0;
           stays = λ was there. absurd (anew.1 was there);
@@ -182,28 +176,28 @@ module _ (c : Config) (l : Line) (s : IsSound c l) (service : Service) (tei : �
 
     abbrev Tells : Aim → Type 0
     Tells aim =
-        (notes_of a ≡ (of_aim c aim now).told.notes) × (contents_in a ≡ (of_aim c aim now).told.contents) × (lost_in a ≡ (of_aim c aim now).told.lost)
-        × (orders_in a ≡ (of_aim c aim now).told.orders)
+        (notes_of a ≡ (of_aim c aim l).told.notes) × (contents_in a ≡ (of_aim c aim l).told.contents) × (lost_in a ≡ (of_aim c aim l).told.lost)
+        × (orders_in a ≡ (of_aim c aim l).told.orders)
 
     -- orders that start none
-    none-started : (aim : Aim) → Tells aim → StartNone service tei (of_aim c aim now).told.orders → StartNone service tei (orders_in a)
+    none-started : (aim : Aim) → Tells aim → StartNone service tei (of_aim c aim l).told.orders → StartNone service tei (orders_in a)
     none-started aim tells h = subst (StartNone service tei) (sym tells.3) h
 
     at-one : (its : Service) (by place : ℕ) (event : link.Event) → aim_of c e l ≡ at_link its by place event → IsAt l.management.places place by
-        → IsBy c l e a its by event → Tells (at_link its by place event) → frames_given c (terms c its by) event (link_of its by l) ≡ []
-        → (b : Bool) → (same_service its service && by == tei) ≡ b → Goes c service tei e l (of_aim c (at_link its by place event) now).line a
+        → IsBy c e a its by event → Tells (at_link its by place event) → frames_given c (terms c its by) event (link_of its by l) ≡ []
+        → (b : Bool) → (same_service its service && by == tei) ≡ b → Goes c service tei e l (of_aim c (at_link its by place event) l).line a
     at-one its by place event is at ties tells silent false other =
         stays (at_link its by place event) is other
         (none-started (at_link its by place event) tells (other-starts-none (terms c its by) event (x its by place event at) service tei other))
-        (of_aim c (at_link its by place event) now).line
-        (inl (alike c l s service tei (with_link (link_number place its) (y its by place event at) l) (of_aim c (at_link its by place event) now).line refl refl
+        (of_aim c (at_link its by place event) l).line
+        (inl (alike c l s service tei (with_link (link_number place its) (y its by place event at) l) (of_aim c (at_link its by place event) l).line refl refl
         ∙ other-stays its by place event at other))
     at-one its by place event is at ties tells silent true same =
         let parts = both-true (same_service its service) (by == tei) same in
-        subst (λ z. Goes c z tei e l (of_aim c (at_link its by place event) now).line a) (services-equal its service parts.0)
-        (subst (λ n. Goes c its n e l (of_aim c (at_link its by place event) now).line a) (eqb-true by tei parts.1) (inr one))
+        subst (λ z. Goes c z tei e l (of_aim c (at_link its by place event) l).line a) (services-equal its service parts.0)
+        (subst (λ n. Goes c its n e l (of_aim c (at_link its by place event) l).line a) (eqb-true by tei parts.1) (inr one))
       where
-        one : HasOne c its by e l (of_aim c (at_link its by place event) now).line a
+        one : HasOne c its by e l (of_aim c (at_link its by place event) l).line a
         one =
             let before = sym (own-before its by place event at) in
             record {
@@ -212,7 +206,7 @@ module _ (c : Config) (l : Line) (s : IsSound c l) (service : Service) (tei : �
               event = event;
               by = ties;
               aimed = inr is;
-              is = read.same-read fresh itself its by (with_link (link_number place its) (y its by place event at) l) (of_aim c (at_link its by place event) now).line refl refl
+              is = read.same-read fresh itself its by (with_link (link_number place its) (y its by place event at) l) (of_aim c (at_link its by place event) l).line refl refl
                   ∙ own-after its by place event at;
               notes = tells.0 ∙ ap (λ x. (links.told (terms c its by) event x).notes) before;
               contents = tells.1 ∙ ap (λ x. option_or (links.told (terms c its by) event x).delivered (links.told (terms c its by) event x).unit) before;
@@ -222,26 +216,26 @@ module _ (c : Config) (l : Line) (s : IsSound c l) (service : Service) (tei : �
             }
 
   -- Any aim.
-  module _ (received : List ℕ) (e : Event) (a : Answer) (none_begins : frame_in c e l ≡ []) where
+  module _ (e : Event) (a : Answer) (none_begins : frame_in a ≡ []) where
     abbrev to-be : Aim → Line
-    to-be aim = (of_aim c aim (record l { received = received })).line
+    to-be aim = (of_aim c aim l).line
 
-    aim-goes : (aim : Aim) → aim_of c e l ≡ aim → IsProper c l aim → Ties c l e a aim → Tells received e a none_begins aim → Silent c l aim
+    aim-goes : (aim : Aim) → aim_of c e l ≡ aim → IsProper c l aim → Ties c e a aim → Tells e a none_begins aim → Silent c l aim
         → Goes c service tei e l (to-be aim) a
     aim-goes (at_none what) is proper ties tells silent =
-        stays received e a none_begins (at_none what) is refl (none-started received e a none_begins (at_none what) tells (subst (StartNone service tei) (sym silent) (none-ordered service tei))) (to-be (at_none what))
+        stays e a none_begins (at_none what) is refl (none-started e a none_begins (at_none what) tells (subst (StartNone service tei) (sym silent) (none-ordered service tei))) (to-be (at_none what))
         (inl (alike c l s service tei l (to-be (at_none what)) refl refl))
     aim-goes (at_units unit) is proper ties tells silent =
-        stays received e a none_begins (at_units unit) is refl (none-started received e a none_begins (at_units unit) tells (none-ordered service tei)) (to-be (at_units unit))
+        stays e a none_begins (at_units unit) is refl (none-started e a none_begins (at_units unit) tells (none-ordered service tei)) (to-be (at_units unit))
         (inl (alike c l s service tei l (to-be (at_units unit)) refl refl))
     aim-goes (at_management me) is proper ties tells silent =
-        stays received e a none_begins (at_management me) is refl
-        (none-started received e a none_begins (at_management me) tells (starts-none c l s service tei received me proper (teis.told me l.management).change)) (to-be (at_management me))
-        (managed c l s service tei received me proper)
+        stays e a none_begins (at_management me) is refl
+        (none-started e a none_begins (at_management me) tells (starts-none c l s service tei me proper (teis.told me l.management).change)) (to-be (at_management me))
+        (managed c l s service tei me proper)
     aim-goes (at_link its by place event) is proper ties tells silent =
-        at-one received e a none_begins its by place event is proper ties tells silent (same_service its service && by == tei) refl
+        at-one e a none_begins its by place event is proper ties tells silent (same_service its service && by == tei) refl
 
-  -- What a pull takes: a frame of this link, or of another part.
+  -- What a call takes: a frame of this link, or of another part.
   abbrev Own : Terms
   Own = terms c service tei
 
@@ -314,33 +308,24 @@ module _ (c : Config) (l : Line) (s : IsSound c l) (service : Service) (tei : �
   took-any None (Some unit) = inl (alike c l s service tei l (with_unit c l unit).line refl refl, inr (inl (unit, refl)), none-ordered service tei)
   took-any None None = took-first (first_taken c l (round c l)) (of-links c l s (round c l) (round_below c l))
 
-  -- A pull.
-  abbrev Pulled : Line → List (List ℕ) → List Order → Type 0
-  Pulled next frames orders =
-      ((link_of service tei next ≡ link_of service tei l) × All (IsForeign c service tei) frames × StartNone service tei orders)
-      ⊎ ((place : ℕ) × (place_in l tei ≡ Some place) × (link_of service tei next ≡ links.after Own link.offer (link_of service tei l))
+  -- A call for the next frame.
+  abbrev Gave : Line → List (List ℕ) → List Order → Type 0
+  Gave new frames orders =
+      ((link_of service tei new ≡ link_of service tei l) × All (IsForeign c service tei) frames × StartNone service tei orders)
+      ⊎ ((place : ℕ) × (place_in l tei ≡ Some place) × (link_of service tei new ≡ links.after Own link.offer (link_of service tei l))
       × (frames ≡ frames_given c Own link.offer (link_of service tei l)) × (orders ≡ (links.told Own link.offer (link_of service tei l)).orders))
 
-  pulled : (due : Bool) (o : Option Taken) → IfSome o Took
-      → Pulled (record (cond due (with_item o l) l) { given = (after_pull c l).given }) (option_to_list (option_map frame_taken (cond due o None)))
-      (option_map_or orders_of (cond due o None) [])
-  pulled false o h = inl (alike c l s service tei l (record l { given = (after_pull c l).given }) refl refl, All-nil (IsForeign c service tei), none-ordered service tei)
-  pulled true None h =
-      inl (alike c l s service tei l (record (with_item None l) { given = (after_pull c l).given }) refl refl, All-nil (IsForeign c service tei), none-ordered service tei)
-  pulled true (Some t) (inl x) =
-      inl (
-        alike c l s service tei t.line (record (with_item (Some t) l) { given = (after_pull c l).given }) refl refl ∙ x.0,
-        All-cons (IsForeign c service tei) t.frame [] x.1 (All-nil (IsForeign c service tei)),
-        x.2,
-      )
-  pulled true (Some t) (inr x) =
-      inr (x.place, x.placed, alike c l s service tei t.line (record (with_item (Some t) l) { given = (after_pull c l).given }) refl refl ∙ x.is, x.begins, x.orders)
+  gave-it : (o : Option Taken) → IfSome o Took → let a = gave (option_map next_of o) in Gave (option_map_or line_of o l) (frame_in a) (orders_in a)
+  gave-it None h = inl (refl, All-nil (IsForeign c service tei), none-ordered service tei)
+  gave-it (Some t) (inl x) = inl (x.0, All-cons (IsForeign c service tei) t.frame [] x.1 (All-nil (IsForeign c service tei)), x.2)
+  gave-it (Some t) (inr x) = inr (x.place, x.placed, x.is, x.begins, x.orders)
 
-  pull-goes : Goes c service tei pull l (after c pull l) (answer c pull l)
+  next-goes : Goes c service tei next l (after c next l) (answer c next l)
   unfolding after answer
-  pull-goes = go (pulled (is_due l) (taken c l) (took-any (slice_get l.management.waiting 0) (slice_get l.units 0)))
+  next-goes = go (gave-it (taken c l) (took-any (slice_get l.management.waiting 0) (slice_get l.units 0)))
     where
-      go : Pulled (after_pull c l) (frame_in c pull l) (option_map_or orders_of (begun c l) []) → Goes c service tei pull l (after_pull c l) (answer_to_pull c l)
+      go : let a = gave (option_map next_of (taken c l)) in Gave (option_map_or line_of (taken c l) l) (frame_in a) (orders_in a)
+          → Goes c service tei next l (option_map_or line_of (taken c l) l) (gave (option_map next_of (taken c l)))
       go (inl x) = inl (record { is = inl x.0; stays = λ was there. x.0; aims = refl; orders = x.2; begins = x.1 })
       go (inr x) =
           let q = offer-tells_nothing Own (link_of service tei l) in
@@ -360,14 +345,13 @@ module _ (c : Config) (l : Line) (s : IsSound c l) (service : Service) (tei : �
 
 pub event-goes : (c : Config) (e : Event) (l : Line) (service : Service) (tei : ℕ) → IsSound c l → Goes c service tei e l (after c e l) (answer c e l)
 unfolding after answer
-event-goes c (octet value) l service tei s =
-    let aim = aim_of_octet c value l in
-    let now = with_received value l in
-    aim-goes c l s service tei now.received (octet value) (told (of_aim c aim now).told) refl aim refl (octet_proper c l value)
-    (octet-ties c l value (told (of_aim c aim now).told)) (refl, refl, refl, refl) (octet-silent c l value)
+event-goes c (hears what) l service tei s =
+    let aim = aim_of_heard c l what in
+    let a = told (of_aim c aim l).told in
+    aim-goes c l s service tei (hears what) a refl aim refl (heard_proper c l what) (heard-ties c l what a) (refl, refl, refl, refl) (heard-silent c l what)
 event-goes c (expiry timer) l service tei s =
     let aim = aim_of_expiry timer l in
-    aim-goes c l s service tei l.received (expiry timer) (told (of_aim c aim l).told) refl aim refl (expiry_proper c l timer)
+    aim-goes c l s service tei (expiry timer) (told (of_aim c aim l).told) refl aim refl (expiry_proper c l timer)
     (expiry-ties c l timer (told (of_aim c aim l).told)) (refl, refl, refl, refl) (expiry-silent c l timer)
 event-goes c (request r) l service tei s = go (refusal c false r l) refl
   where
@@ -375,7 +359,7 @@ event-goes c (request r) l service tei s = go (refusal c false r l) refl
         → Goes c service tei (request r) l (of_aim c (unless_refused o (aim_of_request r l)) l).line (unless_refused_told o (of_aim c (unless_refused o (aim_of_request r l)) l))
     go None none =
         let a = told (of_aim c (aim_of_request r l) l).told in
-        aim-goes c l s service tei l.received (request r) a refl (aim_of_request r l) (ap (λ o. unless_refused o (aim_of_request r l)) none)
+        aim-goes c l s service tei (request r) a refl (aim_of_request r l) (ap (λ o. unless_refused o (aim_of_request r l)) none)
         (subst (λ o. IsProper c l (unless_refused o (aim_of_request r l))) none (request_proper c l r)) (request-ties c l a refl r) (refl, refl, refl, refl)
         (request-silent c l r)
     go (Some why) some =
@@ -386,4 +370,4 @@ event-goes c (request r) l service tei s = go (refusal c false r l) refl
           orders = none-ordered service tei;
           begins = All-nil (IsForeign c service tei);
         })
-event-goes c pull l service tei s = pull-goes c l s service tei
+event-goes c next l service tei s = next-goes c l s service tei

@@ -1,7 +1,6 @@
 -- Orders have reasons: one event of a line.
 use Rattle.std.proofs.Common.{◌≡◌, ℕ, ◌==◌, ◌&&◌, Bool, true, false, cond, not, is_some, List, [], ◌∷◌, ◌++◌, Option, Some, None, IfSome, refl, sym, ap, ◌∙◌, subst, arith, get_or, set, true≢false, inl, inr}
-use Rattle.std.specs.Prelude.{All, nat_le}
-use Rattle.std.specs.Option.{option_map_or}
+use Rattle.std.specs.Prelude.{All, nat_le, option_map}
 use Rattle.std.proofs.lemmas.List.{get_or-set_other}
 use Rattle.std.proofs.lemmas.List.Elements.{All-nil, All-cons, All-append}
 use Rattle.model_bits.specs.Stream as stream
@@ -35,23 +34,21 @@ use Rattle.model_link.specs.Link.{Link, fresh}
 use Rattle.model_link.specs.Machine as links
 use Rattle.model_link.specs.Told.{runs, timer_at}
 use Rattle.model_line.specs.declared.config.Config.{Config}
-use Rattle.model_line.specs.Effect.{at_none, told_of_management, of_change, of_aim, at_management}
-use Rattle.model_line.specs.Event.{Event, octet, expiry, request, pull, nothing}
+use Rattle.model_line.specs.Effect.{told_of_management, of_change, of_aim, at_management}
+use Rattle.model_line.specs.Event.{Event, hears, expiry, request, next, gave}
 use Rattle.model_line.specs.Expiry.{at_timer, runs_at, is_running}
 use Rattle.model_line.specs.Laws.{orders_in}
 use Rattle.model_line.specs.Line.{Line, link_number, service_at, place_at, place_in, link_at, link_in, terms}
 use Rattle.model_line.specs.Machine.{after, answer, unless_refused, unless_refused_told}
-use Rattle.model_line.specs.Octet.{gained, aim_of_heard, with_received}
-use Rattle.model_line.specs.Pull.{Taken, begun as pull_begun, orders_of, taken, is_due}
+use Rattle.model_line.specs.Heard.{aim_of_heard}
+use Rattle.model_line.specs.Taken.{Taken, taken, next_of}
 use Rattle.model_line.specs.Refusal.{refusal}
 use Rattle.model_line.specs.Request.{Request, Establish, Release, Data, Unit, Assign, Remove, Check as check_tei, SetBusy, ClearBusy}
 use Rattle.model_line.specs.Requested.{at_requested, aim_of_request}
 use Rattle.model_line.specs.Sound.{IsSound}
 use Rattle.model_line.proofs.AimsSound.{IsProper}
-use Rattle.model_line.proofs.LineSound.{received_sound}
 use Rattle.model_line.proofs.ProperAims.{heard_aims, request_proper}
 use Rattle.laws_line.specs.Timers.{left_by}
-use Rattle.laws_line.proofs.Following.{same-running}
 use Rattle.laws_line.proofs.LinkMoves.{IsOne, taken-one}
 use Rattle.laws_line.proofs.Places.{has-place}
 use Rattle.laws_line.proofs.TimersFollow.{number-is}
@@ -157,12 +154,12 @@ module _ (c : Config) (l : Line) (s : IsSound c l) (ran : Timer → Bool) (same 
   starts-due off = ap (left_by what timers.T201) (same timers.T201 ∙ off) ∙ go what
     where
       go : (what : Event) → left_by what timers.T201 false ≡ false
-      go (octet value) = refl
+      go (hears what) = refl
       go (expiry (timers.T200 service tei)) = refl
       go (expiry (timers.T203 service tei)) = refl
       go (expiry timers.T201) = refl
       go (request r) = refl
-      go pull = refl
+      go next = refl
 
   stops-due : is_some l.management.check ≡ true → R (Stop timers.T201)
   stops-due on = same timers.T201 ∙ on
@@ -221,9 +218,8 @@ module _ (c : Config) (l : Line) (s : IsSound c l) (ran : Timer → Bool) (same 
     management-due = by-change (teis.told me l.management).change (tei_lemmas.changes_are_told me l.management fits s.management)
 
   -- What is heard, and what is asked for.
-  pub heard-due : (o : Option stream.Event) → All R (of_aim c (option_map_or (aim_of_heard c l) o (at_none nothing)) l).told.orders
-  heard-due None = All-nil R
-  heard-due (Some e) =
+  pub heard-due : (e : stream.Event) → All R (of_aim c (aim_of_heard c l e) l).told.orders
+  heard-due e =
       heard_aims c l (λ aim. All R (of_aim c aim l).told.orders) (λ cause. All-nil R) (λ service tei place what at. link-due service tei place at (link.received what))
       (λ info. management-due (teis.message info) tt (λ e. cc e)) (λ parts service to. All-nil R) e
 
@@ -246,7 +242,7 @@ module _ (c : Config) (l : Line) (s : IsSound c l) (ran : Timer → Bool) (same 
   expired-due service tei k None off = All-nil R
   expired-due service tei k (Some place) at = link-due service tei place at (link.expired k)
 
-  -- A pull.
+  -- A call for the next frame.
   took : (t : Taken) → IsOne c l t → All R t.orders
   took t (inl x) = subst (λ (u : Taken). All R u.orders) (sym x.1) (All-nil R)
   took t (inr (inl x)) = subst (λ (u : Taken). All R u.orders) (sym x.1) (All-nil R)
@@ -257,21 +253,18 @@ module _ (c : Config) (l : Line) (s : IsSound c l) (ran : Timer → Bool) (same 
       (subst (All R) (sym (given-orders c l s (service_at x.number) x.tei of (link_at x.number l) x.what x.given))
       (subst (λ n. All R (links.told of link.offer (link_at n l)).orders) (number-is x.number) (link-due (service_at x.number) x.tei (place_at x.number) at link.offer)))
 
-  pub pull-due : All R (option_map_or orders_of (pull_begun c l) [])
-  pull-due = go (is_due l) (taken c l) (taken-one c l s)
+  pub next-due : All R (orders_in (gave (option_map next_of (taken c l))))
+  next-due = go (taken c l) (taken-one c l s)
     where
-      go : (due : Bool) (o : Option Taken) → IfSome o (IsOne c l) → All R (option_map_or orders_of (cond due o None) [])
-      go false o x = All-nil R
-      go true None x = All-nil R
-      go true (Some t) x = took t x
+      go : (o : Option Taken) → IfSome o (IsOne c l) → All R (orders_in (gave (option_map next_of o)))
+      go None x = All-nil R
+      go (Some t) x = took t x
 
 -- Any event of a line.
 pub event-due : (c : Config) (e : Event) (l : Line) → IsSound c l → (ran : Timer → Bool) → ((timer : Timer) → ran timer ≡ is_running timer l)
     → All (HasReason ran e) (orders_in (answer c e l))
 unfolding after answer
-event-due c (octet value) l s ran same =
-    let now = with_received value l in
-    heard-due c now (received_sound c value l s) ran (λ timer. same timer ∙ sym (same-running l now refl refl refl timer)) (octet value) (gained c.n201 l.received value)
+event-due c (hears what) l s ran same = heard-due c l s ran same (hears what) what
 event-due c (expiry (timers.T200 service tei)) l s ran same = expired-due c l s ran same (expiry (timers.T200 service tei)) service tei T200 (place_in l tei) refl
 event-due c (expiry (timers.T203 service tei)) l s ran same = expired-due c l s ran same (expiry (timers.T203 service tei)) service tei T203 (place_in l tei) refl
 event-due c (expiry timers.T201) l s ran same = management-due c l s ran same (expiry timers.T201) teis.expiry tt (λ is. refl)
@@ -281,4 +274,4 @@ event-due c (request r) l s ran same = go (refusal c false r l) (request_proper 
         → All (HasReason ran (request r)) (orders_in (unless_refused_told o (of_aim c (unless_refused o (aim_of_request r l)) l)))
     go None proper = asked-due c l s ran same (request r) r proper
     go (Some why) proper = All-nil (HasReason ran (request r))
-event-due c pull l s ran same = pull-due c l s ran same pull
+event-due c next l s ran same = next-due c l s ran same next

@@ -10,7 +10,7 @@ use Rattle.lapd_frame.specs.declared.faults.ReadFault.TheVariants.{BadExtension,
 use Rattle.lapd_frame.specs.Faults.{is_short, has_bad_extension}
 use Rattle.lapd_frame.specs.Grammar.{Parts, cr_bit, other_side, allows, takes, row}
 use Rattle.lapd_frame.specs.Reading.{address_of, checked, control_of, header_of, start_of, completed, reading}
-use Rattle.model_line.specs.Octet.{heard_side}
+use Rattle.model_line.specs.Heard.{heard_side}
 use Rattle.laws_trace.specs.OtherSide.{bit_in, TheOtherSideIsHeard}
 
 -- A frame that is read is a command by its C/R bit.

@@ -18,14 +18,15 @@ use Rattle.model_line.specs.Sound.{IsInRange, IsSound}
 use Rattle.model_line.proofs.LinksSound.{sound_in}
 use Rattle.model_line.proofs.Ranges.{terms_in_range}
 use Rattle.laws_line.specs.Timers.{HaveTheirTimers}
-use Rattle.laws_trace.specs.TimersAreTimely.{Known, is_state}
+use Rattle.laws_trace.proofs.TimersWatched.{Known}
+use Rattle.laws_trace.specs.States.{is_state}
 use Rattle.laws_trace.proofs.OneLink.{HasOne, Goes, event-goes}
 use Rattle.laws_trace.proofs.TimerActs.{Timing, timing}
 use Rattle.laws_trace.proofs.TimerClaims.{Agrees, IsKnown, Kept, told_state}
 use Rattle.laws_trace.proofs.TimerEvents.{event-good}
 use Rattle.laws_trace.proofs.TimersAreTimely.{outstanding-is}
-use Rattle.laws_trace.proofs.TimersOfEvent as events
 use Rattle.laws_trace.proofs.TimersOfEvent.{IsTrueOf, state-on, off-fresh, off-state}
+use Rattle.laws_trace.proofs.TimersOfEvent as events
 
 abbrev pub IsOwed : Service → ℕ → Bool → Line → Type 0
 IsOwed service tei outstanding l = let x = link_of service tei l in outstanding ≡ not (x.s == x.a)

@@ -18,8 +18,8 @@ use Rattle.lapd_frame.proofs.ControlField.{control-again}
 use Rattle.lapd_frame.proofs.Spelling.{reading-again}
 use Rattle.model_line.specs.declared.config.Config.{Config}
 use Rattle.model_line.specs.Line.{UnitData}
-use Rattle.model_line.specs.Octet.{management_sapi}
-use Rattle.model_line.specs.Pull.{unit_frame}
+use Rattle.model_line.specs.Heard.{management_sapi}
+use Rattle.model_line.specs.Taken.{unit_frame}
 use Rattle.laws_trace.specs.Units.{is_ui, carries_unit, is_unit}
 
 -- What is no UI, or has SAPI 63, is none, whether the grammar has it or not.

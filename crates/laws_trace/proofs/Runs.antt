@@ -6,7 +6,7 @@ use Rattle.std.proofs.lemmas.List.Elements.{All-head, All-tail}
 use Rattle.lapd_frame.specs.declared.refusals.Refusal.TheVariants.{PoolFull}
 use Rattle.model_line.specs.declared.config.Config.{Config}
 use Rattle.model_line.specs.Event as line_event
-use Rattle.model_line.specs.Event.{Answer, refused}
+use Rattle.model_line.specs.Event.{refused}
 use Rattle.model_line.specs.Line.{Line, fresh_line}
 use Rattle.model_line.specs.Machine as lines
 use Rattle.model_line.specs.Sound as line
@@ -20,34 +20,34 @@ use Rattle.model_card.proofs.Steps.{has_lines, by_room, line_sound}
 use Rattle.laws_trace.specs.Trace.{Seen, seen, trace}
 
 -- A request that finds the pool full shows nothing, and no other event does find it.
-pub nothing-seen : (c : Config) (e : line_event.Event) (l : Line) → lines.takes_slot c e l ≡ true → seen c e l (refused PoolFull) ≡ []
+pub nothing-seen : (c : Config) (e : line_event.Event) (l : Line) → lines.takes_slot c e l ≡ true → seen e (refused PoolFull) ≡ []
 unfolding lines.takes_slot
-nothing-seen c (line_event.octet value) l takes = absurd (true≢false (sym takes))
+nothing-seen c (line_event.hears what) l takes = absurd (true≢false (sym takes))
 nothing-seen c (line_event.expiry timer) l takes = absurd (true≢false (sym takes))
 nothing-seen c (line_event.request r) l takes = refl
-nothing-seen c line_event.pull l takes = absurd (true≢false (sym takes))
+nothing-seen c line_event.next l takes = absurd (true≢false (sym takes))
 
 -- An invariant of lines, and what a trace is to the line before it and the one after it.
 module _ (Stands : Config → Line → Type 0) (Shows : Config → Line → List Seen → Line → Type 0)
     (rests : (c : Config) (l : Line) → Shows c l [] l)
     (joins : (c : Config) (k l m : Line) (t u : List Seen) → Shows c k t l → Shows c l u m → Shows c k (t ++ u) m)
     (steps : (c : Config) → line.IsInRange c → (e : line_event.Event) (l : Line) → line.IsSound c l → Stands c l
-    → Shows c l (seen c e l (lines.answer c e l)) (lines.after c e l) × Stands c (lines.after c e l)) where
+    → Shows c l (seen e (lines.answer c e l)) (lines.after c e l) × Stands c (lines.after c e l)) where
   abbrev Both : Config → Line → List Seen → Line → Type 0
   Both c l t m = Shows c l t m × Stands c m
 
   own-line : (card : Card) (e : Event) → IsSound card → IsAtLine card e → Stands card.config (line_at e.line card)
-      → Both card.config (line_at e.line card) (seen card.config e.what (line_at e.line card) (answer e card)) (line_at e.line (after e card))
+      → Both card.config (line_at e.line card) (seen e.what (answer e card)) (line_at e.line (after e card))
   own-line card e s here stands =
       let c = card.config in
       let l = line_at e.line card in
-      by_room (λ ls a. Both c l (seen c e.what l a) (get_or ls e.line (fresh_line c))) e card
+      by_room (λ ls a. Both c l (seen e.what a) (get_or ls e.line (fresh_line c))) e card
       (λ full. (
         subst (λ t. Shows c l t l) (sym (nothing-seen c e.what l (and_parts (lines.takes_slot c e.what l) (is_full card) full).0)) (rests c l),
         stands,
       ))
       (λ room.
-      subst (λ (x : Line). Both c l (seen c e.what l (lines.answer c e.what l)) x)
+      subst (λ (x : Line). Both c l (seen e.what (lines.answer c e.what l)) x)
       (sym (get_or-set_same card.lines e.line (lines.after c e.what l) (fresh_line c) (omega (arith, s.count, here))))
       (steps c s.config e.what l (line_sound card e.line (has_lines card s) here) stands))
 
@@ -58,10 +58,10 @@ module _ (Stands : Config → Line → Type 0) (Shows : Config → Line → List
 
   moment : (card : Card) (e : Event) (number : ℕ) → IsSound card → IsAtLine card e → Stands card.config (line_at number card)
       → (b : Bool) → (e.line == number) ≡ b
-      → Both card.config (line_at number card) (cond b (seen card.config e.what (line_at number card) (answer e card)) []) (line_at number (after e card))
+      → Both card.config (line_at number card) (cond b (seen e.what (answer e card)) []) (line_at number (after e card))
   moment card e number s here stands true is =
       let same = eqb-true e.line number is in
-      subst (λ n. Both card.config (line_at n card) (seen card.config e.what (line_at n card) (answer e card)) (line_at n (after e card))) same
+      subst (λ n. Both card.config (line_at n card) (seen e.what (answer e card)) (line_at n (after e card))) same
       (own-line card e s here (subst (λ n. Stands card.config (line_at n card)) (sym same) stands))
   moment card e number s here stands false other =
       let away : number ≢ e.line = λ same. true≢false (sym (eq-eqb e.line number (sym same)) ∙ other) in
@@ -76,6 +76,6 @@ module _ (Stands : Config → Line → Type 0) (Shows : Config → Line → List
       let first = moment card e number s here stands (e.line == number) refl in
       let rest = run-shows (after e card) events number (after_is_sound card e s here) (All-tail (IsAtLine card) e events all) first.1 in (
         joins card.config (line_at number card) (line_at number (after e card)) (line_at number (after_all (after e card) events))
-            (cond (e.line == number) (seen card.config e.what (line_at number card) (answer e card)) []) (trace number (moments (after e card) events)) first.0 rest.0,
+            (cond (e.line == number) (seen e.what (answer e card)) []) (trace number (moments (after e card) events)) first.0 rest.0,
         rest.1,
       )

@@ -2,7 +2,7 @@
 use Rattle.std.proofs.Common.{◌≡◌, ℕ, ◌<◌, ◌==◌, Bool, true, false, cond, List, [], ◌∷◌, ◌++◌, length, drop, Option, Some, None, IfSome, refl, sym, subst, inl, inr, Result, Ok, Err}
 use Rattle.std.specs.Prelude.{All}
 use Rattle.std.specs.Option.{option_map_or}
-use Rattle.std.proofs.lemmas.List.Elements.{All-drop}
+use Rattle.std.proofs.lemmas.List.Elements.{All-drop, All-head}
 use Rattle.model_bits.specs.Stream as stream
 use Rattle.model_bits.specs.StuffingLaws.{AreOctets}
 use Rattle.model_bits.specs.declared.heard.Cause.TheVariants.{Tei, Unserved}
@@ -28,23 +28,23 @@ use Rattle.model_link.specs.Events as link
 use Rattle.model_link.specs.declared.timers.LinkTimer.TheVariants as link_timer
 use Rattle.model_line.specs.declared.config.Config.{Config}
 use Rattle.model_line.specs.Effect.{Aim, at_none, at_link, at_management, at_units, told_of_management, of_change, of_aim}
-use Rattle.model_line.specs.Event.{Event, LineTold, octet, expiry, request, pull, nothing}
+use Rattle.model_line.specs.Event.{Event, LineTold, hears, expiry, request, next, Answer}
 use Rattle.model_line.specs.Expiry.{aim_of_expiry, at_timer}
 use Rattle.model_line.specs.Line.{Line, place_in}
 use Rattle.model_line.specs.Machine.{after, unless_refused}
-use Rattle.model_line.specs.Octet.{gained, management_sapi, group_tei, drop_for, at_place, to_service, addressed, message_of, aim_of_reading, unless_at_link, aim_of_long, aim_of_heard, aim_of_octet, with_received, heard_side}
-use Rattle.model_line.specs.Pull.{Taken, taken, is_due, with_item, after_pull}
+use Rattle.model_line.specs.Heard.{management_sapi, group_tei, drop_for, at_place, to_service, addressed, message_of, aim_of_reading, unless_at_link, aim_of_long, aim_of_heard, heard_side}
+use Rattle.model_line.specs.Taken.{Taken, taken, line_of}
 use Rattle.model_line.specs.Refusal.{refusal}
 use Rattle.model_line.specs.Request as asked
 use Rattle.model_line.specs.Request.{Request}
 use Rattle.model_line.specs.Requested.{aim_of_request, at_requested}
 use Rattle.model_line.specs.Sound.{IsSound}
 use Rattle.model_line.proofs.Sides.{side_aims}
-use Rattle.laws_line.proofs.Ending as ending
-use Rattle.laws_line.proofs.Ending.{ended-octets, gained-adds}
 use Rattle.laws_line.proofs.LinkMoves.{IsOne, taken-one}
-use Rattle.laws_card.proofs.Spelling.{head}
 use Rattle.laws_trace.proofs.SmallMessages.{IsSmall, IsOfOctets, after-small}
+use Rattle.laws_trace.specs.FramesAreRead.{HasOctets, GivesOctets}
+use Rattle.laws_trace.specs.Trace.{seen}
+use Rattle.laws_trace.specs.Trace as traces
 
 -- What TEI management hears are octets.
 abbrev IsOfOctetsAt : Aim → Type 0
@@ -116,17 +116,10 @@ module _ (c : Config) (l : Line) where
   long-aims (Err (WrongSize address)) = addressed-aims address link.wrong_size (drop_for Unserved) tt
   long-aims (Err Short) = tt
 
-  heard-aims : (e : stream.Event) → ending.HasOctets e → IsOfOctetsAt (aim_of_heard c l e)
+  heard-aims : (e : stream.Event) → HasOctets e → IsOfOctetsAt (aim_of_heard c l e)
   heard-aims (stream.frame octets) h = reading-aims octets h (reading (heard_side c) octets) refl
   heard-aims (stream.overlong head) h = long-aims (long_reading (heard_side c) head)
   heard-aims (stream.dropped cause) h = tt
-
-octet-aims : (c : Config) (l : Line) (value : ℕ) → IsOfOctetsAt (aim_of_octet c value l)
-octet-aims c l value = go (gained c.n201 l.received value) refl
-  where
-    go : (o : Option stream.Event) → gained c.n201 l.received value ≡ o → IsOfOctetsAt (option_map_or (aim_of_heard c l) o (at_none nothing))
-    go None is = tt
-    go (Some e) is = heard-aims c l e (ended-octets c l value e (gained-adds c l value (Some e) is))
 
 timer-aims : (l : Line) (timer : Timer) → IsOfOctetsAt (aim_of_expiry timer l)
 timer-aims l (timers.T200 service tei) = by-place (place_in l tei)
@@ -174,22 +167,21 @@ aim-small c (at_management e) l fits h =
     (after-small e l.management fits h)
 aim-small c (at_units unit) l fits h = h
 
-pull-small : (c : Config) (l : Line) → IsSound c l → All IsSmall l.management.waiting → All IsSmall (after_pull c l).management.waiting
-pull-small c l s h = go (is_due l) (taken c l) (taken-one c l s)
+next-small : (c : Config) (l : Line) → IsSound c l → All IsSmall l.management.waiting → All IsSmall (option_map_or line_of (taken c l) l).management.waiting
+next-small c l s h = go (taken c l) (taken-one c l s)
   where
     took : (t : Taken) → IsOne c l t → All IsSmall t.line.management.waiting
     took t (inl x) = subst (λ (u : Taken). All IsSmall u.line.management.waiting) (sym x.1) (All-drop IsSmall 1 l.management.waiting h)
     took t (inr (inl x)) = subst (λ (u : Taken). All IsSmall u.line.management.waiting) (sym x.1) h
     took t (inr (inr x)) = subst (λ (u : Taken). All IsSmall u.line.management.waiting) (sym x.is) h
 
-    go : (due : Bool) (o : Option Taken) → IfSome o (IsOne c l) → All IsSmall (cond due (with_item o l) l).management.waiting
-    go false o x = h
-    go true None x = h
-    go true (Some t) x = took t x
+    go : (o : Option Taken) → IfSome o (IsOne c l) → All IsSmall (option_map_or line_of o l).management.waiting
+    go None x = h
+    go (Some t) x = took t x
 
-pub messages-after : (c : Config) (e : Event) (l : Line) → IsSound c l → All IsSmall l.management.waiting → All IsSmall (after c e l).management.waiting
+pub messages-after : (c : Config) (e : Event) (l : Line) (a : Answer) → IsSound c l → All GivesOctets (seen e a) → All IsSmall l.management.waiting → All IsSmall (after c e l).management.waiting
 unfolding after
-messages-after c (octet value) l s h = aim-small c (aim_of_octet c value l) (with_received value l) (octet-aims c l value) h
-messages-after c (expiry timer) l s h = aim-small c (aim_of_expiry timer l) l (timer-aims l timer) h
-messages-after c (request r) l s h = aim-small c (unless_refused (refusal c false r l) (aim_of_request r l)) l (request-aims l r (refusal c false r l)) h
-messages-after c pull l s h = pull-small c l s h
+messages-after c (hears what) l a s gives h = aim-small c (aim_of_heard c l what) l (heard-aims c l what (All-head GivesOctets (traces.heard what) (traces.seen_told a) gives)) h
+messages-after c (expiry timer) l a s gives h = aim-small c (aim_of_expiry timer l) l (timer-aims l timer) h
+messages-after c (request r) l a s gives h = aim-small c (unless_refused (refusal c false r l) (aim_of_request r l)) l (request-aims l r (refusal c false r l)) h
+messages-after c next l a s gives h = next-small c l s h

@@ -1,6 +1,6 @@
 -- Each frame that begins on a line is one that the grammar has, of a service or of TEI management: the law.
-use Rattle.std.proofs.Common.{◌≡◌, ◌<◌, ◌≤◌, Bool, true, false, cond, List, [], ◌∷◌, ◌++◌, slice_get, Option, Some, None, IfSome, option_map, refl, sym, subst, arith}
-use Rattle.std.specs.Prelude.{All, option_to_list}
+use Rattle.std.proofs.Common.{◌≡◌, ◌<◌, ◌≤◌, true, false, List, [], ◌∷◌, ◌++◌, slice_get, Option, Some, None, IfSome, option_map, refl, sym, subst, arith}
+use Rattle.std.specs.Prelude.{All}
 use Rattle.std.specs.Option.{option_or, unwrap_or}
 use Rattle.std.proofs.lemmas.Grind.{flat_map-append}
 use Rattle.std.proofs.lemmas.List.Elements.{All-nil, All-cons, All-head, All-append}
@@ -19,26 +19,21 @@ use Rattle.model_link.specs.Told.{Given}
 use Rattle.model_link.specs.declared.terms.Terms.{Terms}
 use Rattle.model_link.proofs.Giving.{given_is_frame}
 use Rattle.model_line.specs.declared.config.Config.{Config}
-use Rattle.model_line.specs.Event.{Event, octet, expiry, request, pull}
+use Rattle.model_line.specs.Event.{Event, hears, expiry, request, next, gave}
 use Rattle.model_line.specs.Line.{Line, UnitData, service_at, place_at, terms, link_at}
 use Rattle.model_line.specs.Machine.{after, answer}
-use Rattle.model_line.specs.Octet.{gained}
-use Rattle.model_line.specs.Pull as pulls
-use Rattle.model_line.specs.Pull.{Taken, with_message, with_unit, with_given_frame, unit_frame, frame_of, first_taken, round, taken, is_due}
+use Rattle.model_line.specs.Taken.{Taken, with_message, with_unit, unit_frame, frame_of, first_taken, round, taken, next_of}
 use Rattle.model_line.specs.Sound.{IsInRange, IsSoundAt, IsSound, IsUnitData}
-use Rattle.model_line.proofs.PullSound.{round_below}
+use Rattle.model_line.proofs.TakenWalk.{round_below}
 use Rattle.model_line.proofs.Ranges.{terms_in_range}
 use Rattle.laws_line.proofs.LinkMoves.{OfLink, of-links}
 use Rattle.model_card.specs.Card.{fresh}
-use Rattle.model_card.specs.Pulled.{frame_taken}
 use Rattle.model_card.proofs.CardSound.{fresh_is_sound}
 use Rattle.laws_trace.specs.FramesAreRead.{is_of_use, IsSpelled, FramesAreRead}
-use Rattle.laws_trace.specs.Trace as traces
-use Rattle.laws_trace.specs.Trace.{Seen, seen, frames_begun, Always}
-use Rattle.laws_trace.proofs.Fitting.{Anything}
-use Rattle.laws_trace.proofs.Octets.{no-frame, no-frame-asked}
+use Rattle.laws_trace.specs.Trace.{frame_in, Seen, seen, frames_begun, Always}
 use Rattle.laws_trace.proofs.Runs.{run-shows}
-use Rattle.laws_trace.proofs.Units.{pulled-frames}
+use Rattle.laws_trace.proofs.Units.{given-frames, none-told, none-requested}
+use Rattle.laws_trace.specs.Trace as traces
 
 small-sapi : (service : Service) → sapi_of service < 64
 small-sapi Call = omega arith
@@ -111,20 +106,23 @@ rests c l = All-nil (IsSpelled c)
 joins : (c : Config) (k l m : Line) (t u : List Seen) → AreSpelled c k t l → AreSpelled c l u m → AreSpelled c k (t ++ u) m
 joins c k l m t u h i = subst (All (IsSpelled c)) (sym (flat_map-append traces.frame_begun t u)) (All-append (IsSpelled c) (frames_begun t) (frames_begun u) h i)
 
-by-pull : (c : Config) (due : Bool) (o : Option Taken) → IfSome o (λ t. IsSpelled c t.frame) → All (IsSpelled c) (option_to_list (option_map frame_taken (cond due o None)))
-by-pull c true None h = All-nil (IsSpelled c)
-by-pull c true (Some t) h = All-cons (IsSpelled c) t.frame [] h (All-nil (IsSpelled c))
-by-pull c false o h = All-nil (IsSpelled c)
+by-next : (c : Config) (o : Option Taken) → IfSome o (λ t. IsSpelled c t.frame) → All (IsSpelled c) (frame_in (gave (option_map next_of o)))
+by-next c None h = All-nil (IsSpelled c)
+by-next c (Some t) h = All-cons (IsSpelled c) t.frame [] h (All-nil (IsSpelled c))
 
-event-spelled : (c : Config) → IsInRange c → (e : Event) (l : Line) → IsSound c l → AreSpelled c l (seen c e l (answer c e l)) (after c e l)
-event-spelled c ranged (octet value) l s = subst (All (IsSpelled c)) (sym (no-frame (gained c.n201 l.received value) (answer c (octet value) l))) (All-nil (IsSpelled c))
-event-spelled c ranged (expiry timer) l s = subst (All (IsSpelled c)) (sym (no-frame None (answer c (expiry timer) l))) (All-nil (IsSpelled c))
-event-spelled c ranged (request r) l s = subst (All (IsSpelled c)) (sym (no-frame-asked r (answer c (request r) l))) (All-nil (IsSpelled c))
-event-spelled c ranged pull l s =
-    subst (All (IsSpelled c)) (sym (pulled-frames (pulls.begun c l) (answer c pull l))) (by-pull c (is_due l) (taken c l) (taken-spelled c ranged l s))
+event-spelled : (c : Config) → IsInRange c → (e : Event) (l : Line) → IsSound c l → AreSpelled c l (seen e (answer c e l)) (after c e l)
+unfolding answer
+event-spelled c ranged (hears what) l s = subst (All (IsSpelled c)) (sym (none-told (answer c (hears what) l))) (All-nil (IsSpelled c))
+event-spelled c ranged (expiry timer) l s = subst (All (IsSpelled c)) (sym (none-told (answer c (expiry timer) l))) (All-nil (IsSpelled c))
+event-spelled c ranged (request r) l s = subst (All (IsSpelled c)) (sym (none-requested r (answer c (request r) l))) (All-nil (IsSpelled c))
+event-spelled c ranged next l s = subst (All (IsSpelled c)) (sym (given-frames (option_map next_of (taken c l)))) (by-next c (taken c l) (taken-spelled c ranged l s))
+
+-- Nothing has to hold of a line.
+abbrev pub Anything : Config → Line → Type 0
+Anything c l = Unit {0}
 
 steps : (c : Config) → IsInRange c → (e : Event) (l : Line) → IsSound c l → Anything c l
-    → AreSpelled c l (seen c e l (answer c e l)) (after c e l) × Anything c (after c e l)
+    → AreSpelled c l (seen e (answer c e l)) (after c e l) × Anything c (after c e l)
 steps c ranged e l s h = (event-spelled c ranged e l s, tt)
 
 pub frames-are-read : Always FramesAreRead

@@ -1,6 +1,6 @@
 -- How a link stands, to whoever watches it: over runs.
-use Rattle.std.proofs.Common.{◌≡◌, ℕ, ◌==◌, ◌&&◌, ◌||◌, Bool, true, false, cond, List, [], ◌∷◌, ◌++◌, map, Option, Some, None, option_map, refl, sym, ap, ◌∙◌, subst, eqb-true, eq-eqb, true≢false, ◌⊎◌, inl, inr}
-use Rattle.std.specs.Prelude.{fold, not, option_to_list, is_some}
+use Rattle.std.proofs.Common.{◌≡◌, ℕ, ◌==◌, ◌&&◌, ◌||◌, Bool, true, false, cond, List, [], ◌∷◌, ◌++◌, map, Option, Some, None, refl, sym, ap, ◌∙◌, subst, eqb-true, eq-eqb, true≢false, ◌⊎◌, inl, inr}
+use Rattle.std.specs.Prelude.{fold, not, is_some}
 use Rattle.std.specs.List.{list_any}
 use Rattle.std.specs.Option.{option_map_or}
 use Rattle.std.proofs.lemmas.Bool.{and_parts}
@@ -15,11 +15,9 @@ use Rattle.model_link.specs.Events as link
 use Rattle.model_link.specs.Link.{Link, fresh, is_multiple_frame}
 use Rattle.model_link.specs.Machine as links
 use Rattle.model_line.specs.declared.config.Config.{Config}
-use Rattle.model_line.specs.Event.{Event, octet, expiry, request, pull, Answer, LineTold, told, refused, pulled}
+use Rattle.model_line.specs.Event.{Event, hears, expiry, request, next, Answer, LineTold, told, refused, gave}
 use Rattle.model_line.specs.Line.{Line, place_in, link_in, link_of, terms}
-use Rattle.model_line.specs.Machine.{aim_of, after, answer, of_octet, unless_refused}
-use Rattle.model_line.specs.Octet.{gained}
-use Rattle.model_line.specs.Pull.{Taken, begun}
+use Rattle.model_line.specs.Machine.{aim_of, after, answer, unless_refused, of_heard}
 use Rattle.model_line.specs.Request.{Request, Establish, Release, Data, Assign, Remove, Check, SetBusy, ClearBusy}
 use Rattle.model_line.specs.Requested.{at_requested}
 use Rattle.model_line.specs.Sound.{IsInRange, IsSound}
@@ -28,12 +26,12 @@ use Rattle.laws_line.specs.Requests.{of_link}
 use Rattle.laws_line.specs.Share.{is_granted}
 use Rattle.laws_line.specs.Steady.{IsBy}
 use Rattle.laws_line.proofs.Granting.{not-refused}
-use Rattle.model_card.specs.Pulled.{frame_taken, octet_in}
 use Rattle.laws_trace.specs.Trace as traces
-use Rattle.laws_trace.specs.Trace.{is_own, Seen, heard, noted, lost, put, seen, seen_told, seen_granted, trace_of}
-use Rattle.laws_trace.specs.Deliveries.{Standing, frame_of, is_for, begins_by, begins, counted, busy_asked, is_information, brings_information, stand}
+use Rattle.laws_trace.specs.Trace.{frame_in, is_own, Seen, heard, noted, lost, seen, seen_told, seen_granted}
+use Rattle.laws_trace.specs.Deliveries.{Standing, busy_asked, is_information, brings_information, stand, begins_by, begins, counted}
+use Rattle.laws_trace.specs.LinkFrames.{frame_of, is_for}
 use Rattle.laws_trace.proofs.CommandsCaused.{same-itself}
-use Rattle.laws_trace.proofs.Deliveries.{frame_by, brings-frame, brings-none, one-begins}
+use Rattle.laws_trace.proofs.Deliveries.{frame_by, brings-frame, brings-none, one-begins, heard-by}
 use Rattle.laws_trace.proofs.DeliveriesRun.{IsCount, event-aims, data-noted, event-told, no-data}
 use Rattle.laws_trace.proofs.OneLink.{HasOne, HasNone, Goes, is_at_link, event-goes}
 use Rattle.laws_trace.proofs.StandingOfLink.{quiet, calm, IsStanding, brings, busy_behind, rejected_behind, link-stands, delivers-free}
@@ -45,18 +43,18 @@ module _ (service : Service) (tei : ℕ) where
   abbrev pub granted_busy : Request → Answer → Bool → Bool
   granted_busy r (told t) busy = busy_asked service tei busy r
   granted_busy r (refused why) busy = busy
-  granted_busy r (pulled value is_begun orders) busy = busy
+  granted_busy r (gave given) busy = busy
 
   abbrev pub asked_busy : Event → Answer → Bool → Bool
-  asked_busy (octet value) a busy = busy
+  asked_busy (hears what) a busy = busy
   asked_busy (expiry timer) a busy = busy
   asked_busy (request r) a busy = granted_busy r a busy
-  asked_busy pull a busy = busy
+  asked_busy next a busy = busy
 
   -- How it stands behind an event.
   abbrev pub behind : Config → Event → Line → Answer → ℕ → Bool → Bool → Standing
   behind c e l a m busy rejected =
-      let f = frame_by c e l in
+      let f = frame_by c e in
       let ns = notes_of a in
       record {
         told = quiet (counted service tei (record { frame = f; count = m }) ns);
@@ -68,16 +66,15 @@ module _ (service : Service) (tei : ℕ) where
     abbrev pub standing : Standing → List Seen → Standing
     standing w t = fold (stand c service tei) w t
 
-    heard-stand : (g : Option stream.Event) (m : ℕ) (busy rejected : Bool) (t : LineTold) →
-        let f = option_map_or (frame_of c) g None in
-        standing (calm m busy rejected) (map heard (option_to_list g) ++ noted t.notes t.contents ∷ lost t.lost ∷ [])
+    heard-stand : (e : stream.Event) (m : ℕ) (busy rejected : Bool) (t : LineTold) →
+        let f = frame_of c e in
+        standing (calm m busy rejected) (heard e ∷ noted t.notes t.contents ∷ lost t.lost ∷ [])
         ≡ record {
           told = quiet (counted service tei (record { frame = f; count = m }) t.notes);
           busy = cond (begins service tei f t.notes) false busy;
           rejected = cond (begins service tei f t.notes || list_any (is_data_of service tei) t.notes) false (cond (brings_information service tei f && not busy) true rejected);
         }
-    heard-stand None m busy rejected t = refl
-    heard-stand (Some e) m busy rejected t = refl
+    heard-stand e m busy rejected t = refl
 
     abbrev ByNotes : Bool → ℕ → Bool → Answer → Standing
     ByNotes busy m rejected a =
@@ -90,46 +87,41 @@ module _ (service : Service) (tei : ℕ) where
     told-stand : (m : ℕ) (busy rejected : Bool) (a : Answer) → standing (calm m busy rejected) (seen_told a) ≡ ByNotes busy m rejected a
     told-stand m busy rejected (told t) = refl
     told-stand m busy rejected (refused why) = refl
-    told-stand m busy rejected (pulled value is_begun orders) = refl
+    told-stand m busy rejected (gave given) = refl
 
     asked-stand : (r : Request) (m : ℕ) (busy rejected : Bool) (a : Answer)
         → standing (calm m busy rejected) (seen_granted r a ++ seen_told a) ≡ ByNotes (granted_busy r a busy) m rejected a
     asked-stand r m busy rejected (told t) = refl
     asked-stand r m busy rejected (refused why) = refl
-    asked-stand r m busy rejected (pulled value is_begun orders) = refl
+    asked-stand r m busy rejected (gave given) = refl
 
-    pub pull-stand : (o : Option Taken) (m : ℕ) (busy rejected : Bool) (a : Answer)
-        → standing (calm m busy rejected) (map traces.begun (option_to_list (option_map frame_taken o)) ++ map put (octet_in a)) ≡ calm m busy rejected
-    pull-stand None m busy rejected (told t) = refl
-    pull-stand None m busy rejected (refused why) = refl
-    pull-stand None m busy rejected (pulled value is_begun orders) = refl
-    pull-stand (Some t) m busy rejected (told u) = refl
-    pull-stand (Some t) m busy rejected (refused why) = refl
-    pull-stand (Some t) m busy rejected (pulled value is_begun orders) = refl
+    pub begun-stand : (frames : List (List ℕ)) (m : ℕ) (busy rejected : Bool) → standing (calm m busy rejected) (map traces.begun frames) ≡ calm m busy rejected
+    begun-stand [] m busy rejected = refl
+    begun-stand (f ∷ frames) m busy rejected = begun-stand frames m busy rejected
 
     pub stand-is : (e : Event) (l : Line) (m : ℕ) (busy rejected : Bool)
-        → standing (calm m busy rejected) (seen c e l (answer c e l)) ≡ behind c e l (answer c e l) m busy rejected
+        → standing (calm m busy rejected) (seen e (answer c e l)) ≡ behind c e l (answer c e l) m busy rejected
     unfolding answer
-    stand-is (octet value) l m busy rejected = heard-stand (gained c.n201 l.received value) m busy rejected (of_octet c value l).told
+    stand-is (hears what) l m busy rejected = heard-stand what m busy rejected (of_heard c what l).told
     stand-is (expiry timer) l m busy rejected = told-stand m busy rejected (answer c (expiry timer) l)
     stand-is (request r) l m busy rejected = asked-stand r m busy rejected (answer c (request r) l)
-    stand-is pull l m busy rejected = pull-stand (begun c l) m busy rejected (answer c pull l)
+    stand-is next l m busy rejected = begun-stand (frame_in (answer c next l)) m busy rejected
 
   -- What an event of the line is to its link.
-  module _ (c : Config) (l : Line) (e : Event) (a : Answer) where
+  module _ (c : Config) (e : Event) (a : Answer) where
     own-true : is_own service tei service tei ≡ true
     own-true = ap (λ b. b && tei == tei) (same-itself service) ∙ eq-eqb tei tei refl
 
-    brings-is : (le : link.Event) → IsBy c l e a service tei le → brings_information service tei (frame_by c e l) ≡ brings le
+    brings-is : (le : link.Event) → IsBy c e a service tei le → brings_information service tei (frame_by c e) ≡ brings le
     brings-is (link.received (link.frame f)) by =
-        let x = brings-frame c l e a service tei f by in
+        let x = brings-frame c e a service tei f by in
         ap (brings_information service tei) x.0 ∙ ap (λ b. b && is_information f.control) x.1
-    brings-is (link.received link.undefined) by = ap (brings_information service tei) (brings-none c l e a service tei link.undefined by)
-    brings-is (link.received link.wrong_size) by = ap (brings_information service tei) (brings-none c l e a service tei link.wrong_size by)
-    brings-is (link.received link.overlong) by = ap (brings_information service tei) (brings-none c l e a service tei link.overlong by)
-    brings-is (link.expired timer) by = ap (λ e. brings_information service tei (frame_by c e l)) by
-    brings-is (link.requested asked full) by = ap (λ e. brings_information service tei (frame_by c e l)) by.0
-    brings-is link.offer by = ap (λ e. brings_information service tei (frame_by c e l)) by
+    brings-is (link.received link.undefined) by = ap (brings_information service tei) (brings-none c e a service tei link.undefined by)
+    brings-is (link.received link.wrong_size) by = ap (brings_information service tei) (brings-none c e a service tei link.wrong_size by)
+    brings-is (link.received link.overlong) by = ap (brings_information service tei) (brings-none c e a service tei link.overlong by)
+    brings-is (link.expired timer) by = ap (λ e. brings_information service tei (frame_by c e)) by
+    brings-is (link.requested asked full) by = ap (λ e. brings_information service tei (frame_by c e)) by.0
+    brings-is link.offer by = ap (λ e. brings_information service tei (frame_by c e)) by
     brings-is link.cleared by = absurd by
 
     asked-by : (what : link.Request) (full : Bool) (a : Answer) (busy : Bool) → is_granted a ≡ true → granted_busy (of_link service tei what) a busy ≡ flags.busy_asked (link.requested what full) busy
@@ -139,13 +131,13 @@ module _ (service : Service) (tei : ℕ) where
     asked-by link.SetBusy full (told t) busy g = ap (λ b. b || busy) own-true
     asked-by link.ClearBusy full (told t) busy g = ap (λ b. not b && busy) own-true
     asked-by what full (refused why) busy g = no g
-    asked-by what full (pulled value is_begun orders) busy g = no g
+    asked-by what full (gave given) busy g = no g
 
-    asked-is : (le : link.Event) (busy : Bool) → IsBy c l e a service tei le → asked_busy e a busy ≡ flags.busy_asked le busy
+    asked-is : (le : link.Event) (busy : Bool) → IsBy c e a service tei le → asked_busy e a busy ≡ flags.busy_asked le busy
     asked-is (link.received (link.frame f)) busy by = ap (λ e. asked_busy e a busy) by.by
-    asked-is (link.received link.undefined) busy by = ap (λ e. asked_busy e a busy) by.by
-    asked-is (link.received link.wrong_size) busy by = ap (λ e. asked_busy e a busy) by.by
-    asked-is (link.received link.overlong) busy by = ap (λ e. asked_busy e a busy) by.by
+    asked-is (link.received link.undefined) busy by = ap (λ e. asked_busy e a busy) (heard-by c e a service tei link.undefined by).1
+    asked-is (link.received link.wrong_size) busy by = ap (λ e. asked_busy e a busy) (heard-by c e a service tei link.wrong_size by).1
+    asked-is (link.received link.overlong) busy by = ap (λ e. asked_busy e a busy) (heard-by c e a service tei link.overlong by).1
     asked-is (link.expired timer) busy by = ap (λ e. asked_busy e a busy) by
     asked-is (link.requested what full) busy by = ap (λ e. asked_busy e a busy) by.0 ∙ asked-by what full a busy by.1
     asked-is link.offer busy by = ap (λ e. asked_busy e a busy) by
@@ -180,15 +172,15 @@ module _ (service : Service) (tei : ℕ) where
         (aimed (ClearBusy its by) its by link.ClearBusy (ap (λ o. unless_refused o (at_requested its by link.ClearBusy (place_in l by))) (sym (not-refused c (ClearBusy its by) l g))) away)
 
     asked-elsewhere : (e : Event) (busy : Bool) → is_at_link service tei (aim_of c e l) ≡ false → asked_busy e (answer c e l) busy ≡ busy
-    asked-elsewhere (octet value) busy away = refl
+    asked-elsewhere (hears what) busy away = refl
     asked-elsewhere (expiry timer) busy away = refl
-    asked-elsewhere pull busy away = refl
+    asked-elsewhere next busy away = refl
     asked-elsewhere (request r) busy away = go (answer c (request r) l) refl
       where
         go : (a : Answer) → answer c (request r) l ≡ a → granted_busy r a busy ≡ busy
         go (told t) is = busy-elsewhere r busy (ap is_granted is) away
         go (refused why) is = refl
-        go (pulled value is_begun orders) is = refl
+        go (gave given) is = refl
 
   -- One event of a line.
   module _ (c : Config) (ranged : IsInRange c) (l : Line) (s : IsSound c l) (e : Event) (m : ℕ) (count : IsCount (link_of service tei l) m)
@@ -212,8 +204,8 @@ module _ (service : Service) (tei : ℕ) where
     both-are k b d is too h = subst (λ b. IsStanding k b now.rejected) (sym is) (subst (λ d. IsStanding k b d) (sym too) h)
 
     module _ (x : HasOne c service tei e l (after c e l) a) where
-      pub one-restarts : begins service tei (frame_by c e l) (notes_of a) ≡ restarts t x.event own
-      one-restarts = ap (begins service tei (frame_by c e l)) x.notes ∙ one-begins c l e a service tei x.event x.by own
+      pub one-restarts : begins service tei (frame_by c e) (notes_of a) ≡ restarts t x.event own
+      one-restarts = ap (begins service tei (frame_by c e)) x.notes ∙ one-begins c e a service tei x.event x.by own
 
       abbrev delivers : Bool
       delivers = is_some (links.told t x.event own).delivered
@@ -221,15 +213,15 @@ module _ (service : Service) (tei : ℕ) where
       pub busy-is : now.busy ≡ busy_behind (restarts t x.event own) x.event busy
       busy-is =
           ap (λ b. cond b false (asked_busy e a busy)) one-restarts
-          ∙ ap (λ b. cond (restarts t x.event own) false b) (asked-is c l e a x.event busy x.by)
+          ∙ ap (λ b. cond (restarts t x.event own) false b) (asked-is c e a x.event busy x.by)
 
       pub rejected-is : now.rejected ≡ rejected_behind (restarts t x.event own) delivers x.event busy rejected
       rejected-is =
           let d = list_any (is_data_of service tei) (notes_of a) in
-          let i = cond (brings_information service tei (frame_by c e l) && not busy) true rejected in
+          let i = cond (brings_information service tei (frame_by c e) && not busy) true rejected in
           ap (λ b. cond (b || d) false i) one-restarts
           ∙ ap (λ d. cond (restarts t x.event own || d) false i) (data-noted c ranged l s e service tei m count x)
-          ∙ ap (λ b. cond (restarts t x.event own || delivers) false (cond (b && not busy) true rejected)) (brings-is c l e a x.event x.by)
+          ∙ ap (λ b. cond (restarts t x.event own || delivers) false (cond (b && not busy) true rejected)) (brings-is c e a x.event x.by)
 
       one-stands : Stands (link_of service tei (after c e l))
       one-stands =
@@ -244,20 +236,20 @@ module _ (service : Service) (tei : ℕ) where
           go None is = absurd (true≢false (sym some ∙ data-noted c ranged l s e service tei m count x ∙ ap is_some is))
           go (Some contents) is =
               let y = delivers-free t own busy x.event contents is in
-              asked-is c l e a x.event busy x.by ∙ y.2 ∙ sym (stands.busy_is y.0) ∙ y.1
+              asked-is c e a x.event busy x.by ∙ y.2 ∙ sym (stands.busy_is y.0) ∙ y.1
 
     module _ (x : HasNone c service tei e l (after c e l) a) where
       on-line : (o : Option ℕ) → place_in l tei ≡ o → is_multiple_frame own.state ≡ true → (place : ℕ) × (place_in l tei ≡ Some place)
       on-line (Some place) on up = (place, on)
       on-line None off up = absurd (true≢false (sym up ∙ ap (λ o. is_multiple_frame (option_map_or (link_in l service) o fresh).state) off))
 
-      not-for : (f : Parts) → frame_by c e l ≡ Some f → is_multiple_frame own.state ≡ true → (b : Bool) → is_for service tei f.address ≡ b → is_for service tei f.address ≡ false
+      not-for : (f : Parts) → frame_by c e ≡ Some f → is_multiple_frame own.state ≡ true → (b : Bool) → is_for service tei f.address ≡ b → is_for service tei f.address ≡ false
       not-for f is up false other = other
       not-for f is up true for =
           let on = on-line (place_in l tei) refl up in
           absurd (true≢false (sym (event-aims c l service tei on.0 on.1 e f is for) ∙ x.aims))
 
-      by-frame : (o : Option Parts) → frame_by c e l ≡ o → is_multiple_frame own.state ≡ true
+      by-frame : (o : Option Parts) → frame_by c e ≡ o → is_multiple_frame own.state ≡ true
           → (begins service tei o (notes_of a) ≡ false) × (brings_information service tei o ≡ false)
       by-frame None is up = (refl, refl)
       by-frame (Some f) is up =
@@ -271,14 +263,14 @@ module _ (service : Service) (tei : ℕ) where
       busy-stays : is_multiple_frame own.state ≡ true → now.busy ≡ busy
       busy-stays up =
           let on = on-line (place_in l tei) refl up in
-          ap (λ b. cond b false (asked_busy e a busy)) (by-frame (frame_by c e l) refl up).0 ∙ asked-elsewhere c l on.0 on.1 e busy x.aims
+          ap (λ b. cond b false (asked_busy e a busy)) (by-frame (frame_by c e) refl up).0 ∙ asked-elsewhere c l on.0 on.1 e busy x.aims
 
       rejected-stays : is_multiple_frame own.state ≡ true → now.rejected ≡ rejected
       rejected-stays up =
-          let f = by-frame (frame_by c e l) refl up in
+          let f = by-frame (frame_by c e) refl up in
           let d = list_any (is_data_of service tei) (notes_of a) in
-          ap (λ b. cond (b || d) false (cond (brings_information service tei (frame_by c e l) && not busy) true rejected)) f.0
-          ∙ ap (λ d. cond d false (cond (brings_information service tei (frame_by c e l) && not busy) true rejected)) (untold d refl)
+          ap (λ b. cond (b || d) false (cond (brings_information service tei (frame_by c e) && not busy) true rejected)) f.0
+          ∙ ap (λ d. cond d false (cond (brings_information service tei (frame_by c e) && not busy) true rejected)) (untold d refl)
           ∙ ap (λ b. cond (b && not busy) true rejected) f.1
 
       none-stands : Stands (link_of service tei (after c e l))

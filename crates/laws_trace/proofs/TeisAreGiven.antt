@@ -1,8 +1,7 @@
 -- A terminal that asks for a TEI is assigned one, where the line may have one more: the law.
-use Rattle.std.proofs.Common.{◌≡◌, ℕ, suc, ◌+◌, ◌*◌, ◌/◌, ◌%◌, ◌<◌, ◌≤◌, ◌==◌, ◌&&◌, ◌||◌, Bool, true, false, cond, List, [], ◌∷◌, ◌++◌, length, map, Option, Some, None, refl, sym, ap, ◌∙◌, subst, arith, eqb-true, eq-eqb, true≢false, inl, inr, append-nil}
-use Rattle.std.specs.Prelude.{fold, flat_map, option_map, option_to_list, IsSome, not, nat_lt}
+use Rattle.std.proofs.Common.{◌≡◌, ℕ, suc, ◌+◌, ◌*◌, ◌/◌, ◌%◌, ◌<◌, ◌≤◌, ◌==◌, ◌&&◌, ◌||◌, Bool, true, false, cond, List, [], ◌∷◌, ◌++◌, length, Option, Some, None, refl, sym, ap, ◌∙◌, subst, arith, eqb-true, eq-eqb, true≢false, inl, inr, append-nil}
+use Rattle.std.specs.Prelude.{fold, flat_map, option_map, IsSome, not, nat_lt}
 use Rattle.std.specs.List.{list_any, find, prefix_len}
-use Rattle.std.specs.Option.{option_map_or}
 use Rattle.std.proofs.lemmas.Bool.{and_parts, ltb-false}
 use Rattle.std.proofs.lemmas.Grind.{flat_map-append}
 use Rattle.std.proofs.lemmas.List.Elements.{All-head}
@@ -19,11 +18,11 @@ use Rattle.lapd_tei.specs.Words as words
 use Rattle.lapd_tei.specs.Words.{Course, begun, no_room}
 use Rattle.lapd_tei.proofs.Pigeonholes.{one_is_free}
 use Rattle.model_line.specs.declared.config.Config.{Config}
-use Rattle.model_line.specs.Effect.{Aim, at_none, at_management, of_aim}
-use Rattle.model_line.specs.Event.{Event, octet, expiry, request, pull, LineTold, told, nothing}
+use Rattle.model_line.specs.Effect.{Aim, at_management, of_aim}
+use Rattle.model_line.specs.Event.{Event, hears, expiry, request, next, LineTold, told}
 use Rattle.model_line.specs.Line.{Line}
 use Rattle.model_line.specs.Machine as lines
-use Rattle.model_line.specs.Octet.{gained, aim_of_heard, with_received}
+use Rattle.model_line.specs.Heard.{aim_of_heard}
 use Rattle.model_line.specs.Sound.{IsSound}
 use Rattle.model_line.proofs.Ranges.{ranges_of}
 use Rattle.model_card.specs.Card as cards
@@ -38,13 +37,13 @@ use Rattle.laws_card.proofs.Wherever.{all-left, all-right, config-stays}
 use Rattle.laws_trace.specs.Managing.{Said, asks, said_of_type, said_of, said_in, is_for, none_on, Managed}
 use Rattle.laws_trace.specs.MessagesAreOwed.{led}
 use Rattle.laws_trace.specs.TeisAreGiven.{is_assigned, IsGiven, TeisAreGiven}
-use Rattle.laws_trace.specs.Trace as traces
 use Rattle.laws_trace.specs.Trace.{Seen, heard, noted, lost, seen, seen_told, IsAmong, Always}
 use Rattle.laws_trace.proofs.AllAreTold.{brought, is-brought, none-among}
 use Rattle.laws_trace.proofs.ManagingKnown.{Knows, hearing}
 use Rattle.laws_trace.proofs.ManagingNotes.{behind, Cases, heard-cases}
 use Rattle.laws_trace.proofs.MessagesAreOwed.{known-at-end}
 use Rattle.laws_trace.proofs.Runs.{nothing-seen}
+use Rattle.laws_trace.specs.Trace as traces
 
 no : {A : Type 0} → false ≡ true → A
 no e = absurd (true≢false (sym e))
@@ -189,62 +188,50 @@ lost-one : Seen → List ℕ
 lost-one (lost n) = n ∷ []
 lost-one (heard e) = []
 lost-one (traces.begun octets) = []
-lost-one (traces.put value) = []
 lost-one (noted ns contents) = []
 lost-one (traces.granted r) = []
 
 module _ (c : Config) (l : Line) (s : IsSound c l) (few : c.terminals ≤ 8) (w : Managed) (known : Knows (hearing [] w) l.management)
     (e : stream.Event) (ri : ℕ) (says : said_in c e ≡ asks ri ∷ []) (unknown : find (is_for ri) w.held ≡ None) (more : length w.on < c.terminals) where
   -- where nothing is lost, the notes have it
-  aim-given : (now : Line) → now.management ≡ l.management → (aim : Aim) (said : List Said) → said ≡ asks ri ∷ [] → Cases aim said
-      → (of_aim c aim now).told.lost ≡ 0 → list_any is_assigned (of_aim c aim now).told.notes ≡ true
+  aim-given : (aim : Aim) (said : List Said) → said ≡ asks ri ∷ [] → Cases aim said → (of_aim c aim l).told.lost ≡ 0 → list_any is_assigned (of_aim c aim l).told.notes ≡ true
   unfolding teis.course teis.refusal
-  aim-given now same aim said is (inr x) none = absurd (cc (sym x.said_is ∙ is))
-  aim-given now same aim said is (inl x) none =
-      subst (λ aim. (of_aim c aim now).told.lost ≡ 0 → list_any is_assigned (of_aim c aim now).told.notes ≡ true) (sym x.aim_is) served none
+  aim-given aim said is (inr x) none = absurd (cc (sym x.said_is ∙ is))
+  aim-given aim said is (inl x) none =
+      subst (λ aim. (of_aim c aim l).told.lost ≡ 0 → list_any is_assigned (of_aim c aim l).told.notes ≡ true) (sym x.aim_is) served none
     where
-      served : (of_aim c (at_management (teis.message x.info)) now).told.lost ≡ 0 → list_any is_assigned (of_aim c (at_management (teis.message x.info)) now).told.notes ≡ true
+      served : (of_aim c (at_management (teis.message x.info)) l).told.lost ≡ 0 → list_any is_assigned (of_aim c (at_management (teis.message x.info)) l).told.notes ≡ true
       served none =
-          let y = rows.serve (heard_in x.info) (begun now.management) in
-          let b = behind c y.told (record now { management = y.now }) y.told.change in
+          let y = rows.serve (heard_in x.info) (begun l.management) in
+          let b = behind c y.told (record l { management = y.now }) y.told.change in
           ap (list_any is_assigned) b.notes ∙ list_any-append is_assigned y.told.notes b.others
           ∙ ap (λ d. d || list_any is_assigned b.others)
-          (subst (λ (m : Management). let y = rows.serve (heard_in x.info) (begun m) in y.told.lost ≡ 0 → list_any is_assigned y.told.notes ≡ true) (sym same)
-          (serve-given c w l.management known s.management s.places few ri unknown more x.info (sym x.said_is ∙ is)) (sym b.lost ∙ none))
+          (serve-given c w l.management known s.management s.places few ri unknown more x.info (sym x.said_is ∙ is) (sym b.lost ∙ none))
 
-  is-given : (o : Option stream.Event) (t : LineTold) → list_any is_assigned t.notes ≡ true → IsGiven (map heard (option_to_list o) ++ seen_told (told t))
-  is-given None t any = record { notes = t.notes; contents = t.contents; noted_is = record { front = []; back = lost t.lost ∷ []; split = refl }; assigned = any }
-  is-given (Some e) t any = record { notes = t.notes; contents = t.contents; noted_is = record { front = heard e ∷ []; back = lost t.lost ∷ []; split = refl }; assigned = any }
-
-  lost-told : (o : Option stream.Event) (t : LineTold) → flat_map lost-one (map heard (option_to_list o) ++ seen_told (told t)) ≡ t.lost ∷ []
-  unfolding lost-one
-  lost-told None t = refl
-  lost-told (Some e) t = refl
+  is-given : (t : LineTold) → list_any is_assigned t.notes ≡ true → IsGiven (heard e ∷ seen_told (told t))
+  is-given t any = record { notes = t.notes; contents = t.contents; noted_is = record { front = heard e ∷ []; back = lost t.lost ∷ []; split = refl }; assigned = any }
 
   first-zero : (n : ℕ) (front back : List ℕ) → n ∷ [] ≡ front ++ 0 ∷ back → n ≡ 0
   first-zero n [] back e = cc e
   first-zero n (x ∷ []) back e = absurd (cc e)
   first-zero n (x ∷ y ∷ front) back e = absurd (cc e)
 
-  none-lost : (o : Option stream.Event) (t : LineTold) → IsAmong (lost 0) (map heard (option_to_list o) ++ seen_told (told t)) → t.lost ≡ 0
+  none-lost : (t : LineTold) → IsAmong (lost 0) (heard e ∷ seen_told (told t)) → t.lost ≡ 0
   unfolding lost-one
-  none-lost o t among =
+  none-lost t among =
       first-zero t.lost (flat_map lost-one among.front) (flat_map lost-one among.back)
-      (sym (lost-told o t) ∙ ap (flat_map lost-one) among.split ∙ flat_map-append lost-one among.front (lost 0 ∷ among.back))
+      (ap (flat_map lost-one) among.split ∙ flat_map-append lost-one among.front (lost 0 ∷ among.back))
 
-  event-given : (what : Event) → brought c what l ≡ Some e → IsAmong (lost 0) (seen c what l (lines.answer c what l)) → IsGiven (seen c what l (lines.answer c what l))
+  event-given : (what : Event) → brought what ≡ Some e → IsAmong (lost 0) (seen what (lines.answer c what l)) → IsGiven (seen what (lines.answer c what l))
   unfolding lines.answer
-  event-given (octet value) is none =
-      let now = with_received value l in
-      let g = gained c.n201 l.received value in
-      let t = (of_aim c (option_map_or (aim_of_heard c l) g (at_none nothing)) now).told in
-      is-given g t
-      (subst (λ o. (of_aim c (option_map_or (aim_of_heard c l) o (at_none nothing)) now).told.lost ≡ 0
-      → list_any is_assigned (of_aim c (option_map_or (aim_of_heard c l) o (at_none nothing)) now).told.notes ≡ true) (sym is)
-      (aim-given now refl (aim_of_heard c l e) (said_in c e) says (heard-cases c l e)) (none-lost g t none))
+  event-given (hears what) is none =
+      let same : what ≡ e = cc is in
+      let t = (of_aim c (aim_of_heard c l e) l).told in
+      subst (λ x. IsAmong (lost 0) (heard x ∷ seen_told (told (of_aim c (aim_of_heard c l x) l).told)) → IsGiven (heard x ∷ seen_told (told (of_aim c (aim_of_heard c l x) l).told))) (sym same)
+      (λ none. is-given t (aim-given (aim_of_heard c l e) (said_in c e) says (heard-cases c l e) (none-lost t none))) none
   event-given (expiry timer) is none = absurd (none-some e is)
   event-given (request r) is none = absurd (none-some e is)
-  event-given pull is none = absurd (none-some e is)
+  event-given next is none = absurd (none-some e is)
 
 -- One event of a card.
 module _ (m : Card) (e : card.Event) (s : card_sound.IsSound m) (w : Managed) (heard_now : stream.Event) (ri : ℕ) (says : said_in m.config heard_now ≡ asks ri ∷ [])
@@ -252,14 +239,14 @@ module _ (m : Card) (e : card.Event) (s : card_sound.IsSound m) (w : Managed) (h
   abbrev Gives : ℕ → List Seen → Type 0
   Gives number t = Knows (hearing [] w) (line_at number m).management → IsAmong (heard heard_now) t → IsAmong (lost 0) t → IsGiven t
 
-  own : IsAtLine m e → Gives e.line (seen m.config e.what (line_at e.line m) (answer e m))
+  own : IsAtLine m e → Gives e.line (seen e.what (answer e m))
   own here known among none =
-      by_room (λ ls a. IsAmong (heard heard_now) (seen c e.what l a) → IsAmong (lost 0) (seen c e.what l a) → IsGiven (seen c e.what l a)) e m
+      by_room (λ ls a. IsAmong (heard heard_now) (seen e.what a) → IsAmong (lost 0) (seen e.what a) → IsGiven (seen e.what a)) e m
       (λ full among none.
       let nothing = subst (IsAmong (heard heard_now)) (nothing-seen c e.what l (and_parts (lines.takes_slot c e.what l) (is_full m) full).0) among in
       absurd (none-among (heard heard_now) nothing.front nothing.back nothing.split))
       (λ room among none.
-      event-given c l (line_sound m e.line (has_lines m s) here) few w known heard_now ri says unknown more e.what (is-brought c e.what l (lines.answer c e.what l) heard_now among) none)
+      event-given c l (line_sound m e.line (has_lines m s) here) few w known heard_now ri says unknown more e.what (is-brought e.what (lines.answer c e.what l) heard_now among) none)
       among none
     where
       c : Config
@@ -268,9 +255,9 @@ module _ (m : Card) (e : card.Event) (s : card_sound.IsSound m) (w : Managed) (h
       l : Line
       l = line_at e.line m
 
-  at-card : (number : ℕ) → IsAtLine m e → (b : Bool) → (e.line == number) ≡ b → Gives number (cond b (seen m.config e.what (line_at number m) (answer e m)) [])
+  at-card : (number : ℕ) → IsAtLine m e → (b : Bool) → (e.line == number) ≡ b → Gives number (cond b (seen e.what (answer e m)) [])
   at-card number here true is known among none =
-      subst (λ number. Gives number (seen m.config e.what (line_at number m) (answer e m))) (eqb-true e.line number is) (own here) known among none
+      subst (λ number. Gives number (seen e.what (answer e m))) (eqb-true e.line number is) (own here) known among none
   at-card number here false other known among none = absurd (none-among (heard heard_now) among.front among.back among.split)
 
 pub teis-are-given : Always TeisAreGiven
@@ -282,7 +269,7 @@ teis-are-given c events number ranged all within before e behind split heard_now
     let here = All-head (IsAtLine (cards.fresh c)) e behind (all-right (IsAtLine (cards.fresh c)) before (e ∷ behind) these) in
     let kept : m.config ≡ c = config-stays (cards.fresh c) before in
     let w = fold (led c number) none_on (moments (cards.fresh c) before) in
-    let t = cond (e.line == number) (seen m.config e.what (line_at number m) (answer e m)) [] in
+    let t = cond (e.line == number) (seen e.what (answer e m)) [] in
     let few : c.terminals ≤ 8 = (ranges_of c ranged).terminals.most in
     subst IsGiven (sym (append-nil t))
     (at-card m e (always_sound (cards.fresh c) before (fresh_is_sound c ranged) first) w heard_now ri (subst (λ c. said_in c heard_now ≡ asks ri ∷ []) (sym kept) says) unknown

@@ -15,7 +15,8 @@ use Rattle.model_link.specs.Link.{state_number}
 use Rattle.model_link.specs.Told.{runs}
 use Rattle.model_link.proofs.SoundRows.{named-within}
 use Rattle.model_link.proofs.Taking.{named-is_seq}
-use Rattle.laws_trace.specs.TimersAreTimely.{Known, nothing_yet, number_heard, hears, is_state, renews, differ}
+use Rattle.laws_trace.proofs.TimersWatched.{Known, nothing_yet, number_heard, listens, renews}
+use Rattle.laws_trace.specs.States.{is_state, differ}
 use Rattle.laws_trace.proofs.TimerActs.{Timing, by_name, starts, begins, ends, awaits, fails, acknowledges, with_busy, informs, supervises, informed, recovers}
 use Rattle.laws_trace.proofs.TimerActs as acts
 
@@ -39,7 +40,7 @@ told_state state = Some (state_number state)
 abbrev pub heard_by : State → State → Known → Option Control → Known
 heard_by from to k o =
     let in_7 = is_state 7 (told_state to) in
-    cond (in_7 || is_state 8 (told_state to)) (option_map_or (hears (is_state 8 (told_state from) && in_7) in_7 k) o k) nothing_yet
+    cond (in_7 || is_state 8 (told_state to)) (option_map_or (listens (is_state 8 (told_state from) && in_7) in_7 k) o k) nothing_yet
 
 abbrev pub anew_by : LinkTimer → State → State → Known → Option Control → Bool
 anew_by timer from to k o = differ (told_state from) (told_state to) || (is_state 7 (told_state from) && option_map_or (renews timer k) o false)
@@ -57,14 +58,6 @@ pub record Good (k : Known) (ran : LinkTimer → Bool) (x y : Timing) (o : Optio
   pub agrees : Agrees y.state (heard_by x.state y.state k o) y.a y.s y.busy
   pub anew : (timer : LinkTimer) → ran timer ≡ true → runs timer y.running ≡ true → runs timer y.started ≡ anew_by timer x.state y.state k o
   pub kept : Kept y.state x y
-
-abbrev pub ran_by : Option LinkTimer → LinkTimer → Bool
-ran_by r timer = runs timer r
-
--- no timer but the one that runs
-abbrev pub Only : LinkTimer → (LinkTimer → Bool) → Type 0
-Only T200 ran = ran T203 ≡ false
-Only T203 ran = ran T200 ≡ false
 
 not-both : {X : Type 0} (b : Bool) → b ≡ false → b ≡ true → X
 not-both b none some = absurd (true≢false (sym some ∙ none))
@@ -154,7 +147,7 @@ module _ (k : Known) (ran : LinkTimer → Bool) (a s : ℕ) (busy : Bool) (r : O
 
     -- State 8, in which T200 runs.
     module _ (known : IsKnown k a s busy) where
-      pub same-8 : (o : Option Control) → option_map_or (hears false false k) o k ≡ k → Good k ran (at TimerRecovery) (at TimerRecovery) o
+      pub same-8 : (o : Option Control) → option_map_or (listens false false k) o k ≡ k → Good k ran (at TimerRecovery) (at TimerRecovery) o
       same-8 o same = record { agrees = subst (λ k. IsKnown k a s busy) (sym same) known; anew = λ timer was now. refl; kept = tt }
 
       pub failed-8 : (b : Bool) (o : Option Control) → Good k ran (at TimerRecovery) (fails (with_busy b (at TimerRecovery))) o
@@ -220,7 +213,7 @@ module _ (k : Known) (ran : LinkTimer → Bool) (a s : ℕ) (busy : Bool) (r : O
 
   -- State 7: T200 runs where an acknowledgement is awaited, or the terminal is busy, else T203.
   module _ (ordered : a ≤ s) (within : s ≤ a + 127) (known : IsKnown k a s busy) (idle : ran T203 ≡ true → (s ≡ a) × (busy ≡ false)) where
-    pub same-7 : (o : Option Control) → option_map_or (hears false true k) o k ≡ k → ((timer : LinkTimer) → option_map_or (renews timer k) o false ≡ false)
+    pub same-7 : (o : Option Control) → option_map_or (listens false true k) o k ≡ k → ((timer : LinkTimer) → option_map_or (renews timer k) o false ≡ false)
         → Good k ran (at Established) (at Established) o
     same-7 o same none = record { agrees = subst (λ k. IsKnown k a s busy) (sym same) known; anew = λ timer was now. sym (none timer); kept = tt }
 
@@ -267,7 +260,7 @@ module _ (k : Known) (ran : LinkTimer → Bool) (a s : ℕ) (busy : Bool) (r : O
         ap not (eq-eqb nr.value k.acknowledged (value-7 nr n is ∙ ap (λ n. n % 128) same ∙ sym known.acknowledged))
 
     -- RR, and I while the terminal is not busy
-    module _ (o : Option Control) (nr : Seq) (again : Bool) (heard : option_map_or (hears false true k) o k ≡ number_heard nr.value false again k)
+    module _ (o : Option Control) (nr : Seq) (again : Bool) (heard : option_map_or (listens false true k) o k ≡ number_heard nr.value false again k)
         (t200_by : option_map_or (renews T200 k) o false ≡ not (nr.value == k.acknowledged)) (t203_by : option_map_or (renews T203 k) o false ≡ true) where
       quiet-now : (n : ℕ) → named a s nr ≡ Some n → n ≡ a → (n == s) ≡ false → (timer : LinkTimer) → ran timer ≡ true → false ≡ option_map_or (renews timer k) o false
       quiet-now n is same other T200 was = sym (t200_by ∙ same-number nr n is same)
@@ -279,7 +272,7 @@ module _ (k : Known) (ran : LinkTimer → Bool) (a s : ℕ) (busy : Bool) (r : O
           x : Timing
           x = with_busy again (at Established)
 
-          numbers : (m : ℕ) → n ≡ m → IsKnown (option_map_or (hears false true k) o k) m s again
+          numbers : (m : ℕ) → n ≡ m → IsKnown (option_map_or (listens false true k) o k) m s again
           numbers m same =
               subst (λ k. IsKnown k m s again) (sym heard)
               (record { acknowledged = value-7 nr n is ∙ ap (λ n. n % 128) same; next = known.next; busy_is = refl })

@@ -22,12 +22,12 @@ use Rattle.model_link.specs.Sound.{IsSound}
 use Rattle.model_link.specs.Steps.{Course, Step, begun, nothing, ◌then◌}
 use Rattle.model_link.specs.Told.{runs, is_timer}
 use Rattle.model_link.specs.Words
-use Rattle.laws_trace.specs.TimersAreTimely.{Known}
+use Rattle.laws_trace.proofs.TimersWatched.{Known}
 use Rattle.laws_trace.proofs.TimerActs.{timing, Acts, itself, whichever}
-use Rattle.laws_trace.proofs.TimerClaims as claims
 use Rattle.laws_trace.proofs.TimerClaims.{IsKnown, Agrees, Good}
-use Rattle.laws_trace.proofs.TimerRows as rows
 use Rattle.laws_trace.proofs.TimerRows.{in_state}
+use Rattle.laws_trace.proofs.TimerClaims as claims
+use Rattle.laws_trace.proofs.TimerRows as rows
 
 -- The timers that ran, and had not just expired.
 abbrev pub ran_before : Event → Option LinkTimer → LinkTimer → Bool
@@ -118,10 +118,6 @@ module _ (t : Terms) (k : Known) (l : Link) where
   t200-gone : (other : LinkTimer) → ran_before (expired T200) (Some T200) other ≡ false
   t200-gone T200 = refl
   t200-gone T203 = refl
-
-  t203-gone : (other : LinkTimer) → ran_before (expired T203) (Some T203) other ≡ false
-  t203-gone T200 = refl
-  t203-gone T203 = refl
 
   expires-4 : (timer : LinkTimer) → Expires timer TeiAssigned None
   expires-4 T200 = claims.same-4 k (ran_before (expired T200) None) l.a l.s l.peer_busy None (none-runs T200) None

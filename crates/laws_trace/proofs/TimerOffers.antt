@@ -25,9 +25,10 @@ use Rattle.model_link.specs.Steps.{Course, begun}
 use Rattle.laws_link.specs.Timed.{is_same, obeyed}
 use Rattle.model_link.specs.Told.{Given, runs, timer_at}
 use Rattle.model_link.specs.Words
-use Rattle.laws_trace.specs.AllGoesAgain.{is_next}
-use Rattle.laws_trace.specs.DataGoesOut.{Sent, sent_by}
-use Rattle.laws_trace.specs.TimersAreTimely.{Known, nothing_yet, is_state, sends}
+use Rattle.laws_trace.proofs.AgainWatched.{is_next}
+use Rattle.laws_trace.specs.LinkFrames.{Sent, sent_by}
+use Rattle.laws_trace.proofs.TimersWatched.{Known, nothing_yet, sends}
+use Rattle.laws_trace.specs.States.{is_state}
 use Rattle.laws_trace.proofs.DataKnown.{none-sent}
 use Rattle.laws_trace.proofs.TimerActs.{Timing, timing}
 use Rattle.laws_trace.proofs.TimerClaims.{Agrees, Kept, told_state}

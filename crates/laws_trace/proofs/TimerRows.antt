@@ -18,11 +18,11 @@ use Rattle.model_link.specs.Established as seven
 use Rattle.model_link.specs.TimerRecovery as eight
 use Rattle.model_link.specs.Steps.{Step, begun, nothing}
 use Rattle.model_link.specs.Words
-use Rattle.laws_trace.specs.TimersAreTimely.{Known, nothing_yet, renews}
-use Rattle.laws_trace.proofs.TimerActs as acts
-use Rattle.laws_trace.proofs.TimerActs.{Timing, timing, Acts, itself, either-bit, whichever}
-use Rattle.laws_trace.proofs.TimerClaims as claims
+use Rattle.laws_trace.proofs.TimersWatched.{Known, nothing_yet, listens, renews}
+use Rattle.laws_trace.proofs.TimerActs.{Timing, timing, Acts, itself, either-bit}
 use Rattle.laws_trace.proofs.TimerClaims.{IsKnown, Good}
+use Rattle.laws_trace.proofs.TimerActs as acts
+use Rattle.laws_trace.proofs.TimerClaims as claims
 
 abbrev pub in_state : State → Link → Link
 in_state here l = record l { state = here }
@@ -115,7 +115,7 @@ module _ (t : Terms) (k : Known) (ran : LinkTimer → Bool) (l : Link) where
 
   -- State 7.
   module _ (facts : Facts Established) where
-    same-7 : (o : Option Control) → option_map_or (Rattle.laws_trace.specs.TimersAreTimely.hears false true k) o k ≡ k
+    same-7 : (o : Option Control) → option_map_or (listens false true k) o k ≡ k
         → option_map_or (renews T200 k) o false ≡ false → option_map_or (renews T203 k) o false ≡ false → Good k ran (at Established) (at Established) o
     same-7 o same one two =
         claims.same-7 k ran l.a l.s l.peer_busy l.running facts.1 facts.2 facts.0 facts.3 o same (each-timer (λ timer. option_map_or (renews timer k) o false ≡ false) one two)
@@ -161,7 +161,7 @@ module _ (t : Terms) (k : Known) (ran : LinkTimer → Bool) (l : Link) where
 
   -- State 8.
   module _ (facts : Facts TimerRecovery) where
-    same-8 : (o : Option Control) → option_map_or (Rattle.laws_trace.specs.TimersAreTimely.hears false false k) o k ≡ k → Good k ran (at TimerRecovery) (at TimerRecovery) o
+    same-8 : (o : Option Control) → option_map_or (listens false false k) o k ≡ k → Good k ran (at TimerRecovery) (at TimerRecovery) o
     same-8 o same = claims.same-8 k ran l.a l.s l.peer_busy l.running facts.0 facts.1 o same
 
     failed-8 : (o : Option Control) → Good k ran (at TimerRecovery) (acts.fails (at TimerRecovery)) o
@@ -226,6 +226,3 @@ module _ (t : Terms) (k : Known) (ran : LinkTimer → Bool) (l : Link) where
   unchanged AwaitingRelease facts f h = moved AwaitingRelease None f itself h (same-6 facts None)
   unchanged Established facts f h = moved Established None f itself h (same-7 facts None refl refl refl)
   unchanged TimerRecovery facts f h = moved TimerRecovery None f itself h (same-8 facts None refl)
-
-  nothing-acts : Acts nothing itself
-  nothing-acts = record { acts = λ c. refl }

@@ -18,7 +18,7 @@ use Rattle.laws_link.specs.Timed.{obeyed}
 use Rattle.model_link.specs.Told.{runs}
 use Rattle.model_line.specs.declared.config.Config.{Config}
 use Rattle.model_line.specs.Event as line_event
-use Rattle.model_line.specs.Event.{Answer, refused}
+use Rattle.model_line.specs.Event.{refused}
 use Rattle.model_line.specs.Laws.{orders_in}
 use Rattle.model_line.specs.Line.{Line, fresh_line, link_of, link_in, link_number, place_in, state_of, terms}
 use Rattle.model_line.specs.Machine as lines
@@ -38,9 +38,10 @@ use Rattle.laws_card.proofs.TimersRun.{needed-run, needs-none, timely-all, timel
 use Rattle.laws_line.specs.Steady.{timer_of}
 use Rattle.laws_line.specs.Timers.{is_needed, left_by, HaveTheirTimers}
 use Rattle.laws_line.proofs.TimersFollow.{nowhere}
-use Rattle.laws_trace.specs.TimersAreTimely.{Known, nothing_yet, is_state, learned, watch, awaits, is_anew, TimersRun, TimersAreStarted}
+use Rattle.laws_trace.proofs.TimersWatched.{Known, nothing_yet, learned, watch, awaits, is_anew, TimersRun, TimersAreStarted}
+use Rattle.laws_trace.specs.States.{is_state}
 use Rattle.laws_trace.specs.Trace.{seen, Always}
-use Rattle.laws_trace.proofs.PullRuns.{apart}
+use Rattle.laws_trace.proofs.CallRuns.{apart}
 use Rattle.laws_trace.proofs.Runs.{nothing-seen}
 use Rattle.laws_trace.proofs.TimerClaims.{Agrees, told_state}
 use Rattle.laws_trace.proofs.TimersOfEvent.{IsTrueOf, state-on, off-fresh, off-state, needed-is, event-known}
@@ -56,7 +57,7 @@ module _ (service : Service) (tei number : ℕ) where
   same-state Established k a s busy h = refl
   same-state TimerRecovery k a s busy h = refl
 
-  none-learned : (c : Config) (l : Line) (k : Known) → IsTrueOf service tei k l → learned c service tei (state_of service tei l) (state_of service tei l) k [] ≡ k
+  pub none-learned : (c : Config) (l : Line) (k : Known) → IsTrueOf service tei k l → learned c service tei (state_of service tei l) (state_of service tei l) k [] ≡ k
   none-learned c l k h = go (place_in l tei) refl
     where
       x : Link
@@ -81,20 +82,20 @@ module _ (service : Service) (tei number : ℕ) where
     now : get_or (set card.lines e.line own) e.line (fresh_line card.config) ≡ own
     now = get_or-set_same card.lines e.line own (fresh_line card.config) (omega (arith, s.count, here))
 
-    seen-full : lines.takes_slot card.config e.what l ≡ true → seen card.config e.what l (refused PoolFull) ≡ []
+    seen-full : lines.takes_slot card.config e.what l ≡ true → seen e.what (refused PoolFull) ≡ []
     seen-full takes = nothing-seen card.config e.what l takes
 
     own-known : (k : Known) → IsTrueOf service tei k l
-        → IsTrueOf service tei (learned card.config service tei (state_of service tei l) (state_of service tei (line_at e.line (after e card))) k (seen card.config e.what l (answer e card))) (line_at e.line (after e card))
+        → IsTrueOf service tei (learned card.config service tei (state_of service tei l) (state_of service tei (line_at e.line (after e card))) k (seen e.what (answer e card))) (line_at e.line (after e card))
     own-known k h =
         by_room (λ ls a. let x = get_or ls e.line (fresh_line card.config) in
-        IsTrueOf service tei (learned card.config service tei (state_of service tei l) (state_of service tei x) k (seen card.config e.what l a)) x) e card
+        IsTrueOf service tei (learned card.config service tei (state_of service tei l) (state_of service tei x) k (seen e.what a)) x) e card
         (λ full.
         subst (λ t. IsTrueOf service tei (learned card.config service tei (state_of service tei l) (state_of service tei l) k t) l)
         (sym (seen-full (and_parts (lines.takes_slot card.config e.what l) (is_full card) full).0))
         (subst (λ k. IsTrueOf service tei k l) (sym (none-learned card.config l k h)) h))
         (λ room.
-        subst (λ x. IsTrueOf service tei (learned card.config service tei (state_of service tei l) (state_of service tei x) k (seen card.config e.what l (lines.answer card.config e.what l))) x) (sym now)
+        subst (λ x. IsTrueOf service tei (learned card.config service tei (state_of service tei l) (state_of service tei x) k (seen e.what (lines.answer card.config e.what l))) x) (sym now)
         (event-known card.config s.config l (line_sound card e.line (has_lines card s) here) (timely.lines e.line here) service tei k h e.what))
 
     abbrev moment_of : Moment
@@ -105,10 +106,10 @@ module _ (service : Service) (tei number : ℕ) where
       where
         go : (b : Bool) → (e.line == number) ≡ b
             → IsTrueOf service tei (learned card.config service tei (state_of service tei (line_at number card)) (state_of service tei (line_at number (after e card))) k
-            (cond b (seen card.config e.what (line_at number card) (answer e card)) [])) (line_at number (after e card))
+            (cond b (seen e.what (answer e card)) [])) (line_at number (after e card))
         go true is =
             subst (λ n. IsTrueOf service tei (learned card.config service tei (state_of service tei (line_at n card)) (state_of service tei (line_at n (after e card))) k
-            (seen card.config e.what (line_at n card) (answer e card))) (line_at n (after e card))) (eqb-true e.line number is)
+            (seen e.what (answer e card))) (line_at n (after e card))) (eqb-true e.line number is)
             (own-known k (subst (λ n. IsTrueOf service tei k (line_at n card)) (sym (eqb-true e.line number is)) h))
         go false other =
             let same = apart card e number (λ same. true≢false (sym (eq-eqb e.line number (sym same)) ∙ other)) in
@@ -117,27 +118,27 @@ module _ (service : Service) (tei number : ℕ) where
 
     left-by : (what : line_event.Event) → lines.takes_slot card.config what l ≡ true → (timer : LinkTimer) (b : Bool) → left_by what (timer_of service tei timer) b ≡ b
     unfolding lines.takes_slot
-    left-by (line_event.octet value) takes timer b = refl
+    left-by (line_event.hears what) takes timer b = refl
     left-by (line_event.expiry other) takes timer b = absurd (true≢false (sym takes))
     left-by (line_event.request r) takes timer b = refl
-    left-by line_event.pull takes timer b = refl
+    left-by line_event.next takes timer b = refl
 
     -- a request that finds the pool full orders nothing
     pub own-started : (k : Known) → IsTrueOf service tei k l → (timer : LinkTimer) → let its = timer_of service tei timer in
         let was = left_by e.what its (is_needed its l) in
         obeyed its false (orders_in (answer e card)) ≡ (obeyed its was (orders_in (answer e card))
-        && (not was || is_anew card.config service tei timer k (state_of service tei l) (state_of service tei (line_at e.line (after e card))) (seen card.config e.what l (answer e card))))
+        && (not was || is_anew card.config service tei timer k (state_of service tei l) (state_of service tei (line_at e.line (after e card))) (seen e.what (answer e card))))
     own-started k h timer =
         let its = timer_of service tei timer in
         let was = left_by e.what its (is_needed its l) in
         by_room (λ ls a. obeyed its false (orders_in a) ≡ (obeyed its was (orders_in a)
-        && (not was || is_anew card.config service tei timer k (state_of service tei l) (state_of service tei (get_or ls e.line (fresh_line card.config))) (seen card.config e.what l a)))) e card
+        && (not was || is_anew card.config service tei timer k (state_of service tei l) (state_of service tei (get_or ls e.line (fresh_line card.config))) (seen e.what a)))) e card
         (λ full.
         sym (ap (λ t. was && (not was || is_anew card.config service tei timer k (state_of service tei l) (state_of service tei l) t))
         (seen-full (and_parts (lines.takes_slot card.config e.what l) (is_full card) full).0) ∙ never l k h timer was))
         (λ room.
         subst (λ x. obeyed its false (orders_in (lines.answer card.config e.what l)) ≡ (obeyed its was (orders_in (lines.answer card.config e.what l))
-        && (not was || is_anew card.config service tei timer k (state_of service tei l) (state_of service tei x) (seen card.config e.what l (lines.answer card.config e.what l))))) (sym now)
+        && (not was || is_anew card.config service tei timer k (state_of service tei l) (state_of service tei x) (seen e.what (lines.answer card.config e.what l))))) (sym now)
         (event-started card.config s.config l (line_sound card e.line (has_lines card s) here) (timely.lines e.line here) service tei k h e.what timer))
       where
         -- nothing is due where nothing is seen
@@ -309,16 +310,16 @@ module _ (c : Config) (events : List Event) (number : ℕ) (ranged : IsInRange c
       let e = at number what in
       let ran = left_by what its (runs_at_callers number its false (moments (fresh c) events)) in
       obeyed its false (orders_in (answer e at_end)) ≡ (obeyed its ran (orders_in (answer e at_end))
-      && (not ran || is_anew c service tei timer is_known (state_of service tei its_line) (state_of service tei (line_at number (after e at_end))) (seen at_end.config what its_line (answer e at_end))))
+      && (not ran || is_anew c service tei timer is_known (state_of service tei its_line) (state_of service tei (line_at number (after e at_end))) (seen what (answer e at_end))))
   started-law what timer is_at =
       let its = timer_of service tei timer in
       let e = at number what in
       subst (λ (d : Config). obeyed its false (orders_in (answer e at_end)) ≡ (obeyed its (left_by what its (runs_at_callers number its false (moments (fresh c) events))) (orders_in (answer e at_end))
       && (not (left_by what its (runs_at_callers number its false (moments (fresh c) events)))
-      || is_anew d service tei timer is_known (state_of service tei its_line) (state_of service tei (line_at number (after e at_end))) (seen at_end.config what its_line (answer e at_end)))))
+      || is_anew d service tei timer is_known (state_of service tei its_line) (state_of service tei (line_at number (after e at_end))) (seen what (answer e at_end)))))
       (config-now c events number ranged all within service tei)
       (subst (λ b. obeyed its false (orders_in (answer e at_end)) ≡ (obeyed its (left_by what its b) (orders_in (answer e at_end))
-      && (not (left_by what its b) || is_anew at_end.config service tei timer is_known (state_of service tei its_line) (state_of service tei (line_at number (after e at_end))) (seen at_end.config what its_line (answer e at_end)))))
+      && (not (left_by what its b) || is_anew at_end.config service tei timer is_known (state_of service tei its_line) (state_of service tei (line_at number (after e at_end))) (seen what (answer e at_end)))))
       (sym (callers-run c events number ranged all within service tei timer))
       (own-started service tei number at_end (sound-now c events number ranged all within service tei) (timely-now c events number ranged all within service tei) e is_at is_known
       (true-now c events number ranged all within service tei) timer))
@@ -347,5 +348,5 @@ timers-are-started c events number ranged all within service tei timer before wh
     let here : number < card.config.lines = subst (λ (c : Config). number < c.lines) (sym (config-now c before number ranged front within service tei)) within in
     subst (λ b. obeyed its false (orders_in (answer e card)) ≡ (obeyed its ran (orders_in (answer e card))
     && (not ran || is_anew c service tei timer k (state_of service tei (line_at number card)) (state_of service tei (line_at number (after e card)))
-    (cond b (seen card.config what (line_at number card) (answer e card)) [])))) (sym (itself number))
+    (cond b (seen what (answer e card)) [])))) (sym (itself number))
     (started-law c before number ranged front within service tei what timer here)

@@ -1,8 +1,9 @@
 -- What is known of a link stays true: each event of a line.
 use Rattle.std.proofs.Common.{◌≡◌, ℕ, ◌==◌, ◌&&◌, ◌||◌, Bool, true, false, cond, List, [], ◌∷◌, map, Option, Some, None, option_map, refl, sym, ap, ◌∙◌, subst, eq-eqb, true≢false, ◌⊎◌, inl, inr}
-use Rattle.std.specs.Prelude.{All, IfSome, option_to_list}
+use Rattle.std.specs.Prelude.{All, IfSome, option_to_list, option_map}
 use Rattle.std.specs.Option.{option_map_or}
 use Rattle.std.proofs.lemmas.List.Elements.{All-head, All-nil, All-cons}
+use Rattle.model_bits.specs.Stream as stream
 use Rattle.lapd_frame.specs.declared.services.Service.{Service}
 use Rattle.lapd_frame.specs.declared.services.Service.TheVariants.{Call, Packet}
 use Rattle.lapd_frame.specs.Services.{same_service}
@@ -10,7 +11,6 @@ use Rattle.lapd_frame.specs.Grammar.{Parts}
 use Rattle.lapd_tei.proofs.Tables.{place_of-is}
 use Rattle.laws_two_links.specs.Needed.{HasItsTimer, needed}
 use Rattle.model_link.specs.declared.states.State.{State}
-use Rattle.model_link.specs.declared.states.State.TheVariants.{TeiAssigned}
 use Rattle.model_link.specs.declared.terms.Terms.{Terms}
 use Rattle.model_link.specs.declared.timers.LinkTimer.{LinkTimer}
 use Rattle.model_link.specs.declared.timers.LinkTimer.TheVariants.{T200, T203}
@@ -21,24 +21,22 @@ use Rattle.model_link.specs.Sound as link_sound
 use Rattle.laws_link.specs.Timed.{is_same}
 use Rattle.model_link.specs.Told.{Given, runs, is_timer}
 use Rattle.model_line.specs.declared.config.Config.{Config}
-use Rattle.model_line.specs.Event.{Event, octet, expiry, request, pull, Answer}
+use Rattle.model_line.specs.Event.{Event, hears, expiry, request, next, Answer, NextFrame, gave}
 use Rattle.model_line.specs.Line.{Line, link_in, link_of, link_number, place_in, state_of, state_in, terms}
 use Rattle.model_line.specs.Machine.{after, answer}
-use Rattle.model_line.specs.Pull.{Taken, begun, frame_of}
+use Rattle.model_line.specs.Taken.{taken, frame_of, next_of}
 use Rattle.model_line.specs.Sound.{IsInRange, IsSound}
 use Rattle.model_line.proofs.LinksSound.{sound_in}
 use Rattle.model_line.proofs.Ranges.{terms_in_range}
-use Rattle.model_card.specs.Pulled.{frame_taken, frame_in}
 use Rattle.laws_line.specs.Steady.{IsBy, timer_of}
 use Rattle.laws_line.specs.Timers.{is_needed, left_by, HaveTheirTimers}
-use Rattle.laws_line.proofs.TimersFollow.{timely-line}
-use Rattle.laws_trace.specs.AllGoesAgain.{is_next}
-use Rattle.laws_trace.specs.DataGoesOut.{Sent}
-use Rattle.laws_trace.specs.Deliveries.{is_for}
-use Rattle.laws_trace.specs.TimersAreTimely.{Known, nothing_yet, hears, sends, control_in, is_state, learned}
-use Rattle.laws_trace.specs.Trace.{seen}
+use Rattle.laws_trace.proofs.AgainWatched.{is_next}
+use Rattle.laws_trace.specs.LinkFrames.{Sent, is_for}
+use Rattle.laws_trace.proofs.TimersWatched.{Known, nothing_yet, listens, sends, control_in, learned}
+use Rattle.laws_trace.specs.States.{is_state}
+use Rattle.laws_trace.specs.Trace.{frame_in, seen}
 use Rattle.laws_trace.proofs.DataGoesOut.{foreign, own-sent, sent_of, sent_with}
-use Rattle.laws_trace.proofs.Deliveries.{frame_by, brings-frame, brings-none}
+use Rattle.laws_trace.proofs.Deliveries.{heard-by, frame_by, brings-frame, brings-none}
 use Rattle.laws_trace.proofs.DeliveriesRun.{event-aims}
 use Rattle.laws_trace.proofs.OneLink.{frames_given, IsForeign, HasOne, HasNone, Goes, event-goes}
 use Rattle.laws_trace.proofs.TimerActs.{timing}
@@ -105,11 +103,8 @@ module _ (c : Config) (ranged : IsInRange c) (l : Line) (s : IsSound c l) (timed
   abbrev own : Link
   own = link_of service tei l
 
-  abbrev next : Link
-  next = link_of service tei (after c e l)
-
-  abbrev next_timed : HaveTheirTimers (after c e l)
-  next_timed = timely-line c e l ranged s timed
+  abbrev new : Link
+  new = link_of service tei (after c e l)
 
   own-sound : (place : ℕ) → place_in l tei ≡ Some place → link_sound.IsSound t own
   own-sound place is =
@@ -127,15 +122,15 @@ module _ (c : Config) (ranged : IsInRange c) (l : Line) (s : IsSound c l) (timed
   learns_in from to =
       let i = is_state 7 (told_state to) in
       let r = is_state 8 (told_state from) && i in
-      cond (i || is_state 8 (told_state to)) (option_map_or (sends k) (sent_at c service tei k e l) (option_map_or (hears r i k) (control_in service tei (frame_by c e l)) k)) nothing_yet
+      cond (i || is_state 8 (told_state to)) (option_map_or (sends k) (sent_at c service tei k e l) (option_map_or (listens r i k) (control_in service tei (frame_by c e)) k)) nothing_yet
 
   abbrev learned_so : Option ℕ → Option ℕ → Known
-  learned_so from to = learned c service tei from to k (seen c e l a)
+  learned_so from to = learned c service tei from to k (seen e a)
 
   learned-in : (from to : State) → learned_so (told_state from) (told_state to) ≡ learns_in from to
   learned-in from to =
       let i = is_state 7 (told_state to) in
-      ap (λ k. cond (i || is_state 8 (told_state to)) k nothing_yet) (seen-learns c service tei k e l a (is_state 8 (told_state from) && i) i)
+      ap (λ k. cond (i || is_state 8 (told_state to)) k nothing_yet) (seen-learns c service tei k e l (is_state 8 (told_state from) && i) i)
 
   abbrev now_known : Known
   now_known = learned_so (state_of service tei l) (state_of service tei (after c e l))
@@ -144,42 +139,40 @@ module _ (c : Config) (ranged : IsInRange c) (l : Line) (s : IsSound c l) (timed
   begins-true : (x : Link) (K : Known) → x ≡ fresh → K ≡ nothing_yet → Agrees x.state K x.a x.s x.peer_busy
   begins-true x K is none = subst (λ (x : Link). Agrees x.state K x.a x.s x.peer_busy) (sym is) none
 
-  none-4 : (from : Option ℕ) → learned_so from (told_state TeiAssigned) ≡ nothing_yet
-  none-4 from = refl
-
   off-known : place_in (after c e l) tei ≡ None → IsTrueOf service tei now_known (after c e l)
   off-known off =
-      begins-true next now_known (off-fresh service tei (after c e l) off) (ap (learned_so (state_of service tei l)) (off-state service tei (after c e l) off))
+      begins-true new now_known (off-fresh service tei (after c e l) off) (ap (learned_so (state_of service tei l)) (off-state service tei (after c e l) off))
 
-  fresh-known : (place : ℕ) → place_in (after c e l) tei ≡ Some place → next ≡ fresh → IsTrueOf service tei now_known (after c e l)
+  fresh-known : (place : ℕ) → place_in (after c e l) tei ≡ Some place → new ≡ fresh → IsTrueOf service tei now_known (after c e l)
   fresh-known place on is =
-      begins-true next now_known is
+      begins-true new now_known is
       (ap (learned_so (state_of service tei l)) (state-on service tei (after c e l) place on ∙ ap (λ (x : Link). told_state x.state) is))
 
   -- What is heard or begins is none of the link's.
   module _ (x : HasNone c service tei e l (after c e l) a) where
-    pub no-control : (place : ℕ) → place_in l tei ≡ Some place → control_in service tei (frame_by c e l) ≡ None
-    no-control place on = go (frame_by c e l) refl
+    pub no-control : (place : ℕ) → place_in l tei ≡ Some place → control_in service tei (frame_by c e) ≡ None
+    no-control place on = go (frame_by c e) refl
       where
-        by-whom : (f : Parts) → frame_by c e l ≡ Some f → (b : Bool) → is_for service tei f.address ≡ b → cond b (Some f.control) None ≡ None
+        by-whom : (f : Parts) → frame_by c e ≡ Some f → (b : Bool) → is_for service tei f.address ≡ b → cond b (Some f.control) None ≡ None
         by-whom f is true for = absurd (true≢false (sym (event-aims c l service tei place on e f is for) ∙ x.aims))
         by-whom f is false for = refl
 
-        go : (o : Option Parts) → frame_by c e l ≡ o → control_in service tei o ≡ None
+        go : (o : Option Parts) → frame_by c e ≡ o → control_in service tei o ≡ None
         go None is = refl
         go (Some f) is = by-whom f is (is_for service tei f.address) refl
 
-    none-goes : (e : Event) → All (IsForeign c service tei) (frame_in c e l) → sent_at c service tei k e l ≡ None
-    none-goes (octet value) h = refl
+    none-goes : (e : Event) → All (IsForeign c service tei) (frame_in (answer c e l)) → sent_at c service tei k e l ≡ None
+    unfolding answer
+    none-goes (hears what) h = refl
     none-goes (expiry timer) h = refl
     none-goes (request r) h = refl
-    none-goes pull h = go (begun c l) h
+    none-goes next h = go (option_map next_of (taken c l)) h
       where
-        go : (o : Option Taken) → All (IsForeign c service tei) (option_to_list (option_map frame_taken o)) → sent_with c service tei o ≡ None
+        go : (o : Option NextFrame) → All (IsForeign c service tei) (frame_in (gave o)) → sent_with c service tei o ≡ None
         go None h = refl
-        go (Some taken) h = foreign c service tei (frame_taken taken) (All-head (IsForeign c service tei) (frame_taken taken) [] h)
+        go (Some f) h = foreign c service tei f.octets (All-head (IsForeign c service tei) f.octets [] h)
 
-    stays-known : (place : ℕ) → place_in l tei ≡ Some place → (after_place : ℕ) → place_in (after c e l) tei ≡ Some after_place → next ≡ own
+    stays-known : (place : ℕ) → place_in l tei ≡ Some place → (after_place : ℕ) → place_in (after c e l) tei ≡ Some after_place → new ≡ own
         → IsTrueOf service tei now_known (after c e l)
     stays-known place on after_place there same =
         let learned_is : now_known ≡ sent_known own.state k None =
@@ -187,10 +180,10 @@ module _ (c : Config) (ranged : IsInRange c) (l : Line) (s : IsSound c l) (timed
         ∙ ap (learned_so (told_state own.state)) (state-on service tei (after c e l) after_place there ∙ ap (λ (x : Link). told_state x.state) same)
         ∙ learned-in own.state own.state
         ∙ ap (λ o. cond (is_state 7 (told_state own.state) || is_state 8 (told_state own.state))
-        (option_map_or (sends k) o (option_map_or (hears (is_state 8 (told_state own.state) && is_state 7 (told_state own.state)) (is_state 7 (told_state own.state)) k) (control_in service tei (frame_by c e l)) k)) nothing_yet)
+        (option_map_or (sends k) o (option_map_or (listens (is_state 8 (told_state own.state) && is_state 7 (told_state own.state)) (is_state 7 (told_state own.state)) k) (control_in service tei (frame_by c e)) k)) nothing_yet)
         (none-goes e x.begins)
         ∙ ap (λ o. cond (is_state 7 (told_state own.state) || is_state 8 (told_state own.state))
-        (option_map_or (hears (is_state 8 (told_state own.state) && is_state 7 (told_state own.state)) (is_state 7 (told_state own.state)) k) o k) nothing_yet)
+        (option_map_or (listens (is_state 8 (told_state own.state) && is_state 7 (told_state own.state)) (is_state 7 (told_state own.state)) k) o k) nothing_yet)
         (no-control place on) in
         subst (λ (y : Link). Agrees y.state now_known y.a y.s y.peer_busy) (sym same)
         (subst (λ K. Agrees own.state K own.a own.s own.peer_busy) (sym learned_is) (same-known own.state k own.a own.s own.peer_busy agrees))
@@ -198,7 +191,7 @@ module _ (c : Config) (ranged : IsInRange c) (l : Line) (s : IsSound c l) (timed
     none-known : IsTrueOf service tei now_known (after c e l)
     none-known = go (place_in l tei) refl (place_in (after c e l) tei) refl x.is
       where
-        go : (o : Option ℕ) → place_in l tei ≡ o → (p : Option ℕ) → place_in (after c e l) tei ≡ p → (next ≡ own) ⊎ (next ≡ fresh)
+        go : (o : Option ℕ) → place_in l tei ≡ o → (p : Option ℕ) → place_in (after c e l) tei ≡ p → (new ≡ own) ⊎ (new ≡ fresh)
             → IsTrueOf service tei now_known (after c e l)
         go o is None off either = off-known off
         go o is (Some there) on (inr new) = fresh-known there on new
@@ -209,14 +202,14 @@ module _ (c : Config) (ranged : IsInRange c) (l : Line) (s : IsSound c l) (timed
   pub record IsOther (event : link.Event) : Type 0 where
     pub no_offer : event ≡ link.offer → ⊥
     pub no_cleared : event ≡ link.cleared → ⊥
-    pub control : control_in service tei (frame_by c e l) ≡ control_of event
+    pub control : control_in service tei (frame_by c e) ≡ control_of event
     pub sent : sent_at c service tei k e l ≡ None
     pub left : (timer : LinkTimer) → left_by e (timer_of service tei timer) (runs timer own.running) ≡ ran_before event own.running timer
 
   bare : (what : link.Received) → (link.received what ≡ link.offer → ⊥) → (link.received what ≡ link.cleared → ⊥) → control_of (link.received what) ≡ None
-      → (value : ℕ) → e ≡ octet value → frame_by c e l ≡ None → ((timer : LinkTimer) → ran_before (link.received what) own.running timer ≡ runs timer own.running)
+      → (heard : stream.Event) → e ≡ hears heard → frame_by c e ≡ None → ((timer : LinkTimer) → ran_before (link.received what) own.running timer ≡ runs timer own.running)
       → IsOther (link.received what)
-  bare what no-offer no-cleared none value by without same = record {
+  bare what no-offer no-cleared none heard by without same = record {
     no_offer = no-offer;
     no_cleared = no-cleared;
     control = ap (control_in service tei) without ∙ sym none;
@@ -224,9 +217,9 @@ module _ (c : Config) (ranged : IsInRange c) (l : Line) (s : IsSound c l) (timed
     left = λ timer. ap (λ e. left_by e (timer_of service tei timer) (runs timer own.running)) by ∙ sym (same timer);
   }
 
-  other : (event : link.Event) → (event ≡ link.offer → ⊥) → IsBy c l e a service tei event → IsOther event
+  other : (event : link.Event) → (event ≡ link.offer → ⊥) → IsBy c e a service tei event → IsOther event
   other (link.received (link.frame f)) not_offer by =
-      let x = brings-frame c l e a service tei f by in
+      let x = brings-frame c e a service tei f by in
       record {
         no_offer = not_offer;
         no_cleared = λ same. cc same;
@@ -235,15 +228,15 @@ module _ (c : Config) (ranged : IsInRange c) (l : Line) (s : IsSound c l) (timed
         left = λ timer. ap (λ e. left_by e (timer_of service tei timer) (runs timer own.running)) by.by;
       }
   other (link.received link.undefined) not_offer by =
-      bare link.undefined not_offer (λ same. cc same) refl by.value by.by (brings-none c l e a service tei link.undefined by) (λ timer. refl)
+      let x = heard-by c e a service tei link.undefined by in bare link.undefined not_offer (λ same. cc same) refl x.0 x.1 (brings-none c e a service tei link.undefined by) (λ timer. refl)
   other (link.received link.wrong_size) not_offer by =
-      bare link.wrong_size not_offer (λ same. cc same) refl by.value by.by (brings-none c l e a service tei link.wrong_size by) (λ timer. refl)
+      let x = heard-by c e a service tei link.wrong_size by in bare link.wrong_size not_offer (λ same. cc same) refl x.0 x.1 (brings-none c e a service tei link.wrong_size by) (λ timer. refl)
   other (link.received link.overlong) not_offer by =
-      bare link.overlong not_offer (λ same. cc same) refl by.value by.by (brings-none c l e a service tei link.overlong by) (λ timer. refl)
+      let x = heard-by c e a service tei link.overlong by in bare link.overlong not_offer (λ same. cc same) refl x.0 x.1 (brings-none c e a service tei link.overlong by) (λ timer. refl)
   other (link.expired expired) not_offer by = record {
     no_offer = not_offer;
     no_cleared = λ same. cc same;
-    control = ap (λ e. control_in service tei (frame_by c e l)) by;
+    control = ap (λ e. control_in service tei (frame_by c e)) by;
     sent = ap (λ e. sent_at c service tei k e l) by;
     left = λ timer. ap (λ e. left_by e (timer_of service tei timer) (runs timer own.running)) by
         ∙ ap (λ b. cond b false (runs timer own.running)) (same-timer service tei expired timer);
@@ -251,7 +244,7 @@ module _ (c : Config) (ranged : IsInRange c) (l : Line) (s : IsSound c l) (timed
   other (link.requested asked full) not_offer by = record {
     no_offer = not_offer;
     no_cleared = λ same. cc same;
-    control = ap (λ e. control_in service tei (frame_by c e l)) by.0;
+    control = ap (λ e. control_in service tei (frame_by c e)) by.0;
     sent = ap (λ e. sent_at c service tei k e l) by.0;
     left = λ timer. ap (λ e. left_by e (timer_of service tei timer) (runs timer own.running)) by.0;
   }
@@ -282,36 +275,40 @@ module _ (c : Config) (ranged : IsInRange c) (l : Line) (s : IsSound c l) (timed
         let r = is_state 8 (told_state own.state) && i in
         let known : now_known ≡ heard_by own.state later.state k (control_of x.event) =
         known-so there on
-        ∙ ap (λ sent. cond (i || is_state 8 (told_state later.state)) (option_map_or (sends k) sent (option_map_or (hears r i k) (control_in service tei (frame_by c e l)) k)) nothing_yet) o.sent
-        ∙ ap (λ control. cond (i || is_state 8 (told_state later.state)) (option_map_or (hears r i k) control k) nothing_yet) o.control in
+        ∙ ap (λ sent. cond (i || is_state 8 (told_state later.state)) (option_map_or (sends k) sent (option_map_or (listens r i k) (control_in service tei (frame_by c e)) k)) nothing_yet) o.sent
+        ∙ ap (λ control. cond (i || is_state 8 (told_state later.state)) (option_map_or (listens r i k) control k) nothing_yet) o.control in
         subst (λ (y : Link). Agrees y.state now_known y.a y.s y.peer_busy) (sym x.is)
         (subst (λ K. Agrees later.state K later.a later.s later.peer_busy) (sym known) g.agrees)
 
     -- an offer
-    none-sent : (o : Option Taken) → option_to_list (option_map frame_taken o) ≡ [] → sent_with c service tei o ≡ None
+    none-sent : (o : Option NextFrame) → frame_in (gave o) ≡ [] → sent_with c service tei o ≡ None
     none-sent None e = refl
-    none-sent (Some taken) e = cc e
+    none-sent (Some f) e = cc e
 
-    its-sent : (o : Option Taken) (frame : List ℕ) → option_to_list (option_map frame_taken o) ≡ frame ∷ [] → sent_with c service tei o ≡ sent_of c service tei frame
+    its-sent : (o : Option NextFrame) (frame : List ℕ) → frame_in (gave o) ≡ frame ∷ [] → sent_with c service tei o ≡ sent_of c service tei frame
     its-sent None frame e = cc e
-    its-sent (Some taken) frame e = let same : frame_taken taken ≡ frame = cc e in ap (sent_of c service tei) same
+    its-sent (Some f) frame e = let same : f.octets ≡ frame = cc e in ap (sent_of c service tei) same
 
-    sent-is : e ≡ pull → x.event ≡ link.offer → sent_at c service tei k e l ≡ option_map_or given_sent (links.given t own) None
+    sent-is : e ≡ next → x.event ≡ link.offer → sent_at c service tei k e l ≡ option_map_or given_sent (links.given t own) None
+    unfolding answer
     sent-is is offered =
         ap (λ e. sent_at c service tei k e l) is
-        ∙ go (links.given t own) refl (ap (λ e. frame_in c e l) (sym is) ∙ x.begins ∙ ap (λ event. frames_given c t event own) offered)
+        ∙ go (links.given t own) refl (ap (λ e. frame_in (answer c e l)) (sym is) ∙ x.begins ∙ ap (λ event. frames_given c t event own) offered)
       where
-        go : (g : Option Given) → links.given t own ≡ g → option_to_list (option_map frame_taken (begun c l)) ≡ map (frame_of c t) (option_to_list (links.given t own))
-            → sent_with c service tei (begun c l) ≡ option_map_or given_sent (links.given t own) None
-        go None is same = none-sent (begun c l) (same ∙ ap (λ o. map (frame_of c t) (option_to_list o)) is) ∙ sym (ap (λ o. option_map_or given_sent o None) is)
+        o : Option NextFrame
+        o = option_map next_of (taken c l)
+
+        go : (g : Option Given) → links.given t own ≡ g → frame_in (gave o) ≡ map (frame_of c t) (option_to_list (links.given t own))
+            → sent_with c service tei o ≡ option_map_or given_sent (links.given t own) None
+        go None is same = none-sent o (same ∙ ap (λ o. map (frame_of c t) (option_to_list o)) is) ∙ sym (ap (λ o. option_map_or given_sent o None) is)
         go (Some g) is same =
-            its-sent (begun c l) (frame_of c t g) (same ∙ ap (λ o. map (frame_of c t) (option_to_list o)) is) ∙ own-sent c service tei own range sound g is
+            its-sent o (frame_of c t g) (same ∙ ap (λ o. map (frame_of c t) (option_to_list o)) is) ∙ own-sent c service tei own range sound g is
             ∙ sym (ap (λ o. option_map_or given_sent o None) is)
 
     pub offers : Offered k own (timing (links.course t link.offer own)) (option_map_or given_sent (links.given t own) None)
     offers = offer-good t k own sound agrees
 
-    by-offer : e ≡ pull → x.event ≡ link.offer → (there : ℕ) → place_in (after c e l) tei ≡ Some there → IsTrueOf service tei now_known (after c e l)
+    by-offer : e ≡ next → x.event ≡ link.offer → (there : ℕ) → place_in (after c e l) tei ≡ Some there → IsTrueOf service tei now_known (after c e l)
     by-offer is offered there on =
         let y = links.after t link.offer own in
         let sent = option_map_or given_sent (links.given t own) None in
@@ -319,16 +316,16 @@ module _ (c : Config) (ranged : IsInRange c) (l : Line) (s : IsSound c l) (timed
         let r = is_state 8 (told_state own.state) && i in
         let known : now_known ≡ sent_known y.state k sent =
         known-so there on ∙ ap (λ event. learns_in own.state (links.after t event own).state) offered
-        ∙ ap (λ o. cond (i || is_state 8 (told_state y.state)) (option_map_or (sends k) o (option_map_or (hears r i k) (control_in service tei (frame_by c e l)) k)) nothing_yet) (sent-is is offered)
-        ∙ ap (λ e. cond (i || is_state 8 (told_state y.state)) (option_map_or (sends k) sent (option_map_or (hears r i k) (control_in service tei (frame_by c e l)) k)) nothing_yet) is in
+        ∙ ap (λ o. cond (i || is_state 8 (told_state y.state)) (option_map_or (sends k) o (option_map_or (listens r i k) (control_in service tei (frame_by c e)) k)) nothing_yet) (sent-is is offered)
+        ∙ ap (λ e. cond (i || is_state 8 (told_state y.state)) (option_map_or (sends k) sent (option_map_or (listens r i k) (control_in service tei (frame_by c e)) k)) nothing_yet) is in
         subst (λ (y : Link). Agrees y.state now_known y.a y.s y.peer_busy) (sym (x.is ∙ ap (λ event. links.after t event own) offered))
         (subst (λ K. Agrees y.state K y.a y.s y.peer_busy) (sym known) offers.agrees)
 
     -- which of both it is
-    pub either : {X : Type 0} → (IsOther x.event → X) → (e ≡ pull → x.event ≡ link.offer → X) → X
+    pub either : {X : Type 0} → (IsOther x.event → X) → (e ≡ next → x.event ≡ link.offer → X) → X
     either {X = X} one two = go x.event x.by (λ not_offer. one (other x.event not_offer x.by)) two
       where
-        go : (event : link.Event) → IsBy c l e a service tei event → ((event ≡ link.offer → ⊥) → X) → (e ≡ pull → event ≡ link.offer → X) → X
+        go : (event : link.Event) → IsBy c e a service tei event → ((event ≡ link.offer → ⊥) → X) → (e ≡ next → event ≡ link.offer → X) → X
         go (link.received what) by one two = one (λ same. cc same)
         go (link.expired timer) by one two = one (λ same. cc same)
         go (link.requested asked full) by one two = one (λ same. cc same)
@@ -362,11 +359,12 @@ module _ (c : Config) (ranged : IsInRange c) (l : Line) (s : IsSound c l) (timed
           either x (λ o. nothing (sent_at c service tei k e l) o.sent)
           (λ is offered. subst (λ o. IfSome o (is_next k)) (sym (sent-is x is offered)) (offers x).next)
 
--- So of the frame that a pull begins.
-pub pull-next : (c : Config) (ranged : IsInRange c) (l : Line) (s : IsSound c l) (timed : HaveTheirTimers l) (service : Service) (tei : ℕ) (k : Known) (agrees : IsTrueOf service tei k l)
-    → All (λ octets. IfSome (sent_of c service tei octets) (is_next k)) (frame_in c pull l)
-pull-next c ranged l s timed service tei k agrees = go (begun c l) (next-goes c ranged l s timed service tei k agrees pull)
+-- So of the frame that a call begins.
+pub next-next : (c : Config) (ranged : IsInRange c) (l : Line) (s : IsSound c l) (timed : HaveTheirTimers l) (service : Service) (tei : ℕ) (k : Known) (agrees : IsTrueOf service tei k l)
+    → All (λ octets. IfSome (sent_of c service tei octets) (is_next k)) (frame_in (answer c next l))
+unfolding answer
+next-next c ranged l s timed service tei k agrees = go (option_map next_of (taken c l)) (next-goes c ranged l s timed service tei k agrees next)
   where
-    go : (o : Option Taken) → IfSome (sent_with c service tei o) (is_next k) → All (λ octets. IfSome (sent_of c service tei octets) (is_next k)) (option_to_list (option_map frame_taken o))
+    go : (o : Option NextFrame) → IfSome (sent_with c service tei o) (is_next k) → All (λ octets. IfSome (sent_of c service tei octets) (is_next k)) (frame_in (gave o))
     go None h = All-nil (λ octets. IfSome (sent_of c service tei octets) (is_next k))
-    go (Some t) h = All-cons (λ octets. IfSome (sent_of c service tei octets) (is_next k)) (frame_taken t) [] h (All-nil (λ octets. IfSome (sent_of c service tei octets) (is_next k)))
+    go (Some f) h = All-cons (λ octets. IfSome (sent_of c service tei octets) (is_next k)) f.octets [] h (All-nil (λ octets. IfSome (sent_of c service tei octets) (is_next k)))

@@ -18,7 +18,7 @@ use Rattle.model_link.specs.Sound as link_sound
 use Rattle.laws_link.specs.Timed.{is_same, obeyed}
 use Rattle.model_link.specs.Told.{runs, timer_at}
 use Rattle.model_line.specs.declared.config.Config.{Config}
-use Rattle.model_line.specs.Event.{Event, octet, expiry, request, pull, Answer}
+use Rattle.model_line.specs.Event.{Event, hears, expiry, request, next, Answer}
 use Rattle.model_line.specs.Laws.{orders_in}
 use Rattle.model_line.specs.Line.{Line, link_of, place_in, has_tei, state_of, terms}
 use Rattle.model_line.specs.Machine.{after, answer}
@@ -26,7 +26,8 @@ use Rattle.model_line.specs.Sound.{IsInRange, IsSound}
 use Rattle.laws_line.specs.Steady.{timer_of}
 use Rattle.laws_line.specs.Timers.{is_needed, left_by, HaveTheirTimers}
 use Rattle.laws_line.proofs.TimersFollow.{followed, timely-line}
-use Rattle.laws_trace.specs.TimersAreTimely.{Known, control_in, is_state, renews, differ, is_anew}
+use Rattle.laws_trace.proofs.TimersWatched.{Known, control_in, renews, is_anew}
+use Rattle.laws_trace.specs.States.{is_state, differ}
 use Rattle.laws_trace.specs.Trace.{seen}
 use Rattle.laws_trace.proofs.Deliveries.{frame_by}
 use Rattle.laws_trace.proofs.OneLink.{HasOne, HasNone, Goes, event-goes}
@@ -35,8 +36,8 @@ use Rattle.laws_trace.proofs.TimerClaims.{told_state, anew_by}
 use Rattle.laws_trace.proofs.TimerEvents.{control_of, event-good}
 use Rattle.laws_trace.proofs.TimerOffers.{Offered, given_sent, told-starts}
 use Rattle.laws_trace.proofs.TimersOfLine.{seen-brings}
-use Rattle.laws_trace.proofs.TimersOfEvent as events
 use Rattle.laws_trace.proofs.TimersOfEvent.{IsTrueOf, state-on, off-fresh, needed-is}
+use Rattle.laws_trace.proofs.TimersOfEvent as events
 
 and-true : (b : Bool) → (b && true) ≡ b
 and-true true = refl
@@ -53,8 +54,8 @@ module _ (c : Config) (ranged : IsInRange c) (l : Line) (s : IsSound c l) (timed
   abbrev own : Link
   own = link_of service tei l
 
-  abbrev next : Link
-  next = link_of service tei (after c e l)
+  abbrev new : Link
+  new = link_of service tei (after c e l)
 
   abbrev next_timed : HaveTheirTimers (after c e l)
   next_timed = timely-line c e l ranged s timed
@@ -83,7 +84,7 @@ module _ (c : Config) (ranged : IsInRange c) (l : Line) (s : IsSound c l) (timed
     was = left_by e its (is_needed its l)
 
     abbrev is_due : Bool
-    is_due = is_anew c service tei timer k (state_of service tei l) (state_of service tei (after c e l)) (seen c e l a)
+    is_due = is_anew c service tei timer k (state_of service tei l) (state_of service tei (after c e l)) (seen e a)
 
     placed-if : (x : Line) → HaveTheirTimers x → is_needed its x ≡ true → (place : ℕ) × (place_in x tei ≡ Some place)
     placed-if x h needs = go (place_in x tei) refl
@@ -102,9 +103,9 @@ module _ (c : Config) (ranged : IsInRange c) (l : Line) (s : IsSound c l) (timed
         go : (same : Bool) → cond same false b ≡ true → b ≡ true
         go true h = absurd (true≢false (sym h))
         go false h = h
-    ran-needed (octet value) b h = h
+    ran-needed (hears what) b h = h
     ran-needed (request r) b h = h
-    ran-needed pull b h = h
+    ran-needed next b h = h
 
     differ-same : (state : State) → differ (told_state state) (told_state state) ≡ false
     differ-same TeiAssigned = refl
@@ -117,15 +118,15 @@ module _ (c : Config) (ranged : IsInRange c) (l : Line) (s : IsSound c l) (timed
     and-false true = refl
     and-false false = refl
 
-    due-so : (place there : ℕ) → place_in l tei ≡ Some place → place_in (after c e l) tei ≡ Some there → (to : State) → next.state ≡ to → (o : Option Control)
-        → control_in service tei (frame_by c e l) ≡ o → is_due ≡ anew_by timer own.state to k o
+    due-so : (place there : ℕ) → place_in l tei ≡ Some place → place_in (after c e l) tei ≡ Some there → (to : State) → new.state ≡ to → (o : Option Control)
+        → control_in service tei (frame_by c e) ≡ o → is_due ≡ anew_by timer own.state to k o
     due-so place there on stays to is o control =
-        ap (λ p. is_anew c service tei timer k p (state_of service tei (after c e l)) (seen c e l a)) (state-on service tei l place on)
-        ∙ ap (λ p. is_anew c service tei timer k (told_state own.state) p (seen c e l a)) (state-on service tei (after c e l) there stays ∙ ap told_state is)
-        ∙ ap (λ b. differ (told_state own.state) (told_state to) || (is_state 7 (told_state own.state) && b)) (seen-brings c service tei (renews timer k) e l a ∙ ap (λ o. option_map_or (renews timer k) o false) control)
+        ap (λ p. is_anew c service tei timer k p (state_of service tei (after c e l)) (seen e a)) (state-on service tei l place on)
+        ∙ ap (λ p. is_anew c service tei timer k (told_state own.state) p (seen e a)) (state-on service tei (after c e l) there stays ∙ ap told_state is)
+        ∙ ap (λ b. differ (told_state own.state) (told_state to) || (is_state 7 (told_state own.state) && b)) (seen-brings c service tei (renews timer k) e a ∙ ap (λ o. option_map_or (renews timer k) o false) control)
 
-    none-due : (place there : ℕ) → place_in l tei ≡ Some place → place_in (after c e l) tei ≡ Some there → next.state ≡ own.state
-        → control_in service tei (frame_by c e l) ≡ None → is_due ≡ false
+    none-due : (place there : ℕ) → place_in l tei ≡ Some place → place_in (after c e l) tei ≡ Some there → new.state ≡ own.state
+        → control_in service tei (frame_by c e) ≡ None → is_due ≡ false
     none-due place there on stays same control =
         due-so place there on stays own.state same None control
         ∙ ap (λ b. b || (is_state 7 (told_state own.state) && false)) (differ-same own.state) ∙ and-false (is_state 7 (told_state own.state))
@@ -159,7 +160,7 @@ module _ (c : Config) (ranged : IsInRange c) (l : Line) (s : IsSound c l) (timed
         ap (λ event. runs timer (links.course t event own).started) offered
         ∙ (offers x).quiet timer own_ran (ap (λ event. runs timer (links.after t event own).running) (sym offered) ∙ runs_later)
         ∙ sym (none-due x.place there.0 x.placed there.1 (ap (λ (y : Link). y.state) (x.is ∙ ap (λ event. links.after t event own) offered) ∙ (offers x).state)
-        (ap (λ e. control_in service tei (frame_by c e l)) is)))
+        (ap (λ e. control_in service tei (frame_by c e)) is)))
       where
         at-own : (timer : LinkTimer) → timer_of service tei timer ≡ timer_at t timer
         at-own T200 = refl

@@ -1,4 +1,4 @@
--- Links take turns: over runs of a card of which a line is only pulled.
+-- Links take turns: over runs of a card of which a line is only called for its next frame.
 use Rattle.std.proofs.Common.{◌≡◌, ℕ, ◌+◌, ◌*◌, ◌/◌, ◌<◌, ◌≤◌, Bool, true, false, cond, List, ◌++◌, length, drop, slice_index, Some, Result, Ok, Err, refl, sym, ap, ◌∙◌, subst, arith}
 use Rattle.std.specs.Prelude.{not}
 use Rattle.lapd_frame.specs.declared.addresses.Address.{Address}

@@ -1,6 +1,6 @@
 -- Links take turns, whatever else happens meanwhile: the law.
 use Rattle.std.proofs.Common.{◌≡◌, ◌≢◌, ℕ, zero, suc, ◌+◌, ◌<◌, ◌≤◌, ◌==◌, ◌⊎◌, ⊎_elim, Bool, true, false, cond, List, [], ◌∷◌, ◌++◌, get_or, map, Option, Some, None, option_map, refl, sym, ap, ◌∙◌, subst, inl, inr, arith, eqb-true, eq-eqb, true≢false}
-use Rattle.std.specs.Prelude.{All, filter, option_to_list, replicate}
+use Rattle.std.specs.Prelude.{All, filter, replicate}
 use Rattle.std.specs.Option.{unwrap_or}
 use Rattle.std.proofs.lemmas.Bool.{and_parts}
 use Rattle.std.proofs.lemmas.Grind.{flat_map-append}
@@ -13,39 +13,36 @@ use Rattle.lapd_frame.specs.Services.{sapi_of}
 use Rattle.lapd_tei.specs.Messages.{information_of}
 use Rattle.model_line.specs.declared.config.Config.{Config}
 use Rattle.model_line.specs.Event as line_event
-use Rattle.model_line.specs.Event.{octet, expiry, request, pull, Answer, refused}
+use Rattle.model_line.specs.Event.{hears, expiry, request, next, Answer, gave}
 use Rattle.model_line.specs.Line.{Line, fresh_line, link_count, service_at, place_at, tei_at}
 use Rattle.model_line.specs.Machine as lines
-use Rattle.model_line.specs.Octet.{gained}
-use Rattle.model_line.specs.Pull.{Taken, begun}
+use Rattle.model_line.specs.Taken.{Taken, taken, next_of}
 use Rattle.model_line.specs.Sound as line
 use Rattle.laws_line.specs.Drains.{way_round}
-use Rattle.laws_line.specs.Pulls.{in_turn, IsSilentAt, IsOfLink, IsOwed, IsIdle, contents_of}
+use Rattle.laws_line.specs.Served.{in_turn, IsSilentAt, IsOfLink, IsOwed, IsIdle, contents_of}
 use Rattle.laws_line.proofs.InRounds.{comes-first}
 use Rattle.laws_line.proofs.Serving.{served, turn-stays}
 use Rattle.model_card.specs.Card.{Card, fresh, line_at, is_full}
 use Rattle.model_card.specs.Event.{Event, at}
 use Rattle.model_card.specs.Machine.{after, answer}
-use Rattle.model_card.specs.Pulled.{frame_taken}
 use Rattle.model_card.specs.Run.{moments, after_all, IsAtLine, AreAtLines}
 use Rattle.model_card.specs.Sound.{IsSound}
 use Rattle.model_card.proofs.CardSound.{after_is_sound, always_sound, fresh_is_sound}
 use Rattle.model_card.proofs.Steps.{has_lines, by_room, line_sound}
-use Rattle.laws_card.specs.Among.{ArePullsAt}
-use Rattle.laws_card.specs.PromisesOfPulls.{StaysAt}
+use Rattle.laws_card.specs.Among.{AreTakesAt}
+use Rattle.laws_card.specs.PromisesOfTakes.{StaysAt}
 use Rattle.laws_card.proofs.Wherever.{all-left, all-right, config-stays}
 use Rattle.laws_trace.specs.Trace as traces
-use Rattle.laws_trace.specs.Trace.{Always, Seen, seen, trace, frames_begun, IsAmong}
+use Rattle.laws_trace.specs.Trace.{frame_in, Always, Seen, seen, trace, frames_begun, IsAmong}
 use Rattle.laws_trace.specs.LinksTakeTurns.{LinkName, named_in, is_of_a_link, links_begun}
 use Rattle.laws_trace.specs.TurnsMeanwhile.{name_of, HasToSend, HasToSendAllTheWhile, LinksTakeTurnsMeanwhile}
-use Rattle.laws_trace.proofs.Octets.{no-frame, no-frame-asked}
-use Rattle.laws_trace.proofs.LinksTakeTurns.{WalksBy, pull-walks-by}
-use Rattle.laws_trace.proofs.PullRuns.{apart, none-after, run-begins}
+use Rattle.laws_trace.proofs.LinksTakeTurns.{WalksBy, next-walks-by}
+use Rattle.laws_trace.proofs.CallRuns.{apart, none-after, run-begins}
 use Rattle.laws_trace.proofs.Runs.{nothing-seen, run-shows}
 use Rattle.laws_trace.proofs.Turns.{link-frame, ui-frame, name-is}
-use Rattle.laws_trace.proofs.Units.{NoneWaits, fresh-none, Passes, rests, joins, steps, pulled-frames, plain-order, first-of}
-use Rattle.laws_trace.proofs.Walking as turns
+use Rattle.laws_trace.proofs.Units.{NoneWaits, fresh-none, Passes, rests, joins, steps, plain-order, first-of, none-told, none-requested, given-frames}
 use Rattle.laws_trace.proofs.Walking.{same-number, later}
+use Rattle.laws_trace.proofs.Walking as turns
 
 some-same : {n k : ℕ} → Some n ≡ Some k → n ≡ k
 some-same both = cc both
@@ -56,13 +53,13 @@ record Speaks (c : Config) (l : Line) (number tei : ℕ) : Type 0 where
   on_line : tei_at (place_at number) l ≡ Some tei
   speaks : IsSilentAt c l number → ⊥
 
-pub pulls-alone : (number n : ℕ) → ArePullsAt number (replicate n (at number pull))
-pulls-alone number zero = All-nil (λ e. e.line ≡ number → e.what ≡ pull)
-pulls-alone number (suc n) = All-cons (λ e. e.line ≡ number → e.what ≡ pull) (at number pull) (replicate n (at number pull)) (λ same. refl) (pulls-alone number n)
+pub calls-alone : (number n : ℕ) → AreTakesAt number (replicate n (at number next))
+calls-alone number zero = All-nil (λ e. e.line ≡ number → e.what ≡ next)
+calls-alone number (suc n) = All-cons (λ e. e.line ≡ number → e.what ≡ next) (at number next) (replicate n (at number next)) (λ same. refl) (calls-alone number n)
 
-pub pulls-there : (card : Card) (number n : ℕ) → number < card.config.lines → AreAtLines card (replicate n (at number pull))
-pulls-there card number zero few = All-nil (IsAtLine card)
-pulls-there card number (suc n) few = All-cons (IsAtLine card) (at number pull) (replicate n (at number pull)) few (pulls-there card number n few)
+pub calls-there : (card : Card) (number n : ℕ) → number < card.config.lines → AreAtLines card (replicate n (at number next))
+calls-there card number zero few = All-nil (IsAtLine card)
+calls-there card number (suc n) few = All-cons (IsAtLine card) (at number next) (replicate n (at number next)) few (calls-there card number n few)
 
 would-speak : (card : Card) (number link tei : ℕ) → IsSound card → number < card.config.lines → NoneWaits card.config (line_at number card) → HasToSend card number link tei
     → Speaks card.config (line_at number card) link tei
@@ -70,14 +67,15 @@ would-speak card number link tei s few plain h = record {
   few = h.few;
   on_line = h.on_line;
   speaks = λ silent.
-      let pulls = replicate h.pulls (at number pull) in
+      let calls = replicate h.calls (at number next) in
       let walk =
-      run-begins WalksBy (λ c l. turns.ends l) (λ c ranged l s plain frames walk. pull-walks-by c ranged l s plain frames walk) card pulls number s (pulls-there card number h.pulls few)
-      (pulls-alone number h.pulls) plain in
-      later card.config (line_at number card) (links_begun card.config (trace number (moments card pulls))) walk link tei h.few h.on_line h.begins.front h.begins.back h.begins.split silent;
+      run-begins WalksBy (λ c l. turns.ends l) (λ c ranged l s plain frames walk. next-walks-by c ranged l s plain frames walk) card calls number s (calls-there card number h.calls few)
+      (calls-alone number h.calls) plain in
+      later card.config (line_at number card) (links_begun card.config (trace number (moments card calls))) walk link tei h.few h.on_line h.begins.front h.begins.back h.begins.split silent;
 }
 
--- A run of a line in which one link keeps its place, and another has something to send, with the links of the frames that begin.
+-- A run of a line in which one link keeps its place, and another has something to send, with the links of the frames
+-- that begin.
 module _ (c : Config) (one tei other its : ℕ) where
   abbrev way : ℕ → ℕ
   way turn = way_round (link_count c) turn other
@@ -93,7 +91,7 @@ module _ (c : Config) (one tei other its : ℕ) where
     behind : List ℕ
     place : in_turn c l ≡ passed ++ number ∷ behind
     all_silent : All (IsSilentAt c l) passed
-    next : m.turn ≡ number + 1
+    turned : m.turn ≡ number + 1
 
   data Walk : Line → List LinkName → Type 0 where
     ends : (l : Line) → Walk l []
@@ -133,7 +131,7 @@ module _ (c : Config) (one tei other its : ℕ) where
       let t : by ≡ its = some-same (sym g.on_line ∙ ap (λ n. tei_at (place_at n) l) (sym equal) ∙ h.there.on_line) in
       record { front = []; back = between; split = ap (λ y. y ∷ between) (sym head ∙ ap (λ n. name_of n by) (sym equal) ∙ ap (name_of other) t) })
       (λ less.
-      let inner = between-is apart m rest walk (nearer (way (number + 1)) (way m.turn) (way l.turn) (way (one + 1)) (ap way g.next) less near) between behind tail in
+      let inner = between-is apart m rest walk (nearer (way (number + 1)) (way m.turn) (way l.turn) (way (one + 1)) (ap way g.turned) less near) between behind tail in
       record { front = x ∷ inner.front; back = inner.back; split = ap (λ ys. x ∷ ys) inner.split })
       (comes l m number by h g)
 
@@ -152,7 +150,7 @@ module _ (c : Config) (one tei other its : ℕ) where
       let is : name_of number by ≡ name_of one tei = cc e in
       let tail : rest ≡ between ++ name_of one tei ∷ behind = cc e in
       let same = same-number c l h.sound number one by tei g.on_line h.here is in
-      between-is apart m rest walk (same-way (way m.turn) (way (one + 1)) (ap way (g.next ∙ ap (λ n. n + 1) same))) between behind tail
+      between-is apart m rest walk (same-way (way m.turn) (way (one + 1)) (ap way (g.turned ∙ ap (λ n. n + 1) same))) between behind tail
 
   -- One event.
   module _ (ranged : line.IsInRange c) (l : Line) (h : Meets l) (plain : NoneWaits c l) where
@@ -170,48 +168,49 @@ module _ (c : Config) (one tei other its : ℕ) where
     a-name frame name names is named walk =
         subst (λ b. Walk l (map named_in (cond b (frame ∷ []) []) ++ names)) (sym is) (subst (λ n. Walk l (n ∷ names)) (sym named) walk)
 
-    abbrev next : Line
-    next = lines.after c pull l
+    abbrev new : Line
+    new = lines.after c next l
 
-    of-link : (frame : List ℕ) (x : IsOfLink c (contents_of l) l next frame) (names : List LinkName) → Walk next names → Walk l (names-in (frame ∷ []) ++ names)
+    of-link : (frame : List ℕ) (x : IsOfLink c (contents_of l) l new frame) (names : List LinkName) → Walk new names → Walk l (names-in (frame ∷ []) ++ names)
     of-link frame x names walk =
         let a : Address = record { sapi = sapi_of (service_at x.number); command = x.command; tei = x.tei } in
-        a-name frame (name_of x.number x.tei) names (ap (is_of_a_link c.side) x.spelled ∙ link-frame c.side a x.control (plain-order c l next frame plain x) (unwrap_or x.information []))
+        a-name frame (name_of x.number x.tei) names (ap (is_of_a_link c.side) x.spelled ∙ link-frame c.side a x.control (plain-order c l new frame plain x) (unwrap_or x.information []))
         (ap named_in x.spelled ∙ name-is c.side a x.control (unwrap_or x.information []))
-        (goes l next x.number x.tei names h (record {
+        (goes l new x.number x.tei names h (record {
           on_line = x.on_line;
           passed = x.its_turn.passed;
           behind = x.its_turn.behind;
           place = x.its_turn.place;
           all_silent = x.its_turn.all_silent;
-          next = ap (λ (l : Line). l.turn) x.line;
+          turned = ap (λ (l : Line). l.turn) x.line;
         }) walk)
 
-    by-pull : (o : Option Taken) → elim o as (λ o. Type 0) [ None ↦ IsIdle c l next | Some t ↦ IsOwed c (contents_of l) l next t.frame ]
-        → (names : List LinkName) → Walk next names → Walk l (names-in (option_to_list (option_map frame_taken o)) ++ names)
-    by-pull None x names walk = still l next names (ap (λ (l : Line). l.turn) x.line) walk
-    by-pull (Some t) (inl x) names walk =
+    by-next : (o : Option Taken) → elim o as (λ o. Type 0) [ None ↦ IsIdle c l new | Some t ↦ IsOwed c (contents_of l) l new t.frame ]
+        → (names : List LinkName) → Walk new names → Walk l (names-in (frame_in (gave (option_map next_of o))) ++ names)
+    by-next None x names walk = still l new names (ap (λ (l : Line). l.turn) x.line) walk
+    by-next (Some t) (inl x) names walk =
         let a : Address = record { sapi = 63; command = true; tei = 127 } in
-        no-name t.frame names (ap (is_of_a_link c.side) x.spelled ∙ ui-frame c.side a (information_of x.message) (omega arith) (omega arith) refl) (still l next names (ap (λ (l : Line). l.turn) x.line) walk)
-    by-pull (Some t) (inr (inl x)) names walk =
+        no-name t.frame names (ap (is_of_a_link c.side) x.spelled ∙ ui-frame c.side a (information_of x.message) (omega arith) (omega arith) refl) (still l new names (ap (λ (l : Line). l.turn) x.line) walk)
+    by-next (Some t) (inr (inl x)) names walk =
         let a : Address = record { sapi = sapi_of x.unit.service; command = true; tei = x.unit.tei } in
         let small = first-of c l.units x.unit x.oldest h.sound.units in
-        no-name t.frame names (ap (is_of_a_link c.side) x.spelled ∙ ui-frame c.side a x.unit.contents (small-sapi x.unit.service) (omega (arith, small)) refl) (still l next names (ap (λ (l : Line). l.turn) x.line) walk)
-    by-pull (Some t) (inr (inr x)) names walk = of-link t.frame x names walk
+        no-name t.frame names (ap (is_of_a_link c.side) x.spelled ∙ ui-frame c.side a x.unit.contents (small-sapi x.unit.service) (omega (arith, small)) refl) (still l new names (ap (λ (l : Line). l.turn) x.line) walk)
+    by-next (Some t) (inr (inr x)) names walk = of-link t.frame x names walk
 
-    none-begins : (e : line_event.Event) (a : Answer) (names : List LinkName) → frames_begun (seen c e l a) ≡ [] → (lines.after c e l).turn ≡ l.turn
-        → Walk (lines.after c e l) names → Walk l (links_begun c (seen c e l a) ++ names)
+    none-begins : (e : line_event.Event) (a : Answer) (names : List LinkName) → frames_begun (seen e a) ≡ [] → (lines.after c e l).turn ≡ l.turn
+        → Walk (lines.after c e l) names → Walk l (links_begun c (seen e a) ++ names)
     none-begins e a names none turn walk = subst (λ fs. Walk l (names-in fs ++ names)) (sym none) (still l (lines.after c e l) names turn walk)
 
-    event-walks : (e : line_event.Event) (names : List LinkName) → Walk (lines.after c e l) names → Walk l (links_begun c (seen c e l (lines.answer c e l)) ++ names)
-    event-walks (octet value) names walk =
-        none-begins (octet value) (lines.answer c (octet value) l) names (no-frame (gained c.n201 l.received value) (lines.answer c (octet value) l)) (turn-stays c (octet value) l) walk
+    event-walks : (e : line_event.Event) (names : List LinkName) → Walk (lines.after c e l) names → Walk l (links_begun c (seen e (lines.answer c e l)) ++ names)
+    unfolding lines.answer
+    event-walks (hears what) names walk =
+        none-begins (hears what) (lines.answer c (hears what) l) names (none-told (lines.answer c (hears what) l)) (turn-stays c (hears what) l) walk
     event-walks (expiry timer) names walk =
-        none-begins (expiry timer) (lines.answer c (expiry timer) l) names (no-frame None (lines.answer c (expiry timer) l)) (turn-stays c (expiry timer) l) walk
+        none-begins (expiry timer) (lines.answer c (expiry timer) l) names (none-told (lines.answer c (expiry timer) l)) (turn-stays c (expiry timer) l) walk
     event-walks (request r) names walk =
-        none-begins (request r) (lines.answer c (request r) l) names (no-frame-asked r (lines.answer c (request r) l)) (turn-stays c (request r) l) walk
-    event-walks pull names walk =
-        subst (λ fs. Walk l (names-in fs ++ names)) (sym (pulled-frames (begun c l) (lines.answer c pull l))) (by-pull (begun c l) (served c l h.sound) names walk)
+        none-begins (request r) (lines.answer c (request r) l) names (none-requested r (lines.answer c (request r) l)) (turn-stays c (request r) l) walk
+    event-walks next names walk =
+        subst (λ fs. Walk l (names-in fs ++ names)) (sym (given-frames (option_map next_of (taken c l)))) (by-next (taken c l) (served c l h.sound) names walk)
 
 names-both : (c : Config) (t u : List Seen) → links_begun c (t ++ u) ≡ links_begun c t ++ links_begun c u
 names-both c t u =
@@ -225,11 +224,11 @@ module _ (number one tei other its : ℕ) where
 
   own-walk : (card : Card) (e : Event) → IsSound card → IsAtLine card e → Meets card.config one tei other its (line_at e.line card) → NoneWaits card.config (line_at e.line card)
       → (names : List LinkName) → WalkOf card (line_at e.line (after e card)) names
-      → WalkOf card (line_at e.line card) (links_begun card.config (seen card.config e.what (line_at e.line card) (answer e card)) ++ names)
+      → WalkOf card (line_at e.line card) (links_begun card.config (seen e.what (answer e card)) ++ names)
   own-walk card e s here h plain =
       let c = card.config in
       let l = line_at e.line card in
-      by_room (λ ls a. (names : List LinkName) → WalkOf card (get_or ls e.line (fresh_line c)) names → WalkOf card l (links_begun c (seen c e.what l a) ++ names)) e card
+      by_room (λ ls a. (names : List LinkName) → WalkOf card (get_or ls e.line (fresh_line c)) names → WalkOf card l (links_begun c (seen e.what a) ++ names)) e card
       (λ full names walk.
       subst (λ t. WalkOf card l (links_begun c t ++ names)) (sym (nothing-seen c e.what l (and_parts (lines.takes_slot c e.what l) (is_full card) full).0)) walk)
       (λ room names walk.
@@ -238,10 +237,10 @@ module _ (number one tei other its : ℕ) where
 
   moment-walk : (card : Card) (e : Event) → IsSound card → IsAtLine card e → Meets card.config one tei other its (line_at number card) → NoneWaits card.config (line_at number card)
       → (b : Bool) → (e.line == number) ≡ b → (names : List LinkName) → WalkOf card (line_at number (after e card)) names
-      → WalkOf card (line_at number card) (links_begun card.config (cond b (seen card.config e.what (line_at number card) (answer e card)) []) ++ names)
+      → WalkOf card (line_at number card) (links_begun card.config (cond b (seen e.what (answer e card)) []) ++ names)
   moment-walk card e s here h plain true same names walk =
       let is = eqb-true e.line number same in
-      subst (λ n. WalkOf card (line_at n (after e card)) names → WalkOf card (line_at n card) (links_begun card.config (seen card.config e.what (line_at n card) (answer e card)) ++ names)) is
+      subst (λ n. WalkOf card (line_at n (after e card)) names → WalkOf card (line_at n card) (links_begun card.config (seen e.what (answer e card)) ++ names)) is
       (own-walk card e s here (subst (λ n. Meets card.config one tei other its (line_at n card)) (sym is) h) (subst (λ n. NoneWaits card.config (line_at n card)) (sym is) plain) names) walk
   moment-walk card e s here h plain false away names walk =
       subst (λ (x : Line). WalkOf card x names) (apart card e number (λ same. true≢false (sym (eq-eqb e.line number (sym same)) ∙ away))) walk
@@ -253,7 +252,7 @@ module _ (number one tei other its : ℕ) where
   walks card [] s few all stays speaks plain = ends (line_at number card)
   walks card (e ∷ events) s few all stays speaks plain =
       let here = All-head (IsAtLine card) e events all in
-      let first = cond (e.line == number) (seen card.config e.what (line_at number card) (answer e card)) [] in
+      let first = cond (e.line == number) (seen e.what (answer e card)) [] in
       let rest = trace number (moments (after e card) events) in
       let meets : Meets card.config one tei other its (line_at number card) = record { sound = line_sound card number (has_lines card s) few; here = stays.0; there = would-speak card number other its s few plain speaks.0 } in
       subst (WalkOf card (line_at number card)) (sym (names-both card.config first rest))

@@ -1,10 +1,9 @@
 -- Unit data goes out in the order in which it was granted, over runs.
 use Rattle.std.proofs.Common.{◌≡◌, ℕ, ◌<◌, ◌≤◌, ◌==◌, ◌&&◌, Bool, true, false, cond, List, [], ◌∷◌, ◌++◌, drop, map, slice_get, Option, Some, None, option_map, refl, sym, ap, ◌∙◌, subst, inl, inr, append_assoc, append-nil}
-use Rattle.std.specs.Prelude.{All, not, filter, option_to_list}
+use Rattle.std.specs.Prelude.{All, not, filter}
 use Rattle.std.proofs.lemmas.Grind.{flat_map-append}
 use Rattle.std.proofs.lemmas.List.{get_or-replicate, map-append}
 use Rattle.std.proofs.lemmas.List.Elements.{All-nil, All-head, filter-append}
-use Rattle.model_bits.specs.Stream as stream
 use Rattle.lapd_frame.specs.declared.controls.Control.TheVariants.{Ui}
 use Rattle.lapd_frame.specs.Services.{sapi_of}
 use Rattle.lapd_tei.specs.Messages.{information_of}
@@ -12,25 +11,24 @@ use Rattle.laws_link.specs.InOrder.{IsInOrder}
 use Rattle.model_link.specs.Link.{Link, fresh}
 use Rattle.model_link.specs.declared.frames.ControlFrame.{ControlFrame}
 use Rattle.model_line.specs.declared.config.Config.{Config}
-use Rattle.model_line.specs.Event.{Event, octet, expiry, request, pull, Answer, told, refused, pulled}
+use Rattle.model_line.specs.Event.{Event, hears, expiry, request, next, NextFrame, Answer, told, refused, gave}
 use Rattle.model_line.specs.Line.{Line, UnitData, link_count, link_at, service_at, terms, fresh_line}
 use Rattle.model_line.specs.Machine.{after, answer}
-use Rattle.model_line.specs.Octet.{gained, management_sapi}
-use Rattle.model_line.specs.Pull.{Taken, begun, unit_frame}
+use Rattle.model_line.specs.Heard.{management_sapi}
+use Rattle.model_line.specs.Taken.{Taken, taken, unit_frame, next_of}
 use Rattle.model_line.specs.Request as asked
 use Rattle.model_line.specs.Request.{Request}
 use Rattle.model_line.specs.Sound.{IsInRange, IsUnitData, IsSound}
-use Rattle.laws_line.specs.Pulls.{IsOfLink, IsOwed, IsIdle, contents_of, units_asked, unit_asked}
+use Rattle.laws_line.specs.Served.{IsOfLink, IsOwed, IsIdle, contents_of, units_asked, unit_asked}
 use Rattle.laws_link.proofs.Follows.{event-follows}
 use Rattle.laws_line.proofs.Happening.{event-happens}
 use Rattle.laws_line.proofs.Serving.{served, units-wait}
-use Rattle.model_card.specs.Pulled.{frame_taken, octet_in}
 use Rattle.laws_trace.specs.Trace as traces
-use Rattle.laws_trace.specs.Trace.{Seen, heard, put, seen_told, seen_granted, seen, frames_begun}
-use Rattle.laws_trace.specs.Units as units
+use Rattle.laws_trace.specs.Trace.{frame_in, Seen, seen_told, seen_granted, seen, frames_begun}
 use Rattle.laws_trace.specs.Units.{is_ui, is_unit, units_begun, units_granted}
 use Rattle.laws_trace.proofs.NoUi.{IsPlain, all-left}
 use Rattle.laws_trace.proofs.Reading.{other-frame, unit-is}
+use Rattle.laws_trace.specs.Units as units
 
 -- No UI waits on any link of a line.
 abbrev pub NoneWaits : Config → Line → Type 0
@@ -71,27 +69,21 @@ joins c k l m t u h i =
     ∙ append_assoc (frames c k) (units_granted c t) (units_granted c u)
     ∙ ap (λ x. frames c k ++ x) (sym (flat_map-append (units.unit_granted c) t u))
 
--- Events but pulls begin nothing, and what is granted waits.
-none-heard : (o : Option stream.Event) (a : Answer) → frames_begun (map heard (option_to_list o) ++ seen_told a) ≡ []
-none-heard None (told t) = refl
-none-heard None (refused why) = refl
-none-heard None (pulled value is_begun orders) = refl
-none-heard (Some e) (told t) = refl
-none-heard (Some e) (refused why) = refl
-none-heard (Some e) (pulled value is_begun orders) = refl
+-- Events but calls begin nothing, and what is granted waits.
+pub none-told : (a : Answer) → frames_begun (seen_told a) ≡ []
+none-told (told t) = refl
+none-told (refused why) = refl
+none-told (gave given) = refl
 
-none-asked : (c : Config) (o : Option stream.Event) (a : Answer) → units_granted c (map heard (option_to_list o) ++ seen_told a) ≡ []
-none-asked c None (told t) = refl
-none-asked c None (refused why) = refl
-none-asked c None (pulled value is_begun orders) = refl
-none-asked c (Some e) (told t) = refl
-none-asked c (Some e) (refused why) = refl
-none-asked c (Some e) (pulled value is_begun orders) = refl
+none-asked : (c : Config) (a : Answer) → units_granted c (seen_told a) ≡ []
+none-asked c (told t) = refl
+none-asked c (refused why) = refl
+none-asked c (gave given) = refl
 
-none-requested : (r : Request) (a : Answer) → frames_begun (seen_granted r a ++ seen_told a) ≡ []
+pub none-requested : (r : Request) (a : Answer) → frames_begun (seen_granted r a ++ seen_told a) ≡ []
 none-requested r (told t) = refl
 none-requested r (refused why) = refl
-none-requested r (pulled value is_begun orders) = refl
+none-requested r (gave given) = refl
 
 of-request : (c : Config) (r : Request) → map (unit_frame c) (unit_asked r) ≡ units.unit_asked c r
 of-request c (asked.Establish service tei) = refl
@@ -107,28 +99,20 @@ of-request c (asked.ClearBusy service tei) = refl
 asked-is : (c : Config) (r : Request) (a : Answer) → map (unit_frame c) (units_asked (request r) a) ≡ units_granted c (seen_granted r a ++ seen_told a)
 asked-is c r (told t) = of-request c r ∙ sym (append-nil (units.unit_asked c r))
 asked-is c r (refused why) = refl
-asked-is c r (pulled value is_begun orders) = refl
+asked-is c r (gave given) = refl
 
 -- the units after, where nothing begins
 waits : (c : Config) (before after : Line) (t : List Seen) → frames_begun t ≡ [] → frames c after ≡ frames c before ++ units_granted c t → Passes c before t after
 waits c before after t none h = ap (λ fs. filter (is_unit c.side) fs ++ frames c after) none ∙ h
 
--- A pull begins the oldest unit data, or a frame that is none.
-pub pulled-frames : (o : Option Taken) (a : Answer) → frames_begun (map traces.begun (option_to_list (option_map frame_taken o)) ++ map put (octet_in a)) ≡ option_to_list (option_map frame_taken o)
-pulled-frames None (told t) = refl
-pulled-frames None (refused why) = refl
-pulled-frames None (pulled value is_begun orders) = refl
-pulled-frames (Some t) (told u) = refl
-pulled-frames (Some t) (refused why) = refl
-pulled-frames (Some t) (pulled value is_begun orders) = refl
+-- A call begins the oldest unit data, or a frame that is none.
+pub given-frames : (o : Option NextFrame) → frames_begun (map traces.begun (frame_in (gave o))) ≡ frame_in (gave o)
+given-frames None = refl
+given-frames (Some f) = refl
 
-pulled-none : (c : Config) (o : Option Taken) (a : Answer) → units_granted c (map traces.begun (option_to_list (option_map frame_taken o)) ++ map put (octet_in a)) ≡ []
-pulled-none c None (told t) = refl
-pulled-none c None (refused why) = refl
-pulled-none c None (pulled value is_begun orders) = refl
-pulled-none c (Some t) (told u) = refl
-pulled-none c (Some t) (refused why) = refl
-pulled-none c (Some t) (pulled value is_begun orders) = refl
+given-none : (c : Config) (o : Option NextFrame) → units_granted c (map traces.begun (frame_in (gave o))) ≡ []
+given-none c None = refl
+given-none c (Some f) = refl
 
 kept-of : (c : Config) (frame : List ℕ) (b : Bool) → is_unit c.side frame ≡ b → filter (is_unit c.side) (frame ∷ []) ≡ cond b (frame ∷ []) []
 kept-of c frame b is = ap (λ b. cond b (frame ∷ []) []) is
@@ -143,55 +127,58 @@ first-of c [] u is h = absurd (cc)
 first-of c (v ∷ us) u is h = let same : v ≡ u = cc in subst (λ (x : UnitData). x.tei ≤ 127) same (All-head (IsUnitData c) v us h).tei
 
 -- a frame of a link is none
-pub plain-order : (c : Config) (l next : Line) (frame : List ℕ) → NoneWaits c l → (x : IsOfLink c (contents_of l) l next frame) → is_ui x.control ≡ false
-plain-order c l next frame h x = by-order x.in_order
+pub plain-order : (c : Config) (l new : Line) (frame : List ℕ) → NoneWaits c l → (x : IsOfLink c (contents_of l) l new frame) → is_ui x.control ≡ false
+plain-order c l new frame h x = by-order x.in_order
   where
-    by-order : IsInOrder (terms c (service_at x.number) x.tei) (link_at x.number l) (link_at x.number next) (record { command = x.command; control = x.control }) → is_ui x.control ≡ false
-    by-order (inl oldest) = All-head IsPlain (record { command = x.command; control = x.control }) (link_at x.number next).waiting (subst (All IsPlain) oldest.waited (h x.number x.few))
+    by-order : IsInOrder (terms c (service_at x.number) x.tei) (link_at x.number l) (link_at x.number new) (record { command = x.command; control = x.control }) → is_ui x.control ≡ false
+    by-order (inl oldest) = All-head IsPlain (record { command = x.command; control = x.control }) (link_at x.number new).waiting (subst (All IsPlain) oldest.waited (h x.number x.few))
     by-order (inr (inl information)) = ap (λ (f : ControlFrame). is_ui f.control) information.is
     by-order (inr (inr acknowledgement)) = ap (λ (f : ControlFrame). is_ui f.control) acknowledgement.is
 
-of-link : (c : Config) (l next : Line) (frame : List ℕ) → NoneWaits c l → IsOfLink c (contents_of l) l next frame → is_unit c.side frame ≡ false
-of-link c l next frame h x =
+of-link : (c : Config) (l new : Line) (frame : List ℕ) → NoneWaits c l → IsOfLink c (contents_of l) l new frame → is_unit c.side frame ≡ false
+of-link c l new frame h x =
     ap (is_unit c.side) x.spelled
-    ∙ other-frame c.side (record { sapi = sapi_of (service_at x.number); command = x.command; tei = x.tei }) x.control (ap (λ b. b && not (sapi_of (service_at x.number) == management_sapi)) (plain-order c l next frame h x)) _
+    ∙ other-frame c.side (record { sapi = sapi_of (service_at x.number); command = x.command; tei = x.tei }) x.control (ap (λ b. b && not (sapi_of (service_at x.number) == management_sapi)) (plain-order c l new frame h x)) _
 
-pull-passes : (c : Config) (l next : Line) → IsSound c l → NoneWaits c l → (o : Option Taken)
-    → elim o as (λ o. Type 0) [ None ↦ IsIdle c l next | Some t ↦ IsOwed c (contents_of l) l next t.frame ]
-    → filter (is_unit c.side) (option_to_list (option_map frame_taken o)) ++ frames c next ≡ frames c l
-pull-passes c l next s h None x = ap (λ (l : Line). map (unit_frame c) l.units) x.line
-pull-passes c l next s h (Some t) (inl x) =
-    ap (λ fs. fs ++ frames c next) (kept-of c t.frame false (ap (is_unit c.side) x.spelled ∙ other-frame c.side (record { sapi = 63; command = true; tei = 127 }) (Ui false) refl (information_of x.message)))
+next-passes : (c : Config) (l new : Line) → IsSound c l → NoneWaits c l → (o : Option Taken)
+    → elim o as (λ o. Type 0) [ None ↦ IsIdle c l new | Some t ↦ IsOwed c (contents_of l) l new t.frame ]
+    → filter (is_unit c.side) (frame_in (gave (option_map next_of o))) ++ frames c new ≡ frames c l
+next-passes c l new s h None x = ap (λ (l : Line). map (unit_frame c) l.units) x.line
+next-passes c l new s h (Some t) (inl x) =
+    ap (λ fs. fs ++ frames c new) (kept-of c t.frame false (ap (is_unit c.side) x.spelled ∙ other-frame c.side (record { sapi = 63; command = true; tei = 127 }) (Ui false) refl (information_of x.message)))
     ∙ ap (λ (l : Line). map (unit_frame c) l.units) x.line
-pull-passes c l next s h (Some t) (inr (inl x)) =
-    ap (λ fs. fs ++ frames c next) (kept-of c t.frame true (ap (is_unit c.side) x.spelled ∙ unit-is c x.unit (first-of c l.units x.unit x.oldest s.units)))
+next-passes c l new s h (Some t) (inr (inl x)) =
+    ap (λ fs. fs ++ frames c new) (kept-of c t.frame true (ap (is_unit c.side) x.spelled ∙ unit-is c x.unit (first-of c l.units x.unit x.oldest s.units)))
     ∙ ap (λ (l : Line). t.frame ∷ map (unit_frame c) l.units) x.line
     ∙ ap (λ f. f ∷ map (unit_frame c) (drop 1 l.units)) x.spelled
     ∙ first-goes c l.units x.unit x.oldest
-pull-passes c l next s h (Some t) (inr (inr x)) =
-    ap (λ fs. fs ++ frames c next) (kept-of c t.frame false (of-link c l next t.frame h x)) ∙ ap (λ (l : Line). map (unit_frame c) l.units) x.line
+next-passes c l new s h (Some t) (inr (inr x)) =
+    ap (λ fs. fs ++ frames c new) (kept-of c t.frame false (of-link c l new t.frame h x)) ∙ ap (λ (l : Line). map (unit_frame c) l.units) x.line
 
-event-passes : (c : Config) (e : Event) (l : Line) → IsSound c l → NoneWaits c l → Passes c l (seen c e l (answer c e l)) (after c e l)
-event-passes c (octet value) l s h =
-    let o = gained c.n201 l.received value in
-    let a = answer c (octet value) l in
-    waits c l (after c (octet value) l) (seen c (octet value) l a) (none-heard o a)
-    (ap (map (unit_frame c)) (units-wait c (octet value) l) ∙ sym (append-nil (frames c l)) ∙ ap (λ x. frames c l ++ x) (sym (none-asked c o a)))
+next-passes-on : (c : Config) (l : Line) → IsSound c l → NoneWaits c l → Passes c l (seen next (answer c next l)) (after c next l)
+unfolding answer
+next-passes-on c l s h =
+    let o = option_map next_of (taken c l) in
+    let new = after c next l in
+    ap (λ fs. filter (is_unit c.side) fs ++ frames c new) (given-frames o)
+    ∙ next-passes c l new s h (taken c l) (served c l s)
+    ∙ sym (append-nil (frames c l)) ∙ ap (λ x. frames c l ++ x) (sym (given-none c o))
+
+event-passes : (c : Config) (e : Event) (l : Line) → IsSound c l → NoneWaits c l → Passes c l (seen e (answer c e l)) (after c e l)
+event-passes c (hears what) l s h =
+    let a = answer c (hears what) l in
+    waits c l (after c (hears what) l) (seen (hears what) a) (none-told a)
+    (ap (map (unit_frame c)) (units-wait c (hears what) l) ∙ sym (append-nil (frames c l)) ∙ ap (λ x. frames c l ++ x) (sym (none-asked c a)))
 event-passes c (expiry timer) l s h =
     let a = answer c (expiry timer) l in
-    waits c l (after c (expiry timer) l) (seen c (expiry timer) l a) (none-heard None a)
-    (ap (map (unit_frame c)) (units-wait c (expiry timer) l) ∙ sym (append-nil (frames c l)) ∙ ap (λ x. frames c l ++ x) (sym (none-asked c None a)))
+    waits c l (after c (expiry timer) l) (seen (expiry timer) a) (none-told a)
+    (ap (map (unit_frame c)) (units-wait c (expiry timer) l) ∙ sym (append-nil (frames c l)) ∙ ap (λ x. frames c l ++ x) (sym (none-asked c a)))
 event-passes c (request r) l s h =
     let a = answer c (request r) l in
-    waits c l (after c (request r) l) (seen c (request r) l a) (none-requested r a)
+    waits c l (after c (request r) l) (seen (request r) a) (none-requested r a)
     (ap (map (unit_frame c)) (units-wait c (request r) l) ∙ map-append (unit_frame c) l.units (units_asked (request r) a) ∙ ap (λ x. frames c l ++ x) (asked-is c r a))
-event-passes c pull l s h =
-    let a = answer c pull l in
-    let next = after c pull l in
-    ap (λ fs. filter (is_unit c.side) fs ++ frames c next) (pulled-frames (begun c l) a)
-    ∙ pull-passes c l next s h (begun c l) (served c l s)
-    ∙ sym (append-nil (frames c l)) ∙ ap (λ x. frames c l ++ x) (sym (pulled-none c (begun c l) a))
+event-passes c next l s h = next-passes-on c l s h
 
 pub steps : (c : Config) → IsInRange c → (e : Event) (l : Line) → IsSound c l → NoneWaits c l
-    → Passes c l (seen c e l (answer c e l)) (after c e l) × NoneWaits c (after c e l)
+    → Passes c l (seen e (answer c e l)) (after c e l) × NoneWaits c (after c e l)
 steps c ranged e l s h = (event-passes c e l s h, event-none c e l s h)

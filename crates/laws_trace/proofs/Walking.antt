@@ -1,4 +1,4 @@
--- How the turn goes round the links of a line that is only pulled.
+-- How the turn goes round the links of a line that is only called for its next frame.
 use Rattle.std.proofs.Common.{◌≡◌, ◌≢◌, ℕ, ◌+◌, ◌/◌, ◌%◌, ◌<◌, ◌≤◌, ◌==◌, ⊎_elim, Bool, true, false, cond, List, [], ◌∷◌, ◌++◌, Option, Some, None, refl, sym, ap, ◌∙◌, subst, arith, eqb-true, append_assoc}
 use Rattle.std.specs.Prelude.{All, get_or}
 use Rattle.std.proofs.lemmas.Bool.{eqb-false}
@@ -8,7 +8,7 @@ use Rattle.model_line.specs.declared.config.Config.{Config}
 use Rattle.model_line.specs.Line.{Line, link_count, service_at, place_at, tei_at}
 use Rattle.model_line.specs.Sound.{IsSound}
 use Rattle.laws_line.specs.Drains.{way_round}
-use Rattle.laws_line.specs.Pulls.{in_turn, IsSilentAt}
+use Rattle.laws_line.specs.Served.{in_turn, IsSilentAt}
 use Rattle.laws_line.proofs.InRounds.{comes-first}
 use Rattle.laws_trace.specs.LinksTakeTurns.{LinkName, TakeTurns}
 use Rattle.laws_trace.specs.Trace.{IsAmong}
@@ -17,7 +17,7 @@ abbrev pub named : ℕ → ℕ → LinkName
 named number tei = record { sapi = sapi_of (service_at number); tei = tei }
 
 module _ (c : Config) where
-  -- What pulls keep of a line: where its TEIs are, and that a link has nothing to send.
+  -- What calls keep of a line: where its TEIs are, and that a link has nothing to send.
   pub record Stays (l m : Line) : Type 0 where
     pub places : m.management.places ≡ l.management.places
     pub stays_silent : (number : ℕ) → number < link_count c → IsSilentAt c l number → IsSilentAt c m number
@@ -33,7 +33,7 @@ module _ (c : Config) where
     pub next : m.turn ≡ number + 1
     pub speaks : IsSilentAt c l number → ⊥
 
-  -- A line that is only pulled, and the links of the frames that begin.
+  -- A line that is only called for its next frame, and the links of the frames that begin.
   pub data Walk : Line → List LinkName → Type 0 where
     ends : (l : Line) → Walk l []
     still : (l m : Line) (names : List LinkName) → Stays l m → m.turn ≡ l.turn → Walk m names → Walk l names

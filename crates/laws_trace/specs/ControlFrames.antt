@@ -1,5 +1,5 @@
 -- The control frames of a link that go are those that are due.
-use Rattle.std.specs.Prelude.{◌≡◌, ◌≤◌, ℕ, ◌-◌, ◌==◌, ◌&&◌, ◌||◌, not, Bool, true, false, List, [], ◌∷◌, ◌++◌, length, take, fold, flat_map, Option, Result, Ok, Err, if◌then◌else◌}
+use Rattle.std.specs.Prelude.{◌≡◌, ◌≤◌, ℕ, ◌-◌, ◌==◌, ◌&&◌, ◌||◌, not, Bool, true, false, List, [], ◌∷◌, ◌++◌, length, take, fold, flat_map, Option, Result, Ok, Err, nat_lt, if◌then◌else◌}
 use Rattle.std.specs.Option.{option_map_or}
 use Rattle.model_bits.specs.Stream as stream
 use Rattle.lapd_seq.specs.Numbers.{seq}
@@ -13,18 +13,17 @@ use Rattle.lapd_frame.specs.Services.{sapi_of}
 use Rattle.model_link.specs.declared.frames.ControlFrame.{ControlFrame}
 use Rattle.model_line.specs.declared.config.Config.{Config}
 use Rattle.model_line.specs.Line.{has_tei}
-use Rattle.model_line.specs.Octet.{heard_side}
+use Rattle.model_line.specs.Heard.{heard_side}
 use Rattle.laws_link.specs.Waiting.{as_response, as_command}
-use Rattle.laws_line.specs.Drains.{most_pulls}
+use Rattle.laws_line.specs.Drains.{most_frames}
 use Rattle.laws_line.specs.Frames.{lost_in}
 use Rattle.model_card.specs.Card.{Card, fresh, line_at}
 use Rattle.model_card.specs.Event.{Event}
 use Rattle.model_card.specs.Machine.{after}
 use Rattle.model_card.specs.Run.{Moment, moments, after_all}
-use Rattle.laws_card.specs.Among.{ArePullsAt, pulls_at}
+use Rattle.laws_card.specs.Among.{AreTakesAt, takes_at}
 use Rattle.laws_trace.specs.Deliveries.{Standing, at_first, stand}
-use Rattle.laws_trace.specs.LinksMove.{expired_of, one_more}
-use Rattle.laws_trace.specs.TimersAreTimely.{is_state, state_before, state_after, differ}
+use Rattle.laws_trace.specs.States.{expired_of, one_more, is_state, state_before, state_after, differ}
 use Rattle.laws_trace.specs.Trace.{is_up, Seen, heard, begun, granted, seen_in, trace, trace_of}
 
 -- What a frame of the link of a service with a TEI shows.
@@ -59,24 +58,30 @@ abbrev pub while_up : ℕ → List ControlFrame → List ControlFrame
 while_up state frames = if is_up state then frames else []
 
 -- What answers a frame, as the link stands before and behind it, by its state before, whose number `Card::state` tells.
-abbrev pub answer_to : Standing → Standing → ℕ → Bool → Control → List ControlFrame
+-- An I-frame whose information is longer than N201 octets has no answer (clause 5.8.5).
+abbrev pub answer_to : Standing → Standing → ℕ → Bool → Bool → Control → List ControlFrame
 -- clauses 5.5.1.2, 5.5.5 and 5.7
-answer_to was now state command (Sabme p) = as_response (if state == 6 then Dm p else Ua p)
+answer_to was now state command too_long (Sabme p) = as_response (if state == 6 then Dm p else Ua p)
 -- clauses 5.5.3.2, 5.5.4 and 5.5.5
-answer_to was now state command (Disc p) = as_response (if state == 4 || state == 5 then Dm p else Ua p)
+answer_to was now state command too_long (Disc p) = as_response (if state == 4 || state == 5 then Dm p else Ua p)
 -- clauses 5.6.2 to 5.6.5, 5.6.7 and 5.8.1
-answer_to was now state command (Information ns nr p) = while_up state (to_information p was now)
-answer_to was now state command (ReceiveReady nr p) = while_up state (polled now (command && p))
-answer_to was now state command (ReceiveNotReady nr p) = while_up state (polled now (command && p))
-answer_to was now state command (Reject nr p) = while_up state (polled now (command && p))
-answer_to was now state command other = []
+answer_to was now state command too_long (Information ns nr p) = if too_long then [] else while_up state (to_information p was now)
+answer_to was now state command too_long (ReceiveReady nr p) = while_up state (polled now (command && p))
+answer_to was now state command too_long (ReceiveNotReady nr p) = while_up state (polled now (command && p))
+answer_to was now state command too_long (Reject nr p) = while_up state (polled now (command && p))
+answer_to was now state command too_long other = []
 
 -- Layer 3 comes to be busy in states 7 and 8, which RNR says, or is so no more, and RR says it (clause 5.6.6).
 abbrev pub changed : Standing → Standing → List ControlFrame
 changed was now = if (if was.busy then not now.busy else now.busy) then as_response (receipt now false) else []
 
+abbrev pub answers_to_frame : Config → Service → ℕ → Standing → Standing → ℕ → Result Parts ReadFault → List ControlFrame
+answers_to_frame c service tei was now state (Ok frame) =
+    of_link service tei (λ command. answer_to was now state command (nat_lt c.n201 (length frame.info))) (Ok frame)
+answers_to_frame c service tei was now state (Err fault) = []
+
 abbrev pub answers_at : Config → Service → ℕ → Standing → Standing → ℕ → Seen → List ControlFrame
-answers_at c service tei was now state (heard (stream.frame octets)) = of_link service tei (answer_to was now state) (reading (heard_side c) octets)
+answers_at c service tei was now state (heard (stream.frame octets)) = answers_to_frame c service tei was now state (reading (heard_side c) octets)
 answers_at c service tei was now state (granted r) = while_up state (changed was now)
 answers_at c service tei was now state other = []
 
@@ -148,14 +153,14 @@ unfoldable pub StaysOn : ℕ → ℕ → Card → List Event → Type 0
 StaysOn number tei card [] = has_tei tei (line_at number card) ≡ true
 StaysOn number tei card (e ∷ events) = (has_tei tei (line_at number card) ≡ true) × StaysOn number tei (after e card) events
 
--- While it stays, after whatever happened before, each that is due goes: it has begun once the line was only pulled, as
--- often as the configuration says, in their order.
+-- While it stays, after whatever happened before, each that is due goes: it has begun once the line was only called for its
+-- next frame, as often as the configuration says, in their order.
 abbrev pub AllDueGo : Config → List Event → ℕ → Type 0
 AllDueGo c events number =
-    (service : Service) (tei : ℕ) (before meanwhile pulls : List Event) → events ≡ before ++ (meanwhile ++ pulls) →
-    ArePullsAt number pulls → most_pulls c ≤ pulls_at number pulls →
+    (service : Service) (tei : ℕ) (before meanwhile calls : List Event) → events ≡ before ++ (meanwhile ++ calls) →
+    AreTakesAt number calls → most_frames c ≤ takes_at number calls →
     let card = after_all (fresh c) before in
     let w = fold (stand c service tei) at_first (trace_of c before number) in
     StaysOn number tei card meanwhile →
     IsPart (along c service tei number (due_in c service tei number) w (moments card meanwhile))
-    (flat_map (controls_at c service tei) (trace number (moments card (meanwhile ++ pulls))))
+    (flat_map (controls_at c service tei) (trace number (moments card (meanwhile ++ calls))))

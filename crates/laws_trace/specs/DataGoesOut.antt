@@ -1,20 +1,17 @@
 -- Data goes out.
-use Rattle.std.specs.Prelude.{◌≡◌, ◌⊎◌, ◌≤◌, ◌==◌, ◌&&◌, ℕ, ◌+◌, ◌%◌, Bool, false, List, [], ◌∷◌, ◌++◌, length, drop, slice_get, Option, Some, None, IfSome, Result, Ok, Err, if◌then◌else◌}
+use Rattle.std.specs.Prelude.{◌≡◌, ◌⊎◌, ◌≤◌, ◌==◌, ◌&&◌, ℕ, ◌+◌, ◌%◌, Bool, false, List, [], ◌∷◌, ◌++◌, length, drop, slice_get, Option, Some, None, IfSome, if◌then◌else◌}
 use Rattle.std.specs.List.{list_any}
-use Rattle.lapd_frame.specs.declared.controls.Control.{Control}
-use Rattle.lapd_frame.specs.declared.controls.Control.TheVariants.{Information}
-use Rattle.lapd_frame.specs.declared.faults.ReadFault.{ReadFault}
 use Rattle.lapd_frame.specs.declared.notes.Note.{Note}
 use Rattle.lapd_frame.specs.declared.notes.Note.TheVariants.{EstablishIndication}
 use Rattle.lapd_frame.specs.declared.services.Service.{Service}
-use Rattle.lapd_frame.specs.Grammar.{Parts}
 use Rattle.lapd_frame.specs.Reading.{reading}
 use Rattle.lapd_frame.specs.Services.{same_service}
 use Rattle.model_line.specs.declared.config.Config.{Config}
 use Rattle.model_line.specs.Request as asked
 use Rattle.model_line.specs.Request.{Request}
 use Rattle.model_card.specs.Event.{Event}
-use Rattle.laws_trace.specs.Deliveries.{Watched, nothing_yet, is_for, begins, watch}
+use Rattle.laws_trace.specs.Deliveries.{Watched, nothing_yet, begins, watch}
+use Rattle.laws_trace.specs.LinkFrames.{Sent, sent_in}
 use Rattle.laws_trace.specs.Trace.{is_own, Seen, begun, noted, granted, trace_of}
 
 -- Whoever watches the link of a service with a TEI keeps in mind what was told of it, the contents that have numbers 0,
@@ -26,20 +23,6 @@ pub record Going : Type 0 where
 
 abbrev pub none_yet : Going
 none_yet = record { told = nothing_yet; contents = []; gone = 0 }
-
--- An I-frame of the link that begins.
-pub record Sent : Type 0 where
-  pub ns : ℕ
-  pub nr : ℕ
-  pub contents : List ℕ
-
-abbrev pub sent_by : Control → List ℕ → Option Sent
-sent_by (Information ns nr p) info = Some (record { ns = ns.value; nr = nr.value; contents = info })
-sent_by other info = None
-
-abbrev pub sent_in : Service → ℕ → Result Parts ReadFault → Option Sent
-sent_in service tei (Ok frame) = if is_for service tei frame.address then sent_by frame.control frame.info else None
-sent_in service tei (Err fault) = None
 
 -- Its contents are those with a number, which N(S) is modulo 128: the next that has not gone, or again one of the last
 -- 127. N(R) is the number of contents told of the link since its numbers began (Q.921 clauses 3.5.2.1 to 3.5.2.6, 5.6.1

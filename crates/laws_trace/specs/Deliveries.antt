@@ -1,27 +1,25 @@
 -- What layer 3 is told of what is heard.
-use Rattle.std.specs.Prelude.{◌≡◌, ◌≤◌, ℕ, ◌+◌, ◌%◌, ◌==◌, ◌&&◌, ◌||◌, not, Bool, true, false, List, [], ◌∷◌, ◌++◌, length, fold, option_to_list, count_by, Option, Some, None, Result, Ok, Err, if◌then◌else◌}
+use Rattle.std.specs.Prelude.{◌≡◌, ◌≤◌, ℕ, ◌+◌, ◌%◌, ◌&&◌, ◌||◌, not, Bool, true, false, List, [], ◌∷◌, ◌++◌, length, fold, option_to_list, count_by, Option, Some, None, Ok, if◌then◌else◌}
 use Rattle.std.specs.List.{list_any}
 use Rattle.std.specs.Option.{option_map_or}
 use Rattle.model_bits.specs.Stream as stream
-use Rattle.lapd_frame.specs.declared.addresses.Address.{Address}
 use Rattle.lapd_frame.specs.declared.controls.Control.{Control}
 use Rattle.lapd_frame.specs.declared.controls.Control.TheVariants.{Information, Sabme, Ua}
-use Rattle.lapd_frame.specs.declared.faults.ReadFault.{ReadFault}
 use Rattle.lapd_frame.specs.declared.notes.ErrorCode.TheVariants.{C}
 use Rattle.lapd_frame.specs.declared.notes.Note.{Note}
 use Rattle.lapd_frame.specs.declared.notes.Note.TheVariants.{Error, ReleaseConfirm}
 use Rattle.lapd_frame.specs.declared.services.Service.{Service}
 use Rattle.lapd_frame.specs.Grammar.{Parts}
 use Rattle.lapd_frame.specs.Reading.{reading}
-use Rattle.lapd_frame.specs.Services.{sapi_of}
 use Rattle.model_line.specs.declared.config.Config.{Config}
 use Rattle.model_line.specs.Line.{state_of}
-use Rattle.model_line.specs.Octet.{heard_side}
+use Rattle.model_line.specs.Heard.{heard_side}
 use Rattle.model_line.specs.Request.{Request, SetBusy, ClearBusy}
 use Rattle.model_card.specs.Card.{fresh, line_at}
 use Rattle.model_card.specs.Event.{Event}
 use Rattle.model_card.specs.Run.{moments, after_all}
 use Rattle.laws_line.specs.Heard.{is_data_of, is_unit_of, tells_contents}
+use Rattle.laws_trace.specs.LinkFrames.{frame_of, is_for}
 use Rattle.laws_trace.specs.Trace.{is_own, Seen, heard, noted, granted, trace, trace_of, IsAmong, is_up}
 use Rattle.laws_trace.specs.Units.{is_ui}
 
@@ -33,17 +31,6 @@ pub record Watched : Type 0 where
 
 abbrev pub nothing_yet : Watched
 nothing_yet = record { frame = None; count = 0 }
-
-abbrev pub parts_of : Result Parts ReadFault → Option Parts
-parts_of (Ok parts) = Some parts
-parts_of (Err fault) = None
-
-abbrev pub frame_of : Config → stream.Event → Option Parts
-frame_of c (stream.frame octets) = parts_of (reading (heard_side c) octets)
-frame_of c other = None
-
-abbrev pub is_for : Service → ℕ → Address → Bool
-is_for service tei address = address.sapi == sapi_of service && address.tei == tei
 
 -- The numbers begin with SABME that is told, and with UA with F=1 unless it is told as error C, or as the end of the link
 -- (Q.921 clauses 5.5.1.2, 5.5.3.2, 5.7 and 5.8.7).

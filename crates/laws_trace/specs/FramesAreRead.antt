@@ -1,5 +1,6 @@
 -- What begins on a line are frames.
 use Rattle.std.specs.Prelude.{◌≡◌, ℕ, ◌==◌, ◌||◌, Bool, true, List, [], All, is_some}
+use Rattle.model_bits.specs.Stream as stream
 use Rattle.model_bits.specs.StuffingLaws.{AreOctets}
 use Rattle.lapd_frame.specs.Grammar.{Parts, Spells}
 use Rattle.lapd_frame.specs.Services.{service_of}
@@ -7,8 +8,7 @@ use Rattle.model_line.specs.declared.config.Config.{Config}
 use Rattle.model_line.specs.Request as asked
 use Rattle.model_line.specs.Request.{Request}
 use Rattle.model_card.specs.Event.{Event}
-use Rattle.laws_trace.specs.Trace.{Seen, granted, trace_of, frames_begun, octets_put}
-use Rattle.laws_trace.specs.FramesGoOut.{GoOut}
+use Rattle.laws_trace.specs.Trace.{Seen, heard, granted, trace_of, frames_begun}
 
 -- Each is one that the grammar has, as that of the card's side, of a service or of TEI management (Q.921 clauses 2, 3
 -- and 3.3.3).
@@ -21,23 +21,23 @@ IsSpelled c octets = (parts : Parts) × Spells c.side parts octets × (is_of_use
 abbrev pub FramesAreRead : Config → List Event → ℕ → Type 0
 FramesAreRead c events number = All (IsSpelled c) (frames_begun (trace_of c events number))
 
--- The contents that are granted are octets, each 0 to 255.
+-- The contents that are granted, and the frames that are heard, are octets, each 0 to 255.
 abbrev pub contents_given : Request → List ℕ
 contents_given (asked.Data service tei contents) = contents
 contents_given (asked.Unit service tei contents) = contents
 contents_given other = []
 
+abbrev pub HasOctets : stream.Event → Type 0
+HasOctets (stream.frame octets) = AreOctets octets
+HasOctets other = Unit {0}
+
 abbrev pub GivesOctets : Seen → Type 0
 GivesOctets (granted r) = AreOctets (contents_given r)
+GivesOctets (heard e) = HasOctets e
 GivesOctets other = Unit {0}
 
--- Then so are those of the frames that begin, whoever sent what they answer; and a receiver hears them as they are.
+-- Then so are those of the frames that begin.
 abbrev pub FramesAreOctets : Config → List Event → ℕ → Type 0
 FramesAreOctets c events number =
     let t = trace_of c events number in
     All GivesOctets t → All AreOctets (frames_begun t)
-
-abbrev pub FramesGoOutAsTheyAre : Config → List Event → ℕ → Type 0
-FramesGoOutAsTheyAre c events number =
-    let t = trace_of c events number in
-    All GivesOctets t → GoOut c.n201 (octets_put t) (frames_begun t)

@@ -1,145 +1,18 @@
--- Which state a link moves to.
-use Rattle.std.specs.Prelude.{◌≡◌, ℕ, ◌+◌, ◌-◌, ◌%◌, ◌==◌, ◌&&◌, ◌||◌, not, nat_lt, Bool, false, List, ◌∷◌, ◌++◌, length, fold, Option, Some, None, IfSome, Result, Ok, Err, if◌then◌else◌}
-use Rattle.std.specs.Option.{option_map_or}
-use Rattle.model_bits.specs.Stream as stream
-use Rattle.lapd_frame.specs.declared.controls.Control.{Control}
-use Rattle.lapd_frame.specs.declared.controls.Control.TheVariants.{Information, ReceiveReady, ReceiveNotReady, Reject, Sabme, Disc, Ua, Dm, Frmr}
-use Rattle.lapd_frame.specs.declared.faults.ReadFault.{ReadFault}
-use Rattle.lapd_frame.specs.declared.faults.ReadFault.TheVariants.{Undefined, WrongSize}
-use Rattle.lapd_frame.specs.declared.overlong.Long.{Long}
-use Rattle.lapd_frame.specs.declared.overlong.Long.TheVariants as long
+-- Links move as the procedures lead them.
+use Rattle.std.specs.Prelude.{◌≡◌, ℕ, List, Some, None, if◌then◌else◌}
 use Rattle.lapd_frame.specs.declared.services.Service.{Service}
-use Rattle.lapd_frame.specs.declared.timers.Timer.TheVariants as timers
-use Rattle.lapd_frame.specs.Grammar.{Parts}
-use Rattle.lapd_frame.specs.Reading.{reading, long_reading}
-use Rattle.lapd_seq.specs.declared.numbers.Seq.{Seq}
-use Rattle.model_link.specs.declared.timers.LinkTimer.{LinkTimer}
-use Rattle.model_link.specs.declared.timers.LinkTimer.TheVariants.{T200, T203}
 use Rattle.model_line.specs.declared.config.Config.{Config}
-use Rattle.model_line.specs.Event as line_event
-use Rattle.model_line.specs.Event.{expiry}
-use Rattle.model_line.specs.Octet.{heard_side}
-use Rattle.model_line.specs.Request.{Request, Establish, Release}
-use Rattle.model_card.specs.Card.{fresh}
-use Rattle.model_card.specs.Event.{Event, at}
-use Rattle.model_card.specs.Machine.{answer}
-use Rattle.model_card.specs.Run.{Moment, moments, after_all}
-use Rattle.laws_trace.specs.Deliveries.{is_for, frame_of}
-use Rattle.laws_trace.specs.TimersAreTimely.{Known, nothing_yet, watch, state_before, state_after, awaits, differ}
-use Rattle.laws_trace.specs.Trace.{is_own, is_up, Seen, heard, granted, seen_in}
+use Rattle.model_line.specs.Line.{state_of}
+use Rattle.model_card.specs.Card.{fresh, line_at}
+use Rattle.model_card.specs.Event.{Event}
+use Rattle.model_card.specs.Run.{after_all}
+use Rattle.laws_trace.specs.Managing.{is_on}
+use Rattle.laws_trace.specs.Observer.{view_of}
 
--- An N(R) is invalid where it is none of V(A) to V(S), counted upwards from V(A) (clauses 3.5.2.3 and 5.8.2).
-abbrev pub steps : ℕ → ℕ → ℕ
-steps from to = (128 + to - from) % 128
-
-abbrev pub is_invalid : Known → Seq → Bool
-is_invalid k nr = nat_lt (steps k.acknowledged k.next) (steps k.acknowledged nr.value)
-
--- RR, RNR and REJ lead to a new establishment by an invalid N(R), and else, as a response with F=1, to the end of a
--- recovery (clauses 5.6.7 and 5.8.2).
-abbrev pub by_receipt : Known → ℕ → Bool → Seq → ℕ
-by_receipt k state final nr = if is_up state && is_invalid k nr then 5 else if state == 8 && final then 7 else state
-
--- The state that a frame leads to from this one. The first bit says that it is a command, the second that its
--- information is longer than N201.
-abbrev pub by_frame : Known → ℕ → Bool → Bool → Control → ℕ
--- clauses 5.5.1.2, 5.5.5 and 5.7
-by_frame k state command too_long (Sabme p) = if state == 4 || is_up state then 7 else state
--- clauses 5.5.3.2, 5.5.4 and 5.5.5
-by_frame k state command too_long (Disc p) = if is_up state then 4 else state
--- clauses 5.5.1.2, 5.5.3.2 and 5.8.7
-by_frame k state command too_long (Ua f) = if f && state == 5 then 7 else if f && state == 6 then 4 else state
--- clauses 5.5.1.2, 5.5.3.2, 5.7.1 and 5.8.7
-by_frame k state command too_long (Dm f) =
-    if f && (state == 5 || state == 6) then 4 else if state == 8 || (state == 7 && not f) then 5 else state
--- clause 5.8.6
-by_frame k state command too_long (Frmr f) = if is_up state then 5 else state
--- clauses 5.8.2 and 5.8.5
-by_frame k state command too_long (Information ns nr p) = if is_up state && (too_long || is_invalid k nr) then 5 else state
--- clauses 5.6.3 to 5.6.5 and 5.6.7
-by_frame k state command too_long (ReceiveReady nr f) = by_receipt k state (not command && f) nr
-by_frame k state command too_long (ReceiveNotReady nr f) = by_receipt k state (not command && f) nr
-by_frame k state command too_long (Reject nr f) = by_receipt k state (not command && f) nr
--- clause 5.2.3, and XID (profile)
-by_frame k state command too_long other = state
-
--- In states 7 and 8 a frame that the grammar does not have, one of wrong size, and an I-frame that was too long to
--- keep, leads to a new establishment (clause 5.8.5).
-abbrev pub fault_is_for : Service → ℕ → ReadFault → Bool
-fault_is_for service tei (Undefined address) = is_for service tei address
-fault_is_for service tei (WrongSize address) = is_for service tei address
-fault_is_for service tei other = false
-
-abbrev pub is_faulty : Service → ℕ → Result Parts ReadFault → Bool
-is_faulty service tei (Ok frame) = false
-is_faulty service tei (Err fault) = fault_is_for service tei fault
-
-abbrev pub is_faulty_long : Service → ℕ → Result Long ReadFault → Bool
-is_faulty_long service tei (Ok (long.Information address)) = is_for service tei address
-is_faulty_long service tei (Ok (long.Unnumbered address)) = false
-is_faulty_long service tei (Err fault) = fault_is_for service tei fault
-
-abbrev pub is_malformed : Config → Service → ℕ → stream.Event → Bool
-is_malformed c service tei (stream.frame octets) = is_faulty service tei (reading (heard_side c) octets)
-is_malformed c service tei (stream.overlong head) = is_faulty_long service tei (long_reading (heard_side c) head)
-is_malformed c service tei (stream.dropped cause) = false
-
-abbrev pub by_parts : Config → Service → ℕ → Known → ℕ → Option Parts → ℕ
-by_parts c service tei k state None = state
-by_parts c service tei k state (Some f) =
-    if is_for service tei f.address then by_frame k state f.address.command (nat_lt c.n201 (length f.info)) f.control else state
-
--- Layer 3 asks for the establishment of a link that is down, or for the release of one that is up (clauses 5.5.1.1 and
--- 5.5.3.2).
-abbrev pub by_request : Service → ℕ → ℕ → Request → ℕ
-by_request service tei state (Establish of by) = if is_own service tei of by && state == 4 then 5 else state
-by_request service tei state (Release of by) = if is_own service tei of by && is_up state then 6 else state
-by_request service tei state other = state
-
-abbrev pub by_seen : Config → Service → ℕ → Known → ℕ → Seen → ℕ
-by_seen c service tei k state (heard e) =
-    if is_up state && is_malformed c service tei e then 5 else by_parts c service tei k state (frame_of c e)
-by_seen c service tei k state (granted r) = by_request service tei state r
-by_seen c service tei k state other = state
-
--- In state 7 the expiry of the timer that runs leads to an enquiry, in state 8 (clauses 5.6.7 and 5.10.3). In states 5,
--- 6 and 8 T200 leads to another state where SABME, DISC or the enquiry was repeated N200 times: n says how often
--- (clauses 5.5.1.3, 5.5.3.3, 5.6.7 and 5.9.2).
-abbrev pub by_expiry : ℕ → Known → ℕ → ℕ → LinkTimer → ℕ
-by_expiry n200 k n state T200 =
-    if state == 7 then (if awaits k (Some 7) then 8 else 7) else if nat_lt n n200 then state else if state == 8 then 5 else 4
-by_expiry n200 k n state T203 = if state == 7 && not (awaits k (Some 7)) then 8 else state
-
-abbrev pub expired_of : Service → ℕ → line_event.Event → Option LinkTimer
-expired_of service tei (expiry (timers.T200 of by)) = if is_own service tei of by then Some T200 else None
-expired_of service tei (expiry (timers.T203 of by)) = if is_own service tei of by then Some T203 else None
-expired_of service tei other = None
-
--- How often T200 of a link has expired since the link came to its state.
-abbrev pub one_more : LinkTimer → ℕ
-one_more T200 = 1
-one_more T203 = 0
-
-abbrev pub repeated : Service → ℕ → ℕ → ℕ → Moment → ℕ
-repeated service tei number n m =
-    if not (m.event.line == number) then n
-    else if differ (state_before service tei number m) (state_after service tei number m) then 0
-    else n + option_map_or one_more (expired_of service tei m.event.what) 0
-
--- The state that an event leads to, with what is seen of it.
-abbrev pub led : Config → Service → ℕ → Known → ℕ → line_event.Event → List Seen → ℕ → ℕ
-led c service tei k n what now state =
-    fold (by_seen c service tei k) (option_map_or (by_expiry c.n200 k n state) (expired_of service tei what) state) now
-
--- After an event at the line a link whose TEI is on it is in that state; or in state 4, where its TEI was not on it
--- before (clause 5.3).
+-- After every list of events `Card::state` tells the state of a link where the observer has it, and none where its TEI is
+-- not on the line.
 abbrev pub LinksMove : Config → List Event → ℕ → Type 0
 LinksMove c events number =
-    (service : Service) (tei : ℕ) (before : List Event) (what : line_event.Event) (behind : List Event) →
-    events ≡ before ++ at number what ∷ behind →
-    let card = after_all (fresh c) before in
-    let m : Moment = record { card = card; event = at number what; answer = answer (at number what) card } in
-    let k = fold (watch c service tei number) nothing_yet (moments (fresh c) before) in
-    let n = fold (repeated service tei number) 0 (moments (fresh c) before) in
-    IfSome (state_after service tei number m)
-    (λ state. state ≡ option_map_or (led c service tei k n what (seen_in number m)) (state_before service tei number m) 4)
+    (service : Service) (tei : ℕ) →
+    let v = view_of c service tei number events in
+    state_of service tei (line_at number (after_all (fresh c) events)) ≡ (if is_on tei v.teis then Some v.link.state else None)

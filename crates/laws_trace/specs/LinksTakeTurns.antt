@@ -8,7 +8,7 @@ use Rattle.model_line.specs.declared.config.Config.{Config}
 use Rattle.model_card.specs.Card.{fresh}
 use Rattle.model_card.specs.Event.{Event}
 use Rattle.model_card.specs.Run.{moments, after_all}
-use Rattle.laws_card.specs.Among.{ArePullsAt}
+use Rattle.laws_card.specs.Among.{AreTakesAt}
 use Rattle.laws_trace.specs.Trace.{Seen, trace, frames_begun, IsAmong}
 use Rattle.laws_trace.specs.Units.{is_ui}
 
@@ -37,8 +37,8 @@ TakeTurns links =
     (one other : LinkName) (before between middle behind : List LinkName) → one ≢ other →
     links ≡ before ++ one ∷ (between ++ one ∷ (middle ++ other ∷ behind)) → IsAmong other between
 
--- So it is while a line is only pulled, after whatever happened to it (profile).
+-- So it is while a line is only called for its next frame, after whatever happened to it (profile).
 abbrev pub LinksTakeTurns : Config → List Event → ℕ → Type 0
 LinksTakeTurns c events number =
-    (before pulls : List Event) → events ≡ before ++ pulls → ArePullsAt number pulls →
-    TakeTurns (links_begun c (trace number (moments (after_all (fresh c) before) pulls)))
+    (before calls : List Event) → events ≡ before ++ calls → AreTakesAt number calls →
+    TakeTurns (links_begun c (trace number (moments (after_all (fresh c) before) calls)))

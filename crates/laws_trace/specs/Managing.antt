@@ -14,7 +14,7 @@ use Rattle.lapd_tei.specs.declared.messages.Message.TheVariants.{IdentityAssigne
 use Rattle.model_line.specs.Event as line_event
 use Rattle.model_line.specs.Event.{expiry}
 use Rattle.model_line.specs.declared.config.Config.{Config}
-use Rattle.model_line.specs.Octet.{management_sapi, group_tei, heard_side}
+use Rattle.model_line.specs.Heard.{management_sapi, group_tei, heard_side}
 use Rattle.model_line.specs.Request.{Request, Assign, Remove, Check}
 use Rattle.model_line.specs.Sides.{has_management}
 use Rattle.laws_trace.specs.Trace.{Seen, heard, noted, granted}

@@ -6,13 +6,13 @@ use Rattle.lapd_frame.specs.Reading.{reading}
 use Rattle.lapd_tei.specs.declared.messages.Message.{Message}
 use Rattle.lapd_tei.specs.Messages.{frame_of}
 use Rattle.model_line.specs.declared.config.Config.{Config}
-use Rattle.model_line.specs.Octet.{management_sapi}
-use Rattle.laws_line.specs.Drains.{most_pulls}
+use Rattle.model_line.specs.Heard.{management_sapi}
+use Rattle.laws_line.specs.Drains.{most_frames}
 use Rattle.laws_line.specs.Frames.{lost_in}
 use Rattle.model_card.specs.Card.{fresh}
 use Rattle.model_card.specs.Event.{Event}
 use Rattle.model_card.specs.Run.{Moment, moments}
-use Rattle.laws_card.specs.Among.{ArePullsAt, pulls_at}
+use Rattle.laws_card.specs.Among.{AreTakesAt, takes_at}
 use Rattle.laws_trace.specs.Managing.{Managed, none_on, manage, expired_with, owed_again, owed_through}
 use Rattle.laws_trace.specs.Trace.{Seen, seen_in, trace_of, frames_begun, IsFront}
 
@@ -51,8 +51,8 @@ all_owed c events number = map (frame_of c.side) (owed c number none_on (moments
 abbrev pub MessagesAreOwed : Config → List Event → ℕ → Type 0
 MessagesAreOwed c events number = IsFront (messages_begun c (trace_of c events number)) (all_owed c events number)
 
--- and they are all of them, once the line was only pulled, as often as the configuration says.
+-- and they are all of them, once the line was only called for its next frame, as often as the configuration says.
 abbrev pub AllMessagesGoOut : Config → List Event → ℕ → Type 0
 AllMessagesGoOut c events number =
-    (before pulls : List Event) → events ≡ before ++ pulls → ArePullsAt number pulls → most_pulls c ≤ pulls_at number pulls →
+    (before calls : List Event) → events ≡ before ++ calls → AreTakesAt number calls → most_frames c ≤ takes_at number calls →
     messages_begun c (trace_of c events number) ≡ all_owed c events number

@@ -5,7 +5,7 @@ use Rattle.model_line.specs.declared.config.Config.{Config}
 use Rattle.model_card.specs.Card.{fresh}
 use Rattle.model_card.specs.Event.{Event}
 use Rattle.model_card.specs.Run.{moments, after_all}
-use Rattle.laws_card.specs.Among.{ArePullsAt}
+use Rattle.laws_card.specs.Among.{AreTakesAt}
 use Rattle.laws_trace.specs.Trace.{trace, frames_begun}
 use Rattle.laws_trace.specs.LinksTakeTurns.{is_of_a_link}
 use Rattle.laws_trace.specs.Units.{is_unit}
@@ -19,8 +19,8 @@ abbrev pub AreByRank : Side → List (List ℕ) → Type 0
 AreByRank side frames =
     (one other : List ℕ) (before between behind : List (List ℕ)) → frames ≡ before ++ one ∷ (between ++ other ∷ behind) → rank side one ≤ rank side other
 
--- So it is while a line is only pulled, after whatever happened to it (profile).
+-- So it is while a line is only called for its next frame, after whatever happened to it (profile).
 abbrev pub MessagesComeFirst : Config → List Event → ℕ → Type 0
 MessagesComeFirst c events number =
-    (before pulls : List Event) → events ≡ before ++ pulls → ArePullsAt number pulls →
-    AreByRank c.side (frames_begun (trace number (moments (after_all (fresh c) before) pulls)))
+    (before calls : List Event) → events ≡ before ++ calls → AreTakesAt number calls →
+    AreByRank c.side (frames_begun (trace number (moments (after_all (fresh c) before) calls)))

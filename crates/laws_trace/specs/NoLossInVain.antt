@@ -2,7 +2,7 @@
 use Rattle.std.specs.Prelude.{◌≡◌, ◌⊎◌, ◌≤◌, ◌<◌, ◌+◌, ℕ, List, [], ◌∷◌, ◌++◌, length, flat_map, replicate}
 use Rattle.lapd_frame.specs.declared.services.Service.{Service}
 use Rattle.model_line.specs.declared.config.Config.{Config}
-use Rattle.model_line.specs.Event.{pull}
+use Rattle.model_line.specs.Event.{next}
 use Rattle.model_line.specs.Line.{Line, link_of}
 use Rattle.model_card.specs.Card.{Card, fresh, line_at}
 use Rattle.model_card.specs.Event.{Event, at}
@@ -12,13 +12,13 @@ use Rattle.laws_trace.specs.ControlFrames.{controls_at}
 use Rattle.laws_trace.specs.MessagesAreOwed.{messages_begun, all_owed}
 use Rattle.laws_trace.specs.Trace.{lost, trace, trace_of, IsAmong}
 
--- As many control frames of one link as the configuration says would begin, were the line only pulled from there on
--- (profile).
+-- As many control frames of one link as the configuration says would begin, were the line only called for its next
+-- frame from there on (profile).
 pub record IsCrowded (card : Card) (number : ℕ) : Type 0 where
   pub service : Service
   pub tei : ℕ
-  pub pulls : ℕ
-  pub as_many : card.config.control ≤ length (flat_map (controls_at card.config service tei) (trace number (moments card (replicate pulls (at number pull)))))
+  pub calls : ℕ
+  pub as_many : card.config.control ≤ length (flat_map (controls_at card.config service tei) (trace number (moments card (replicate calls (at number next)))))
 
 -- After these events there is no room for a message of TEI management: of those that are owed all but four have begun
 -- (profile); or none for a control frame of one link.

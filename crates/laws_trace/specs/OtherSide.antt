@@ -4,7 +4,7 @@ use Rattle.lapd_frame.specs.declared.addresses.Side.TheVariants.{Network, User}
 use Rattle.lapd_frame.specs.Grammar.{Parts}
 use Rattle.lapd_frame.specs.Reading.{reading}
 use Rattle.model_line.specs.declared.config.Config.{Config}
-use Rattle.model_line.specs.Octet.{heard_side}
+use Rattle.model_line.specs.Heard.{heard_side}
 
 -- The C/R bit of a frame: the second lowest bit of its first octet (Q.921 clause 3.3.2).
 abbrev pub bit_in : List ℕ → ℕ

@@ -1,129 +1,50 @@
 -- When the timers of links run, and when they are started.
-use Rattle.std.specs.Prelude.{◌≡◌, ℕ, ◌+◌, ◌%◌, ◌==◌, ◌&&◌, ◌||◌, not, Bool, true, false, List, ◌∷◌, ◌++◌, fold, Option, Some, None, is_some, if◌then◌else◌}
-use Rattle.std.specs.List.{list_any}
-use Rattle.std.specs.Option.{option_map_or}
+use Rattle.std.specs.Prelude.{◌≡◌, ℕ, ◌==◌, ◌&&◌, ◌||◌, not, Bool, true, false, List, ◌∷◌, ◌++◌}
 use Rattle.lapd_frame.specs.declared.controls.Control.{Control}
 use Rattle.lapd_frame.specs.declared.controls.Control.TheVariants.{Information, ReceiveReady, ReceiveNotReady, Reject, Sabme}
 use Rattle.lapd_frame.specs.declared.services.Service.{Service}
 use Rattle.lapd_frame.specs.declared.timers.Timer.TheVariants as timers
-use Rattle.lapd_frame.specs.Grammar.{Parts}
-use Rattle.lapd_frame.specs.Reading.{reading}
 use Rattle.model_link.specs.declared.timers.LinkTimer.{LinkTimer}
 use Rattle.model_link.specs.declared.timers.LinkTimer.TheVariants.{T200, T203}
 use Rattle.laws_link.specs.Timed.{obeyed}
 use Rattle.model_line.specs.declared.config.Config.{Config}
 use Rattle.model_line.specs.Event as line_event
 use Rattle.model_line.specs.Laws.{orders_in}
-use Rattle.model_line.specs.Line.{state_of}
 use Rattle.laws_line.specs.Steady.{timer_of}
 use Rattle.laws_line.specs.Timers.{left_by}
-use Rattle.model_card.specs.Card.{fresh, line_at}
+use Rattle.model_card.specs.Card.{fresh}
 use Rattle.model_card.specs.Event.{Event, at}
-use Rattle.model_card.specs.Machine.{after, answer}
-use Rattle.model_card.specs.Run.{Moment, moments, after_all}
+use Rattle.model_card.specs.Run.{moments}
 use Rattle.laws_card.specs.Timers.{runs_at_callers}
-use Rattle.laws_trace.specs.DataGoesOut.{Sent, sent_in}
-use Rattle.laws_trace.specs.Deliveries.{is_for, frame_of}
-use Rattle.laws_trace.specs.Trace.{Seen, heard, begun, seen_in}
-
--- Whoever watches a link while it is in state 7 or 8 keeps in mind the N(R) that was heard of it last, to which V(A) is
--- set; the N(S) of the I-frame that goes next, V(S); and whether the terminal said last that it is busy (Q.921 clauses
--- 3.5.2.2, 3.5.2.3 and 5.6.5).
-pub record Known : Type 0 where
-  pub acknowledged : ℕ
-  pub next : ℕ
-  pub busy : Bool
-
-abbrev pub nothing_yet : Known
-nothing_yet = record { acknowledged = 0; next = 0; busy = false }
-
-abbrev pub number_heard : ℕ → Bool → Bool → Known → Known
-number_heard nr again busy k = record { acknowledged = nr; next = if again then nr else k.next; busy = busy }
-
--- By what is heard: with SABME all begins anew; RR, RNR and REJ say whether the terminal is busy. I-frames go again
--- from N(R) on after REJ that leaves the link in state 7, and after the frame that takes it there from state 8 (clauses
--- 5.5.1.2, 5.6.3 to 5.6.5 and 5.6.7).
-abbrev pub hears : Bool → Bool → Known → Control → Known
-hears recovered in_7 k (Sabme p) = nothing_yet
-hears recovered in_7 k (Information ns nr p) = number_heard nr.value false k.busy k
-hears recovered in_7 k (ReceiveReady nr p) = number_heard nr.value recovered false k
-hears recovered in_7 k (ReceiveNotReady nr p) = number_heard nr.value recovered true k
-hears recovered in_7 k (Reject nr p) = number_heard nr.value in_7 false k
-hears recovered in_7 k other = k
-
--- And by the I-frames that begin.
-abbrev pub sends : Known → Sent → Known
-sends k sent = record k { next = (sent.ns + 1) % 128 }
-
-abbrev pub control_in : Service → ℕ → Option Parts → Option Control
-control_in service tei None = None
-control_in service tei (Some f) = if is_for service tei f.address then Some f.control else None
-
-abbrev pub learns : Config → Service → ℕ → Bool → Bool → Known → Seen → Known
-learns c service tei recovered in_7 k (heard e) = option_map_or (hears recovered in_7 k) (control_in service tei (frame_of c e)) k
-learns c service tei recovered in_7 k (begun octets) = option_map_or (sends k) (sent_in service tei (reading c.side octets)) k
-learns c service tei recovered in_7 k other = k
-
--- In a moment, before and after which the link has these states, as `Card::state` tells them.
-abbrev pub is_state : ℕ → Option ℕ → Bool
-is_state n None = false
-is_state n (Some state) = state == n
-
-abbrev pub learned : Config → Service → ℕ → Option ℕ → Option ℕ → Known → List Seen → Known
-learned c service tei before after k now =
-    let in_7 = is_state 7 after in
-    if in_7 || is_state 8 after then fold (learns c service tei (is_state 8 before && in_7) in_7) k now else nothing_yet
-
-abbrev pub state_before : Service → ℕ → ℕ → Moment → Option ℕ
-state_before service tei number m = state_of service tei (line_at number m.card)
-
-abbrev pub state_after : Service → ℕ → ℕ → Moment → Option ℕ
-state_after service tei number m = state_of service tei (line_at number (after m.event m.card))
-
-abbrev pub watch : Config → Service → ℕ → ℕ → Known → Moment → Known
-watch c service tei number k m = learned c service tei (state_before service tei number m) (state_after service tei number m) k (seen_in number m)
-
--- An answer is awaited of a link in states 5, 6 and 8, and in state 7 where an I-frame is outstanding, which went, is not
--- acknowledged and is not to go again, or the terminal is busy (clauses 5.5.1.3, 5.5.3.3, 5.6.1, 5.6.5 and 5.6.7).
-abbrev pub awaits : Known → Option ℕ → Bool
-awaits k None = false
-awaits k (Some state) = state == 5 || state == 6 || state == 8 || (state == 7 && (k.busy || not (k.next == k.acknowledged)))
+use Rattle.laws_trace.specs.News.{brings}
+use Rattle.laws_trace.specs.Observer.{Observed, awaits, view_of, moment_of, view_behind}
 
 -- At a caller's that obeys the orders T200 of a link runs where an answer is awaited, and T203 where none is, in state
--- 7 (clauses 5.9.1, 5.9.8 and 5.10.3); after every list of events.
+-- 7 (Q.921 clauses 5.9.1, 5.9.8 and 5.10.3); after every list of events.
 abbrev pub TimersRun : Config → List Event → ℕ → Type 0
 TimersRun c events number =
     (service : Service) (tei : ℕ) →
     let ms = moments (fresh c) events in
-    let state = state_of service tei (line_at number (after_all (fresh c) events)) in
-    let k = fold (watch c service tei number) nothing_yet ms in
-    (runs_at_callers number (timers.T200 service tei) false ms ≡ awaits k state)
-    × (runs_at_callers number (timers.T203 service tei) false ms ≡ (is_state 7 state && not (awaits k state)))
+    let o = (view_of c service tei number events).link in
+    (runs_at_callers number (timers.T200 service tei) false ms ≡ awaits o)
+    × (runs_at_callers number (timers.T203 service tei) false ms ≡ (o.state == 7 && not (awaits o)))
 
 -- In state 7 T200 is started anew by RNR, and by RR, or I while the terminal is not busy, with an N(R) that
 -- acknowledges an I-frame: it is not the N(R) heard last; and T203 by RR, REJ, I and SABME (clauses 5.5.1.2, 5.6.3.2,
 -- 5.6.4, 5.6.5 and 5.9.8).
-abbrev pub renews : LinkTimer → Known → Control → Bool
-renews T200 k (ReceiveNotReady nr p) = true
-renews T200 k (ReceiveReady nr p) = not (nr.value == k.acknowledged)
-renews T200 k (Information ns nr p) = not k.busy && not (nr.value == k.acknowledged)
-renews T203 k (ReceiveReady nr p) = true
-renews T203 k (Reject nr p) = true
-renews T203 k (Information ns nr p) = true
-renews T203 k (Sabme p) = true
-renews timer k other = false
-
-abbrev pub brings : (Control → Bool) → Config → Service → ℕ → Seen → Bool
-brings is c service tei (heard e) = option_map_or is (control_in service tei (frame_of c e)) false
-brings is c service tei other = false
+abbrev pub renews : LinkTimer → ℕ → Bool → Control → Bool
+renews T200 last busy (ReceiveNotReady nr p) = true
+renews T200 last busy (ReceiveReady nr p) = not (nr.value == last)
+renews T200 last busy (Information ns nr p) = not busy && not (nr.value == last)
+renews T203 last busy (ReceiveReady nr p) = true
+renews T203 last busy (Reject nr p) = true
+renews T203 last busy (Information ns nr p) = true
+renews T203 last busy (Sabme p) = true
+renews timer last busy other = false
 
 -- And each timer where the link moves to another state: to await another answer.
-abbrev pub differ : Option ℕ → Option ℕ → Bool
-differ None after = is_some after
-differ (Some state) after = not (is_state state after)
-
-abbrev pub is_anew : Config → Service → ℕ → LinkTimer → Known → Option ℕ → Option ℕ → List Seen → Bool
-is_anew c service tei timer k before after now = differ before after || (is_state 7 before && list_any (brings (renews timer k) c service tei) now)
+abbrev pub is_anew : Config → Service → ℕ → LinkTimer → Observed → Observed → line_event.Event → Bool
+is_anew c service tei timer was now what = not (was.state == now.state) || (was.state == 7 && brings (renews timer was.acknowledged was.busy) c service tei what)
 
 -- So the answer to an event at the line orders that a timer of a link is started exactly where the timer runs
 -- afterwards, and either did not run, or had just expired, or is started anew by one of these causes.
@@ -131,11 +52,8 @@ abbrev pub TimersAreStarted : Config → List Event → ℕ → Type 0
 TimersAreStarted c events number =
     (service : Service) (tei : ℕ) (timer : LinkTimer) (before : List Event) (what : line_event.Event) (behind : List Event) →
     events ≡ before ++ at number what ∷ behind →
-    let ms = moments (fresh c) before in
-    let card = after_all (fresh c) before in
-    let m : Moment = record { card = card; event = at number what; answer = answer (at number what) card } in
-    let k = fold (watch c service tei number) nothing_yet ms in
     let its = timer_of service tei timer in
-    let ran = left_by what its (runs_at_callers number its false ms) in
-    let anew = is_anew c service tei timer k (state_before service tei number m) (state_after service tei number m) (seen_in number m) in
-    obeyed its false (orders_in m.answer) ≡ (obeyed its ran (orders_in m.answer) && (not ran || anew))
+    let orders = orders_in (moment_of c before number what).answer in
+    let ran = left_by what its (runs_at_callers number its false (moments (fresh c) before)) in
+    let anew = is_anew c service tei timer (view_of c service tei number before).link (view_behind c service tei number before what).link what in
+    obeyed its false orders ≡ (obeyed its ran orders && (not ran || anew))

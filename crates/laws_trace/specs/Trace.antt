@@ -1,27 +1,22 @@
 -- What an observer of one line of a card sees, in order of time.
-use Rattle.std.specs.Prelude.{◌≡◌, ℕ, ◌==◌, ◌<◌, ◌&&◌, Bool, List, [], ◌∷◌, ◌++◌, map, flat_map, Option, option_to_list, if◌then◌else◌, nat_le}
+use Rattle.std.specs.Prelude.{◌≡◌, ℕ, ◌==◌, ◌<◌, ◌&&◌, Bool, List, [], ◌∷◌, ◌++◌, map, flat_map, Option, option_map, option_to_list, if◌then◌else◌, nat_le}
 use Rattle.model_bits.specs.Stream as stream
 use Rattle.lapd_frame.specs.declared.notes.Note.{Note}
 use Rattle.lapd_frame.specs.declared.services.Service.{Service}
 use Rattle.lapd_frame.specs.Services.{same_service}
 use Rattle.model_line.specs.declared.config.Config.{Config}
-use Rattle.model_line.specs.Event.{Event, octet, expiry, request, pull, Answer, told}
-use Rattle.model_line.specs.Line.{Line}
-use Rattle.model_line.specs.Octet.{gained}
+use Rattle.model_line.specs.Event.{Event, hears, expiry, request, next, NextFrame, Answer, told, gave}
 use Rattle.model_line.specs.Request.{Request}
 use Rattle.model_line.specs.Sound.{IsInRange}
-use Rattle.model_card.specs.Card.{fresh, line_at}
+use Rattle.model_card.specs.Card.{fresh}
 use Rattle.model_card.specs.Event as card
-use Rattle.model_card.specs.Pulled.{frame_in, octet_in}
 use Rattle.model_card.specs.Run.{Moment, moments, AreAtLines}
 
--- The octets that come (those that the line keeps as received: `received` of `Promises` says that they are those that came)
--- are heard as a frame, or as none; a frame begins, of these octets, and an octet is put on the
--- line; layer 3 and management are told notes, with contents; a request is granted; and frames are told as lost.
+-- A frame is heard, or what is dropped in place of one; a frame begins, of these octets; layer 3 and management are told
+-- notes, with contents; a request is granted; and frames are told as lost.
 pub data Seen : Type 0 where
   heard : stream.Event → Seen
   begun : List ℕ → Seen
-  put : ℕ → Seen
   noted : List Note → Option (List ℕ) → Seen
   granted : Request → Seen
   lost : ℕ → Seen
@@ -35,13 +30,21 @@ abbrev pub seen_granted : Request → Answer → List Seen
 seen_granted r (told t) = granted r ∷ []
 seen_granted r other = []
 
--- What an event of a line and its answer show: an octet, what is heard with it (Q.921 clauses 2.2 to 2.10); a request,
--- whether it is granted; and a pull the frame that begins with it, and the octet that it puts.
-abbrev pub seen : Config → Event → Line → Answer → List Seen
-seen c (octet value) l answer = map heard (option_to_list (gained c.n201 l.received value)) ++ seen_told answer
-seen c (expiry timer) l answer = seen_told answer
-seen c (request r) l answer = seen_granted r answer ++ seen_told answer
-seen c pull l answer = map begun (frame_in c pull l) ++ map put (octet_in answer)
+-- The frame that it gives, which begins then.
+abbrev pub octets_of : NextFrame → List ℕ
+octets_of f = f.octets
+
+abbrev pub frame_in : Answer → List (List ℕ)
+frame_in (gave frame) = option_to_list (option_map octets_of frame)
+frame_in other = []
+
+-- What an event of a line and its answer show: what is heard; a request, whether it is granted; and a call for the next
+-- frame the one that begins with it.
+abbrev pub seen : Event → Answer → List Seen
+seen (hears e) answer = heard e ∷ seen_told answer
+seen (expiry timer) answer = seen_told answer
+seen (request r) answer = seen_granted r answer ++ seen_told answer
+seen next answer = map begun (frame_in answer)
 
 -- A note, a request or a timer of the link of a service with a TEI.
 abbrev pub is_own : Service → ℕ → Service → ℕ → Bool
@@ -50,7 +53,7 @@ is_own service tei of by = same_service of service && by == tei
 -- What is seen of a line in the moments of a run.
 abbrev pub seen_in : ℕ → Moment → List Seen
 seen_in number m =
-    if m.event.line == number then seen m.card.config m.event.what (line_at number m.card) m.answer else []
+    if m.event.line == number then seen m.event.what m.answer else []
 
 abbrev pub trace : ℕ → List Moment → List Seen
 trace number ms = flat_map (seen_in number) ms
@@ -59,20 +62,13 @@ trace number ms = flat_map (seen_in number) ms
 abbrev pub trace_of : Config → List card.Event → ℕ → List Seen
 trace_of c events number = trace number (moments (fresh c) events)
 
--- The frames that begin, in order, and the octets that are put.
+-- The frames that begin, in order.
 abbrev pub frame_begun : Seen → List (List ℕ)
 frame_begun (begun octets) = octets ∷ []
 frame_begun other = []
 
 abbrev pub frames_begun : List Seen → List (List ℕ)
 frames_begun t = flat_map frame_begun t
-
-abbrev pub octet_put : Seen → List ℕ
-octet_put (put value) = value ∷ []
-octet_put other = []
-
-abbrev pub octets_put : List Seen → List ℕ
-octets_put t = flat_map octet_put t
 
 -- States 7 and 8 are those of multiple-frame operation; a state is the number that `Card::state` tells (Q.921 annex B).
 abbrev pub is_up : ℕ → Bool

@@ -2,25 +2,26 @@
 use Rattle.std.specs.Prelude.{◌≡◌, ◌≢◌, ℕ, ◌<◌, List, [], ◌∷◌, ◌++◌, replicate, Some}
 use Rattle.lapd_frame.specs.Services.{sapi_of}
 use Rattle.model_line.specs.declared.config.Config.{Config}
-use Rattle.model_line.specs.Event.{pull}
+use Rattle.model_line.specs.Event.{next}
 use Rattle.model_line.specs.Line.{link_count, service_at, place_at, tei_at}
 use Rattle.model_card.specs.Card.{Card, fresh, line_at}
 use Rattle.model_card.specs.Event.{Event, at}
 use Rattle.model_card.specs.Machine.{after}
 use Rattle.model_card.specs.Run.{moments, after_all}
-use Rattle.laws_card.specs.PromisesOfPulls.{StaysAt}
+use Rattle.laws_card.specs.PromisesOfTakes.{StaysAt}
 use Rattle.laws_trace.specs.Trace.{trace, IsAmong}
 use Rattle.laws_trace.specs.LinksTakeTurns.{LinkName, links_begun}
 
 abbrev pub name_of : ℕ → ℕ → LinkName
 name_of link tei = record { sapi = sapi_of (service_at link); tei = tei }
 
--- A link of a TEI on the line has something to send where it would begin a frame, were the line only pulled from there on.
+-- A link of a TEI on the line has something to send where it would begin a frame, were the line only called for its
+-- next frame from there on.
 pub record HasToSend (card : Card) (number link tei : ℕ) : Type 0 where
   pub few : link < link_count card.config
   pub on_line : tei_at (place_at link) (line_at number card) ≡ Some tei
-  pub pulls : ℕ
-  pub begins : IsAmong (name_of link tei) (links_begun card.config (trace number (moments card (replicate pulls (at number pull)))))
+  pub calls : ℕ
+  pub begins : IsAmong (name_of link tei) (links_begun card.config (trace number (moments card (replicate calls (at number next)))))
 
 -- It has before each of these events.
 unfoldable pub HasToSendAllTheWhile : ℕ → ℕ → ℕ → Card → List Event → Type 0

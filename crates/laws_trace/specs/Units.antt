@@ -7,8 +7,8 @@ use Rattle.lapd_frame.specs.declared.faults.ReadFault.{ReadFault}
 use Rattle.lapd_frame.specs.Grammar.{Parts}
 use Rattle.lapd_frame.specs.Reading.{reading}
 use Rattle.model_line.specs.declared.config.Config.{Config}
-use Rattle.model_line.specs.Octet.{management_sapi}
-use Rattle.model_line.specs.Pull.{unit_frame}
+use Rattle.model_line.specs.Heard.{management_sapi}
+use Rattle.model_line.specs.Taken.{unit_frame}
 use Rattle.model_line.specs.Request as asked
 use Rattle.model_line.specs.Request.{Request}
 use Rattle.laws_trace.specs.Trace.{Seen, granted, frames_begun}

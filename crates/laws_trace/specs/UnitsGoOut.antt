@@ -1,8 +1,8 @@
 -- Unit data goes out.
 use Rattle.std.specs.Prelude.{◌≡◌, ◌≤◌, ℕ, List, ◌++◌}
 use Rattle.model_line.specs.declared.config.Config.{Config}
-use Rattle.laws_line.specs.Drains.{most_pulls}
-use Rattle.laws_card.specs.Among.{ArePullsAt, pulls_at}
+use Rattle.laws_line.specs.Drains.{most_frames}
+use Rattle.laws_card.specs.Among.{AreTakesAt, takes_at}
 use Rattle.model_card.specs.Event.{Event}
 use Rattle.laws_trace.specs.Trace.{trace_of, IsFront}
 use Rattle.laws_trace.specs.Units.{units_begun, units_granted}
@@ -12,8 +12,8 @@ use Rattle.laws_trace.specs.Units.{units_begun, units_granted}
 abbrev pub UnitsGoOut : Config → List Event → ℕ → Type 0
 UnitsGoOut c events number = IsFront (units_begun c (trace_of c events number)) (units_granted c (trace_of c events number))
 
--- And they are all of it, once the line was only pulled, as often as the configuration says.
+-- And they are all of it, once the line was only called for its next frame, as often as the configuration says.
 abbrev pub AllUnitsGoOut : Config → List Event → ℕ → Type 0
 AllUnitsGoOut c events number =
-    (before pulls : List Event) → events ≡ before ++ pulls → ArePullsAt number pulls → most_pulls c ≤ pulls_at number pulls →
+    (before calls : List Event) → events ≡ before ++ calls → AreTakesAt number calls → most_frames c ≤ takes_at number calls →
     units_begun c (trace_of c events number) ≡ units_granted c (trace_of c events number)

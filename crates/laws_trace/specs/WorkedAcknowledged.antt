@@ -1,6 +1,5 @@
 -- Worked values: the numbers of frames that begin, and ones that break the law.
 use Rattle.std.specs.Prelude.{◌≡◌, ℕ, List, [], ◌∷◌, ◌++◌, true, false, fold, flat_map, refl}
-use Rattle.model_bits.specs.Bits.{low_bits}
 use Rattle.lapd_frame.specs.declared.services.Service.TheVariants.{Call, Packet}
 use Rattle.lapd_frame.specs.Reading.{reading, header_of, control_of, unnumbered_of, supervisory_of}
 use Rattle.lapd_seq.specs.Circle.{named, distance_of}
@@ -9,25 +8,25 @@ use Rattle.lapd_tei.specs.Events as teis
 use Rattle.model_line.specs.Machine as lines
 use Rattle.model_card.specs.Event.{Event}
 use Rattle.model_card.specs.Run.{moments}
-use Rattle.laws_card.specs.Worked.{usual, up, hears}
+use Rattle.laws_card.specs.Worked.{usual, up}
 use Rattle.laws_trace.specs.AllAreAcknowledged.{numbers_at, lost_since, IsLast}
 use Rattle.laws_trace.specs.Trace.{begun, lost, trace_of}
 use Rattle.laws_trace.specs.WorkedDeliveries.{i_frame, information}
-use Rattle.laws_trace.specs.WorkedUnits.{pulls}
+use Rattle.laws_trace.specs.WorkedUnits.{calls}
 
 -- An I-frame is told; behind the UA, which has no N(R), RR with N(R)=1 begins. The packet link of the same TEI has none.
 abbrev acknowledged : List Event
-acknowledged = up ++ (i_frame ++ hears 0xFC ∷ pulls 8)
+acknowledged = up ++ (i_frame ∷ calls 2)
 
 one : flat_map (numbers_at usual Call 64) (trace_of usual acknowledged 0) ≡ 1 ∷ []
-unfolding moments lines.after lines.answer lines.takes_slot teis.course teis.refusal low_bits seq distance_of named reading header_of control_of unnumbered_of supervisory_of
+unfolding moments lines.after lines.answer lines.takes_slot teis.course teis.refusal seq distance_of named reading header_of control_of unnumbered_of supervisory_of
 one = refl
 
 is_last : IsLast 1 (1 ∷ [])
 is_last = record { earlier = []; is = refl }
 
 none_of_another : flat_map (numbers_at usual Packet 64) (trace_of usual acknowledged 0) ≡ []
-unfolding moments lines.after lines.answer lines.takes_slot teis.course teis.refusal low_bits seq distance_of named reading header_of control_of unnumbered_of supervisory_of
+unfolding moments lines.after lines.answer lines.takes_slot teis.course teis.refusal seq distance_of named reading header_of control_of unnumbered_of supervisory_of
 none_of_another = refl
 
 -- The N(R) of an I-frame counts as well, and what is sent in between says nothing else.

@@ -1,6 +1,5 @@
 -- Worked values: layer 3 is busy, and is so no more; which receipts are due, what is told, and traces that break the laws.
 use Rattle.std.specs.Prelude.{◌≡◌, List, [], ◌∷◌, ◌++◌, true, false, fold, None, refl}
-use Rattle.model_bits.specs.Bits.{low_bits}
 use Rattle.model_bits.specs.Stream as stream
 use Rattle.lapd_frame.specs.declared.notes.Note.TheVariants.{EstablishIndication}
 use Rattle.lapd_frame.specs.declared.services.Service.TheVariants.{Call, Packet}
@@ -15,15 +14,15 @@ use Rattle.laws_link.specs.Waiting.{as_response}
 use Rattle.model_link.specs.declared.frames.ControlFrame.{ControlFrame}
 use Rattle.model_card.specs.Run.{moments}
 use Rattle.laws_card.specs.Worked as worked
-use Rattle.laws_card.specs.Worked.{usual, on_0, hears}
+use Rattle.laws_card.specs.Worked.{usual, on_0}
 use Rattle.laws_trace.specs.Deliveries.{Standing, at_first, stand}
 use Rattle.laws_trace.specs.ControlFrames.{answers_at}
 use Rattle.laws_trace.specs.Trace.{Seen, heard, noted, granted, lost, trace_of}
 use Rattle.laws_trace.specs.WorkedDeliveries.{sabme, i_frame}
 
 -- An I-frame that is heard meanwhile is not told.
-none_told : (fold (stand usual Call 64) at_first (trace_of usual (worked.up ++ (on_0 (SetBusy Call 64) ∷ i_frame) ++ hears 0xFC ∷ []) 0)).told.count ≡ 0
-unfolding moments lines.after lines.answer lines.takes_slot teis.course teis.refusal low_bits seq distance_of named reading header_of control_of unnumbered_of supervisory_of
+none_told : (fold (stand usual Call 64) at_first (trace_of usual (worked.up ++ on_0 (SetBusy Call 64) ∷ i_frame ∷ []) 0)).told.count ≡ 0
+unfolding moments lines.after lines.answer lines.takes_slot teis.course teis.refusal seq distance_of named reading header_of control_of unnumbered_of supervisory_of
 none_told = refl
 
 -- Who watches: busy from SetBusy of the link to ClearBusy of it, or to where the numbers begin; not by one of another link.

@@ -7,7 +7,7 @@ use Rattle.lapd_frame.specs.declared.timers.Order.TheVariants.{Start, Stop}
 use Rattle.lapd_frame.specs.declared.timers.Timer.{Timer}
 use Rattle.lapd_frame.specs.declared.timers.Timer.TheVariants.{T200, T201}
 use Rattle.lapd_tei.specs.Events as teis
-use Rattle.model_line.specs.Event.{expiry, pull}
+use Rattle.model_line.specs.Event.{expiry, next}
 use Rattle.model_line.specs.Laws.{orders_in}
 use Rattle.model_line.specs.Machine as lines
 use Rattle.model_line.specs.Request.{Assign, Check}
@@ -59,11 +59,11 @@ never_started e = cc e
 abbrev all_run : Timer → Bool
 all_run timer = true
 
-started_anew : All (HasReason all_run pull) (Start T201 ∷ []) → ⊥
-started_anew h = cc (All-head (HasReason all_run pull) (Start T201) [] h)
+started_anew : All (HasReason all_run next) (Start T201 ∷ []) → ⊥
+started_anew h = cc (All-head (HasReason all_run next) (Start T201) [] h)
 
 abbrev none_runs : Timer → Bool
 none_runs timer = false
 
-stopped_in_vain : All (HasReason none_runs pull) (Stop (T200 Call 64) ∷ []) → ⊥
-stopped_in_vain h = cc (All-head (HasReason none_runs pull) (Stop (T200 Call 64)) [] h)
+stopped_in_vain : All (HasReason none_runs next) (Stop (T200 Call 64) ∷ []) → ⊥
+stopped_in_vain h = cc (All-head (HasReason none_runs next) (Stop (T200 Call 64)) [] h)

@@ -1,7 +1,6 @@
 -- Worked values: control frames that are due, and that begin; and some that break the laws.
-use Rattle.std.specs.Prelude.{◌≡◌, List, [], ◌∷◌, ◌++◌, true, false, Bool, fold, flat_map, None, refl}
+use Rattle.std.specs.Prelude.{◌≡◌, List, [], ◌∷◌, ◌++◌, true, false, Bool, fold, flat_map, None, refl, ℕ}
 use Rattle.std.proofs.Common.{ap, sym, ◌∙◌}
-use Rattle.model_bits.specs.Bits.{low_bits}
 use Rattle.model_bits.specs.Stream as stream
 use Rattle.lapd_frame.specs.declared.controls.Control.{Control}
 use Rattle.lapd_frame.specs.declared.controls.Control.TheVariants.{ReceiveReady, ReceiveNotReady, Reject, Sabme, Disc, Ua, Dm, Xid}
@@ -19,12 +18,12 @@ use Rattle.model_line.specs.Request.{Assign, Remove, Establish, Release, SetBusy
 use Rattle.model_card.specs.Card.{fresh}
 use Rattle.model_card.specs.Event.{Event, at}
 use Rattle.model_card.specs.Run.{moments}
-use Rattle.laws_card.specs.Worked.{usual, on_0, up, hears}
+use Rattle.laws_card.specs.Worked.{usual, on_0, up}
 use Rattle.laws_trace.specs.ControlFrames.{controls_at, answer_to, answers_at, due_in, may_go_in, along, IsPart, none, left_out, taken}
 use Rattle.laws_trace.specs.Deliveries.{Standing, at_first, stand}
 use Rattle.laws_trace.specs.Trace.{Seen, heard, noted, lost, begun, trace_of}
 use Rattle.laws_trace.specs.WorkedDeliveries.{i_frame}
-use Rattle.laws_trace.specs.WorkedUnits.{pulls}
+use Rattle.laws_trace.specs.WorkedUnits.{calls}
 
 abbrev due : List Event → List ControlFrame
 due events = along usual Call 64 0 (due_in usual Call 64 0) at_first (moments (fresh usual) events)
@@ -37,39 +36,39 @@ gone events = flat_map (controls_at usual Call 64) (trace_of usual events 0)
 
 -- SABME is heard, and UA is due, which begins; the packet link of the same TEI has none.
 ua_due : due up ≡ as_response (Ua true)
-unfolding moments along lines.after lines.answer lines.takes_slot teis.course teis.refusal low_bits reading header_of control_of unnumbered_of
+unfolding moments along lines.after lines.answer lines.takes_slot teis.course teis.refusal reading header_of control_of unnumbered_of
 ua_due = refl
 
-ua_begins : gone (up ++ pulls 2) ≡ as_response (Ua true)
-unfolding moments lines.after lines.answer lines.takes_slot teis.course teis.refusal low_bits reading header_of control_of unnumbered_of
+ua_begins : gone (up ++ calls 2) ≡ as_response (Ua true)
+unfolding moments lines.after lines.answer lines.takes_slot teis.course teis.refusal reading header_of control_of unnumbered_of
 ua_begins = refl
 
-none_of_another : flat_map (controls_at usual Packet 64) (trace_of usual (up ++ pulls 2) 0) ≡ []
-unfolding moments lines.after lines.answer lines.takes_slot teis.course teis.refusal low_bits reading header_of control_of unnumbered_of
+none_of_another : flat_map (controls_at usual Packet 64) (trace_of usual (up ++ calls 2) 0) ≡ []
+unfolding moments lines.after lines.answer lines.takes_slot teis.course teis.refusal reading header_of control_of unnumbered_of
 none_of_another = refl
 
--- Where the TEI leaves the line before a pull, and comes again, the UA that waited does not begin.
-gone_with_its_tei : gone (up ++ (on_0 (Remove 64) ∷ on_0 (Assign 64) ∷ pulls 40)) ≡ []
-unfolding moments lines.after lines.answer lines.takes_slot teis.course teis.refusal low_bits reading header_of control_of unnumbered_of
+-- Where the TEI leaves the line before a call, and comes again, the UA that waited does not begin.
+gone_with_its_tei : gone (up ++ (on_0 (Remove 64) ∷ on_0 (Assign 64) ∷ calls 3)) ≡ []
+unfolding moments lines.after lines.answer lines.takes_slot teis.course teis.refusal reading header_of control_of unnumbered_of
 gone_with_its_tei = refl
 
 -- In state 6 SABME is answered by DM, and in state 4 DISC; XID by nothing.
-by_dm : answer_to at_first at_first 6 true (Sabme true) ++ answer_to at_first at_first 4 true (Disc false) ≡ as_response (Dm true) ++ as_response (Dm false)
+by_dm : answer_to at_first at_first 6 true false (Sabme true) ++ answer_to at_first at_first 4 true false (Disc false) ≡ as_response (Dm true) ++ as_response (Dm false)
 by_dm = refl
 
-by_none : answer_to at_first at_first 7 true (Xid true) ≡ []
+by_none : answer_to at_first at_first 7 true false (Xid true) ≡ []
 by_none = refl
 
 -- An I-frame is told, and behind the UA its acknowledgement goes by itself: RR with N(R)=1, which may go as it begins.
 abbrev acknowledged : List Event
-acknowledged = up ++ (i_frame ++ hears 0xFC ∷ pulls 8)
+acknowledged = up ++ (i_frame ∷ calls 2)
 
 rr_begins : gone acknowledged ≡ as_response (Ua true) ++ as_response (ReceiveReady (seq 1) false)
-unfolding moments lines.after lines.answer lines.takes_slot teis.course teis.refusal low_bits seq distance_of named reading header_of control_of unnumbered_of supervisory_of
+unfolding moments lines.after lines.answer lines.takes_slot teis.course teis.refusal seq distance_of named reading header_of control_of unnumbered_of supervisory_of
 rr_begins = refl
 
 rr_may_go : may_go acknowledged ≡ as_response (Ua true) ++ as_response (ReceiveReady (seq 1) false)
-unfolding moments along lines.after lines.answer lines.takes_slot teis.course teis.refusal low_bits seq distance_of named reading header_of control_of unnumbered_of supervisory_of
+unfolding moments along lines.after lines.answer lines.takes_slot teis.course teis.refusal seq distance_of named reading header_of control_of unnumbered_of supervisory_of
 rr_may_go = refl
 
 -- Layer 3 becomes busy on a link that is up, and is so no more: RNR, and RR, begin behind the UA, and are due.
@@ -79,27 +78,27 @@ changes = up ++ (on_0 (SetBusy Call 64) ∷ on_0 (ClearBusy Call 64) ∷ [])
 abbrev of_changes : List ControlFrame
 of_changes = as_response (Ua true) ++ as_response (ReceiveNotReady (seq 0) false) ++ as_response (ReceiveReady (seq 0) false)
 
-changes_begin : gone (changes ++ pulls 16) ≡ of_changes
-unfolding moments lines.after lines.answer lines.takes_slot teis.course teis.refusal low_bits seq distance_of named reading header_of control_of unnumbered_of supervisory_of
+changes_begin : gone (changes ++ calls 3) ≡ of_changes
+unfolding moments lines.after lines.answer lines.takes_slot teis.course teis.refusal seq distance_of named reading header_of control_of unnumbered_of supervisory_of
 changes_begin = refl
 
 changes_due : due changes ≡ of_changes
-unfolding moments along lines.after lines.answer lines.takes_slot teis.course teis.refusal low_bits seq distance_of named reading header_of control_of unnumbered_of supervisory_of
+unfolding moments along lines.after lines.answer lines.takes_slot teis.course teis.refusal seq distance_of named reading header_of control_of unnumbered_of supervisory_of
 changes_due = refl
 
 -- SABME is due as layer 3 asks for it, and again as T200 expires; and an enquiry as T203 does, and DISC as the link is
 -- released.
 two_due : due (on_0 (Assign 64) ∷ on_0 (Establish Call 64) ∷ at 0 (expiry (T200 Call 64)) ∷ []) ≡ as_command (Sabme true) ++ as_command (Sabme true)
-unfolding moments along lines.after lines.answer lines.takes_slot teis.course teis.refusal low_bits
+unfolding moments along lines.after lines.answer lines.takes_slot teis.course teis.refusal
 two_due = refl
 
-two_go : gone (on_0 (Assign 64) ∷ on_0 (Establish Call 64) ∷ at 0 (expiry (T200 Call 64)) ∷ pulls 12) ≡ as_command (Sabme true) ++ as_command (Sabme true)
-unfolding moments lines.after lines.answer lines.takes_slot teis.course teis.refusal low_bits reading header_of control_of unnumbered_of
+two_go : gone (on_0 (Assign 64) ∷ on_0 (Establish Call 64) ∷ at 0 (expiry (T200 Call 64)) ∷ calls 2) ≡ as_command (Sabme true) ++ as_command (Sabme true)
+unfolding moments lines.after lines.answer lines.takes_slot teis.course teis.refusal reading header_of control_of unnumbered_of
 two_go = refl
 
 an_enquiry : due (up ++ at 0 (expiry (T203 Call 64)) ∷ on_0 (Release Call 64) ∷ [])
     ≡ as_response (Ua true) ++ as_command (ReceiveReady (seq 0) true) ++ as_command (Disc true)
-unfolding moments along lines.after lines.answer lines.takes_slot teis.course teis.refusal low_bits seq reading header_of control_of unnumbered_of supervisory_of
+unfolding moments along lines.after lines.answer lines.takes_slot teis.course teis.refusal seq reading header_of control_of unnumbered_of supervisory_of
 an_enquiry = refl
 
 -- As T200 expires for the last time, which ends state 5, none is due.
@@ -108,7 +107,7 @@ again = at 0 (expiry (T200 Call 64)) ∷ []
 
 four_due : due (on_0 (Assign 64) ∷ on_0 (Establish Call 64) ∷ again ++ again ++ again ++ again)
     ≡ as_command (Sabme true) ++ as_command (Sabme true) ++ as_command (Sabme true) ++ as_command (Sabme true)
-unfolding moments along lines.after lines.answer lines.takes_slot teis.course teis.refusal low_bits
+unfolding moments along lines.after lines.answer lines.takes_slot teis.course teis.refusal
 four_due = refl
 
 -- An I-frame with N(S)=1 and P=0, of which nothing is told, is answered by REJ with N(R)=0 in state 7, and by nothing
@@ -127,6 +126,21 @@ none_due : flat_map (answers_at usual Call 64 at_first once_rejected 5) out_of_s
     ++ flat_map (answers_at usual Call 64 once_rejected (fold (stand usual Call 64) once_rejected out_of_sequence) 7) out_of_sequence ≡ []
 unfolding seq reading header_of control_of unnumbered_of supervisory_of
 none_due = refl
+
+-- One with P=1 is answered by RR where its information has N201 octets, and by nothing where it has more.
+abbrev of_eight : List ℕ
+of_eight = 1 ∷ 2 ∷ 3 ∷ 4 ∷ 5 ∷ 6 ∷ 7 ∷ 8 ∷ []
+
+abbrev answers_poll : List ℕ → List ControlFrame
+answers_poll info = answers_at (record usual { n201 = 8 }) Call 64 at_first at_first 7 (heard (stream.frame (0x00 ∷ 0x81 ∷ 0x00 ∷ 0x01 ∷ info)))
+
+eight_answered : answers_poll of_eight ≡ as_response (ReceiveReady (seq 0) true)
+unfolding seq reading header_of control_of unnumbered_of supervisory_of
+eight_answered = refl
+
+nine_unanswered : answers_poll (0 ∷ of_eight) ≡ []
+unfolding seq reading header_of control_of unnumbered_of supervisory_of
+nine_unanswered = refl
 
 -- Where DM begins in place of the UA that is due, both laws are broken; where nothing does, the second one is.
 dm_begins : controls_at usual Call 64 (begun (0x00 ∷ 0x81 ∷ 0x1F ∷ [])) ≡ as_response (Dm true)
@@ -180,5 +194,5 @@ sabme_without_p part =
     alone (record { command = true; control = Sabme false }) (record { command = true; control = Sabme true })
     (λ e. let same : false ≡ true = ap (λ (f : ControlFrame). has_p f.control) e in cc same) _ _ part refl refl
 
-answered_in_4 : IsPart (as_response (ReceiveReady (seq 0) true)) (answer_to at_first at_first 4 true (ReceiveReady (seq 0) true)) → ⊥
+answered_in_4 : IsPart (as_response (ReceiveReady (seq 0) true)) (answer_to at_first at_first 4 true false (ReceiveReady (seq 0) true)) → ⊥
 answered_in_4 part = no_other _ _ part (record { command = false; control = ReceiveReady (seq 0) true }) refl refl

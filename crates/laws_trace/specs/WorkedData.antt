@@ -1,7 +1,6 @@
 -- Worked values: I-frames that go out, and traces that break the law.
 use Rattle.std.specs.Prelude.{◌≡◌, ◌≤◌, ℕ, ◌%◌, false, List, [], ◌∷◌, ◌++◌, drop, slice_get, Some, None, flat_map, option_to_list, refl}
 use Rattle.std.proofs.Common.{zero, suc, arith, ◌⊎◌, inl, inr}
-use Rattle.model_bits.specs.Bits.{low_bits}
 use Rattle.lapd_seq.specs.Circle.{named, distance_of}
 use Rattle.lapd_seq.specs.Numbers.{seq}
 use Rattle.lapd_frame.specs.declared.addresses.Side.TheVariants.{Network}
@@ -13,9 +12,10 @@ use Rattle.model_line.specs.Request.{Data}
 use Rattle.model_card.specs.Run.{moments}
 use Rattle.laws_card.specs.Worked.{usual, on_0, up}
 use Rattle.lapd_frame.specs.declared.notes.Note.TheVariants.{EstablishIndication}
-use Rattle.laws_trace.specs.DataGoesOut.{Going, Sent, sent_in, none_yet, indicates, Reaches}
+use Rattle.laws_trace.specs.DataGoesOut.{Going, none_yet, indicates, Reaches}
+use Rattle.laws_trace.specs.LinkFrames.{Sent, sent_in}
 use Rattle.laws_trace.specs.Trace.{Seen, begun, noted, granted, trace_of, frames_begun}
-use Rattle.laws_trace.specs.WorkedUnits.{pulls}
+use Rattle.laws_trace.specs.WorkedUnits.{calls}
 
 -- The I-frames of the link of call control of TEI 64.
 abbrev i_frames : List Seen → List Sent
@@ -25,8 +25,8 @@ abbrev i_frame : ℕ → ℕ → Sent
 i_frame ns n = record { ns = ns; nr = 0; contents = n ∷ [] }
 
 -- Two contents that are granted go out behind UA, with N(S) = 0 and 1.
-pub two_go : i_frames (trace_of usual (up ++ on_0 (Data Call 64 (7 ∷ [])) ∷ on_0 (Data Call 64 (8 ∷ [])) ∷ pulls 20) 0) ≡ i_frame 0 7 ∷ i_frame 1 8 ∷ []
-unfolding moments lines.after lines.answer lines.takes_slot teis.course teis.refusal low_bits seq distance_of named reading header_of control_of unnumbered_of
+pub two_go : i_frames (trace_of usual (up ++ on_0 (Data Call 64 (7 ∷ [])) ∷ on_0 (Data Call 64 (8 ∷ [])) ∷ calls 3) 0) ≡ i_frame 0 7 ∷ i_frame 1 8 ∷ []
+unfolding moments lines.after lines.answer lines.takes_slot teis.course teis.refusal seq distance_of named reading header_of control_of unnumbered_of
 two_go = refl
 
 -- Where the first I-frame has N(S) = 1, the law is broken; so it is where its contents are others.

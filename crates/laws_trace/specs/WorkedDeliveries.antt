@@ -17,10 +17,10 @@ use Rattle.model_card.specs.Card.{fresh}
 use Rattle.model_card.specs.Event.{Event}
 use Rattle.model_card.specs.Run.{moments, after_all}
 use Rattle.laws_card.specs.Worked as worked
-use Rattle.laws_card.specs.Worked.{usual, hears}
+use Rattle.laws_card.specs.Worked.{usual}
 use Rattle.laws_trace.specs.Deliveries.{nothing_yet, number_in, watch, IsHeard, IsTold}
 use Rattle.laws_trace.specs.Trace.{Seen, heard, noted, lost, trace, trace_of}
-use Rattle.model_bits.specs.Bits.{low_bits}
+use Rattle.laws_trace.specs.WorkedUnits.{comes}
 
 -- A frame of TEI 64, and what is told of it: SABME, and an I-frame by its N(S).
 abbrev pub sabme : List Note → List Seen
@@ -58,19 +58,19 @@ gap h =
 
 -- An I-frame with N(S)=0 that is heard on a link that was just established is told, in its moment; where it is not, the
 -- law is broken.
-abbrev pub i_frame : List Event
-i_frame = hears 0x00 ∷ hears 0x02 ∷ hears 0x01 ∷ hears 0x00 ∷ hears 0x82 ∷ hears 0x5E ∷ hears 0x5A ∷ hears 0xFD ∷ []
+abbrev pub i_frame : Event
+i_frame = comes (0x00 ∷ 0x81 ∷ 0x00 ∷ 0x00 ∷ 0x41 ∷ [])
 
 abbrev of_i_frame : Seen
 of_i_frame = heard (stream.frame (0x00 ∷ 0x81 ∷ 0x00 ∷ 0x00 ∷ 0x41 ∷ []))
 
-none_before : (fold (watch usual Call 64) nothing_yet (trace_of usual (worked.up ++ i_frame) 0)).count ≡ 0
-unfolding moments lines.after lines.answer lines.takes_slot teis.course teis.refusal low_bits seq reading header_of control_of unnumbered_of
+none_before : (fold (watch usual Call 64) nothing_yet (trace_of usual worked.up 0)).count ≡ 0
+unfolding moments lines.after lines.answer lines.takes_slot teis.course teis.refusal seq reading header_of control_of unnumbered_of
 none_before = refl
 
-told_at_once : trace 0 (moments (after_all (fresh usual) (worked.up ++ i_frame)) (hears 0xFC ∷ []))
+told_at_once : trace 0 (moments (after_all (fresh usual) worked.up) (i_frame ∷ []))
     ≡ of_i_frame ∷ noted (Data Call 64 ∷ []) (Some (0x41 ∷ [])) ∷ lost 0 ∷ []
-unfolding moments after_all lines.after lines.answer lines.takes_slot teis.course teis.refusal low_bits seq distance_of named reading header_of control_of unnumbered_of
+unfolding moments after_all lines.after lines.answer lines.takes_slot teis.course teis.refusal seq distance_of named reading header_of control_of unnumbered_of
 told_at_once = refl
 
 untold : IsTold Call 64 (0x41 ∷ []) (of_i_frame ∷ noted [] None ∷ lost 0 ∷ []) → ⊥

@@ -1,7 +1,6 @@
 -- Worked values: a TEI that is given, a line that is full, and a moment that breaks the law.
-use Rattle.std.specs.Prelude.{◌≡◌, true, List, [], ◌∷◌, ◌++◌, length, take, drop, fold, None, refl}
+use Rattle.std.specs.Prelude.{◌≡◌, true, List, [], ◌∷◌, ◌++◌, length, fold, None, refl}
 use Rattle.std.specs.List.{list_any}
-use Rattle.model_bits.specs.Bits.{low_bits}
 use Rattle.model_bits.specs.Stream as stream
 use Rattle.lapd_frame.specs.declared.notes.Note.{Note}
 use Rattle.lapd_frame.specs.declared.notes.Note.TheVariants.{Assigned}
@@ -26,8 +25,8 @@ asks_so : said_in usual request ≡ asks 0x1234 ∷ []
 unfolding reading header_of control_of unnumbered_of
 asks_so = refl
 
-given_at_once : trace 0 (moments (after_all (fresh usual) (take 12 asked)) (drop 12 asked)) ≡ heard request ∷ noted (Assigned 64 ∷ []) None ∷ lost 0 ∷ []
-unfolding moments after_all lines.after lines.answer lines.takes_slot teis.course teis.refusal low_bits reading header_of control_of unnumbered_of
+given_at_once : trace 0 (moments (fresh usual) asked) ≡ heard request ∷ noted (Assigned 64 ∷ []) None ∷ lost 0 ∷ []
+unfolding moments after_all lines.after lines.answer lines.takes_slot teis.course teis.refusal reading header_of control_of unnumbered_of
 given_at_once = refl
 
 -- Where as many are on the line as the configuration has terminals, none has to be.

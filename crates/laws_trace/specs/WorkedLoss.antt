@@ -1,7 +1,6 @@
 -- Worked values: a message that finds no room, and a line that breaks the law.
 use Rattle.std.specs.Prelude.{◌≡◌, ◌≤◌, ◌+◌, List, [], ◌∷◌, ◌++◌, length, flat_map, None, refl}
 use Rattle.std.proofs.Common.{inl, arith}
-use Rattle.model_bits.specs.Bits.{low_bits}
 use Rattle.model_bits.specs.Stream as stream
 use Rattle.lapd_frame.specs.declared.services.Service.TheVariants.{Call}
 use Rattle.lapd_frame.specs.Reading.{reading, header_of, control_of, unnumbered_of, supervisory_of}
@@ -13,40 +12,42 @@ use Rattle.model_line.specs.Request.{Assign, Remove}
 use Rattle.model_card.specs.Card.{fresh}
 use Rattle.model_card.specs.Event.{Event}
 use Rattle.model_card.specs.Run.{moments, after_all}
-use Rattle.laws_card.specs.Worked.{usual, on_0, hears}
+use Rattle.laws_card.specs.Worked.{usual, on_0, up}
 use Rattle.laws_trace.specs.Managing.{owed_through}
 use Rattle.laws_trace.specs.MessagesAreOwed.{messages_begun, owed, all_owed}
 use Rattle.laws_trace.specs.ControlFrames.{controls_at}
 use Rattle.laws_trace.specs.NoLossInVain.{IsCrowded, IsFull}
 use Rattle.laws_trace.specs.Trace.{heard, noted, lost, trace}
+use Rattle.laws_trace.specs.WorkedUnits.{comes}
 
 -- Four removals wait; the answer to a terminal that asks for a TEI is told as lost, and four messages wait behind it.
 abbrev four : List Event
 four =
     on_0 (Assign 64) ∷ on_0 (Remove 64) ∷ on_0 (Assign 64) ∷ on_0 (Remove 64) ∷ on_0 (Assign 64) ∷ on_0 (Remove 64) ∷ on_0 (Assign 64) ∷ on_0 (Remove 64)
-    ∷ hears 0x7E ∷ hears 0x7C ∷ hears 0xDF ∷ hears 0x17 ∷ hears 0x78 ∷ hears 0x90 ∷ hears 0xA0 ∷ hears 0x09 ∷ hears 0xF8 ∷ hears 0x6E ∷ hears 0xA1
-    ∷ hears 0xE1 ∷ []
+    ∷ []
 
-one_is_lost : trace 0 (moments (after_all (fresh usual) four) (hears 0xF7 ∷ []))
+abbrev asks : Event
+asks = comes (0xFC ∷ 0xFF ∷ 0x03 ∷ 0x0F ∷ 0x12 ∷ 0x34 ∷ 0x01 ∷ 0xFF ∷ [])
+
+one_is_lost : trace 0 (moments (after_all (fresh usual) four) (asks ∷ []))
     ≡ heard (stream.frame (0xFC ∷ 0xFF ∷ 0x03 ∷ 0x0F ∷ 0x12 ∷ 0x34 ∷ 0x01 ∷ 0xFF ∷ [])) ∷ noted [] None ∷ lost 1 ∷ []
-unfolding moments after_all lines.after lines.answer lines.takes_slot teis.course teis.refusal low_bits reading header_of control_of unnumbered_of
+unfolding moments after_all lines.after lines.answer lines.takes_slot teis.course teis.refusal reading header_of control_of unnumbered_of
 one_is_lost = refl
 
-is_full : IsFull usual (four ++ hears 0xF7 ∷ []) 0
-unfolding moments owed owed_through lines.after lines.answer lines.takes_slot teis.course teis.refusal low_bits reading header_of control_of unnumbered_of
+is_full : IsFull usual (four ++ asks ∷ []) 0
+unfolding moments owed owed_through lines.after lines.answer lines.takes_slot teis.course teis.refusal reading header_of control_of unnumbered_of
 is_full = inl refl
 
 -- UA and the answers to three polls wait: they are four control frames of one link, which would begin.
+abbrev poll : Event
+poll = comes (0x00 ∷ 0x81 ∷ 0x01 ∷ 0x01 ∷ [])
+
 abbrev three_polls : List Event
-three_polls =
-    on_0 (Assign 64) ∷ hears 0x7E ∷ hears 0x00 ∷ hears 0x81 ∷ hears 0xEF ∷ hears 0x50 ∷ hears 0xB1 ∷ hears 0xFD ∷ hears 0x00
-    ∷ hears 0x02 ∷ hears 0x03 ∷ hears 0x02 ∷ hears 0xBE ∷ hears 0x8A ∷ hears 0xFA ∷ hears 0x01
-    ∷ hears 0x04 ∷ hears 0x06 ∷ hears 0x04 ∷ hears 0x7C ∷ hears 0x15 ∷ hears 0xF5 ∷ hears 0x03
-    ∷ hears 0x08 ∷ hears 0x0C ∷ hears 0x08 ∷ hears 0xF8 ∷ hears 0x2A ∷ hears 0xEA ∷ hears 0xF7 ∷ []
+three_polls = up ++ poll ∷ poll ∷ poll ∷ []
 
 is_crowded : IsCrowded (after_all (fresh usual) three_polls) 0
-unfolding moments after_all lines.after lines.answer lines.takes_slot teis.course teis.refusal low_bits seq distance_of named reading header_of control_of unnumbered_of supervisory_of
-is_crowded = record { service = Call; tei = 64; pulls = 24; as_many = omega arith }
+unfolding moments after_all lines.after lines.answer lines.takes_slot teis.course teis.refusal seq distance_of named reading header_of control_of unnumbered_of supervisory_of
+is_crowded = record { service = Call; tei = 64; calls = 4; as_many = omega arith }
 
 -- Where a frame is told as lost, and no message is owed, nor any control frame begins, the law is broken.
 none_owed : length (all_owed usual [] 0) ≡ length (messages_begun usual []) + 4 → ⊥

@@ -2,7 +2,6 @@
 use Rattle.std.specs.List.{IsDistinct}
 use Rattle.std.specs.Prelude.{◌≡◌, List, [], ◌∷◌, ◌++◌, map, Some, None, ℕ, true, false, refl}
 use Rattle.std.proofs.lemmas.List.Elements.{All-head}
-use Rattle.model_bits.specs.Bits.{low_bits}
 use Rattle.lapd_frame.specs.declared.addresses.Side.TheVariants.{Network}
 use Rattle.lapd_frame.specs.declared.notes.Note.TheVariants.{Assigned, Removed, Doubled}
 use Rattle.lapd_frame.specs.declared.timers.Timer.TheVariants.{T201}
@@ -17,25 +16,23 @@ use Rattle.model_line.specs.Request.{Assign, Remove, Check}
 use Rattle.model_card.specs.Card.{fresh}
 use Rattle.model_card.specs.Event.{Event, at}
 use Rattle.model_card.specs.Run.{moments}
-use Rattle.laws_card.specs.Worked.{usual, on_0, hears}
+use Rattle.laws_card.specs.Worked.{usual, on_0}
 use Rattle.laws_trace.specs.Managing.{Checked, Managed, none_on, is_on, owed_through}
 use Rattle.laws_trace.specs.MessagesAreOwed.{messages_begun, owed, all_owed}
 use Rattle.laws_trace.specs.TeisAgree.{IsTrue, AgreeThrough, AreForOne}
 use Rattle.laws_trace.specs.Trace.{noted, trace_of, IsFront}
-use Rattle.laws_trace.specs.WorkedUnits.{pulls}
+use Rattle.laws_trace.specs.WorkedUnits.{calls, comes}
 
 -- A terminal asks for a TEI by Ri 0x1234: the lowest is owed to it, and begins.
 abbrev pub asked : List Event
-asked =
-    hears 0x7E ∷ hears 0x7C ∷ hears 0xDF ∷ hears 0x17 ∷ hears 0x78 ∷ hears 0x90 ∷ hears 0xA0 ∷ hears 0x09 ∷ hears 0xF8 ∷ hears 0x6E ∷ hears 0xA1
-    ∷ hears 0xE1 ∷ hears 0xF7 ∷ []
+asked = comes (0xFC ∷ 0xFF ∷ 0x03 ∷ 0x0F ∷ 0x12 ∷ 0x34 ∷ 0x01 ∷ 0xFF ∷ []) ∷ []
 
 assigned_owed : owed usual 0 none_on (moments (fresh usual) asked) ≡ IdentityAssigned 0x1234 64 ∷ []
-unfolding moments owed owed_through lines.after lines.answer lines.takes_slot teis.course teis.refusal low_bits reading header_of control_of unnumbered_of
+unfolding moments owed owed_through lines.after lines.answer lines.takes_slot teis.course teis.refusal reading header_of control_of unnumbered_of
 assigned_owed = refl
 
-assigned_begins : messages_begun usual (trace_of usual (asked ++ pulls 2) 0) ≡ frame_of Network (IdentityAssigned 0x1234 64) ∷ []
-unfolding moments lines.after lines.answer lines.takes_slot teis.course teis.refusal low_bits reading header_of control_of unnumbered_of
+assigned_begins : messages_begun usual (trace_of usual (asked ++ calls 1) 0) ≡ frame_of Network (IdentityAssigned 0x1234 64) ∷ []
+unfolding moments lines.after lines.answer lines.takes_slot teis.course teis.refusal reading header_of control_of unnumbered_of
 assigned_begins = refl
 
 -- A check is owed its request, and one more where T201 expires; and a second expiry owes nothing.
@@ -51,7 +48,7 @@ not_owed front = cc front.whole_is
 passed_over : IsFront (frame_of Network (IdentityCheckRequest 64) ∷ []) (map (frame_of Network) (IdentityAssigned 7 64 ∷ IdentityCheckRequest 64 ∷ [])) → ⊥
 passed_over front = cc front.whole_is
 
--- A removal that was granted is owed; where it never begins, that all are put is broken.
+-- A removal that was granted is owed; where it never begins, that all of them go is broken.
 abbrev removed : List Event
 removed = on_0 (Assign 64) ∷ on_0 (Remove 64) ∷ []
 

@@ -1,24 +1,25 @@
 -- Worked values: links that take turns, messages and unit data before them, and frames that break these laws.
 use Rattle.std.specs.Prelude.{◌≡◌, ◌≢◌, ◌≤◌, ℕ, List, [], ◌∷◌, ◌++◌, map, refl}
 use Rattle.std.proofs.Common.{ap, arith}
-use Rattle.model_bits.specs.Bits.{low_bits}
+use Rattle.model_bits.specs.Stream as stream
+use Rattle.model_bits.specs.declared.heard.Cause.TheVariants.{Fcs}
 use Rattle.lapd_frame.specs.declared.services.Service.TheVariants.{Call, Packet}
 use Rattle.lapd_frame.specs.declared.timers.Timer.TheVariants.{T200}
 use Rattle.lapd_frame.specs.Reading.{reading, header_of, control_of, unnumbered_of}
 use Rattle.lapd_frame.specs.declared.addresses.Side.TheVariants.{Network}
 use Rattle.lapd_tei.specs.Events as teis
-use Rattle.model_line.specs.Event.{expiry}
+use Rattle.model_line.specs.Event.{hears, expiry}
 use Rattle.model_line.specs.Machine as lines
 use Rattle.model_line.specs.Request.{Assign, Check, Establish}
 use Rattle.model_card.specs.Card.{fresh}
 use Rattle.model_card.specs.Event.{Event, at}
 use Rattle.model_card.specs.Run.{moments, after_all}
-use Rattle.laws_card.specs.Worked.{usual, on_0, hears}
+use Rattle.laws_card.specs.Worked.{usual, on_0}
 use Rattle.laws_trace.specs.LinksTakeTurns.{LinkName, links_begun, TakeTurns}
 use Rattle.laws_trace.specs.MessagesComeFirst.{rank, AreByRank}
 use Rattle.laws_trace.specs.Trace.{trace, frames_begun, IsAmong}
 use Rattle.laws_trace.specs.TurnsMeanwhile.{name_of, HasToSend}
-use Rattle.laws_trace.specs.WorkedUnits.{unit, pulls, spelled}
+use Rattle.laws_trace.specs.WorkedUnits.{unit, calls, spelled}
 
 -- Both links of TEI 64 send SABME, and that of call control sends it again.
 abbrev both_up : List Event
@@ -30,13 +31,13 @@ call = record { sapi = 0; tei = 64 }
 abbrev packet : LinkName
 packet = record { sapi = 16; tei = 64 }
 
-turns_taken : links_begun usual (trace 0 (moments (after_all (fresh usual) both_up) (pulls 16))) ≡ call ∷ packet ∷ call ∷ []
-unfolding moments after_all lines.after lines.answer lines.takes_slot teis.course teis.refusal low_bits reading header_of control_of unnumbered_of
+turns_taken : links_begun usual (trace 0 (moments (after_all (fresh usual) both_up) (calls 3))) ≡ call ∷ packet ∷ call ∷ []
+unfolding moments after_all lines.after lines.answer lines.takes_slot teis.course teis.refusal reading header_of control_of unnumbered_of
 turns_taken = refl
 
--- An octet that comes meanwhile changes none of it.
-turns_taken_meanwhile : links_begun usual (trace 0 (moments (after_all (fresh usual) both_up) (pulls 4 ++ (hears 0x7E ∷ pulls 12)))) ≡ call ∷ packet ∷ call ∷ []
-unfolding moments after_all lines.after lines.answer lines.takes_slot teis.course teis.refusal low_bits reading header_of control_of unnumbered_of
+-- What is dropped meanwhile changes none of it.
+turns_taken_meanwhile : links_begun usual (trace 0 (moments (after_all (fresh usual) both_up) (calls 1 ++ (at 0 (hears (stream.dropped Fcs)) ∷ calls 2)))) ≡ call ∷ packet ∷ call ∷ []
+unfolding moments after_all lines.after lines.answer lines.takes_slot teis.course teis.refusal reading header_of control_of unnumbered_of
 turns_taken_meanwhile = refl
 
 -- Where the first goes twice before the other, the law is broken.
@@ -53,7 +54,7 @@ no_turns law = let x = law call packet [] [] [] [] apart refl in none_among x.fr
 -- The packet link has its SABME to send meanwhile; where that of call control goes twice before it, the law is broken.
 packet_waits : HasToSend (after_all (fresh usual) both_up) 0 1 64
 unfolding after_all lines.after lines.answer lines.takes_slot teis.course teis.refusal
-packet_waits = record { few = omega arith; on_line = refl; pulls = 16; begins = record { front = call ∷ []; back = call ∷ []; split = turns_taken } }
+packet_waits = record { few = omega arith; on_line = refl; calls = 3; begins = record { front = call ∷ []; back = call ∷ []; split = turns_taken } }
 
 its_name : name_of 1 64 ≡ packet
 its_name = refl
@@ -62,9 +63,9 @@ passed_over : IsAmong packet [] → ⊥
 passed_over among = none_among among.front among.back among.split
 
 -- A check of TEI management, unit data, and SABME, in this order, whatever was asked for first.
-in_their_order : map (rank Network) (frames_begun (trace 0 (moments (after_all (fresh usual) (on_0 (Assign 64) ∷ on_0 (Establish Call 64) ∷ on_0 (unit 1) ∷ on_0 (Check 64) ∷ [])) (pulls 22))))
+in_their_order : map (rank Network) (frames_begun (trace 0 (moments (after_all (fresh usual) (on_0 (Assign 64) ∷ on_0 (Establish Call 64) ∷ on_0 (unit 1) ∷ on_0 (Check 64) ∷ [])) (calls 3))))
     ≡ 0 ∷ 1 ∷ 2 ∷ []
-unfolding moments after_all lines.after lines.answer lines.takes_slot teis.course teis.refusal low_bits reading header_of control_of unnumbered_of
+unfolding moments after_all lines.after lines.answer lines.takes_slot teis.course teis.refusal reading header_of control_of unnumbered_of
 in_their_order = refl
 
 -- Where SABME goes before unit data, the law is broken.

@@ -6,9 +6,9 @@ ghost use Rattle.laws_trace.specs.AllGoesAgain.{AllGoesAgain, NextGoes};
 ghost use Rattle.laws_trace.specs.ControlFrames.{OnlyDueGo, AllDueGo};
 ghost use Rattle.laws_trace.specs.ErrorsAreNoted.{ErrorsAreNoted};
 ghost use Rattle.laws_trace.specs.Configurations.{RangesAreServed};
+ghost use Rattle.laws_trace.specs.CountersCount.{CountersCount};
 ghost use Rattle.laws_trace.specs.OtherSide.{TheOtherSideIsHeard};
-ghost use Rattle.laws_trace.specs.FramesAreRead.{FramesAreRead, FramesAreOctets, FramesGoOutAsTheyAre};
-ghost use Rattle.laws_trace.specs.FramesGoOut.{FramesGoOut, AllFramesGoOut, AllThatWaitedBegins};
+ghost use Rattle.laws_trace.specs.FramesAreRead.{FramesAreRead, FramesAreOctets};
 ghost use Rattle.laws_trace.specs.DataGoesOut.{DataGoesOut};
 ghost use Rattle.laws_trace.specs.Deliveries.{Deliveries, AllAreTold};
 ghost use Rattle.laws_trace.specs.LinksMove.{LinksMove};
@@ -17,13 +17,18 @@ ghost use Rattle.laws_trace.specs.MessagesComeFirst.{MessagesComeFirst};
 ghost use Rattle.laws_trace.specs.MessagesAreOwed.{MessagesAreOwed, AllMessagesGoOut};
 ghost use Rattle.laws_trace.specs.News.{NewsIsTold};
 ghost use Rattle.laws_trace.specs.NoLossInVain.{NoLossInVain, QueuesAreFull};
+ghost use Rattle.laws_trace.specs.PlacesAreKept.{PlacesAreKept};
+ghost use Rattle.laws_trace.specs.RoomsAreTold.{RoomsAreTold};
 ghost use Rattle.laws_trace.specs.TeisAgree.{TeisAgree, HeldForOne};
 ghost use Rattle.laws_trace.specs.TeisAreGiven.{TeisAreGiven};
 ghost use Rattle.laws_trace.specs.TimersAreTimely.{TimersRun, TimersAreStarted};
 ghost use Rattle.laws_trace.specs.ChecksAreTimely.{ChecksAreTimed, OrdersHaveReasons};
 ghost use Rattle.laws_trace.specs.TurnsMeanwhile.{LinksTakeTurnsMeanwhile};
-ghost use Rattle.laws_trace.specs.UnitsAreHeard.{UnitsAreHeard, AllUnitsAreHeard};
+ghost use Rattle.laws_trace.specs.UnitsAreSpelled.{UnitsAreSpelled};
+ghost use Rattle.laws_trace.specs.UnitsAreTold.{UnitsAreTold};
 ghost use Rattle.laws_trace.specs.UnitsGoOut.{UnitsGoOut, AllUnitsGoOut};
+ghost use Rattle.laws_trace.specs.WaitedBegins.{AllThatWaitedBegins};
+ghost use Rattle.laws_trace.specs.WindowsAreKept.{WindowsAreKept};
 
 /// Each configuration within the ranges is served: no fault is found in it, so `Card::start` starts a card with it, as
 /// far as its shelf and memory allow, and every law here speaks of it. With any other no card starts (profile).
@@ -39,63 +44,36 @@ pub fn the_other_side_is_heard()
 
 /// Unit data goes out. The UI frames that begin on a line, except those of TEI management, are the first of the unit
 /// data that was granted: in order, whole, each once, with its service and its TEI (`front`). And they are all of it,
-/// once the line was only pulled, as often as the configuration says, 64,346 times with eight terminals, N201 of 260,
-/// windows of 7, 4 unit data and 4 control frames (`all`; Q.921 clauses 3.6.5 and 5.2.2).
+/// once the line was only called for its next frame, as often as the configuration says, 200 times with eight
+/// terminals, windows of 7, 4 unit data and 4 control frames (`all`; Q.921 clauses 3.6.5 and 5.2.2).
 pub fn units_go_out()
     ensures front { Always UnitsGoOut }
     ensures all { Always AllUnitsGoOut }
 {}
 
-/// What goes out is what began. The frames that a receiver hears in the octets that a line puts are those that began on
-/// it, in order, whole, each once, and no other; the last may be on its way. So no frame is heard of a line before one
-/// begins on it. Of each number of a frame its eight low bits are heard, so an octet, 0 to 255, as it is (Q.921 clauses
-/// 2.2 to 2.7 and 2.9).
-pub fn frames_go_out()
-    ensures { Always FramesGoOut }
-{}
-
 /// What begins on a line are frames. Each is one that the grammar has, as that of the card's side, with the SAPI of a
-/// service or of TEI management (`grammar`), and, where the contents that were granted are octets, each 0 to 255, it
-/// consists of octets (`octets`), and a receiver hears it as it is (`heard`; Q.921 clauses 2 and 3).
+/// service or of TEI management (`grammar`), and, where the contents that were granted and the frames that were heard
+/// are octets, each 0 to 255, it consists of octets (`octets`; Q.921 clauses 2 and 3).
 pub fn frames_are_read()
     ensures grammar { Always FramesAreRead }
     ensures octets { Always FramesAreOctets }
-    ensures heard { Always FramesGoOutAsTheyAre }
 {}
 
-/// In the end all frames go out. Once a line was only pulled, as often as the configuration says, a receiver has heard
-/// each frame that began, and none is on its way (`all`); and each control frame that waited on a link before has begun
-/// (`waited`; two alike may be one; Q.921 clauses 2.2 to 2.7 and 5.5 to 5.8).
-pub fn all_frames_go_out()
-    ensures all { Always AllFramesGoOut }
-    ensures waited { Always AllThatWaitedBegins }
-{}
-
-/// Unit data is heard at the other end. The UI frames that a receiver hears in the octets that a line puts, except
-/// those of TEI management, are the first of the unit data that was granted: in order, whole, each once, with its
-/// service and its TEI (`front`). And they are all of it, once the line was only pulled, as often as the configuration
-/// says (`all`). Of each number of the contents its eight low bits are heard, so an octet, 0 to 255, as it is (Q.921
-/// clauses 2.2 to 2.7, 3.6.5 and 5.2.2).
-pub fn units_are_heard()
-    ensures front { Always UnitsAreHeard }
-    ensures all { Always AllUnitsAreHeard }
-{}
-
-/// Links take turns. While a line is only pulled, after whatever happened to it, between two frames that begin for one link
-/// begins one of every other link that begins one behind these (profile).
+/// Links take turns. While a line is only called for its next frame, after whatever happened to it, between two frames
+/// that begin for one link begins one of every other link that begins one behind these (profile).
 pub fn links_take_turns()
     ensures { Always LinksTakeTurns }
 {}
 
 /// Links take turns, whatever else happens at the line meanwhile. Between two frames that begin for one link, which
 /// keeps its place on the line, begins one of every other link that would begin one all the while, were the line only
-/// pulled (profile).
+/// called for its next frame (profile).
 pub fn links_take_turns_meanwhile()
     ensures { Always LinksTakeTurnsMeanwhile }
 {}
 
-/// Messages of TEI management come first. While a line is only pulled, after whatever happened to it, no unit data begins
-/// before one of these, and no frame of a link before either (profile).
+/// Messages of TEI management come first. While a line is only called for its next frame, after whatever happened to
+/// it, no unit data begins before one of these, and no frame of a link before either (profile).
 pub fn messages_come_first()
     ensures { Always MessagesComeFirst }
 {}
@@ -118,12 +96,12 @@ pub fn what_is_told_was_heard()
 /// which is one of the last 127, has the contents that its number had. N(R) of each I-frame is the number of contents
 /// told of the link since then, modulo 128. Where numbers begin, contents that had not gone stay, and before them may
 /// stay some that had, as those do that were to go again; these take the first numbers; or none stays, as where an
-/// indication of an establishment is told (`front`). And all of it has gone, once the line was only pulled, as often as
-/// the configuration says, on a link in state 7 whose terminal is not busy, with fewer than k I-frames outstanding, by
-/// what was heard and what began; and the number that goes next is then behind all of it, though REJ and the end of a
-/// recovery set it back to their N(R); each I-frame that begins sets it behind its own (`again`). And each has that
-/// number, so that they go again in order, from there on, and none is passed over (`next`; Q.921 clauses 3.5.2.1 to
-/// 3.5.2.6, 5.5.1.2, 5.6.1, 5.6.4, 5.6.5, 5.6.7 and 5.7).
+/// indication of an establishment is told (`front`). And all of it has gone, once the line was only called for its next
+/// frame, as often as the configuration says, on a link in state 7 whose terminal is not busy, with fewer than k
+/// I-frames outstanding, by what was heard and what began; and the number that goes next is then behind all of it,
+/// though REJ and the end of a recovery set it back to their N(R); each I-frame that begins sets it behind its own
+/// (`again`). And each has that number, so that they go again in order, from there on, and none is passed over (`next`;
+/// Q.921 clauses 3.5.2.1 to 3.5.2.6, 5.5.1.2, 5.6.1, 5.6.4, 5.6.5, 5.6.7 and 5.7).
 pub fn data_goes_out()
     ensures front { Always DataGoesOut }
     ensures again { Always AllGoesAgain }
@@ -132,20 +110,22 @@ pub fn data_goes_out()
 
 /// Control frames that are due go, and no others: of a link, all frames except I-frames and UI. Due are, by the state
 /// of the link before: UA to SABME, and to DISC, with F = P, except DM to SABME in state 6, and to DISC in states 4 and
-/// 5; in states 7 and 8 REJ, with F = P, to the first I-frame, since data was told or the numbers began, of which
-/// nothing is told though layer 3 is not busy, RNR or RR with F=1 to each other I-frame with P=1, and to RR, RNR and
-/// REJ that are commands with P=1, and RNR or RR with F=0 where layer 3 comes to be busy, or is so no more; and, with
-/// P=1, SABME, DISC or an enquiry where the link comes to state 5, 6 or 8, and again where T200 expires and leaves it
-/// there. A receipt, and an enquiry, is RNR while layer 3 is busy and RR while it is not; it and REJ have the number of
-/// contents told of the link since its numbers began, modulo 128, as it was when the frame was due. From whenever the
-/// TEI is not on the line, those that begin are among these, in their order, and none twice; except that RR with F=0,
-/// and the number told, goes by itself too in states 7 and 8, while layer 3 is not busy (`only`). And while the TEI
-/// stays on the line they all go, except the last of a moment, as many as its answer counts as lost: each has begun
-/// once the line was only pulled, as often as the configuration says, in their order (`all`; Q.921 clauses 3.5.1,
-/// 3.5.2.4 to 3.5.2.6, 5.5, 5.6, 5.7, 5.8.1 and 5.10.3).
+/// 5; in states 7 and 8 REJ, with F = P, to the first I-frame of at most N201 octets, since data was told or the
+/// numbers began, of which nothing is told though layer 3 is not busy, RNR or RR with F=1 to each other such I-frame
+/// with P=1, and to RR, RNR and REJ that are commands with P=1, and RNR or RR with F=0 where layer 3 comes to be busy,
+/// or is so no more; and, with P=1, SABME, DISC or an enquiry where the link comes to state 5, 6 or 8, and again where
+/// T200 expires and leaves it there. A receipt, and an enquiry, is RNR while layer 3 is busy and RR while it is not; it
+/// and REJ have the number of contents told of the link since its numbers began, modulo 128, as it was when the frame
+/// was due. From whenever the TEI is not on the line, those that begin are among these, in their order, and none twice;
+/// except that RR with F=0, and the number told, goes by itself too in states 7 and 8, while layer 3 is not busy
+/// (`only`). And while the TEI stays on the line they all go, except the last of a moment, as many as its answer counts
+/// as lost: each has begun once the line was only called for its next frame, as often as the configuration says, in
+/// their order (`all`). So has each control frame that waited on a link before (`waited`; two alike may be one; Q.921
+/// clauses 3.5.1, 3.5.2.4 to 3.5.2.6, 5.5, 5.6, 5.7, 5.8.1 and 5.10.3).
 pub fn control_frames_go()
     ensures only { Always OnlyDueGo }
     ensures all { Always AllDueGo }
+    ensures waited { Always AllThatWaitedBegins }
 {}
 
 /// Errors are noted. Where a link comes to state 5 by what is heard, where SABME is due, an error of it is noted. So
@@ -155,37 +135,37 @@ pub fn errors_are_noted()
     ensures { Always ErrorsAreNoted }
 {}
 
-/// All that is told is acknowledged. Of a link in state 7 or 8, once the line was only pulled, as often as the
-/// configuration says, the last N(R) that began, of an I-frame, RR, RNR or REJ, is the number of contents told of the
-/// link since its numbers began, modulo 128: if any was told, and no answer since the last was told, nor that one, has
-/// told a frame as lost (Q.921 clauses 3.5.2.6, 5.6.2 and 5.6.3).
+/// All that is told is acknowledged. Of a link in state 7 or 8, once the line was only called for its next frame, as
+/// often as the configuration says, the last N(R) that began, of an I-frame, RR, RNR or REJ, is the number of contents
+/// told of the link since its numbers began, modulo 128: if any was told, and no answer since the last was told, nor
+/// that one, has told a frame as lost (Q.921 clauses 3.5.2.6, 5.6.2 and 5.6.3).
 pub fn all_are_acknowledged()
     ensures { Always AllAreAcknowledged }
 {}
 
 /// Nothing is lost in vain. Behind a moment that tells a frame as lost, all but four of the messages that are owed have
-/// begun, or as many control frames of one link as the configuration says would begin, were the line only pulled
-/// (`seen`): so four messages wait, or as many control frames of one link, and that part of the line has no room
-/// (`full`); which, is not said (profile).
+/// begun, or as many control frames of one link as the configuration says would begin, were the line only called for
+/// its next frame (`seen`): so four messages wait, or as many control frames of one link, and that part of the line has
+/// no room (`full`); which, is not said (profile).
 pub fn nothing_is_lost_in_vain()
     ensures seen { Always NoLossInVain }
     ensures full { Always QueuesAreFull }
 {}
 
 /// Messages of TEI management are owed. The frames that begin with SAPI 63 are the first of the messages that are owed,
-/// in their order, whole, each once (`front`), and they are all of them, once the line was only pulled, as often as the
-/// configuration says (`all`). Owed are: to a terminal that asks for a TEI by an Ri, the one that is held for this Ri,
-/// or that there is none; a check of a TEI, once as it begins, by a granted request or a verify, and once more as T201
-/// expires; and that a TEI is removed, by a granted request, or since two terminals have it; except those that the
-/// answer counts as lost. And what is noted of TEIs, and granted, agrees with what is heard (`notes`): a TEI that is
-/// noted as assigned was asked for right before, and is the lowest from 64 on that was not on the line; it is noted
-/// that two have one where a second terminal answers its check in one period, and that one was removed where T201
-/// expires for the second time and none had answered, and nowhere else; and management is granted to put on the line
-/// what is not there, and to remove or check what is. So no TEI is held for two Ri at a time, no Ri has two, and each
-/// that is held is on the line (`held`). The user's side serves no message, and is granted neither a removal nor a
-/// check. And a terminal that asks for a TEI by an Ri for which none is held is assigned one, where fewer are on the
-/// line than the configuration has terminals, and the answer loses nothing: it is denied only where it must be
-/// (`given`; Q.921 clauses 4.1.1.5 and 5.3.1 to 5.3.5).
+/// in their order, whole, each once (`front`), and they are all of them, once the line was only called for its next
+/// frame, as often as the configuration says (`all`). Owed are: to a terminal that asks for a TEI by an Ri, the one
+/// that is held for this Ri, or that there is none; a check of a TEI, once as it begins, by a granted request or a
+/// verify, and once more as T201 expires; and that a TEI is removed, by a granted request, or since two terminals have
+/// it; except those that the answer counts as lost. And what is noted of TEIs, and granted, agrees with what is heard
+/// (`notes`): a TEI that is noted as assigned was asked for right before, and is the lowest from 64 on that was not on
+/// the line; it is noted that two have one where a second terminal answers its check in one period, and that one was
+/// removed where T201 expires for the second time and none had answered, and nowhere else; and management is granted to
+/// put on the line what is not there, and to remove or check what is. So no TEI is held for two Ri at a time, no Ri has
+/// two, and each that is held is on the line (`held`). The user's side serves no message, and is granted neither a
+/// removal nor a check. And a terminal that asks for a TEI by an Ri for which none is held is assigned one, where fewer
+/// are on the line than the configuration has terminals, and the answer loses nothing: it is denied only where it must
+/// be (`given`; Q.921 clauses 4.1.1.5 and 5.3.1 to 5.3.5).
 pub fn messages_are_owed()
     ensures front { Always MessagesAreOwed }
     ensures all { Always AllMessagesGoOut }
@@ -203,10 +183,10 @@ pub fn messages_are_owed()
 /// while the terminal is not busy, whose N(R) acknowledges an I-frame; for T203 it is RR, REJ, I or SABME (`started`).
 /// So T200 runs on from an earlier I-frame or enquiry when further I-frames go (clause 5.6.1), when a frame
 /// acknowledges nothing, and in state 8 until the enquiry is answered (clause 5.6.7); and no UI, XID, UA, request for
-/// data or pull starts a timer anew that runs. T201 runs exactly while a TEI is checked (`checks`). It is started only
-/// where it does not run, or has just expired: so as a check begins, and as its second period does; and each timer is
-/// stopped only where it ran before the event (`ordered`; Q.921 clauses 5.3.3.2, 5.3.5, 5.5.1, 5.5.3, 5.6.1 to 5.6.7,
-/// 5.9.1, 5.9.8 and 5.10.3).
+/// data or call for a frame starts a timer anew that runs. T201 runs exactly while a TEI is checked (`checks`). It is
+/// started only where it does not run, or has just expired: so as a check begins, and as its second period does; and
+/// each timer is stopped only where it ran before the event (`ordered`; Q.921 clauses 5.3.3.2, 5.3.5, 5.5.1, 5.5.3,
+/// 5.6.1 to 5.6.7, 5.9.1, 5.9.8 and 5.10.3).
 pub fn timers_are_timely()
     ensures run { Always TimersRun }
     ensures started { Always TimersAreStarted }
@@ -214,15 +194,16 @@ pub fn timers_are_timely()
     ensures ordered { Always OrdersHaveReasons }
 {}
 
-/// Links move as they are led. After an event at its line a link is in the state that this has for the state before: 7
-/// by SABME in states 4, 7 and 8, by UA with F=1 in state 5, and, in state 8, by RR, RNR or REJ as a response with F=1
-/// whose N(R) is valid; 4 by DISC in states 7 and 8, by DM with F=1 in states 5 and 6, and by UA with F=1 in state 6; 5
-/// by a request to establish it in state 4, by DM with F=0 in state 7, and in states 7 and 8 by FRMR, an invalid N(R),
-/// a malformed frame, and an I-frame that is too long, and by any DM in state 8; 6 by a request to release it in states
-/// 7 and 8; 8 by the expiry of the timer that runs in state 7. As T200 expires in states 5, 6 and 8, the link leaves
-/// them, for 4, 4 and 5, where it has expired N200 times before since the link came there. Nothing else moves a link.
-/// So a link awaits an answer through N200 expiries, and no more. And a link whose TEI comes to the line is in state 4
-/// (Q.921 clauses 3.5.2.3, 5.3, 5.5.1 to 5.5.5, 5.6.7, 5.7, 5.8, 5.9.2 and 5.10.3).
+/// Links move as the procedures lead them. After every list of events `Card::state` tells of a link the state in which
+/// whoever watches the line has it (`Observer` of specs/), and none where its TEI is not on the line. As the TEI comes,
+/// that is 4; and then 7 by SABME in states 4, 7 and 8, by UA with F=1 in state 5, and, in state 8, by RR, RNR or REJ as
+/// a response with F=1 whose N(R) is valid; 4 by DISC in states 7 and 8, by DM with F=1 in states 5 and 6, and by UA
+/// with F=1 in state 6; 5 by a request to establish it in state 4, by DM with F=0 in state 7, and in states 7 and 8 by
+/// FRMR, an invalid N(R), a malformed frame, and an I-frame that is too long, and by any DM in state 8; 6 by a request
+/// to release it in states 7 and 8; 8 by the expiry of the timer that runs in state 7. As T200 expires in states 5, 6
+/// and 8, the link leaves them, for 4, 4 and 5, where it has expired N200 times before since the link came there.
+/// Nothing else moves a link. So a link awaits an answer through N200 expiries, and no more (Q.921 clauses 3.5.2.3, 5.3,
+/// 5.5.1 to 5.5.5, 5.6.7, 5.7, 5.8, 5.9.2 and 5.10.3).
 pub fn links_move()
     ensures { Always LinksMove }
 {}
@@ -237,4 +218,48 @@ pub fn links_move()
 /// end of a link goes untold (Q.921 clauses 4.1.1.1, 4.1.1.2, 5.5.1, 5.5.3 and 5.7).
 pub fn news_is_told()
     ensures { Always NewsIsTold }
+{}
+
+/// Windows are kept. Each I-frame of a link that begins may go, by what was heard and what began before: the link is in
+/// state 7, so that no recovery runs, the terminal is not busy by the last RR, RNR or REJ, and fewer than k are outstanding
+/// (Q.921 clauses 5.6.1, 5.6.5 and 5.6.7).
+pub fn windows_are_kept()
+    ensures { Always WindowsAreKept }
+{}
+
+/// Rooms are told as they are. Of a link in state 7 or 8 `Card::room` tells V(A), which is the N(R) that was heard of it last,
+/// and so many places of its queue as are left beside the contents that it keeps: what has not gone, and what has gone and is
+/// not acknowledged. And what is left, of the queue and of the pool, is what the next request for data would be refused for
+/// (Q.921 clause 3.5.2.3 and profile).
+pub fn rooms_are_told()
+    ensures { Always RoomsAreTold }
+{}
+
+/// What a link keeps takes places of its queue, and none is lost silently. In a moment, before and after which the TEI of the link
+/// is on the line, the places that are left are those that were, with one for each of the contents that V(A) goes on by, and
+/// without one for data that is granted for it; or all are left, and layer 3 learns it: by a release that is granted, an
+/// indication of an establishment, or an indication or a confirm of a release. V(A) goes on but where the numbers begin (Q.921
+/// clauses 3.5.2.3, 5.5.1.2, 5.5.3.2 and 5.7).
+pub fn places_are_kept()
+    ensures { Always PlacesAreKept }
+{}
+
+/// The UI frame of unit data, of which [`units_go_out`] speaks, is spelled by the grammar: a UI command with P=0, of the SAPI of
+/// its service and its TEI, that has its contents (Q.921 clauses 3.6.5 and 5.2.2).
+pub fn units_are_spelled()
+    ensures { UnitsAreSpelled }
+{}
+
+/// Unit data that is heard is told, in the moment of its frame: a UI of a service, of at most N201 octets, to a TEI that is on
+/// the line, whatever the state of its link, or, on the user's side, to the group, TEI 127 (Q.921 clauses 3.3.4, 5.2.2 and
+/// 5.2.3).
+pub fn units_are_told()
+    ensures { Always UnitsAreTold }
+{}
+
+/// Counters count what is seen. What the moments at a line show under a name, but those of what is dropped, is as much as its
+/// trace has of it: of frames heard and begun their kinds, their octets and the polls among them, of notes each, and the frames
+/// that were lost. So by `counters` and `counters_add_up` of `Card::drive` the counters of a line are numbers of these (profile).
+pub fn counters_count()
+    ensures { Always CountersCount }
 {}

@@ -2,7 +2,7 @@
 use Rattle.std.proofs.Common.{◌≡◌, ℕ, IsTrue, List, [], ◌∷◌, ◌++◌, drop, refl, sym, ap, subst, ◌∙◌, ◌⊎◌, inl, inr, append-nil}
 use Rattle.lapd_frame.specs.declared.services.Service.{Service}
 use Rattle.lapd_frame.specs.declared.timers.Timer.{Timer}
-use Rattle.lapd_frame.specs.Grammar.{Parts, AreOctets, spelling}
+use Rattle.lapd_frame.specs.Grammar.{Parts, spelling}
 use Rattle.model_link.specs.declared.frames.ControlFrame.{ControlFrame}
 use Rattle.model_link.specs.declared.timers.LinkTimer.{LinkTimer}
 use Rattle.model_link.specs.Events as link
@@ -14,13 +14,12 @@ use Rattle.model_link.specs.TwoEnds.{End, with_link, with_sent}
 use Rattle.model_link.specs.TwoEnds as two_ends
 use Rattle.model_link.proofs.Direction.{frames_of, line_of}
 use Rattle.model_line.specs.declared.config.Config.{Config}
-use Rattle.model_line.specs.Event.{LineTold}
+use Rattle.model_line.specs.Event.{LineTold, expiry, request, next}
 use Rattle.model_line.specs.Expiry.{at_timer, aim_of_expiry}
 use Rattle.model_line.specs.Line.{Line, place_in}
 use Rattle.model_line.specs.Request.{Data}
-use Rattle.model_card.specs.Happening.{comes, goes, expires, asks}
 use Rattle.laws_link.proofs.Follows.{event-follows}
-use Rattle.laws_wire.specs.Wire.{Station, happens, with_first_lost}
+use Rattle.laws_wire.specs.Wire.{Station, happens, with_first_lost, comes}
 use Rattle.laws_wire.proofs.Asking.{with_more}
 use Rattle.laws_wire.proofs.Fair.{HasError, Fine, frame-fair, timer-fair}
 use Rattle.laws_wire.proofs.Held.{Held, TellsIt, Erred, now-erred, held-given, held-lost, taken-told, held-taken, expired-told, held-expired, Grants, held-asked}
@@ -79,11 +78,11 @@ module _ (service : Service) (tei place : ℕ) (past : List LineTold) (c : Confi
     tells x y = record { its_notes = y.its_notes; no_unit = y.no_unit }
 
     -- it is asked to send more
-    pub up-asks : (octets : List ℕ) → AreOctets octets → Acted (happens (asks s.line (Data service tei octets)) s) m first far
-    up-asks octets are = go (held-asked service tei place past c s n h.held octets are)
+    pub up-asks : (octets : List ℕ) → Acted (happens (request (Data service tei octets)) s) m first far
+    up-asks octets = go (held-asked service tei place past c s n h.held octets)
       where
         s' : Station
-        s' = happens (asks s.line (Data service tei octets)) s
+        s' = happens (request (Data service tei octets)) s
 
         go : (s' ≡ s) ⊎ Grants service tei place past c s n h.held octets s' → Acted s' m first far
         go (inl same) = record { n = n; near = near; at = subst (λ x. UpAt x n m first near far) (sym same) h }
@@ -103,7 +102,7 @@ module _ (service : Service) (tei place : ℕ) (past : List LineTold) (c : Confi
 
     -- a timer expires
     pub up-expires : (timer : Timer) (its : LinkTimer) → ((l : Line) → aim_of_expiry timer l ≡ at_timer service tei its (place_in l tei))
-        → Acted (happens (expires s.line timer) s) m first far ⊎ Erred (happens (expires s.line timer) s)
+        → Acted (happens (expiry timer) s) m first far ⊎ Erred (happens (expiry timer) s)
     up-expires timer its aims = go (timer-fair n.terms n.link h.up its).fair
       where
         e : link.Event
@@ -113,7 +112,7 @@ module _ (service : Service) (tei place : ℕ) (past : List LineTold) (c : Confi
         x = course n.terms e n.link
 
         s' : Station
-        s' = happens (expires s.line timer) s
+        s' = happens (expiry timer) s
 
         go : HasError x.notes ⊎ Fine n.terms x.link.state x.notes x.delivered x.unit → Acted s' m first far ⊎ Erred s'
         go (inl error) = inr (now-erred s s' x (expired-told service tei place past c s n h.held timer its aims) error)
@@ -134,7 +133,7 @@ module _ (service : Service) (tei place : ℕ) (past : List LineTold) (c : Confi
             })
 
     -- it gives
-    pub up-gives : Acted (happens (goes s.line) s) m first far
+    pub up-gives : Acted (happens next s) m first far
     up-gives =
         let x : GivesOn n m first near far = gives-on n m first near far (ranges s n h.held) (sound s n h.held) h.line h.joint in
         record {
@@ -186,7 +185,7 @@ module _ (service : Service) (tei place : ℕ) (past : List LineTold) (c : Confi
   -- it takes the first frame of the other's line
   pub up-hears : (d : Config) → Face c d → (s : Station) (n m : End) (f : Parts) (first near far : List Parts) → UpAt s n m first near (f ∷ far) → IsCarried d service tei f
       → IsInRange m.terms
-      → Acted (happens (comes s.line (spelling d.side f)) s) (two_ends.with_first_lost m) first far ⊎ Erred (happens (comes s.line (spelling d.side f)) s)
+      → Acted (comes (spelling d.side f) s) (two_ends.with_first_lost m) first far ⊎ Erred (comes (spelling d.side f) s)
   up-hears d face s n m f first near far h from far-ranges = go (frame-fair n.terms n.link h.up f meant.number meant.means).fair
     where
       meant : IsMeant f
@@ -199,7 +198,7 @@ module _ (service : Service) (tei place : ℕ) (past : List LineTold) (c : Confi
       x = course n.terms e n.link
 
       s' : Station
-      s' = happens (comes s.line (spelling d.side f)) s
+      s' = comes (spelling d.side f) s
 
       go : HasError x.notes ⊎ Fine n.terms x.link.state x.notes x.delivered x.unit → Acted s' (two_ends.with_first_lost m) first far ⊎ Erred s'
       go (inl error) = inr (now-erred s s' x (taken-told service tei place past c s n h.held d face f from) error)

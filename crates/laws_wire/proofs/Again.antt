@@ -48,7 +48,6 @@ module _ (service : Service) (tei : ℕ) where
       let own : Stands s.card.config service tei place s n = subst (λ k. Stands k service tei place s n) (sym h.stands.config) h.stands in
       record {
         sound = own.sound;
-        idle = own.idle;
         within = own.within;
         place = place;
         placed = own.speaks.placed;
@@ -57,7 +56,6 @@ module _ (service : Service) (tei : ℕ) where
         others = λ number low other. nothing-given (terms_at s.card.config number (line_of s)) (link_at number (line_of s)) (own.speaks.silent number low other);
         way = none;
         granted = h.granted ∙ sym (ap (λ l. l.contents) (link-is c place s n h.stands));
-        octets = h.octets;
       }
 
   module _ (c d : Config) (p q : ℕ) (first second : Past) (w : Wire) (n m : End) (h : Talk service tei c d p q first second w n m) (still : IsStill w)

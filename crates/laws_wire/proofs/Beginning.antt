@@ -1,15 +1,14 @@
 -- Two cards that have just begun: each has the TEI assigned, and one is asked to establish.
 use Rattle.std.proofs.Common.{◌≡◌, ℕ, zero, suc, ◌<◌, ◌≤◌, Bool, true, false, not, cond, List, [], ◌∷◌, ◌++◌, length, get_or, set, replicate, Option, Some, None, is_some, refl, sym, ap, subst, ◌∙◌, append-nil, arith}
-use Rattle.std.specs.Prelude.{All, nat_lt}
+use Rattle.std.specs.Prelude.{nat_lt}
 use Rattle.std.specs.Option.{option_map_or}
 use Rattle.std.proofs.lemmas.Bool.{le-ltb, lt-ltb}
 use Rattle.std.proofs.lemmas.List.{get_or-set_same, length-replicate}
-use Rattle.std.proofs.lemmas.List.Elements.{All-nil, All-cons}
+use Rattle.std.proofs.lemmas.List.Elements.{All-nil}
 use Rattle.lapd_frame.specs.declared.refusals.Refusal.{Refusal}
 use Rattle.lapd_frame.specs.declared.refusals.Refusal.TheVariants.{BadTei, NoLink, WrongState, TeiTaken, TableFull}
 use Rattle.lapd_frame.specs.declared.services.Service.{Service}
 use Rattle.lapd_frame.specs.declared.services.Service.TheVariants.{Call, Packet}
-use Rattle.lapd_frame.specs.Grammar.{AreOctets}
 use Rattle.lapd_tei.specs.Events as teis
 use Rattle.lapd_tei.specs.Machine.{empty}
 use Rattle.lapd_tei.specs.Table.{Places, is_on, free_place}
@@ -24,10 +23,10 @@ use Rattle.model_link.specs.Requests.{serves}
 use Rattle.model_link.specs.TwoEnds.{End, with_link}
 use Rattle.model_line.specs.declared.config.Config.{Config}
 use Rattle.model_line.specs.Effect.{Effect, at_management, of_aim, of_change, told_of_management}
-use Rattle.model_line.specs.Event.{nothing, request, told}
+use Rattle.model_line.specs.Event.{Event, nothing, request, told}
 use Rattle.model_line.specs.Line.{Line, fresh_line, link_number, terms, terms_at, link_at, link_of, link_in, link_count, has_tei}
 use Rattle.model_line.specs.Machine as lines
-use Rattle.model_line.specs.Machine.{unless_refused, unless_refused_told, of_request}
+use Rattle.model_line.specs.Machine.{unless_refused, unless_refused_told}
 use Rattle.model_line.specs.Refusal.{refusal}
 use Rattle.model_line.specs.Request.{Assign, Establish}
 use Rattle.model_line.specs.Sound as line_sound
@@ -36,15 +35,11 @@ use Rattle.model_line.proofs.Ranges.{ranges_of}
 use Rattle.model_card.specs.Card.{Card, line_at}
 use Rattle.model_card.specs.Card as cards
 use Rattle.model_card.specs.Event.{at as event_at}
-use Rattle.model_card.specs.Happening.{Happening, asks, events_at, events_of, HappensAt, AreIdle}
 use Rattle.model_card.specs.Machine.{wants_room}
-use Rattle.model_card.specs.Run.{after_all}
-use Rattle.model_card.specs.Said.{says, said}
-use Rattle.model_card.proofs.CardSound.{always_sound, fresh_is_sound}
-use Rattle.model_card.proofs.Happening.{all_at, config_stays, lines_stay_idle}
-use Rattle.laws_wire.specs.Wire.{Station, Wire, happens, told_by}
-use Rattle.laws_wire.specs.Wire as wire
-use Rattle.laws_wire.specs.Call.{assigned}
+use Rattle.model_card.proofs.CardSound.{after_is_sound, fresh_is_sound}
+use Rattle.laws_wire.specs.Wire.{Station, answered, happens, told_by}
+use Rattle.laws_wire.specs.Call.{station, assigned}
+use Rattle.laws_wire.proofs.Answered.{asks-way, same-granted}
 use Rattle.laws_wire.proofs.Calling.{asked, asks-establish, told-of-establish, end}
 use Rattle.laws_wire.proofs.LineSpeaks.{Speaks}
 use Rattle.laws_line.proofs.Managing.{by-two}
@@ -144,46 +139,39 @@ module _ (service : Service) (tei : ℕ) (c : Config) (ranged : line_sound.IsInR
     abbrev m : Card
     m = cards.fresh c
 
-    abbrev its : Happening
-    its = asks line (Assign tei)
+    abbrev its : Event
+    its = request (Assign tei)
 
-    abbrev next : Card
-    next = after_all m (events_of m its)
+    abbrev first : Station
+    first = station c line
 
     same-line : line_at line m ≡ l
     same-line = all-fresh_lines c c.lines line
 
-    here : HappensAt m its
-    here = (within, tt)
-
-    next-line : line_at line next ≡ on_line.line
-    unfolding after_all lines.takes_slot
-    next-line =
-        get_or-set_same m.lines line (lines.after c (request (Assign tei)) (line_at line m)) l (let many : length m.lines ≡ c.lines = length-replicate c.lines l in omega (arith, many, within))
-        ∙ ap (lines.after c (request (Assign tei))) same-line ∙ after-is
-
-    said-is : said m its ≡ says (told nothing)
+    next-line : line_at line (assigned c line tei).card ≡ on_line.line
     unfolding lines.takes_slot
-    said-is = ap (λ x. says (lines.answer c (request (Assign tei)) x)) same-line ∙ ap says answer-is
+    next-line =
+        get_or-set_same m.lines line (lines.after c its (line_at line m)) l (let many : length m.lines ≡ c.lines = length-replicate c.lines l in omega (arith, many, within))
+        ∙ ap (lines.after c its) same-line ∙ after-is
+
+    told-nothing : answered its first ≡ told nothing
+    unfolding lines.takes_slot
+    told-nothing = ap (lines.answer c its) same-line ∙ answer-is
 
     begins : Holds c service tei 0 unheard (assigned c line tei) (end (terms c service tei) fresh [])
     begins = record {
       stands = record {
-        config = config_stays m (events_of m its);
-        sound = always_sound m (events_of m its) (fresh_is_sound c ranged) (all_at m line (events_at m its) within);
-        idle =
-            subst (λ events. AreIdle (after_all m events)) (append-nil (events_of m its))
-            (lines_stay_idle.always m (its ∷ []) (lines_stay_idle.begins c) (All-cons (HappensAt m) its [] here (All-nil (HappensAt m))));
+        config = refl;
+        sound = after_is_sound m (event_at line its) (fresh_is_sound c ranged) within;
         within = within;
         speaks = subst (Speaks c service tei 0 fresh) (sym next-line) speaks;
         terms = refl;
-        way = refl;
+        way = asks-way (Assign tei) first;
         carried = All-nil (IsCarried c service tei);
       };
-      granted = ap (λ x. wire.unless_refused x []) said-is;
-      octets = subst (All AreOctets) (sym (ap (λ x. wire.unless_refused x []) said-is)) (All-nil AreOctets);
+      granted = same-granted its first refl;
       since = [];
-      told = ap told_by said-is;
+      told = ap told_by told-nothing;
       delivered = refl;
     }
 
@@ -212,10 +200,10 @@ module _ (service : Service) (tei : ℕ) (c : Config) (ranged : line_sound.IsInR
     unfolding lines.takes_slot
     room = refl
 
-    pub calls : Holds c service tei 0 unheard (happens (asks line (Establish service tei)) s) (end (terms c service tei) asked [])
+    pub calls : Holds c service tei 0 unheard (happens (request (Establish service tei)) s) (end (terms c service tei) asked [])
     calls =
         let t = terms c service tei in
-        let s' = happens (asks line (Establish service tei)) s in
+        let s' = happens (request (Establish service tei)) s in
         let ranges = link-ranges service tei 0 s start own in
         let x = asks-granted service tei 0 s start own (Establish service tei) link.Establish (λ l. refl) room not-refused in
         let is : with_link (link.requested link.Establish false) start ≡ end t asked [] = ap (λ y. end t y []) (asks-establish t ranges) in
@@ -223,7 +211,6 @@ module _ (service : Service) (tei : ℕ) (c : Config) (ranged : line_sound.IsInR
         record {
           stands = subst (λ k. Stands k service tei 0 s' (end t asked [])) begins.stands.config (subst (Stands s.card.config service tei 0 s') is x.stands);
           granted = same ∙ begins.granted;
-          octets = subst (All AreOctets) (sym same) begins.octets;
           since = [];
           told = x.told ∙ ap (λ ts. s.told ++ ts) (told-of-establish t ranges) ∙ append-nil s.told ∙ none-told c service tei 0 [] s start begins refl;
           delivered = refl;

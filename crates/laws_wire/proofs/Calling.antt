@@ -11,7 +11,7 @@ use Rattle.model_link.specs.declared.frames.ControlFrame.{ControlFrame}
 use Rattle.model_link.specs.declared.terms.Terms.{Terms}
 use Rattle.model_link.specs.Link.{Link, fresh, frame_of}
 use Rattle.model_link.specs.Events.{frame, received, requested, offer, Establish, Data}
-use Rattle.model_link.specs.Machine.{after, course, given}
+use Rattle.model_link.specs.Machine.{after, course}
 use Rattle.model_link.specs.Requests.{refusal}
 use Rattle.model_link.specs.Sound.{IsInRange, IsSound}
 use Rattle.model_link.specs.Steps.{begun}
@@ -63,9 +63,6 @@ module _ (t : Terms) (ranges : IsInRange t) where
   pub told-of-sabme : (u : Terms) → said_by (course t (received (frame (sabme u))) fresh) ≡ indicated t.service t.tei ∷ []
   told-of-sabme u = ap (λ b. said_by (record (begun fresh) { notes = Rattle.lapd_frame.specs.declared.notes.Note.TheVariants.EstablishIndication t.service t.tei ∷ []; lost = cond {A = ℕ} b 0 1 })) room
 
-  pub takes-ua : (u : Terms) → after t (received (frame (ua u))) awaiting ≡ caller
-  takes-ua u = refl
-
   pub told-of-ua : (u : Terms) → said_by (course t (received (frame (ua u))) awaiting) ≡ confirmed t.service t.tei ∷ []
   told-of-ua u = refl
 
@@ -87,9 +84,6 @@ module _ (t : Terms) (ranges : IsInRange t) where
 abbrev pub end : Terms → Link → List Parts → End
 end t l way = record { terms = t; link = l; way = way; delivered = [] }
 
-pub sends-sabme : (t : Terms) → with_sent (end t asked []) ≡ end t awaiting (sabme t ∷ [])
-sends-sabme t = refl
-
 -- no contents are granted before a link is up
 pub none-granted-asked : (t : Terms) (octets : List ℕ) → refusal t asked false (Data octets) ≡ None → ⊥
 none-granted-asked t octets e = cc e
@@ -99,9 +93,6 @@ none-granted-awaiting t octets e = cc e
 
 pub none-granted-fresh : (t : Terms) (octets : List ℕ) → refusal t fresh false (Data octets) ≡ None → ⊥
 none-granted-fresh t octets e = cc e
-
-pub none-given-awaiting : (t : Terms) → given t awaiting ≡ None
-none-given-awaiting t = refl
 
 -- the pair as both are up
 pub first-pair : (t u : Terms) → IsInRange t → IsInRange u → Pair (record { near = end t caller []; far = end u called [] })

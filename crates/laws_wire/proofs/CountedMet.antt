@@ -1,13 +1,11 @@
 -- The premises of the law on counted expiries are met, by the worked call that recovers from its losses.
 use Rattle.std.proofs.Common.{◌≡◌, refl, arith}
-use Rattle.model_bits.specs.Bits.{low_bits}
 use Rattle.lapd_frame.specs.declared.services.Service.TheVariants.{Call}
 use Rattle.lapd_frame.specs.Reading.{reading, header_of, control_of, unnumbered_of, supervisory_of}
 use Rattle.lapd_seq.specs.Circle.{distance_of, named}
 use Rattle.lapd_seq.specs.Numbers.{seq}
 use Rattle.lapd_tei.specs.Events as teis
 use Rattle.model_line.specs.Machine as lines
-use Rattle.model_card.specs.Run.{after_all}
 use Rattle.laws_wire.specs.Wire.{gives, loses, at_near, doing, doing_all, turns}
 use Rattle.laws_wire.specs.Call.{confirmed}
 use Rattle.laws_wire.specs.Losing.{heard_in}
@@ -28,7 +26,7 @@ abbrev so_far : Counts
 so_far = counting Call 0 (at_near loses) (doing (at_near gives) begins) (counting Call 0 (at_near gives) begins none_yet)
 
 none-expired : so_far.near ≡ 0
-unfolding after_all lines.after lines.answer lines.takes_slot reading header_of control_of unnumbered_of supervisory_of teis.course teis.refusal low_bits seq distance_of named doing_all turns
+unfolding lines.after lines.answer lines.takes_slot reading header_of control_of unnumbered_of supervisory_of teis.course teis.refusal seq distance_of named doing_all turns
 none-expired = refl
 
 few : IsBelow (end_of Call 0 silent.near) so_far.near

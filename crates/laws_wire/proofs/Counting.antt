@@ -4,7 +4,7 @@ use Rattle.std.specs.Prelude.{All}
 use Rattle.std.proofs.lemmas.List.Elements.{All-head, All-tail}
 use Rattle.lapd_frame.specs.declared.services.Service.{Service}
 use Rattle.lapd_frame.specs.declared.timers.Timer.TheVariants as timers
-use Rattle.lapd_frame.specs.Grammar.{Parts, AreOctets, spelling}
+use Rattle.lapd_frame.specs.Grammar.{Parts, spelling}
 use Rattle.model_link.specs.declared.states.State.{State}
 use Rattle.model_link.specs.declared.states.State.TheVariants.{TeiAssigned, AwaitingEstablishment, AwaitingRelease, Established, TimerRecovery}
 use Rattle.model_link.specs.declared.terms.Terms.{Terms}
@@ -16,10 +16,9 @@ use Rattle.model_link.specs.Machine.{after}
 use Rattle.model_link.specs.Sound.{IsInRange}
 use Rattle.model_link.specs.TwoEnds.{End}
 use Rattle.model_line.specs.declared.config.Config.{Config}
-use Rattle.model_line.specs.Event.{LineTold}
+use Rattle.model_line.specs.Event.{LineTold, request}
 use Rattle.model_line.specs.Line.{terms}
 use Rattle.model_line.specs.Request.{Data}
-use Rattle.model_card.specs.Happening.{asks}
 use Rattle.laws_link.specs.Flags.{awaits_answer, repeats_left}
 use Rattle.laws_link.specs.States.{as_heard, moves, is_clearing}
 use Rattle.laws_link.specs.Waiting.{is_time}
@@ -144,11 +143,11 @@ module _ (service : Service) (tei : ℕ) where
     same : Below w.near (cond in_7 0 k)
     same = as-before w.near n near.stands refl refl
 
-    near-asks : (octets : List ℕ) → AreOctets octets → Below (happens (asks w.near.line (Data service tei octets)) w.near) (cond in_7 0 k)
-    near-asks octets are = go (held-asked service tei p past c w.near n near octets are)
+    near-asks : (octets : List ℕ) → Below (happens (request (Data service tei octets)) w.near) (cond in_7 0 k)
+    near-asks octets = go (held-asked service tei p past c w.near n near octets)
       where
         s' : Station
-        s' = happens (asks w.near.line (Data service tei octets)) w.near
+        s' = happens (request (Data service tei octets)) w.near
 
         go : (s' ≡ w.near) ⊎ Grants service tei p past c w.near n near octets s' → Below s' (cond in_7 0 k)
         go (inl e) = subst (λ s. Below s (cond in_7 0 k)) (sym e) same
@@ -168,7 +167,7 @@ module _ (service : Service) (tei : ℕ) where
 
     near-gives : Below (acting gives w).near (cond in_7 0 k)
     near-gives =
-        by-event own link.offer (acting gives w).near _ (gives-stands service tei p w.near n own-stands (subst (All AreOctets) near.granted near.octets)) refl refl refl
+        by-event own link.offer (acting gives w).near _ (gives-stands service tei p w.near n own-stands) refl refl refl
 
     near-takes : Below (acting takes w).near (cond in_7 0 k)
     near-takes = subst (λ ways. Below (with_first_of ways w.near) (cond in_7 0 k)) (sym far.stands.way) (taken m.way refl)

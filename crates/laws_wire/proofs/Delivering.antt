@@ -20,7 +20,7 @@ use Rattle.laws_two_links.proofs.Waiting.{nothing-to_send}
 use Rattle.laws_wire.specs.Wire.{Station, Wire, Doing, doing_all, turns, IsStill}
 use Rattle.laws_wire.specs.Call.{calling, IsTalk, confirmed, indicated, data_told}
 use Rattle.laws_wire.specs.Facing as facing
-use Rattle.laws_wire.specs.Facing.{line_of, data_in, data_of, read_as, end_of, ends_of, granted_of, Delivers, CardsDeliver, CallsFace}
+use Rattle.laws_wire.specs.Facing.{line_of, data_in, data_of, read_as, end_of, granted_of, Delivers, CardsDeliver, CallsFace}
 use Rattle.laws_wire.proofs.Again.{faces-again}
 use Rattle.laws_wire.proofs.Run.{still-up, arrived, none-given, way-empty}
 use Rattle.laws_wire.proofs.Spelled.{twice-other}
@@ -48,7 +48,6 @@ module _ (service : Service) (tei : ℕ) where
       record {
         config = refl;
         sound = h.sound;
-        idle = h.idle;
         within = h.within;
         speaks = record {
           placed = h.placed;
@@ -67,7 +66,6 @@ module _ (service : Service) (tei : ℕ) where
   holds s h = record {
     stands = stands s h;
     granted = h.granted;
-    octets = h.octets;
     since = [];
     told = sym (append-nil s.told);
     delivered = sym (append-nil (data_of service tei s));

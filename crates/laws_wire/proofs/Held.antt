@@ -1,7 +1,7 @@
 -- A station in a call in which frames are lost and timers expire: what its layer 3 was granted is what its link accepted, and
 -- layer 3 heard what its link delivered.
 use Rattle.std.proofs.Common.{◌≡◌, ℕ, Bool, true, false, cond, not, ◌&&◌, ◌||◌, ◌==◌, suc, List, [], ◌∷◌, ◌++◌, length, map, Option, Some, None, is_some, refl, sym, ap, subst, ◌∙◌, ◌⊎◌, inl, inr, append-nil, append_assoc, eqb-true, arith}
-use Rattle.std.specs.Prelude.{All, option_to_list, flat_map}
+use Rattle.std.specs.Prelude.{option_to_list, flat_map}
 use Rattle.std.specs.List.{list_any}
 use Rattle.std.specs.Option.{option_or}
 use Rattle.std.proofs.lemmas.Bool.{and_parts, false≢true}
@@ -12,7 +12,7 @@ use Rattle.lapd_frame.specs.declared.notes.Note.{Note}
 use Rattle.lapd_frame.specs.declared.notes.Note.TheVariants as notes
 use Rattle.lapd_frame.specs.declared.services.Service.{Service}
 use Rattle.lapd_frame.specs.declared.timers.Timer.{Timer}
-use Rattle.lapd_frame.specs.Grammar.{Parts, AreOctets, spelling}
+use Rattle.lapd_frame.specs.Grammar.{Parts, spelling}
 use Rattle.model_link.specs.declared.timers.LinkTimer.{LinkTimer}
 use Rattle.model_link.specs.Events as link
 use Rattle.model_link.specs.Machine as links
@@ -21,16 +21,14 @@ use Rattle.model_link.specs.Steps.{Course}
 use Rattle.model_link.specs.TwoEnds.{End, with_link, with_sent}
 use Rattle.model_link.specs.TwoEnds as two_ends
 use Rattle.model_line.specs.declared.config.Config.{Config}
-use Rattle.model_line.specs.Event as line_event
-use Rattle.model_line.specs.Event.{LineTold, nothing}
+use Rattle.model_line.specs.Event.{LineTold, nothing, expiry, request, next}
 use Rattle.model_line.specs.Expiry.{at_timer, aim_of_expiry}
 use Rattle.model_line.specs.Line.{Line, place_in}
 use Rattle.model_line.specs.Request.{Data}
-use Rattle.model_card.specs.Happening.{comes, goes, expires, asks}
-use Rattle.model_card.specs.Said.{Said, says, gives, said}
-use Rattle.laws_wire.specs.Wire.{Station, happens, with_first_lost, tells_nothing, unless_refused}
+use Rattle.laws_wire.specs.Wire.{Station, happens, with_first_lost, tells_nothing, comes}
 use Rattle.laws_wire.specs.Call.{data_told}
 use Rattle.laws_wire.specs.Losing.{for_layer_3, heard_in, is_error, HasNoError}
+use Rattle.laws_wire.proofs.Answered.{gives-told, same-granted, takes-granted}
 use Rattle.laws_wire.proofs.Asking.{with_more}
 use Rattle.laws_wire.proofs.Fair.{HasError}
 use Rattle.laws_wire.proofs.Speaking.{heard_by, said_by}
@@ -113,23 +111,15 @@ not-erred s none h = false≢true (sym (list_any_none tells_error s.told none) �
 
 -- ---- a station and the end for which it stands
 
--- what asks for nothing is granted nothing
-none-granted : (a : Said) → unless_refused a [] ≡ []
-none-granted (says (line_event.told t)) = refl
-none-granted (says (line_event.refused why)) = refl
-none-granted (says (line_event.pulled octet begun orders)) = refl
-none-granted (gives next) = refl
-
 pub record Held (c : Config) (service : Service) (tei place : ℕ) (past : List LineTold) (s : Station) (n : End) : Type 0 where
   pub stands : Stands c service tei place s n
   pub granted : s.granted ≡ n.link.contents
-  pub octets : All AreOctets s.granted
   pub heard : heard_in s ≡ past ++ map (data_told service tei) n.delivered
 
 module _ (service : Service) (tei place : ℕ) (past : List LineTold) (c : Config) (s : Station) (n : End) (h : Held c service tei place past s n) where
   -- what stands for the station, without what it was told
   quiet : Holds c service tei place (record { told = s.told; had = n.delivered }) s n
-  quiet = record { stands = h.stands; granted = h.granted; octets = h.octets; since = []; told = sym (append-nil s.told); delivered = sym (append-nil n.delivered) }
+  quiet = record { stands = h.stands; granted = h.granted; since = []; told = sym (append-nil s.told); delivered = sym (append-nil n.delivered) }
 
   own : Stands s.card.config service tei place s n
   own = subst (λ k. Stands k service tei place s n) (sym h.stands.config) h.stands
@@ -157,20 +147,20 @@ module _ (service : Service) (tei place : ℕ) (past : List LineTold) (c : Confi
       ∙ append_assoc past (map (data_told service tei) n.delivered) (map (data_told service tei) more)
       ∙ ap (λ ts. past ++ ts) (sym (map-append (data_told service tei) n.delivered more))
 
-  pub held-given : (with_sent n).link.contents ≡ n.link.contents → Held c service tei place past (happens (goes s.line) s) (with_sent n)
+  pub held-given : (with_sent n).link.contents ≡ n.link.contents → Held c service tei place past (happens next s) (with_sent n)
   held-given kept =
       let x = holds-given service tei place (record { told = s.told; had = n.delivered }) c s n quiet kept in
-      record { stands = x.stands; granted = x.granted; octets = x.octets; heard = ap (flat_map for_layer_3) (append-nil s.told) ∙ h.heard }
+      record { stands = x.stands; granted = x.granted; heard = ap (flat_map for_layer_3) (gives-told s) ∙ h.heard }
 
   pub held-lost : Held c service tei place past (with_first_lost s) (two_ends.with_first_lost n)
   held-lost =
       let x = holds-lost service tei place (record { told = s.told; had = n.delivered }) c s n quiet in
-      record { stands = x.stands; granted = x.granted; octets = x.octets; heard = h.heard }
+      record { stands = x.stands; granted = x.granted; heard = h.heard }
 
   -- a frame of the other side
   module _ (d : Config) (face : Face c d) (f : Parts) (from : IsCarried d service tei f) where
     abbrev took : Station
-    took = happens (comes s.line (spelling d.side f)) s
+    took = comes (spelling d.side f) s
 
     abbrev x : Course
     x = links.course n.terms (link.received (link.frame f)) n.link
@@ -188,15 +178,14 @@ module _ (service : Service) (tei place : ℕ) (past : List LineTold) (c : Confi
         → Held c service tei place past took (with_link (link.received (link.frame f)) n)
     held-taken tells kept = record {
       stands = it_took.stands;
-      granted = append-nil s.granted ∙ h.granted ∙ sym kept;
-      octets = subst (All AreOctets) (sym (append-nil s.granted)) h.octets;
+      granted = takes-granted (spelling d.side f) s ∙ h.granted ∙ sym kept;
       heard = heard-then took x it_took.told tells;
     }
 
   -- a timer
   module _ (timer : Timer) (its : LinkTimer) (aims : (l : Line) → aim_of_expiry timer l ≡ at_timer service tei its (place_in l tei)) where
     abbrev after : Station
-    after = happens (expires s.line timer) s
+    after = happens (expiry timer) s
 
     pub expired-told : after.told ≡ s.told ++ said_by (links.course n.terms (link.expired its) n.link)
     expired-told = expires-said service tei place s n own timer its aims
@@ -204,11 +193,9 @@ module _ (service : Service) (tei place : ℕ) (past : List LineTold) (c : Confi
     pub held-expired : TellsIt n.terms.service n.terms.tei (links.course n.terms (link.expired its) n.link) → (with_link (link.expired its) n).link.contents ≡ n.link.contents
         → Held c service tei place past after (with_link (link.expired its) n)
     held-expired tells kept =
-        let same : after.granted ≡ s.granted = ap (λ xs. s.granted ++ xs) (none-granted (said s.card (expires s.line timer))) ∙ append-nil s.granted in
         record {
           stands = subst (λ k. Stands k service tei place after (with_link (link.expired its) n)) h.stands.config (expires-stands service tei place s n own timer its aims);
-          granted = same ∙ h.granted ∙ sym kept;
-          octets = subst (All AreOctets) (sym same) h.octets;
+          granted = same-granted (expiry timer) s refl ∙ h.granted ∙ sym kept;
           heard = heard-then after (links.course n.terms (link.expired its) n.link) expired-told tells;
         }
 
@@ -217,17 +204,17 @@ module _ (service : Service) (tei place : ℕ) (past : List LineTold) (c : Confi
     pub none : requests.refusal n.terms n.link false (link.Data octets) ≡ None
     pub held : Held c service tei place past s' (with_more octets n)
 
-  pub held-asked : (octets : List ℕ) → AreOctets octets → (happens (asks s.line (Data service tei octets)) s ≡ s) ⊎ Grants octets (happens (asks s.line (Data service tei octets)) s)
-  held-asked octets are = go (holds-asked service tei place (record { told = s.told; had = n.delivered }) c s n octets are quiet)
+  pub held-asked : (octets : List ℕ) → (happens (request (Data service tei octets)) s ≡ s) ⊎ Grants octets (happens (request (Data service tei octets)) s)
+  held-asked octets = go (holds-asked service tei place (record { told = s.told; had = n.delivered }) c s n octets quiet)
     where
       s' : Station
-      s' = happens (asks s.line (Data service tei octets)) s
+      s' = happens (request (Data service tei octets)) s
 
       go : (s' ≡ s) ⊎ More service tei place (record { told = s.told; had = n.delivered }) c s s' n octets → (s' ≡ s) ⊎ Grants octets s'
       go (inl same) = inl same
       go (inr y) = inr (record {
         none = y.none;
-        held = record { stands = y.holds.stands; granted = y.holds.granted; octets = y.holds.octets; heard = heard-so-far s' y.holds.since y.holds.told ∙ ap (λ xs. past ++ map (data_told service tei) xs) (sym y.holds.delivered) };
+        held = record { stands = y.holds.stands; granted = y.holds.granted; heard = heard-so-far s' y.holds.since y.holds.told ∙ ap (λ xs. past ++ map (data_told service tei) xs) (sym y.holds.delivered) };
       })
 
   -- the first that it hears is its establishment
@@ -237,7 +224,6 @@ module _ (service : Service) (tei place : ℕ) (past : List LineTold) (c : Confi
   held-first first s' n' x none before now stands granted kept told said is = record {
     stands = stands;
     granted = granted ∙ h.granted ∙ sym kept;
-    octets = subst (All AreOctets) (sym granted) h.octets;
     heard =
         ap (flat_map for_layer_3) told ∙ flat_map-append for_layer_3 s.told (said_by x)
         ∙ ap (λ ts. ts ++ flat_map for_layer_3 (said_by x)) (h.heard ∙ ap (λ ts. ts ++ map (data_told service tei) n.delivered) none ∙ ap (map (data_told service tei)) before)

@@ -1,8 +1,8 @@
 -- Lemmas.
+pub mod Answered
 pub mod Asking
 pub mod Speaking
 pub mod Calling
-pub mod Whole
 pub mod Fair
 pub mod Ringing
 pub mod Joint

@@ -1,13 +1,11 @@
 -- A line on which one link alone has anything to say.
-use Rattle.std.proofs.Common.{◌≡◌, ◌≢◌, ℕ, false, ◌<◌, ◌==◌, List, [], ◌∷◌, ◌++◌, map, get_or, set, slice_get, Option, Some, None, option_map, Ok, refl, sym, ap, subst, ◌∙◌, ◌⊎◌, inl, inr, arith, ⊎_elim, if◌then◌else◌}
+use Rattle.std.proofs.Common.{◌≡◌, ◌≢◌, ℕ, false, ◌<◌, ◌==◌, List, [], ◌∷◌, get_or, set, slice_get, Option, Some, None, option_map, Ok, refl, sym, ap, subst, ◌∙◌, ◌⊎◌, inl, inr, arith, ⊎_elim, if◌then◌else◌}
 use Rattle.std.specs.Prelude.{All}
-use Rattle.std.specs.Option.{option_or, unwrap_or}
+use Rattle.std.specs.Option.{option_map_or, option_or, unwrap_or}
 use Rattle.std.proofs.lemmas.Bool.{cases_eq}
 use Rattle.std.proofs.lemmas.List.{get_or-set_same, get_or-set_other}
 use Rattle.std.proofs.lemmas.List.Elements.{All-head, All-tail}
-use Rattle.model_bits.specs.Sent.{frame as framed_item}
 use Rattle.model_bits.specs.Stream as stream
-use Rattle.model_bits.specs.RoundTrip.{IsHeardWhole}
 use Rattle.lapd_frame.specs.declared.services.Service.{Service}
 use Rattle.lapd_frame.specs.declared.services.Service.TheVariants.{Call, Packet}
 use Rattle.lapd_frame.specs.declared.timers.Timer.{Timer}
@@ -22,31 +20,29 @@ use Rattle.model_link.specs.declared.timers.LinkTimer.{LinkTimer}
 use Rattle.model_link.specs.Events as link
 use Rattle.model_link.specs.Link.{Link, fresh}
 use Rattle.model_link.specs.Machine as links
+use Rattle.model_link.specs.Sound as link_sound
 use Rattle.model_link.specs.Told.{Given}
 use Rattle.model_line.specs.declared.config.Config.{Config}
 use Rattle.model_line.specs.Effect.{Aim, at_link, told_of_link, of_aim}
-use Rattle.model_line.specs.Event.{octet, expiry, request, told}
+use Rattle.model_line.specs.Event.{hears, expiry, request, next, told}
 use Rattle.model_line.specs.Expiry.{at_timer, aim_of_expiry}
 use Rattle.model_line.specs.Line.{Line, link_number, service_at, place_at, tei_at, terms, terms_at, link_at, link_in, link_count, place_in}
 use Rattle.model_line.specs.Machine as lines
-use Rattle.model_line.specs.Machine.{unless_refused, unless_refused_told, of_request}
-use Rattle.model_line.specs.Octet.{management_sapi, group_tei, drop_for, at_place, to_service, addressed, message_of, aim_of_heard, aim_of_reading, heard_side}
+use Rattle.model_line.specs.Machine.{unless_refused, unless_refused_told, of_heard, of_request}
+use Rattle.model_line.specs.Heard.{management_sapi, group_tei, drop_for, at_place, to_service, addressed, message_of, aim_of_heard, aim_of_reading, heard_side}
 use Rattle.model_line.specs.Sides.{at_side}
-use Rattle.model_line.specs.Pull.{Taken, with_message, with_unit, unit_taken, with_given_frame, link_taken, first_taken, round, taken}
+use Rattle.model_line.specs.Taken.{Taken, with_message, with_unit, unit_taken, with_given_frame, link_taken, first_taken, round, taken, line_of}
 use Rattle.model_line.specs.Refusal.{refusal}
 use Rattle.model_line.specs.Request.{Request}
 use Rattle.model_line.specs.Requested.{at_requested, aim_of_request}
-use Rattle.model_line.specs.Sound.{IsSound}
-use Rattle.model_line.specs.Whole.{IsIdle, line_octets, came}
-use Rattle.model_line.specs.WholeAtLine.{after_events, pulls_for, of_heard, receiving}
-use Rattle.model_line.proofs.FramesGo.{calls_for}
-use Rattle.model_line.proofs.FramesCome.{frames_come_whole}
-use Rattle.model_line.proofs.FramesGo.{frames_go_whole}
+use Rattle.model_line.specs.Sound.{IsSoundAt, IsSound}
+use Rattle.model_line.specs.Came.{came}
 use Rattle.model_line.proofs.Numbers.{place_at-number, service_at-number, number_within}
-use Rattle.model_line.proofs.PullSound.{round_below}
-use Rattle.laws_two_links.proofs.Waiting.{nothing-given, silent-stays}
-use Rattle.laws_card.proofs.FramesGiven.{link-none}
-use Rattle.laws_wire.proofs.Whole.{came-whole}
+use Rattle.model_line.proofs.TakenSound.{round_below}
+use Rattle.laws_line.specs.Served.{IsSilent}
+use Rattle.laws_line.proofs.Serving.{none-waits}
+use Rattle.laws_line.proofs.Silence.{sends-none}
+use Rattle.laws_two_links.proofs.Waiting.{nothing-given, nothing-to_send, silent-stays}
 
 -- The TEI is on the line, neither a message nor unit data waits, and no other link has anything to give.
 pub record Speaks (c : Config) (service : Service) (tei place : ℕ) (x : Link) (l : Line) : Type 0 where
@@ -73,6 +69,18 @@ module _ (c : Config) (service : Service) (tei place : ℕ) (l : Line) (s : IsSo
   own-terms =
       ap (λ y. terms c y (unwrap_or (tei_at (place_at number) l) 0)) (service_at-number place service)
       ∙ ap (λ p. terms c service (unwrap_or (tei_at p l) 0)) (place_at-number place service) ∙ ap (λ o. terms c service (unwrap_or o 0)) at
+
+  -- the number leads to the link and its terms
+  own-place : tei_at (place_at number) l ≡ Some tei
+  own-place = ap (λ p. tei_at p l) (place_at-number place service) ∙ at
+
+  own : (P : Terms → Link → Type 0) → P (terms c (service_at number) tei) (link_at number l) → P t x
+  own P p = subst (P t) h.link (subst (λ y. P (terms c y tei) (link_at number l)) (service_at-number place service) p)
+
+  none-given : taken c l ≡ None → links.given t x ≡ None
+  none-given none =
+      let sound = own link_sound.IsSound (subst (IsSoundAt c number (link_at number l)) own-place (s.links number few)) in
+      nothing-to_send t x (sends-none t x sound (own IsSilent ((none-waits c l s none).links number few tei own-place)))
 
   own-taken : link_taken c l number ≡ option_map (with_given_frame c l number t) (links.given t x)
   own-taken =
@@ -110,7 +118,9 @@ module _ (c : Config) (service : Service) (tei place : ℕ) (l : Line) (s : IsSo
   pub takes-own : taken c l ≡ option_map (with_given_frame c l number t) (links.given t x)
   takes-own =
       ⊎_elim
-      (λ none. let nothing : taken c l ≡ None = by-round ∙ none in nothing ∙ sym (link-none c l number few nothing) ∙ own-taken)
+      (λ none.
+      let nothing : taken c l ≡ None = by-round ∙ none in
+      nothing ∙ sym (ap (option_map (with_given_frame c l number t)) (none-given nothing)))
       (λ its. by-round ∙ its ∙ own-taken)
       (first-is (round c l) (round_below c l) (link_taken c l number) refl)
 
@@ -128,27 +138,24 @@ module _ (c : Config) (service : Service) (tei place : ℕ) (l : Line) (s : IsSo
   }
 
   -- the next frame is called for
-  pub goes-on : Speaks c service tei place (links.after t link.offer x) (after_events c (pulls_for c l) l)
+  pub goes-on : Speaks c service tei place (links.after t link.offer x) (lines.after c next l)
+  unfolding lines.after
   goes-on = go (links.given t x) refl
     where
-      go : (o : Option Given) → links.given t x ≡ o → Speaks c service tei place (links.after t link.offer x) (after_events c (pulls_for c l) l)
+      go : (o : Option Given) → links.given t x ≡ o → Speaks c service tei place (links.after t link.offer x) (option_map_or line_of (taken c l) l)
       go None none =
           let nothing : taken c l ≡ None = takes-own ∙ ap (λ o. option_map (with_given_frame c l number t) o) none in
-          subst (λ y. Speaks c service tei place y (after_events c (pulls_for c l) l)) (sym (silent-stays t x (nothing-given t x none)))
-          (subst (λ events. Speaks c service tei place x (after_events c events l)) (sym (calls_for c l None nothing)) h)
+          subst (λ y. Speaks c service tei place y (option_map_or line_of (taken c l) l)) (sym (silent-stays t x (nothing-given t x none)))
+          (subst (λ o. Speaks c service tei place x (option_map_or line_of o l)) (sym nothing) h)
       go (Some g) some =
           let own = with_given_frame c l number t g in
           let is : taken c l ≡ Some own = takes-own ∙ ap (λ o. option_map (with_given_frame c l number t) o) some in
-          let whole = frames_go_whole c l own is in
-          let given = l.given ++ (whole.front ++ whole.last ∷ []) in
-          let next : Line = record own.line { items = l.items ++ framed_item own.frame ∷ []; given = given } in
-          let there : after_events c (pulls_for c l) l ≡ next = ap (λ events. after_events c events l) (calls_for c l (Some own) is) ∙ whole.line in
-          subst (λ y. Speaks c service tei place y (after_events c (pulls_for c l) l)) (ap (links.after t link.offer) h.link)
-          (subst (Speaks c service tei place (links.after t link.offer (link_at number l))) (sym there)
-          (with-own (links.after t link.offer (link_at number l)) next refl refl refl))
+          subst (λ y. Speaks c service tei place y (option_map_or line_of (taken c l) l)) (ap (links.after t link.offer) h.link)
+          (subst (λ o. Speaks c service tei place (links.after t link.offer (link_at number l)) (option_map_or line_of o l)) (sym is)
+          (with-own (links.after t link.offer (link_at number l)) own.line refl refl refl))
 
   -- a frame comes that is for it
-  module _ (parts : Parts) (octets : List ℕ) (idle : IsIdle l.received) (whole : IsHeardWhole c.n201 octets) (read : reading (heard_side c) octets ≡ Ok parts)
+  module _ (parts : Parts) (octets : List ℕ) (whole : came c.n201 octets ≡ stream.frame octets) (read : reading (heard_side c) octets ≡ Ok parts)
       (sapi : parts.address.sapi ≡ sapi_of service) (by : parts.address.tei ≡ tei) where
     abbrev event : link.Event
     event = link.received (link.frame parts)
@@ -170,19 +177,18 @@ module _ (c : Config) (service : Service) (tei place : ℕ) (l : Line) (s : IsSo
     aim-is = ap (aim_of_reading c l) read ∙ ap (at_side c parts) (its-address (message_of parts.control parts.info))
 
     heard-is : of_heard c (came c.n201 octets) l ≡ of_aim c (at_link service tei place event) l
-    heard-is = ap (λ e. of_heard c e l) (came-whole c.n201 octets whole) ∙ ap (λ aim. of_aim c aim l) aim-is
+    heard-is = ap (λ e. of_heard c e l) whole ∙ ap (λ aim. of_aim c aim l) aim-is
 
-    pub comes-told : (of_heard c (came c.n201 octets) l).told ≡ told_of_link (links.told t event x)
-    comes-told = ap (λ e. e.told) heard-is ∙ ap (λ y. told_of_link (links.told t event y)) h.link
-
-    pub comes-on : Speaks c service tei place (links.after t event x) (after_events c (map octet (line_octets octets)) l)
+    pub comes-on : Speaks c service tei place (links.after t event x) (lines.after c (hears (came c.n201 octets)) l)
+    unfolding lines.after
     comes-on =
-        let one = frames_come_whole.frames c l octets idle whole.octets_are in
-        let next : Line = receiving (l.received ++ line_octets octets) (of_aim c (at_link service tei place event) l).line in
-        let there : after_events c (map octet (line_octets octets)) l ≡ next = one.line ∙ ap (λ e. receiving (l.received ++ line_octets octets) e.line) heard-is in
-        subst (λ y. Speaks c service tei place y (after_events c (map octet (line_octets octets)) l)) (ap (links.after t event) h.link)
-        (subst (Speaks c service tei place (links.after t event (link_at number l))) (sym there)
-        (with-own (links.after t event (link_at number l)) next refl refl refl))
+        subst (λ y. Speaks c service tei place y (of_heard c (came c.n201 octets) l).line) (ap (links.after t event) h.link)
+        (subst (λ e. Speaks c service tei place (links.after t event (link_at number l)) e.line) (sym heard-is)
+        (with-own (links.after t event (link_at number l)) (of_aim c (at_link service tei place event) l).line refl refl refl))
+
+    pub comes-told : lines.answer c (hears (came c.n201 octets)) l ≡ told (told_of_link (links.told t event x))
+    unfolding lines.answer
+    comes-told = ap (λ e. told e.told) heard-is ∙ ap (λ y. told (told_of_link (links.told t event y))) h.link
 
   -- a request for it is granted
   module _ (r : Request) (asked : link.Request) (aims : aim_of_request r l ≡ at_requested service tei asked (place_in l tei)) (granted : refusal c false r l ≡ None) where

@@ -13,10 +13,10 @@ use Rattle.model_link.proofs.Direction.{frames_of}
 use Rattle.model_line.specs.declared.config.Config.{Config}
 use Rattle.model_line.specs.Event.{LineTold}
 use Rattle.model_line.specs.Line.{terms}
-use Rattle.model_card.specs.Happening.{comes}
-use Rattle.laws_wire.specs.Wire.{Station, Wire, happens, with_first_of, with_first_lost, Act, requests, times_out, gives, takes, loses, acting, turned}
+use Rattle.laws_wire.specs.Wire.{Station, Wire, with_first_of, with_first_lost, Act, requests, times_out, gives, takes, loses, acting, turned, comes}
 use Rattle.laws_wire.specs.Call.{confirmed, indicated}
 use Rattle.laws_wire.specs.Losing.{IsRoughTalkOf}
+use Rattle.laws_wire.proofs.Answered.{takes-granted}
 use Rattle.laws_wire.proofs.Acting.{Acted, up-asks, up-expires, up-gives, up-loses}
 use Rattle.laws_wire.proofs.Calling.{sabme, ua, end, caller}
 use Rattle.laws_wire.proofs.Fair.{HasError, sabme-error}
@@ -65,7 +65,7 @@ module _ (service : Service) (tei : ℕ) (c d : Config) (p q : ℕ) (face : Face
     unheard-by f fs e meant none x =
         let way = first-way service tei d q first_far w.far h.m f fs e h.far.held in
         let i : Ignores t h.repeats h.waiting f = ignores t h.repeats h.waiting f meant.number meant.means in
-        let s' = happens (comes w.near.line (spelling d.side f)) w.near in
+        let s' = comes (spelling d.side f) w.near in
         let event = link.received (link.frame f) in
         let tells : TellsIt service tei (course t event caller_end.link) =
         record {
@@ -83,7 +83,7 @@ module _ (service : Service) (tei : ℕ) (c d : Config) (p q : ℕ) (face : Face
     confirms fs e x =
         let f = ua u in
         let way = first-way service tei d q first_far w.far h.m f fs e h.far.held in
-        let s' = happens (comes w.near.line (spelling d.side f)) w.near in
+        let s' = comes (spelling d.side f) w.near in
         let n' = end t (answered h.repeats h.waiting) h.way in
         let there : Joint x.n n' x.near [] =
         record {
@@ -92,7 +92,7 @@ module _ (service : Service) (tei : ℕ) (c d : Config) (p q : ℕ) (face : Face
         } in
         let held : Held c service tei p first_near s' n' =
         held-first service tei p [] c w.near caller_end h.near (confirmed service tei) s' n' (course t (link.received (link.frame f)) caller_end.link) refl refl refl
-        (taken-stands service tei p [] c w.near caller_end h.near d face f way.1) (append-nil w.near.granted) refl
+        (taken-stands service tei p [] c w.near caller_end h.near d face f way.1) (takes-granted (spelling d.side f) w.near) refl
         (taken-told service tei p [] c w.near caller_end h.near d face f way.1) refl refl in
         subst (λ ways. Leads (record { near = with_first_of ways w.near; far = with_first_lost w.far })) (sym way.0)
         (as-up service tei c d p q (record { near = s'; far = with_first_lost w.far }) (record {
@@ -127,7 +127,7 @@ module _ (service : Service) (tei : ℕ) (c d : Config) (p q : ℕ) (face : Face
 
     pub half-near : (act : Act) → IsRoughTalkOf service tei act → Leads (acting act w)
     half-near (requests r) is =
-        for-data service tei (λ r. Leads (acting (requests r) w)) (λ octets are. half-with _ (rings-asks service tei c p w.near h.repeats h.waiting h.way h.near h.sabmes octets are)) r is
+        for-data service tei (λ r. Leads (acting (requests r) w)) (λ octets. half-with _ (rings-asks service tei c p w.near h.repeats h.waiting h.way h.near h.sabmes octets)) r is
     half-near (times_out timer) is =
         for-timer service tei (λ timer. Leads (acting (times_out timer) w)) (λ timer its aims. half-or _ (rings-expires service tei c p w.near h.repeats h.waiting h.way h.near h.sabmes timer its aims)) timer is
     half-near gives is = half-with _ (rings-gives service tei c p w.near h.repeats h.waiting h.way h.near h.sabmes)
@@ -158,7 +158,7 @@ module _ (service : Service) (tei : ℕ) (c d : Config) (p q : ℕ) (face : Face
     half-hears (f ∷ fs) e =
         let way = first-way service tei c p [] w.near caller_end f fs e h.near in
         let is : f ≡ sabme t = All-head (IsSabme t) f (fs ++ frames_of t h.waiting) (subst (λ way. AreSabmes t way h.waiting) e h.sabmes) in
-        let s' = happens (comes w.far.line (spelling c.side f)) w.far in
+        let s' = comes (spelling c.side f) w.far in
         let x = course h.m.terms (link.received (link.frame f)) h.m.link in
         let error : HasError x.notes = sabme-error h.m.terms h.m.link h.far.up f true (ap (λ y. y.control) is) in
         subst (λ ways. Leads (record { near = with_first_lost w.near; far = with_first_of ways w.far })) (sym way.0)
@@ -167,7 +167,7 @@ module _ (service : Service) (tei : ℕ) (c d : Config) (p q : ℕ) (face : Face
     pub half-far : (act : Act) → IsRoughTalkOf service tei act → Leads (turned (acting act (turned w)))
     half-far (requests r) is =
         for-data service tei (λ r. Leads (turned (acting (requests r) (turned w))))
-        (λ octets are. half-made _ (up-asks service tei q first_far d w.far h.m (end t caller []) h.first h.line [] h.far octets are)) r is
+        (λ octets. half-made _ (up-asks service tei q first_far d w.far h.m (end t caller []) h.first h.line [] h.far octets)) r is
     half-far (times_out timer) is =
         for-timer service tei (λ timer. Leads (turned (acting (times_out timer) (turned w))))
         (λ timer its aims. half-made_or _ (up-expires service tei q first_far d w.far h.m (end t caller []) h.first h.line [] h.far timer its aims)) timer is

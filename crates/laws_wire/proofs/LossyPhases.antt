@@ -6,7 +6,7 @@ use Rattle.std.proofs.lemmas.List.Elements.{All-head}
 use Rattle.lapd_frame.specs.declared.services.Service.{Service}
 use Rattle.lapd_frame.specs.declared.timers.Timer.{Timer}
 use Rattle.lapd_frame.specs.declared.timers.Timer.TheVariants as timers
-use Rattle.lapd_frame.specs.Grammar.{Parts, AreOctets, spelling}
+use Rattle.lapd_frame.specs.Grammar.{Parts, spelling}
 use Rattle.model_link.specs.declared.frames.ControlFrame.{ControlFrame}
 use Rattle.model_link.specs.declared.terms.Terms.{Terms}
 use Rattle.model_link.specs.declared.timers.LinkTimer.{LinkTimer}
@@ -34,8 +34,8 @@ made w s = record { near = w.near; far = s }
 
 module _ (service : Service) (tei : ℕ) where
   -- the requests and timers of a call
-  pub for-data : (P : Request → Type 0) → ((octets : List ℕ) → AreOctets octets → P (Data service tei octets)) → (r : Request) → IsRoughTalkOf service tei (requests r) → P r
-  for-data P own (Data s t octets) is = subst (λ s'. P (Data s' t octets)) (sym is.0) (subst (λ t'. P (Data service t' octets)) (sym is.1) (own octets is.2))
+  pub for-data : (P : Request → Type 0) → ((octets : List ℕ) → P (Data service tei octets)) → (r : Request) → IsRoughTalkOf service tei (requests r) → P r
+  for-data P own (Data s t octets) is = subst (λ s'. P (Data s' t octets)) (sym is.0) (subst (λ t'. P (Data service t' octets)) (sym is.1) (own octets))
   for-data P own (asked.Establish s t) is = absurd is
   for-data P own (asked.Release s t) is = absurd is
   for-data P own (asked.Unit s t octets) is = absurd is
@@ -61,13 +61,10 @@ module _ (service : Service) (tei : ℕ) where
   first-way k place past s n f fs e h =
       (h.stands.way ∙ ap (map (spelling k.side)) e, All-head (IsCarried k service tei) f fs (subst (All (IsCarried k service tei)) e h.stands.carried))
 
-  -- where none is on its way none is taken, and none is lost
+  -- where none is on its way
   module _ (k : Config) (place : ℕ) (past : List LineTold) (s : Station) (n : End) (h : Held k service tei place past s n) (none : n.way ≡ []) where
     pub empty : s.way ≡ []
     empty = h.stands.way ∙ ap (map (spelling k.side)) none
-
-    same-lost : with_first_lost s ≡ s
-    same-lost = λ i. record s { way = (ap (drop 1) empty ∙ sym empty) i }
 
   module _ (c d : Config) (p q : ℕ) where
     abbrev t : Terms

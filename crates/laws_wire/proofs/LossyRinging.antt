@@ -1,8 +1,8 @@
 -- The first phase of such a call: one end rings, and the other is down.
-use Rattle.std.proofs.Common.{◌≡◌, ℕ, false, List, [], ◌∷◌, ◌++◌, map, drop, None, refl, sym, ap, subst, ◌∙◌, ◌⊎◌, inl, inr, append-nil, arith}
+use Rattle.std.proofs.Common.{◌≡◌, ℕ, false, List, [], ◌∷◌, ◌++◌, map, drop, None, refl, sym, ap, subst, ◌∙◌, ◌⊎◌, inl, inr, arith}
 use Rattle.std.proofs.lemmas.List.Elements.{All-head}
 use Rattle.lapd_frame.specs.declared.services.Service.{Service}
-use Rattle.lapd_frame.specs.Grammar.{Parts, AreOctets, spelling}
+use Rattle.lapd_frame.specs.Grammar.{Parts, spelling}
 use Rattle.model_link.specs.declared.terms.Terms.{Terms}
 use Rattle.model_link.specs.Events as link
 use Rattle.model_link.specs.Link.{fresh}
@@ -12,13 +12,13 @@ use Rattle.model_link.specs.Sound.{IsInRange}
 use Rattle.model_link.specs.TwoEnds.{with_link}
 use Rattle.model_link.proofs.Direction.{frames_of}
 use Rattle.model_line.specs.declared.config.Config.{Config}
-use Rattle.model_line.specs.Event.{LineTold}
+use Rattle.model_line.specs.Event.{LineTold, request}
 use Rattle.model_line.specs.Line.{terms}
 use Rattle.model_line.specs.Request.{Data}
-use Rattle.model_card.specs.Happening.{comes, asks}
-use Rattle.laws_wire.specs.Wire.{Station, Wire, happens, with_first_of, with_first_lost, Act, requests, times_out, gives, takes, loses, acting, turned}
+use Rattle.laws_wire.specs.Wire.{Station, Wire, happens, with_first_of, with_first_lost, Act, requests, times_out, gives, takes, loses, acting, turned, comes}
 use Rattle.laws_wire.specs.Call.{confirmed, indicated}
 use Rattle.laws_wire.specs.Losing.{IsRoughTalkOf}
+use Rattle.laws_wire.proofs.Answered.{takes-granted}
 use Rattle.laws_wire.proofs.Calling.{sabme, ua, end, caller, answering, takes-sabme, told-of-sabme}
 use Rattle.laws_wire.proofs.Held.{Held, Erred, held-given, held-lost, held-first, taken-told, taken-stands, held-expired, Grants, held-asked}
 use Rattle.laws_wire.proofs.Joint.{Joint}
@@ -54,7 +54,7 @@ module _ (service : Service) (tei : ℕ) (c d : Config) (p q : ℕ) (face : Face
 
     pub ringing-near : (act : Act) → IsRoughTalkOf service tei act → Leads (acting act w)
     ringing-near (requests r) is =
-        for-data service tei (λ r. Leads (acting (requests r) w)) (λ octets are. ringing-with _ (rings-asks service tei c p w.near h.repeats h.waiting h.way h.near h.sabmes octets are)) r is
+        for-data service tei (λ r. Leads (acting (requests r) w)) (λ octets. ringing-with _ (rings-asks service tei c p w.near h.repeats h.waiting h.way h.near h.sabmes octets)) r is
     ringing-near (times_out timer) is =
         for-timer service tei (λ timer. Leads (acting (times_out timer) w)) (λ timer its aims. ringing-or _ (rings-expires service tei c p w.near h.repeats h.waiting h.way h.near h.sabmes timer its aims)) timer is
     ringing-near gives is = ringing-with _ (rings-gives service tei c p w.near h.repeats h.waiting h.way h.near h.sabmes)
@@ -65,11 +65,11 @@ module _ (service : Service) (tei : ℕ) (c d : Config) (p q : ℕ) (face : Face
     down-with : (s : Station) → Held d service tei q [] s (end u fresh []) → Leads (made w s)
     down-with s x = inl (inl (record { repeats = h.repeats; waiting = h.waiting; way = h.way; near = h.near; far = x; sabmes = h.sabmes }))
 
-    down-asks : (octets : List ℕ) → AreOctets octets → Leads (made w (happens (asks w.far.line (Data service tei octets)) w.far))
-    down-asks octets are = go (held-asked service tei q [] d w.far (end u fresh []) h.far octets are)
+    down-asks : (octets : List ℕ) → Leads (made w (happens (request (Data service tei octets)) w.far))
+    down-asks octets = go (held-asked service tei q [] d w.far (end u fresh []) h.far octets)
       where
         s' : Station
-        s' = happens (asks w.far.line (Data service tei octets)) w.far
+        s' = happens (request (Data service tei octets)) w.far
 
         go : (s' ≡ w.far) ⊎ Grants service tei q [] d w.far (end u fresh []) h.far octets s' → Leads (made w s')
         go (inl same) = subst (λ s. Leads (made w s)) (sym same) (inl (inl h))
@@ -84,7 +84,7 @@ module _ (service : Service) (tei : ℕ) (c d : Config) (p q : ℕ) (face : Face
       its_way = first-way service tei c p [] w.near (end t (ringing h.repeats h.waiting) h.way) call fs e h.near
 
       abbrev reached : Station
-      reached = happens (comes w.far.line (spelling c.side call)) w.far
+      reached = comes (spelling c.side call) w.far
 
       becomes : with_link (link.received (link.frame call)) (end u fresh []) ≡ end u answering []
       becomes = ap (λ y. end u y []) (takes-sabme u ru t)
@@ -92,7 +92,7 @@ module _ (service : Service) (tei : ℕ) (c d : Config) (p q : ℕ) (face : Face
       answered_by : Held d service tei q first_far reached (end u answering [])
       answered_by =
           held-first service tei q [] d w.far (end u fresh []) h.far (indicated service tei) reached (end u answering []) (course u (link.received (link.frame call)) fresh) refl refl refl
-          (subst (Stands d service tei q reached) becomes (taken-stands service tei q [] d w.far (end u fresh []) h.far c back call its_way.1)) (append-nil w.far.granted) refl
+          (subst (Stands d service tei q reached) becomes (taken-stands service tei q [] d w.far (end u fresh []) h.far c back call its_way.1)) (takes-granted (spelling c.side call) w.far) refl
           (taken-told service tei q [] d w.far (end u fresh []) h.far c back call its_way.1) (told-of-sabme u ru t) refl
 
       first-joint : Joint (end u answering []) (end t caller []) [] []

@@ -106,7 +106,6 @@ pub from-nothing : (k : Config) (service : Service) (tei place : ℕ) (s : Stati
 from-nothing k service tei place s n h none = record {
   stands = h.stands;
   granted = h.granted;
-  octets = h.octets;
   heard = ap (flat_map for_layer_3) (none-told k service tei place [] s n h none) ∙ sym (ap (map (data_told service tei)) none);
 }
 

@@ -8,14 +8,13 @@ use Rattle.model_link.specs.declared.terms.Terms.{Terms}
 use Rattle.model_link.specs.Events as link
 use Rattle.model_link.specs.Machine.{course}
 use Rattle.model_link.specs.Sound.{IsInRange}
-use Rattle.model_link.specs.TwoEnds.{End, with_link, with_sent}
+use Rattle.model_link.specs.TwoEnds.{End}
 use Rattle.model_link.specs.TwoEnds as two_ends
 use Rattle.model_link.proofs.Direction.{frames_of}
 use Rattle.model_line.specs.declared.config.Config.{Config}
 use Rattle.model_line.specs.Event.{LineTold}
 use Rattle.model_line.specs.Line.{terms}
-use Rattle.model_card.specs.Happening.{comes}
-use Rattle.laws_wire.specs.Wire.{Station, Wire, happens, with_first_of, with_first_lost, Act, requests, times_out, gives, takes, loses, acting, turned}
+use Rattle.laws_wire.specs.Wire.{Station, Wire, with_first_of, with_first_lost, Act, requests, times_out, gives, takes, loses, acting, turned, comes}
 use Rattle.laws_wire.specs.Call.{confirmed, indicated}
 use Rattle.laws_wire.specs.Losing.{IsRoughTalkOf}
 use Rattle.laws_wire.proofs.Acting.{First, Before, which, UpAt, Acted, ranges, up-asks, up-expires, up-gives, up-loses, up-hears}
@@ -83,7 +82,7 @@ module _ (service : Service) (tei : ℕ) (c d : Config) (p q : ℕ) (face : Face
     near-hears : (f : Parts) (fs : List Parts) → h.m.way ≡ f ∷ fs → (here : List Parts) → h.here ≡ f ∷ here → fs ++ frames_of h.m.terms h.m.link.waiting ≡ here → Leads (acting takes w)
     near-hears f fs e here is rest =
         let way = first-way service tei d q first_far w.far h.m f fs e h.far.held in
-        let s' = happens (comes w.near.line (spelling d.side f)) w.near in
+        let s' = comes (spelling d.side f) w.near in
         let at : UpAt service tei p first_near c w.near h.n h.m h.first h.there (f ∷ here) = subst (λ xs. UpAt service tei p first_near c w.near h.n h.m h.first h.there xs) is h.near in
         subst (λ ways. Leads (record { near = with_first_of ways w.near; far = with_first_lost w.far })) (sym way.0)
         (go s' (up-hears service tei p first_near c d face w.near h.n h.m f h.first h.there here at way.1 (ranges service tei q first_far d w.far h.m h.far.held)))
@@ -114,7 +113,7 @@ module _ (service : Service) (tei : ℕ) (c d : Config) (p q : ℕ) (face : Face
         → Leads (turned (acting takes (turned w)))
     far-hears f fs e none there is rest =
         let way = first-way service tei c p first_near w.near h.n f fs e h.near.held in
-        let s' = happens (comes w.far.line (spelling c.side f)) w.far in
+        let s' = comes (spelling c.side f) w.far in
         let at : UpAt service tei q first_far d w.far h.m h.n [] h.here (f ∷ there) = subst (λ xs. UpAt service tei q first_far d w.far h.m h.n [] h.here xs) is h.far in
         subst (λ ways. Leads (record { near = with_first_lost w.near; far = with_first_of ways w.far })) (sym way.0)
         (go s' (up-hears service tei q first_far d c back w.far h.m h.n f [] h.here there at way.1 (ranges service tei p first_near c w.near h.n h.near.held)))
@@ -145,7 +144,7 @@ module _ (service : Service) (tei : ℕ) (c d : Config) (p q : ℕ) (face : Face
     far-errs : (f : Parts) (fs : List Parts) → h.n.way ≡ f ∷ fs → f ≡ sabme t → Leads (turned (acting takes (turned w)))
     far-errs f fs e is =
         let way = first-way service tei c p first_near w.near h.n f fs e h.near.held in
-        let s' = happens (comes w.far.line (spelling c.side f)) w.far in
+        let s' = comes (spelling c.side f) w.far in
         let x = course h.m.terms (link.received (link.frame f)) h.m.link in
         let error : HasError x.notes = sabme-error h.m.terms h.m.link h.far.up f true (ap (λ y. y.control) is) in
         subst (λ ways. Leads (record { near = with_first_lost w.near; far = with_first_of ways w.far })) (sym way.0)
@@ -188,7 +187,7 @@ module _ (service : Service) (tei : ℕ) (c d : Config) (p q : ℕ) (face : Face
     pub up-near_acts : (act : Act) → IsRoughTalkOf service tei act → Leads (acting act w)
     up-near_acts (requests r) is =
         for-data service tei (λ r. Leads (acting (requests r) w))
-        (λ octets are. up-near w h _ h.first h.sabmes (up-asks service tei p first_near c w.near h.n h.m h.first h.there h.here h.near octets are)) r is
+        (λ octets. up-near w h _ h.first h.sabmes (up-asks service tei p first_near c w.near h.n h.m h.first h.there h.here h.near octets)) r is
     up-near_acts (times_out timer) is =
         for-timer service tei (λ timer. Leads (acting (times_out timer) w))
         (λ timer its aims. up-near_or w h _ (up-expires service tei p first_near c w.near h.n h.m h.first h.there h.here h.near timer its aims)) timer is
@@ -199,7 +198,7 @@ module _ (service : Service) (tei : ℕ) (c d : Config) (p q : ℕ) (face : Face
     pub up-far_acts : (act : Act) → IsRoughTalkOf service tei act → Leads (turned (acting act (turned w)))
     up-far_acts (requests r) is =
         for-data service tei (λ r. Leads (turned (acting (requests r) (turned w))))
-        (λ octets are. up-far w h _ (up-asks service tei q first_far d w.far h.m h.n [] h.here h.there h.far octets are)) r is
+        (λ octets. up-far w h _ (up-asks service tei q first_far d w.far h.m h.n [] h.here h.there h.far octets)) r is
     up-far_acts (times_out timer) is =
         for-timer service tei (λ timer. Leads (turned (acting (times_out timer) (turned w))))
         (λ timer its aims. up-far_or w h _ (up-expires service tei q first_far d w.far h.m h.n [] h.here h.there h.far timer its aims)) timer is

@@ -1,8 +1,8 @@
 -- A call from its beginning: SABME waits, then it is on its way, then UA waits, then UA is on its way, and then both links are up.
-use Rattle.std.proofs.Common.{◌≡◌, ℕ, ◌+◌, ◌*◌, ◌≤◌, false, List, [], ◌∷◌, ◌++◌, length, None, refl, sym, ap, subst, ◌∙◌, ◌⊎◌, inl, inr, append-nil, arith}
-use Rattle.std.specs.Prelude.{All, if◌then◌else◌}
+use Rattle.std.proofs.Common.{◌≡◌, ℕ, ◌+◌, ◌*◌, ◌≤◌, false, List, [], ◌∷◌, ◌++◌, length, None, refl, sym, ap, subst, ◌∙◌, ◌⊎◌, inl, inr, arith}
+use Rattle.std.specs.Prelude.{if◌then◌else◌}
 use Rattle.lapd_frame.specs.declared.services.Service.{Service}
-use Rattle.lapd_frame.specs.Grammar.{AreOctets, spelling}
+use Rattle.lapd_frame.specs.Grammar.{spelling}
 use Rattle.model_link.specs.declared.terms.Terms.{Terms}
 use Rattle.model_link.specs.Events as link
 use Rattle.model_link.specs.Link.{fresh}
@@ -13,19 +13,19 @@ use Rattle.model_link.specs.TwoEnds.{End, with_link, with_sent}
 use Rattle.model_line.specs.declared.config.Config.{Config}
 use Rattle.model_line.specs.Line.{terms}
 use Rattle.model_line.specs.Request.{Data}
-use Rattle.model_card.specs.Happening.{comes, goes, asks}
-use Rattle.model_card.specs.Said.{said}
+use Rattle.model_line.specs.Event.{request, next}
 use Rattle.laws_two_links.specs.AnyOrder.{weight_at}
 use Rattle.laws_two_links.proofs.AnyOrderRuns.{Pair}
-use Rattle.laws_wire.specs.Wire.{Station, Wire, happens, frames_by, with_first_of, Act, requests, times_out, gives, takes, loses, Doing, at_near, at_far, acting, turned, doing, is_turn_of, is_turn}
+use Rattle.laws_wire.specs.Wire.{Station, Wire, happens, frames_by, with_first_of, Act, requests, times_out, gives, takes, loses, Doing, at_near, at_far, acting, turned, doing, is_turn_of, is_turn, answered, comes}
 use Rattle.laws_wire.specs.Call.{IsTalkOf, IsTalk, confirmed, indicated}
+use Rattle.laws_wire.proofs.Answered.{gives-granted, takes-granted}
 use Rattle.laws_wire.proofs.Asking.{with_more}
 use Rattle.laws_wire.proofs.Calling.{sabme, ua, asked, awaiting, caller, called, takes-sabme, told-of-sabme, told-of-ua, end, none-granted-asked, none-granted-awaiting, none-granted-fresh, first-pair, with_ua_waiting, with_ua_first, sends-ua}
 use Rattle.laws_wire.proofs.Speaking.{said_by}
 use Rattle.laws_wire.proofs.Standing.{Stands}
 use Rattle.laws_wire.proofs.Talking.{Face, Past, unheard, after_note, Holds, none-told, holds-given, holds-lost, takes as takes_frame, Took, fits, More, holds-asked}
 use Rattle.laws_wire.proofs.Quiet.{one-at-most, Both, turned-both, first-way, frames-are, same-count, quiet-gives, quiet-takes, for-data, quiet-requests}
-use Rattle.laws_wire.proofs.Up.{pair_of, turned-pair, turn_of, end-gives, more-pair, granted_of, same-length, one-longer, Talk, does}
+use Rattle.laws_wire.proofs.Up.{pair_of, turned-pair, turn_of, end-gives, more-pair, granted_of, one-longer, Talk, does}
 
 module _ (service : Service) (tei : ℕ) where
   -- ---- the phases
@@ -92,7 +92,7 @@ module _ (service : Service) (tei : ℕ) where
         record {
           weight = 3;
           goes = inr (inl (record { both = record { near = sent; far = h.both.far }; is = refl }));
-          price = lower _ weight 3 (granted_of w) _ (one-at-most (frames_by (said w.near.card (goes w.near.line)))) h.is (same-count service tei c d p q unheard unheard w (end t asked []) (end u fresh []) h.both);
+          price = lower _ weight 3 (granted_of w) _ (one-at-most (frames_by (answered next w.near))) h.is (same-count service tei c d p q unheard unheard w (end t asked []) (end u fresh []) h.both);
         }
     from-waiting-near takes is w weight h =
         let x = quiet-takes service tei c d p q unheard unheard w (end t asked []) (end u fresh []) h.both refl in
@@ -135,14 +135,13 @@ module _ (service : Service) (tei : ℕ) where
         let f = sabme t in
         let way = first-way service tei c p unheard w.near (end t awaiting (f ∷ [])) f [] refl h.both.near in
         let s = w.far in
-        let same : with_first_of w.near.way s ≡ happens (comes s.line (spelling c.side f)) s = ap (λ way. with_first_of way s) way.0 in
+        let same : with_first_of w.near.way s ≡ comes (spelling c.side f) s = ap (λ way. with_first_of way s) way.0 in
         let x : Took service tei q unheard d s (end u fresh []) (spelling c.side f) f = takes_frame service tei q unheard d c back s (end u fresh []) f h.both.far.stands way.1 in
         let is : with_link (link.received (link.frame f)) (end u fresh []) ≡ with_ua_waiting (end u called []) = ap (λ y. end u y []) (takes-sabme u ru t) in
-        let far : Holds d service tei q (after_note (indicated service tei)) (happens (comes s.line (spelling c.side f)) s) (with_ua_waiting (end u called [])) =
+        let far : Holds d service tei q (after_note (indicated service tei)) (comes (spelling c.side f) s) (with_ua_waiting (end u called [])) =
         record {
-          stands = subst (Stands d service tei q (happens (comes s.line (spelling c.side f)) s)) is x.stands;
-          granted = append-nil s.granted ∙ h.both.far.granted;
-          octets = subst (All AreOctets) (sym (append-nil s.granted)) h.both.far.octets;
+          stands = subst (Stands d service tei q (comes (spelling c.side f) s)) is x.stands;
+          granted = takes-granted (spelling c.side f) s ∙ h.both.far.granted;
           since = [];
           told = x.told ∙ ap (λ ts. ts ++ said_by (course u (link.received (link.frame f)) fresh)) (none-told d service tei q [] s (end u fresh []) h.both.far refl) ∙ told-of-sabme u ru t;
           delivered = refl;
@@ -161,7 +160,7 @@ module _ (service : Service) (tei : ℕ) where
           })));
           price =
               lower _ weight 2 (granted_of w) _ (one-at-most w.near.way) h.is
-              (ap (λ (s' : Station). length w.near.granted + length s'.granted) same ∙ ap (λ k. length w.near.granted + k) (same-length s.granted));
+              (ap (λ (s' : Station). length w.near.granted + length s'.granted) same ∙ ap (λ xs. length w.near.granted + length xs) (takes-granted (spelling c.side f) s));
         }
 
     from-called-far : (act : Act) → IsTalkOf service tei act → (w : Wire) (weight : ℕ) → IsCalled w weight → Stepped w (turned (acting act (turned w))) weight (if is_turn_of act (turned w) then 1 else 0)
@@ -210,12 +209,12 @@ module _ (service : Service) (tei : ℕ) where
         pair : Pair (pair_of (end t caller []) (with_more octets m))
         heavier : one_up (with_more octets m) ≡ one_up m + 4
 
-      far-asks : (octets : List ℕ) → AreOctets octets
-          → (happens (asks w.far.line (Data service tei octets)) w.far ≡ w.far) ⊎ Asks octets (happens (asks w.far.line (Data service tei octets)) w.far)
-      far-asks octets are = go (holds-asked service tei q called_first d w.far (waits m) octets are holds)
+      far-asks : (octets : List ℕ)
+          → (happens (request (Data service tei octets)) w.far ≡ w.far) ⊎ Asks octets (happens (request (Data service tei octets)) w.far)
+      far-asks octets = go (holds-asked service tei q called_first d w.far (waits m) octets holds)
         where
           s' : Station
-          s' = happens (asks w.far.line (Data service tei octets)) w.far
+          s' = happens (request (Data service tei octets)) w.far
 
           go : (s' ≡ w.far) ⊎ More service tei q called_first d w.far s' (waits m) octets → (s' ≡ w.far) ⊎ Asks octets s'
           go (inl same) = inl same
@@ -226,11 +225,11 @@ module _ (service : Service) (tei : ℕ) where
               let y = more-pair octets m (end t caller []) (turned-pair (end t caller []) m up) small none in
               inr (record { more = x; pair = turned-pair (with_more octets m) (end t caller []) y.pair; heavier = up-more (weight_at (end t caller [])) (weight_at m) (weight_at (with_more octets m)) y.heavier })
 
-    answered-asks : (w : Wire) (weight : ℕ) → IsAnswered w weight → (octets : List ℕ) → AreOctets octets → Stepped w (made w (happens (asks w.far.line (Data service tei octets)) w.far)) weight 0
-    answered-asks w weight h octets are = go (far-asks w h.m h.pair with_ua_waiting refl (λ octets. refl) h.both.far octets are)
+    answered-asks : (w : Wire) (weight : ℕ) → IsAnswered w weight → (octets : List ℕ) → Stepped w (made w (happens (request (Data service tei octets)) w.far)) weight 0
+    answered-asks w weight h octets = go (far-asks w h.m h.pair with_ua_waiting refl (λ octets. refl) h.both.far octets)
       where
         s' : Station
-        s' = happens (asks w.far.line (Data service tei octets)) w.far
+        s' = happens (request (Data service tei octets)) w.far
 
         go : (s' ≡ w.far) ⊎ Asks w h.m h.pair with_ua_waiting refl (λ octets. refl) h.both.far octets s' → Stepped w (made w s') weight 0
         go (inl same) =
@@ -244,7 +243,7 @@ module _ (service : Service) (tei : ℕ) where
               (ap length x.more.granted ∙ one-longer w.far.granted octets);
         }
 
-    answered-gives : (w : Wire) (weight : ℕ) → IsAnswered w weight → Stepped w (made w (happens (goes w.far.line) w.far)) weight (turn_of (frames_by (said w.far.card (goes w.far.line))))
+    answered-gives : (w : Wire) (weight : ℕ) → IsAnswered w weight → Stepped w (made w (happens next w.far)) weight (turn_of (frames_by (answered next w.far)))
     answered-gives w weight h =
         let form = sends-ua h.m h.pair.far h.none in
         let sent = holds-given service tei q called_first d w.far (with_ua_waiting h.m) h.both.far (ap (λ (x : End). x.link.contents) form) in
@@ -252,19 +251,19 @@ module _ (service : Service) (tei : ℕ) where
           weight = 1 + one_up h.m;
           goes = inr (inr (inr (inl (record {
             m = h.m;
-            both = record { near = h.both.near; far = subst (Holds d service tei q called_first (happens (goes w.far.line) w.far)) form sent };
+            both = record { near = h.both.near; far = subst (Holds d service tei q called_first (happens next w.far)) form sent };
             pair = h.pair;
             is = refl;
           }))));
           price =
-              lower _ weight (1 + one_up h.m) (granted_of w) _ (one-at-most (frames_by (said w.far.card (goes w.far.line)))) (h.is ∙ omega arith)
-              (ap (λ k. length w.near.granted + k) (same-length w.far.granted));
+              lower _ weight (1 + one_up h.m) (granted_of w) _ (one-at-most (frames_by (answered next w.far))) (h.is ∙ omega arith)
+              (ap (λ xs. length w.near.granted + length xs) (gives-granted w.far));
         }
 
     from-answered-far : (act : Act) → IsTalkOf service tei act → (w : Wire) (weight : ℕ) → IsAnswered w weight → Stepped w (turned (acting act (turned w))) weight (if is_turn_of act (turned w) then 1 else 0)
     from-answered-far (requests r) is w weight h =
         for-data service tei d c q p called_first unheard (turned w) (with_ua_waiting h.m) (end t awaiting []) (turned-both service tei c d p q unheard called_first w _ _ h.both)
-        (λ r. Stepped w (made w (happens (asks w.far.line r) w.far)) weight 0) (answered-asks w weight h) r is
+        (λ r. Stepped w (made w (happens (request r) w.far)) weight 0) (answered-asks w weight h) r is
     from-answered-far gives is w weight h = answered-gives w weight h
     from-answered-far takes is w weight h =
         let x = quiet-takes service tei d c q p called_first unheard (turned w) (with_ua_waiting h.m) (end t awaiting []) (turned-both service tei c d p q unheard called_first w _ _ h.both) refl in
@@ -279,13 +278,12 @@ module _ (service : Service) (tei : ℕ) where
         let f = ua h.m.terms in
         let way = first-way service tei d q called_first w.far (with_ua_first h.m) f h.m.way refl h.both.far in
         let s = w.near in
-        let same : with_first_of w.far.way s ≡ happens (comes s.line (spelling d.side f)) s = ap (λ way. with_first_of way s) way.0 in
+        let same : with_first_of w.far.way s ≡ comes (spelling d.side f) s = ap (λ way. with_first_of way s) way.0 in
         let x : Took service tei p unheard c s (end t awaiting []) (spelling d.side f) f = takes_frame service tei p unheard c d face s (end t awaiting []) f h.both.near.stands way.1 in
-        let near : Holds c service tei p (after_note (confirmed service tei)) (happens (comes s.line (spelling d.side f)) s) (end t caller []) =
+        let near : Holds c service tei p (after_note (confirmed service tei)) (comes (spelling d.side f) s) (end t caller []) =
         record {
           stands = x.stands;
-          granted = append-nil s.granted ∙ h.both.near.granted;
-          octets = subst (All AreOctets) (sym (append-nil s.granted)) h.both.near.octets;
+          granted = takes-granted (spelling d.side f) s ∙ h.both.near.granted;
           since = [];
           told = x.told ∙ ap (λ ts. ts ++ said_by (course t (link.received (link.frame f)) awaiting)) (none-told c service tei p [] s (end t awaiting []) h.both.near refl) ∙ told-of-ua t rt h.m.terms;
           delivered = refl;
@@ -304,7 +302,7 @@ module _ (service : Service) (tei : ℕ) where
           }))));
           price =
               lower _ weight (one_up h.m) (granted_of w) _ (one-at-most w.far.way) h.is
-              (ap (λ (s' : Station). length s'.granted + length w.far.granted) same ∙ ap (λ k. k + length w.far.granted) (same-length s.granted));
+              (ap (λ (s' : Station). length s'.granted + length w.far.granted) same ∙ ap (λ xs. length xs + length w.far.granted) (takes-granted (spelling d.side f) s));
         }
 
     from-awaited-near : (act : Act) → IsTalkOf service tei act → (w : Wire) (weight : ℕ) → IsAwaited w weight → Stepped w (acting act w) weight (if is_turn_of act w then 1 else 0)
@@ -318,11 +316,11 @@ module _ (service : Service) (tei : ℕ) where
     from-awaited-near (times_out timer) is w weight h = absurd is
     from-awaited-near loses is w weight h = absurd is
 
-    awaited-asks : (w : Wire) (weight : ℕ) → IsAwaited w weight → (octets : List ℕ) → AreOctets octets → Stepped w (made w (happens (asks w.far.line (Data service tei octets)) w.far)) weight 0
-    awaited-asks w weight h octets are = go (far-asks w h.m h.pair with_ua_first refl (λ octets. refl) h.both.far octets are)
+    awaited-asks : (w : Wire) (weight : ℕ) → IsAwaited w weight → (octets : List ℕ) → Stepped w (made w (happens (request (Data service tei octets)) w.far)) weight 0
+    awaited-asks w weight h octets = go (far-asks w h.m h.pair with_ua_first refl (λ octets. refl) h.both.far octets)
       where
         s' : Station
-        s' = happens (asks w.far.line (Data service tei octets)) w.far
+        s' = happens (request (Data service tei octets)) w.far
 
         go : (s' ≡ w.far) ⊎ Asks w h.m h.pair with_ua_first refl (λ octets. refl) h.both.far octets s' → Stepped w (made w s') weight 0
         go (inl same) =
@@ -339,7 +337,7 @@ module _ (service : Service) (tei : ℕ) where
     given-price : (b before a x x' g g' h : ℕ) → before ≡ 1 + (a + x) → b + x' ≤ x → g' ≡ g → b + (1 + (a + x')) + 4 * (h + g) ≤ before + 4 * (h + g')
     given-price b before a x x' g g' h is e same = omega (arith, is, e, same)
 
-    awaited-gives : (w : Wire) (weight : ℕ) → IsAwaited w weight → Stepped w (made w (happens (goes w.far.line) w.far)) weight (turn_of (frames_by (said w.far.card (goes w.far.line))))
+    awaited-gives : (w : Wire) (weight : ℕ) → IsAwaited w weight → Stepped w (made w (happens next w.far)) weight (turn_of (frames_by (answered next w.far)))
     awaited-gives w weight h =
         let side = w.far.card.config.side in
         let m = h.m in
@@ -356,13 +354,13 @@ module _ (service : Service) (tei : ℕ) where
           }))));
           price =
               given-price _ weight (weight_at (end t caller [])) (weight_at m) (weight_at (with_sent m)) (length w.far.granted) _ (length w.near.granted) h.is
-              (subst (λ b. b + weight_at (with_sent m) ≤ weight_at m) (sym turn-is) x.price) (same-length w.far.granted);
+              (subst (λ b. b + weight_at (with_sent m) ≤ weight_at m) (sym turn-is) x.price) (ap length (gives-granted w.far));
         }
 
     from-awaited-far : (act : Act) → IsTalkOf service tei act → (w : Wire) (weight : ℕ) → IsAwaited w weight → Stepped w (turned (acting act (turned w))) weight (if is_turn_of act (turned w) then 1 else 0)
     from-awaited-far (requests r) is w weight h =
         for-data service tei d c q p called_first unheard (turned w) (with_ua_first h.m) (end t awaiting []) (turned-both service tei c d p q unheard called_first w _ _ h.both)
-        (λ r. Stepped w (made w (happens (asks w.far.line r) w.far)) weight 0) (awaited-asks w weight h) r is
+        (λ r. Stepped w (made w (happens (request r) w.far)) weight 0) (awaited-asks w weight h) r is
     from-awaited-far gives is w weight h = awaited-gives w weight h
     from-awaited-far takes is w weight h =
         let x = quiet-takes service tei d c q p called_first unheard (turned w) (with_ua_first h.m) (end t awaiting []) (turned-both service tei c d p q unheard called_first w _ _ h.both) refl in

@@ -1,12 +1,10 @@
 -- The premises of the laws are met: by the worked conversation, after which no turn is left, and by one that loses frames.
-use Rattle.std.proofs.Common.{◌≡◌, ℕ, ◌<◌, false, List, [], ◌∷◌, refl, sym, subst, arith}
+use Rattle.std.proofs.Common.{◌≡◌, false, List, [], ◌∷◌, refl, sym, subst, arith}
 use Rattle.std.specs.Prelude.{All}
 use Rattle.std.specs.List.{list_any}
 use Rattle.std.proofs.lemmas.List.Elements.{All-nil, All-cons}
-use Rattle.model_bits.specs.Bits.{low_bits}
 use Rattle.lapd_frame.specs.declared.services.Service.TheVariants.{Call}
 use Rattle.lapd_frame.specs.declared.timers.Timer.TheVariants.{T200}
-use Rattle.lapd_frame.specs.Grammar.{AreOctets}
 use Rattle.lapd_frame.specs.Reading.{reading, header_of, control_of, unnumbered_of, supervisory_of}
 use Rattle.lapd_seq.specs.Circle.{distance_of, named}
 use Rattle.lapd_seq.specs.Numbers.{seq}
@@ -14,7 +12,6 @@ use Rattle.lapd_tei.specs.Events as teis
 use Rattle.model_line.specs.Event.{LineTold}
 use Rattle.model_line.specs.Machine as lines
 use Rattle.model_line.specs.Request.{Data}
-use Rattle.model_card.specs.Run.{after_all}
 use Rattle.laws_wire.specs.Wire.{requests, times_out, Doing, at_near, at_far, doing_all, turns, IsStill}
 use Rattle.laws_wire.specs.Call.{CanCall, IsTalk, confirmed, indicated, data_told, all_told, IsBeginningOf}
 use Rattle.laws_wire.specs.Losing.{IsRoughTalk, is_error, heard_in, HasNoError}
@@ -27,12 +24,6 @@ use Rattle.laws_wire.proofs.LossyRun.{calls-are-told_in_order}
 pub can : CanCall user 0 network 0 0
 can = record { near = refl; far = refl; sides = refl; n201 = refl; near_line = omega arith; far_line = omega arith; terminal = omega arith }
 
-pub octet : (x : ℕ) (xs : List ℕ) → x < 256 → AreOctets xs → AreOctets (x ∷ xs)
-octet x xs small rest = All-cons (λ octet. octet < 256) x xs small rest
-
-pub none : AreOctets []
-none = All-nil (λ octet. octet < 256)
-
 abbrev AreTalks : List Doing → Type 0
 AreTalks [] = Unit {0}
 AreTalks (k ∷ ds) = IsTalk Call 0 k × AreTalks ds
@@ -43,13 +34,12 @@ all-of (k ∷ ds) h = All-cons (IsTalk Call 0) k ds h.0 (all-of ds h.1)
 
 pub talk : All (IsTalk Call 0) talks
 talk =
-    let first : IsTalk Call 0 (at_far (requests (Data Call 0 (0xAB ∷ [])))) = (refl, refl, octet 0xAB [] (omega arith) none) in
-    let second : IsTalk Call 0 (at_near (requests (Data Call 0 (0xCD ∷ 0xEF ∷ [])))) =
-    (refl, refl, octet 0xCD (0xEF ∷ []) (omega arith) (octet 0xEF [] (omega arith) none)) in
+    let first : IsTalk Call 0 (at_far (requests (Data Call 0 (0xAB ∷ [])))) = (refl, refl) in
+    let second : IsTalk Call 0 (at_near (requests (Data Call 0 (0xCD ∷ 0xEF ∷ [])))) = (refl, refl) in
     all-of talks (tt, (tt, (first, (tt, (tt, (tt, (second, (tt, (tt, (tt, (tt, (tt, (tt, (tt, tt))))))))))))))
 
 pub still : IsStill (doing_all talks begins)
-unfolding after_all lines.after lines.answer lines.takes_slot reading header_of control_of unnumbered_of supervisory_of teis.course teis.refusal low_bits seq distance_of named doing_all turns
+unfolding lines.after lines.answer lines.takes_slot reading header_of control_of unnumbered_of supervisory_of teis.course teis.refusal seq distance_of named doing_all turns
 still = record { near = refl; far = refl; near_way = refl; far_way = refl }
 
 -- so the two face each other
@@ -67,7 +57,7 @@ all-rough (k ∷ ds) h = All-cons (IsRoughTalk Call 0) k ds h.0 (all-rough ds h.
 
 pub rough : All (IsRoughTalk Call 0) loses_two
 rough =
-    let sends : IsRoughTalk Call 0 (at_near (requests (Data Call 0 (0xAB ∷ [])))) = (refl, refl, octet 0xAB [] (omega arith) none) in
+    let sends : IsRoughTalk Call 0 (at_near (requests (Data Call 0 (0xAB ∷ [])))) = (refl, refl) in
     let expires : IsRoughTalk Call 0 (at_near (times_out (T200 Call 0))) = (refl, refl) in
     all-rough loses_two (tt, (tt, (expires, (tt, (tt, (tt, (tt, (sends, (tt, (tt, (expires, (tt, (tt, (tt, (tt, (tt, (tt, (tt, (tt, tt)))))))))))))))))))
 
@@ -75,11 +65,11 @@ abbrev IsFair : LineTold → Type 0
 IsFair t = list_any is_error t.notes ≡ false
 
 told-near : (doing_all loses_two begins).near.told ≡ confirmed Call 0 ∷ []
-unfolding after_all lines.after lines.answer lines.takes_slot reading header_of control_of unnumbered_of supervisory_of teis.course teis.refusal low_bits seq distance_of named doing_all turns
+unfolding lines.after lines.answer lines.takes_slot reading header_of control_of unnumbered_of supervisory_of teis.course teis.refusal seq distance_of named doing_all turns
 told-near = refl
 
 told-far : (doing_all loses_two begins).far.told ≡ indicated Call 0 ∷ data_told Call 0 (0xAB ∷ []) ∷ []
-unfolding after_all lines.after lines.answer lines.takes_slot reading header_of control_of unnumbered_of supervisory_of teis.course teis.refusal low_bits seq distance_of named doing_all turns
+unfolding lines.after lines.answer lines.takes_slot reading header_of control_of unnumbered_of supervisory_of teis.course teis.refusal seq distance_of named doing_all turns
 told-far = refl
 
 pub fair-near : HasNoError (doing_all loses_two begins).near

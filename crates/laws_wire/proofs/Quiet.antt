@@ -3,22 +3,22 @@ use Rattle.std.proofs.Common.{◌≡◌, ℕ, ◌+◌, ◌≤◌, false, List, [
 use Rattle.std.specs.Prelude.{All}
 use Rattle.std.proofs.lemmas.List.Elements.{All-head}
 use Rattle.lapd_frame.specs.declared.services.Service.{Service}
-use Rattle.lapd_frame.specs.Grammar.{Parts, AreOctets, spelling}
+use Rattle.lapd_frame.specs.Grammar.{Parts, spelling}
 use Rattle.model_link.specs.Events as link
 use Rattle.model_link.specs.Machine.{given}
 use Rattle.model_link.specs.Requests.{refusal}
-use Rattle.model_link.specs.TwoEnds.{End, with_link, with_sent, frame_given}
+use Rattle.model_link.specs.TwoEnds.{End, frame_given}
 use Rattle.model_link.specs.TwoEnds as two_ends
 use Rattle.model_line.specs.declared.config.Config.{Config}
 use Rattle.model_line.specs.Request as asked
 use Rattle.model_line.specs.Request.{Request, Establish, Release, Data, Assign, Remove, Check, SetBusy, ClearBusy}
-use Rattle.model_card.specs.Happening.{goes, asks}
-use Rattle.model_card.specs.Said.{said}
-use Rattle.laws_wire.specs.Wire.{Station, Wire, happens, frames_by, with_first_of, with_first_lost, requests, gives, takes, acting, turned}
+use Rattle.model_line.specs.Event.{request, next}
+use Rattle.laws_wire.specs.Wire.{Station, Wire, happens, frames_by, with_first_of, with_first_lost, requests, gives, takes, acting, turned, answered}
 use Rattle.laws_wire.specs.Call.{IsTalkOf}
+use Rattle.laws_wire.proofs.Answered.{gives-granted}
 use Rattle.laws_wire.proofs.Standing.{IsCarried, Stands, gives-frames}
 use Rattle.laws_wire.proofs.Talking.{Past, Holds, holds-given, holds-lost, More, holds-asked}
-use Rattle.laws_wire.proofs.Up.{turn_of, stays, granted_of, same-length}
+use Rattle.laws_wire.proofs.Up.{turn_of, stays, granted_of}
 
 pub one-at-most : (xs : List (List ℕ)) → turn_of xs ≤ 1
 one-at-most [] = omega arith
@@ -47,18 +47,18 @@ module _ (service : Service) (tei : ℕ) where
       pub none : b ≡ 0
       pub granted : granted_of w' ≡ granted_of w
 
-    pub frames-are : frames_by (said w.near.card (goes w.near.line)) ≡ map (spelling w.near.card.config.side) (frame_given n.terms (given n.terms n.link))
+    pub frames-are : frames_by (answered next w.near) ≡ map (spelling w.near.card.config.side) (frame_given n.terms (given n.terms n.link))
     frames-are = gives-frames service tei p w.near n (subst (λ k. Stands k service tei p w.near n) (sym h.near.stands.config) h.near.stands)
 
     pub same-count : granted_of (acting gives w) ≡ granted_of w
-    same-count = ap (λ k. k + length w.far.granted) (same-length w.near.granted)
+    same-count = ap (λ xs. length xs + length w.far.granted) (gives-granted w.near)
 
-    pub quiet-gives : given n.terms n.link ≡ None → Quiet (acting gives w) (turn_of (frames_by (said w.near.card (goes w.near.line))))
+    pub quiet-gives : given n.terms n.link ≡ None → Quiet (acting gives w) (turn_of (frames_by (answered next w.near)))
     quiet-gives none =
         let same = stays n none in
         record {
           both = record {
-            near = subst (Holds c service tei p first (happens (goes w.near.line) w.near)) same (holds-given service tei p first c w.near n h.near (ap (λ (x : End). x.link.contents) same));
+            near = subst (Holds c service tei p first (happens next w.near)) same (holds-given service tei p first c w.near n h.near (ap (λ (x : End). x.link.contents) same));
             far = h.far;
           };
           none = ap turn_of frames-are ∙ ap (λ o. turn_of (map (spelling w.near.card.config.side) (frame_given n.terms o))) none;
@@ -79,12 +79,12 @@ module _ (service : Service) (tei : ℕ) where
           granted = ap (λ (s : Station). length s.granted + length w.far.granted) same;
         }
 
-    pub quiet-asks : ((octets : List ℕ) → refusal n.terms n.link false (link.Data octets) ≡ None → ⊥) → (octets : List ℕ) → AreOctets octets
+    pub quiet-asks : ((octets : List ℕ) → refusal n.terms n.link false (link.Data octets) ≡ None → ⊥) → (octets : List ℕ)
         → Quiet (acting (requests (Data service tei octets)) w) 0
-    quiet-asks never octets are = go (holds-asked service tei p first c w.near n octets are h.near)
+    quiet-asks never octets = go (holds-asked service tei p first c w.near n octets h.near)
       where
         s' : Station
-        s' = happens (asks w.near.line (Data service tei octets)) w.near
+        s' = happens (request (Data service tei octets)) w.near
 
         go : (s' ≡ w.near) ⊎ More service tei p first c w.near s' n octets → Quiet (record w { near = s' }) 0
         go (inl same) = record {
@@ -95,9 +95,9 @@ module _ (service : Service) (tei : ℕ) where
         go (inr x) = absurd (never octets x.none)
 
     -- a request in a call is for data
-    pub for-data : (P : Request → Type 0) → ((octets : List ℕ) → AreOctets octets → P (Data service tei octets)) → (r : Request) → IsTalkOf service tei (requests r) → P r
+    pub for-data : (P : Request → Type 0) → ((octets : List ℕ) → P (Data service tei octets)) → (r : Request) → IsTalkOf service tei (requests r) → P r
     for-data P own (Data s t octets) is =
-        subst (λ s'. P (Data s' t octets)) (sym is.0) (subst (λ t'. P (Data service t' octets)) (sym is.1) (own octets is.2))
+        subst (λ s'. P (Data s' t octets)) (sym is.0) (subst (λ t'. P (Data service t' octets)) (sym is.1) (own octets))
     for-data P own (Establish s t) is = absurd is
     for-data P own (Release s t) is = absurd is
     for-data P own (asked.Unit s t octets) is = absurd is

@@ -1,9 +1,6 @@
 -- The premises of the law on what is lost are met: by the worked call in which SABME is lost, and then an I-frame of each end.
 use Rattle.std.proofs.Common.{◌≡◌, ◌≢◌, ℕ, ◌+◌, ◌<◌, ◌≤◌, List, [], ◌∷◌, length, map, refl, sym, ap, subst, ◌∙◌, true≢false, arith}
 use Rattle.std.specs.Prelude.{All}
-use Rattle.std.specs.List.{list_any}
-use Rattle.std.proofs.lemmas.List.Elements.{All-nil, All-cons}
-use Rattle.model_bits.specs.Bits.{low_bits}
 use Rattle.lapd_frame.specs.declared.services.Service.TheVariants.{Call}
 use Rattle.lapd_frame.specs.declared.timers.Timer.TheVariants.{T200}
 use Rattle.lapd_frame.specs.Reading.{reading, header_of, control_of, unnumbered_of, supervisory_of}
@@ -15,7 +12,6 @@ use Rattle.model_link.specs.TwoEnds.{End}
 use Rattle.model_line.specs.Event.{LineTold}
 use Rattle.model_line.specs.Machine as lines
 use Rattle.model_line.specs.Request.{Data}
-use Rattle.model_card.specs.Run.{after_all}
 use Rattle.laws_link.specs.Flags.{awaits_answer}
 use Rattle.laws_wire.specs.Wire.{Wire, requests, times_out, gives, loses, at_near, at_far, doing_all, turns, IsStill}
 use Rattle.laws_wire.specs.Call.{confirmed, indicated, data_told}
@@ -25,14 +21,14 @@ use Rattle.laws_wire.specs.Timely.{is_poll, is_final, IsNoneOpen, MayRepeat, Sta
 use Rattle.laws_wire.specs.Recovering.{HasNoErrors, BothMayRepeat, HasMissing, HasArrived}
 use Rattle.laws_wire.specs.Worked.{user, network, begins}
 use Rattle.laws_wire.specs.WorkedRecovering.{loses_three, lost, recovered}
-use Rattle.laws_wire.proofs.PremisesMet.{can, octet, none, all-rough}
+use Rattle.laws_wire.proofs.PremisesMet.{can, all-rough}
 use Rattle.laws_wire.proofs.TimelyRun.{what-is-lost-arrives}
 use Rattle.laws_wire.proofs.TimelyUp.{none-of}
 
 pub rough : All (IsRoughTalk Call 0) loses_three
 rough =
-    let near : IsRoughTalk Call 0 (at_near (requests (Data Call 0 (0xAB ∷ [])))) = (refl, refl, octet 0xAB [] (omega arith) none) in
-    let far : IsRoughTalk Call 0 (at_far (requests (Data Call 0 (0xCD ∷ [])))) = (refl, refl, octet 0xCD [] (omega arith) none) in
+    let near : IsRoughTalk Call 0 (at_near (requests (Data Call 0 (0xAB ∷ [])))) = (refl, refl) in
+    let far : IsRoughTalk Call 0 (at_far (requests (Data Call 0 (0xCD ∷ [])))) = (refl, refl) in
     let expires : IsRoughTalk Call 0 (at_near (times_out (T200 Call 0))) = (refl, refl) in
     all-rough loses_three (tt, (tt, (expires, (tt, (tt, (tt, (tt, (near, (tt, (tt, (far, (tt, (tt, tt)))))))))))))
 
@@ -41,11 +37,11 @@ abbrev pub silent : Wire
 silent = doing_all (at_near gives ∷ at_near loses ∷ []) begins
 
 silent-near : ((end_of Call 0 silent.near).link.waiting ≡ []) × ((end_of Call 0 silent.near).way ≡ [])
-unfolding after_all lines.after lines.answer lines.takes_slot reading header_of control_of unnumbered_of supervisory_of teis.course teis.refusal low_bits seq distance_of named doing_all turns
+unfolding lines.after lines.answer lines.takes_slot reading header_of control_of unnumbered_of supervisory_of teis.course teis.refusal seq distance_of named doing_all turns
 silent-near = (refl, refl)
 
 silent-far : ((end_of Call 0 silent.far).link.waiting ≡ []) × ((end_of Call 0 silent.far).way ≡ [])
-unfolding after_all lines.after lines.answer lines.takes_slot reading header_of control_of unnumbered_of supervisory_of teis.course teis.refusal low_bits seq distance_of named doing_all turns
+unfolding lines.after lines.answer lines.takes_slot reading header_of control_of unnumbered_of supervisory_of teis.course teis.refusal seq distance_of named doing_all turns
 silent-far = (refl, refl)
 
 pub silent-open : IsNoneOpen (end_of Call 0 silent.near) (end_of Call 0 silent.far)
@@ -55,7 +51,7 @@ silent-open = record {
 }
 
 pub silent-repeats : ((end_of Call 0 silent.near).link.repeats ≡ 0) × ((end_of Call 0 silent.near).terms.n200 ≡ 3)
-unfolding after_all lines.after lines.answer lines.takes_slot reading header_of control_of unnumbered_of supervisory_of teis.course teis.refusal low_bits seq distance_of named doing_all turns
+unfolding lines.after lines.answer lines.takes_slot reading header_of control_of unnumbered_of supervisory_of teis.course teis.refusal seq distance_of named doing_all turns
 silent-repeats = (refl, refl)
 
 pub fewer : (a b k n : ℕ) → (a ≡ k) × (b ≡ n) → k < n → a < b
@@ -69,11 +65,11 @@ pub heard-it : (hs : List LineTold) (t : LineTold) → hs ≡ t ∷ [] → hs �
 heard-it hs t is e = let wrong : t ∷ [] ≡ [] = sym is ∙ e in absurd (cc)
 
 pub lost-near : heard_in lost.near ≡ confirmed Call 0 ∷ []
-unfolding after_all lines.after lines.answer lines.takes_slot reading header_of control_of unnumbered_of supervisory_of teis.course teis.refusal low_bits seq distance_of named doing_all turns
+unfolding lines.after lines.answer lines.takes_slot reading header_of control_of unnumbered_of supervisory_of teis.course teis.refusal seq distance_of named doing_all turns
 lost-near = refl
 
 lost-far : heard_in lost.far ≡ indicated Call 0 ∷ []
-unfolding after_all lines.after lines.answer lines.takes_slot reading header_of control_of unnumbered_of supervisory_of teis.course teis.refusal low_bits seq distance_of named doing_all turns
+unfolding lines.after lines.answer lines.takes_slot reading header_of control_of unnumbered_of supervisory_of teis.course teis.refusal seq distance_of named doing_all turns
 lost-far = refl
 
 pub timely : StayTimely loses_three begins
@@ -90,7 +86,7 @@ timely = (
 )
 
 pub still : IsStill lost
-unfolding after_all lines.after lines.answer lines.takes_slot reading header_of control_of unnumbered_of supervisory_of teis.course teis.refusal low_bits seq distance_of named doing_all turns
+unfolding lines.after lines.answer lines.takes_slot reading header_of control_of unnumbered_of supervisory_of teis.course teis.refusal seq distance_of named doing_all turns
 still = record { near = refl; far = refl; near_way = refl; far_way = refl }
 
 -- one note is missing at each end
@@ -100,11 +96,11 @@ one-missing first x granted heard e e' =
     subst (λ xs. length (first ∷ map (data_told Call 0) xs) ≤ length heard + 1) (sym e) (subst (λ hs. 2 ≤ length hs + 1) (sym e') (omega arith))
 
 near-granted : lost.near.granted ≡ (0xAB ∷ []) ∷ []
-unfolding after_all lines.after lines.answer lines.takes_slot reading header_of control_of unnumbered_of supervisory_of teis.course teis.refusal low_bits seq distance_of named doing_all turns
+unfolding lines.after lines.answer lines.takes_slot reading header_of control_of unnumbered_of supervisory_of teis.course teis.refusal seq distance_of named doing_all turns
 near-granted = refl
 
 far-granted : lost.far.granted ≡ (0xCD ∷ []) ∷ []
-unfolding after_all lines.after lines.answer lines.takes_slot reading header_of control_of unnumbered_of supervisory_of teis.course teis.refusal low_bits seq distance_of named doing_all turns
+unfolding lines.after lines.answer lines.takes_slot reading header_of control_of unnumbered_of supervisory_of teis.course teis.refusal seq distance_of named doing_all turns
 far-granted = refl
 
 missing : HasMissing Call 0 1 lost
@@ -114,7 +110,7 @@ missing = record {
 }
 
 lost-states : ((end_of Call 0 lost.near).link.state ≡ Established) × ((end_of Call 0 lost.far).link.state ≡ Established)
-unfolding after_all lines.after lines.answer lines.takes_slot reading header_of control_of unnumbered_of supervisory_of teis.course teis.refusal low_bits seq distance_of named doing_all turns
+unfolding lines.after lines.answer lines.takes_slot reading header_of control_of unnumbered_of supervisory_of teis.course teis.refusal seq distance_of named doing_all turns
 lost-states = (refl, refl)
 
 -- in state 7 N200 counts nothing

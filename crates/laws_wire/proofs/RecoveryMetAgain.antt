@@ -2,7 +2,6 @@
 use Rattle.std.proofs.Common.{◌≡◌, ℕ, ◌+◌, ◌≤◌, List, [], ◌∷◌, ◌++◌, length, map, refl, sym, ap, subst, ◌∙◌, true≢false, arith}
 use Rattle.std.specs.Prelude.{All}
 use Rattle.std.proofs.lemmas.List.Elements.{All-append}
-use Rattle.model_bits.specs.Bits.{low_bits}
 use Rattle.lapd_frame.specs.declared.services.Service.TheVariants.{Call}
 use Rattle.lapd_frame.specs.declared.timers.Timer.TheVariants.{T200}
 use Rattle.lapd_frame.specs.Reading.{reading, header_of, control_of, unnumbered_of, supervisory_of}
@@ -13,7 +12,6 @@ use Rattle.model_link.specs.declared.states.State.TheVariants.{Established}
 use Rattle.model_line.specs.Event.{LineTold}
 use Rattle.model_line.specs.Machine as lines
 use Rattle.model_line.specs.Request.{Data}
-use Rattle.model_card.specs.Run.{after_all}
 use Rattle.laws_link.specs.Flags.{awaits_answer}
 use Rattle.laws_wire.specs.Wire.{Wire, requests, times_out, gives, loses, Doing, at_near, at_far, doing, doing_all, turns, IsStill}
 use Rattle.laws_wire.specs.Call.{confirmed, indicated, data_told}
@@ -23,7 +21,7 @@ use Rattle.laws_wire.specs.Timely.{StayTimely}
 use Rattle.laws_wire.specs.Recovering.{round, both_expire, BothMayRepeat, HasMissing, HasArrived, with_t200_expired}
 use Rattle.laws_wire.specs.Worked.{user, network, begins}
 use Rattle.laws_wire.specs.WorkedRecovering.{loses_three, lost, loses_again, lost_again, recovered_again}
-use Rattle.laws_wire.proofs.PremisesMet.{can, octet, none, all-rough}
+use Rattle.laws_wire.proofs.PremisesMet.{can, all-rough}
 use Rattle.laws_wire.proofs.RecoveryMet.{rough, timely, fewer, free, still, may}
 use Rattle.laws_wire.proofs.TimelyRun.{what-is-lost-arrives}
 
@@ -65,11 +63,11 @@ abbrev sent : Wire
 sent = doing_all (at_near (requests (Data Call 0 (0xEF ∷ []))) ∷ at_near gives ∷ []) found
 
 state-7 : (end_of Call 0 sent.near).link.state ≡ Established
-unfolding after_all lines.after lines.answer lines.takes_slot reading header_of control_of unnumbered_of supervisory_of teis.course teis.refusal low_bits seq distance_of named doing_all turns
+unfolding lines.after lines.answer lines.takes_slot reading header_of control_of unnumbered_of supervisory_of teis.course teis.refusal seq distance_of named doing_all turns
 state-7 = refl
 
 last-heard : heard_in lost_again.near ≡ confirmed Call 0 ∷ data_told Call 0 (0xCD ∷ []) ∷ []
-unfolding after_all lines.after lines.answer lines.takes_slot reading header_of control_of unnumbered_of supervisory_of teis.course teis.refusal low_bits seq distance_of named doing_all turns
+unfolding lines.after lines.answer lines.takes_slot reading header_of control_of unnumbered_of supervisory_of teis.course teis.refusal seq distance_of named doing_all turns
 last-heard = refl
 
 some-heard : (hs : List LineTold) (t u : LineTold) → hs ≡ t ∷ u ∷ [] → hs ≡ [] → ⊥
@@ -95,8 +93,8 @@ all-timely = timely-append loses_three loses_again begins timely (timely-append 
 again-rough : All (IsRoughTalk Call 0) loses_again
 again-rough =
     let expires : IsRoughTalk Call 0 (at_near (times_out (T200 Call 0))) = (refl, refl) in
-    let near : IsRoughTalk Call 0 (at_near (requests (Data Call 0 (0xEF ∷ [])))) = (refl, refl, octet 0xEF [] (omega arith) none) in
-    let far : IsRoughTalk Call 0 (at_far (requests (Data Call 0 (0x12 ∷ [])))) = (refl, refl, octet 0x12 [] (omega arith) none) in
+    let near : IsRoughTalk Call 0 (at_near (requests (Data Call 0 (0xEF ∷ [])))) = (refl, refl) in
+    let far : IsRoughTalk Call 0 (at_far (requests (Data Call 0 (0x12 ∷ [])))) = (refl, refl) in
     let r = all-rough round (tt, (tt, (tt, (tt, tt)))) in
     let rs = All-append (IsRoughTalk Call 0) round (round ++ round ++ round) r (All-append (IsRoughTalk Call 0) round (round ++ round) r (All-append (IsRoughTalk Call 0) round round r r)) in
     let first = All-append (IsRoughTalk Call 0) (both_expire Call 0) (round ++ round ++ round ++ round) (all-rough (both_expire Call 0) (expires, (expires, tt))) rs in
@@ -104,19 +102,19 @@ again-rough =
 
 -- no turn is left, and one note is missing at each end
 still-again : IsStill lost_again
-unfolding after_all lines.after lines.answer lines.takes_slot reading header_of control_of unnumbered_of supervisory_of teis.course teis.refusal low_bits seq distance_of named doing_all turns
+unfolding lines.after lines.answer lines.takes_slot reading header_of control_of unnumbered_of supervisory_of teis.course teis.refusal seq distance_of named doing_all turns
 still-again = record { near = refl; far = refl; near_way = refl; far_way = refl }
 
 near-granted : lost_again.near.granted ≡ (0xAB ∷ []) ∷ (0xEF ∷ []) ∷ []
-unfolding after_all lines.after lines.answer lines.takes_slot reading header_of control_of unnumbered_of supervisory_of teis.course teis.refusal low_bits seq distance_of named doing_all turns
+unfolding lines.after lines.answer lines.takes_slot reading header_of control_of unnumbered_of supervisory_of teis.course teis.refusal seq distance_of named doing_all turns
 near-granted = refl
 
 far-granted : lost_again.far.granted ≡ (0xCD ∷ []) ∷ (0x12 ∷ []) ∷ []
-unfolding after_all lines.after lines.answer lines.takes_slot reading header_of control_of unnumbered_of supervisory_of teis.course teis.refusal low_bits seq distance_of named doing_all turns
+unfolding lines.after lines.answer lines.takes_slot reading header_of control_of unnumbered_of supervisory_of teis.course teis.refusal seq distance_of named doing_all turns
 far-granted = refl
 
 far-heard : heard_in lost_again.far ≡ indicated Call 0 ∷ data_told Call 0 (0xAB ∷ []) ∷ []
-unfolding after_all lines.after lines.answer lines.takes_slot reading header_of control_of unnumbered_of supervisory_of teis.course teis.refusal low_bits seq distance_of named doing_all turns
+unfolding lines.after lines.answer lines.takes_slot reading header_of control_of unnumbered_of supervisory_of teis.course teis.refusal seq distance_of named doing_all turns
 far-heard = refl
 
 one-missing : (first t : LineTold) (x y : List ℕ) (granted : List (List ℕ)) (heard : List LineTold) → granted ≡ x ∷ y ∷ [] → heard ≡ first ∷ t ∷ []
@@ -131,11 +129,11 @@ missing-again = record {
 }
 
 last-repeats : ((end_of Call 0 lost_again.near).link.repeats ≡ 0) × ((end_of Call 0 lost_again.near).terms.n200 ≡ 3)
-unfolding after_all lines.after lines.answer lines.takes_slot reading header_of control_of unnumbered_of supervisory_of teis.course teis.refusal low_bits seq distance_of named doing_all turns
+unfolding lines.after lines.answer lines.takes_slot reading header_of control_of unnumbered_of supervisory_of teis.course teis.refusal seq distance_of named doing_all turns
 last-repeats = (refl, refl)
 
 last-state : (end_of Call 0 lost_again.far).link.state ≡ Established
-unfolding after_all lines.after lines.answer lines.takes_slot reading header_of control_of unnumbered_of supervisory_of teis.course teis.refusal low_bits seq distance_of named doing_all turns
+unfolding lines.after lines.answer lines.takes_slot reading header_of control_of unnumbered_of supervisory_of teis.course teis.refusal seq distance_of named doing_all turns
 last-state = refl
 
 may-again : BothMayRepeat Call 0 lost_again

@@ -2,7 +2,7 @@
 use Rattle.std.proofs.Common.{◌≡◌, ℕ, ◌+◌, ◌-◌, ◌*◌, ◌≤◌, cond, List, [], ◌∷◌, ◌++◌, length, map, drop, refl, sym, ap, subst, ◌∙◌, ◌⊎◌, inl, inr, length-append, arith}
 use Rattle.lapd_frame.specs.declared.services.Service.{Service}
 use Rattle.lapd_frame.specs.declared.timers.Timer.{Timer}
-use Rattle.lapd_frame.specs.Grammar.{Parts, AreOctets, spelling}
+use Rattle.lapd_frame.specs.Grammar.{Parts, spelling}
 use Rattle.model_link.specs.declared.timers.LinkTimer.{LinkTimer}
 use Rattle.model_link.specs.Events as link
 use Rattle.model_link.specs.Link.{Link}
@@ -11,10 +11,9 @@ use Rattle.model_link.specs.Steps.{Course}
 use Rattle.model_link.specs.TwoEnds.{End, with_link, with_sent, frame_given}
 use Rattle.model_link.specs.TwoEnds as two_ends
 use Rattle.model_line.specs.declared.config.Config.{Config}
-use Rattle.model_line.specs.Event.{LineTold}
-use Rattle.model_card.specs.Happening.{comes, expires, asks}
+use Rattle.model_line.specs.Event.{LineTold, expiry, request}
 use Rattle.model_line.specs.Request.{Data}
-use Rattle.laws_wire.specs.Wire.{Station, Wire, happens, with_first_of, with_first_lost, Act, requests, times_out, gives, takes, loses, acting, is_any}
+use Rattle.laws_wire.specs.Wire.{Station, Wire, happens, with_first_of, with_first_lost, Act, requests, times_out, gives, takes, loses, acting, is_any, comes}
 use Rattle.laws_wire.specs.Losing.{IsRoughTalkOf}
 use Rattle.laws_wire.specs.Resting.{is_move_of, expiries_of}
 use Rattle.laws_wire.proofs.Asking.{with_more}
@@ -103,7 +102,7 @@ module _ (service : Service) (tei : ℕ) (c d : Config) (p q : ℕ) (past_n past
   then-expires timer its aims = go (timer-expires v n.terms n.link its)
     where
       s' : Station
-      s' = happens (expires w.near.line timer) w.near
+      s' = happens (expiry timer) w.near
 
       x : Course
       x = course n.terms (link.expired its) n.link
@@ -150,11 +149,11 @@ module _ (service : Service) (tei : ℕ) (c d : Config) (p q : ℕ) (past_n past
       total : (l' l way other u' u z y : ℕ) → l' ≤ l + 2 → u' ≡ u + (v + 4) → 0 + ((l' + way) + other + (u' + z)) ≤ (l + way) + other + (u + z) + y + (v + 6) * 1
       total l' l way other u' u z y less e = omega (arith, less, e)
 
-  then-asks : (octets : List ℕ) → AreOctets octets → Leads (requests (Data service tei octets))
-  then-asks octets are = go (held-asked service tei p past_n c w.near n near octets are)
+  then-asks : (octets : List ℕ) → Leads (requests (Data service tei octets))
+  then-asks octets = go (held-asked service tei p past_n c w.near n near octets)
     where
       s' : Station
-      s' = happens (asks w.near.line (Data service tei octets)) w.near
+      s' = happens (request (Data service tei octets)) w.near
 
       go : (s' ≡ w.near) ⊎ Grants service tei p past_n c w.near n near octets s' → Leads (requests (Data service tei octets))
       go (inl same) = inl (record {
@@ -196,7 +195,7 @@ module _ (service : Service) (tei : ℕ) (c d : Config) (p q : ℕ) (past_n past
       hears f fs e way from = by (well f fs e)
         where
           s' : Station
-          s' = happens (comes w.near.line (spelling d.side f)) w.near
+          s' = comes (spelling d.side f) w.near
 
           x : Course
           x = course n.terms (link.received (link.frame f)) n.link

@@ -1,20 +1,19 @@
 -- Rounds in which no error is told lead to where no turn is left.
-use Rattle.std.proofs.Common.{◌≡◌, ℕ, zero, suc, ◌+◌, ◌*◌, ◌<◌, ◌≤◌, Bool, true, false, cond, List, [], ◌∷◌, ◌++◌, length, Option, None, Some, option_map, refl, sym, ap, subst, ◌∙◌, append-nil, arith}
+use Rattle.std.proofs.Common.{◌≡◌, ℕ, zero, suc, ◌+◌, ◌*◌, ◌<◌, ◌≤◌, Bool, true, false, cond, List, [], ◌∷◌, ◌++◌, length, Option, None, Some, option_map, refl, sym, ap, subst, ◌∙◌, arith}
 use Rattle.std.specs.Prelude.{All}
 use Rattle.std.proofs.lemmas.List.Elements.{All-nil, All-cons, All-append}
 use Rattle.lapd_frame.specs.declared.services.Service.{Service}
-use Rattle.model_line.specs.Event as line_event
+use Rattle.model_line.specs.Event.{next, NextFrame, gave}
 use Rattle.model_card.specs.Card.{line_at}
-use Rattle.model_card.specs.Happening.{comes, goes}
-use Rattle.model_card.specs.Said.{Said, says, gives, Next, next_of, said}
-use Rattle.model_line.specs.Pull.{taken}
+use Rattle.model_line.specs.Taken.{taken, next_of}
 use Rattle.laws_wire.specs.Wire as wire
-use Rattle.laws_wire.specs.Wire.{Station, Wire, happens, with_first_of, with_first_lost, frames_by, unless_refused, contents_in, is_any, Doing, at_near, at_far, acting, turned, doing, doing_all, IsStill}
+use Rattle.laws_wire.specs.Wire.{Station, Wire, with_first_of, frames_by, is_any, Doing, at_near, at_far, acting, turned, doing, doing_all, IsStill, answered}
 use Rattle.laws_wire.specs.Call.{calling}
 use Rattle.laws_wire.specs.Facing.{granted_of}
 use Rattle.laws_wire.specs.Losing.{IsRoughTalk}
 use Rattle.laws_wire.specs.Recovering.{round, rounds, HasNoErrors}
 use Rattle.laws_wire.specs.Resting.{is_move, moves, expiries, most_frames, RoundsComeToRest}
+use Rattle.laws_wire.proofs.Answered.{gives-taken, gives-granted, takes-granted}
 use Rattle.laws_wire.proofs.RestedRun.{moves-come-to-an-end}
 
 -- ---- one thing done after another
@@ -63,27 +62,18 @@ all-rough service tei (suc n) =
 
 -- ---- nothing is granted in a round
 
-none-granted : (a : Said) → unless_refused a [] ≡ []
-none-granted (says (line_event.told t)) = refl
-none-granted (says (line_event.refused why)) = refl
-none-granted (says (line_event.pulled octet begun orders)) = refl
-none-granted (gives next) = refl
-
-gives-grants : (s : Station) → (happens (goes s.line) s).granted ≡ s.granted
-gives-grants s = ap (λ xs. s.granted ++ xs) (none-granted (said s.card (goes s.line))) ∙ append-nil s.granted
-
 takes-grants : (way : List (List ℕ)) (s : Station) → (with_first_of way s).granted ≡ s.granted
 takes-grants [] s = refl
-takes-grants (octets ∷ way) s = ap (λ xs. s.granted ++ xs) (none-granted (said s.card (comes s.line octets))) ∙ append-nil s.granted
+takes-grants (octets ∷ way) s = takes-granted octets s
 
 near-gives : (w : Wire) → granted_of (acting wire.gives w) ≡ granted_of w
-near-gives w = ap (λ (xs : List (List ℕ)). length xs + length w.far.granted) (gives-grants w.near)
+near-gives w = ap (λ (xs : List (List ℕ)). length xs + length w.far.granted) (gives-granted w.near)
 
 near-takes : (w : Wire) → granted_of (acting wire.takes w) ≡ granted_of w
 near-takes w = ap (λ (xs : List (List ℕ)). length xs + length w.far.granted) (takes-grants w.far.way w.near)
 
 far-gives : (w : Wire) → granted_of (turned (acting wire.gives (turned w))) ≡ granted_of w
-far-gives w = ap (λ (xs : List (List ℕ)). length w.near.granted + length xs) (gives-grants w.far)
+far-gives w = ap (λ (xs : List (List ℕ)). length w.near.granted + length xs) (gives-granted w.far)
 
 far-takes : (w : Wire) → granted_of (turned (acting wire.takes (turned w))) ≡ granted_of w
 far-takes w = ap (λ (xs : List (List ℕ)). length w.near.granted + length xs) (takes-grants w.near.way w.far)
@@ -119,19 +109,20 @@ no-front : (xs ys : List (List ℕ)) → xs ++ ys ≡ [] → xs ≡ []
 no-front [] ys e = refl
 no-front (x ∷ xs) ys e = absurd (cc)
 
-none-said : (s : Station) → is_any (frames_by (said s.card (goes s.line))) ≡ false → said s.card (goes s.line) ≡ gives None
-none-said s e = go (option_map next_of (taken s.card.config (line_at s.line s.card))) e
+none-more-given : (s : Station) → is_any (frames_by (answered next s)) ≡ false → answered next s ≡ gave None
+none-more-given s e =
+    gives-taken s ∙ go (option_map next_of (taken s.card.config (line_at s.line s.card))) (sym (ap (λ a. is_any (frames_by a)) (gives-taken s)) ∙ e)
   where
-    go : (o : Option Next) → is_any (frames_by (gives o)) ≡ false → gives o ≡ gives None
+    go : (o : Option NextFrame) → is_any (frames_by (gave o)) ≡ false → gave o ≡ gave None
     go None e = refl
-    go (Some next) e = absurd (cc)
+    go (Some f) e = absurd (cc)
 
 first-zero : (a b c d : ℕ) → a + (b + (c + (d + 0))) ≡ 0 → (a ≡ 0) × (b ≡ 0) × (c ≡ 0) × (d ≡ 0)
 first-zero a b c d e = (omega (arith, e), omega (arith, e), omega (arith, e), omega (arith, e))
 
 still-if : (w : Wire) → moves round w ≡ 0 → IsStill w
 unfolding moves
-still-if w e = record { near = none-said w.near near-none; far = none-said w.far far-none; near_way = near-empty; far_way = no-front w.far.way (frames_by (said w.far.card (goes w.far.line))) far-empty }
+still-if w e = record { near = none-more-given w.near near-none; far = none-more-given w.far far-none; near_way = near-empty; far_way = no-front w.far.way (frames_by (answered next w.far)) far-empty }
   where
     parts : (cond {A = ℕ} (is_move (at_near wire.gives) w) 1 0 ≡ 0) × (cond {A = ℕ} (is_move (at_far wire.takes) (w1 w)) 1 0 ≡ 0) × (cond {A = ℕ} (is_move (at_far wire.gives) (w2 w)) 1 0 ≡ 0)
         × (cond {A = ℕ} (is_move (at_near wire.takes) (w3 w)) 1 0 ≡ 0)
@@ -139,26 +130,26 @@ still-if w e = record { near = none-said w.near near-none; far = none-said w.far
         first-zero (cond {A = ℕ} (is_move (at_near wire.gives) w) 1 0) (cond {A = ℕ} (is_move (at_far wire.takes) (w1 w)) 1 0) (cond {A = ℕ} (is_move (at_far wire.gives) (w2 w)) 1 0)
         (cond {A = ℕ} (is_move (at_near wire.takes) (w3 w)) 1 0) e
 
-    near-none : is_any (frames_by (said w.near.card (goes w.near.line))) ≡ false
-    near-none = no-bit (is_any (frames_by (said w.near.card (goes w.near.line)))) parts.0
+    near-none : is_any (frames_by (answered next w.near)) ≡ false
+    near-none = no-bit (is_any (frames_by (answered next w.near))) parts.0
 
     given-way : (w1 w).near.way ≡ []
     given-way = no-way (w1 w).near.way (no-bit (is_any (w1 w).near.way) parts.1)
 
     near-empty : w.near.way ≡ []
-    near-empty = no-front w.near.way (frames_by (said w.near.card (goes w.near.line))) given-way
+    near-empty = no-front w.near.way (frames_by (answered next w.near)) given-way
 
     far-same : (w2 w).far ≡ w.far
     far-same = ap (λ way. with_first_of way w.far) given-way
 
-    far-none : is_any (frames_by (said w.far.card (goes w.far.line))) ≡ false
+    far-none : is_any (frames_by (answered next w.far)) ≡ false
     far-none =
-        subst (λ (s : Station). is_any (frames_by (said s.card (goes s.line))) ≡ false) far-same
-        (no-bit (is_any (frames_by (said (w2 w).far.card (goes (w2 w).far.line)))) parts.2)
+        subst (λ (s : Station). is_any (frames_by (answered next s)) ≡ false) far-same
+        (no-bit (is_any (frames_by (answered next (w2 w).far))) parts.2)
 
-    far-empty : w.far.way ++ frames_by (said w.far.card (goes w.far.line)) ≡ []
+    far-empty : w.far.way ++ frames_by (answered next w.far) ≡ []
     far-empty =
-        subst (λ (s : Station). s.way ++ frames_by (said s.card (goes s.line)) ≡ []) far-same
+        subst (λ (s : Station). s.way ++ frames_by (answered next s) ≡ []) far-same
         (no-way (w3 w).far.way (no-bit (is_any (w3 w).far.way) parts.3))
 
 -- So among more rounds than there are moves one finds no turn left.

@@ -18,11 +18,11 @@ use Rattle.model_link.specs.Machine.{after, course}
 use Rattle.model_link.specs.Steps.{Course, begun, ◌then◌}
 use Rattle.model_link.specs.TwoEnds.{with_sent}
 use Rattle.model_link.specs.Words
-use Rattle.model_link.specs.Words.{command, response}
+use Rattle.model_link.specs.Words.{command}
 use Rattle.model_link.proofs.Direction.{frames_of, frames-append}
 use Rattle.model_link.proofs.Lines.{Means}
 use Rattle.laws_wire.specs.Losing.{is_error}
-use Rattle.laws_wire.proofs.Calling.{sabme, ua, end}
+use Rattle.laws_wire.proofs.Calling.{sabme, end}
 use Rattle.laws_wire.proofs.Fair.{HasError}
 
 abbrev pub ringing : ℕ → List ControlFrame → Link
@@ -112,10 +112,6 @@ module _ (t : Terms) (k : ℕ) (ws : List ControlFrame) where
       go (Dm x) is e = absurd e
       go (Frmr x) is e = absurd e
       go (Xid pf) is e = absurd e
-
-  -- UA ends it
-  pub ua-ends : (u : Terms) → after t (received (frame (ua u))) l ≡ answered k ws
-  ua-ends u = refl
 
 -- where nothing waits, and there is room, SABME waits again
 module _ (t : Terms) (k : ℕ) (room : nat_lt 0 t.control ≡ true) where

@@ -9,15 +9,13 @@ use Rattle.model_link.specs.Machine.{given}
 use Rattle.model_link.specs.Sound.{IsInRange}
 use Rattle.model_link.specs.TwoEnds.{End}
 use Rattle.model_line.specs.declared.config.Config.{Config}
-use Rattle.model_line.specs.Event.{LineTold}
+use Rattle.model_line.specs.Event.{LineTold, next, gave}
 use Rattle.model_line.specs.Line.{terms}
-use Rattle.model_card.specs.Happening.{goes}
-use Rattle.model_card.specs.Said.{said, gives}
 use Rattle.model_line.proofs.Ranges.{terms_in_range}
 use Rattle.laws_two_links.specs.Rounds.{HasArrived}
 use Rattle.laws_two_links.proofs.AnyOrderRuns.{Pair, all-there}
 use Rattle.laws_two_links.proofs.Waiting.{nothing-given}
-use Rattle.laws_wire.specs.Wire.{Station, Wire, Doing, doing, doing_all, is_turn, turns, IsStill}
+use Rattle.laws_wire.specs.Wire.{Station, Wire, Doing, doing, doing_all, is_turn, turns, IsStill, answered}
 use Rattle.laws_wire.specs.Call.{calling, IsTalk, confirmed, indicated, data_told, IsBeginningOf, CanCall, ComesThrough, CallsComeThrough}
 use Rattle.laws_wire.proofs.Beginning.{calls, answers}
 use Rattle.laws_wire.proofs.Calling.{asked, caller, end, with_ua_waiting, with_ua_first}
@@ -44,7 +42,7 @@ arrived n m p no-n no-m way-n way-m =
     (record { near = nothing-given n.terms n.link no-n; far = nothing-given m.terms m.link no-m; near_way = way-n; far_way = way-m })
 
 module _ (service : Service) (tei : ℕ) where
-  pub none-given : (k : Config) (place : ℕ) (first : Past) (s : Station) (n : End) → Holds k service tei place first s n → said s.card (goes s.line) ≡ gives None → given n.terms n.link ≡ None
+  pub none-given : (k : Config) (place : ℕ) (first : Past) (s : Station) (n : End) → Holds k service tei place first s n → answered next s ≡ gave None → given n.terms n.link ≡ None
   none-given k place first s n h e = still-gives-none service tei place s n (subst (λ k. Stands k service tei place s n) (sym h.stands.config) h.stands) e
 
   pub way-empty : (k : Config) (place : ℕ) (first : Past) (s : Station) (n : End) → Holds k service tei place first s n → s.way ≡ [] → n.way ≡ []

@@ -1,22 +1,41 @@
--- A frame that a sound link gives is heard whole, and read again.
-use Rattle.std.proofs.Common.{◌≡◌, ℕ, ◌+◌, ◌<◌, ◌≤◌, List, length, Ok, refl}
-use Rattle.std.proofs.lemmas.List.Elements.{All-append}
-use Rattle.model_bits.specs.RoundTrip.{IsHeardWhole}
+-- A frame that a sound link gives comes as it is, and is read again.
+use Rattle.std.proofs.Common.{◌≡◌, ℕ, ◌+◌, ◌≤◌, ◌%◌, ◌⊎◌, inl, inr, false, cond, not, ◌&&◌, ◌||◌, nat_eq, nat_lt, List, length, take, slice_index, Ok, refl, ap, ◌∙◌, arith}
+use Rattle.std.proofs.lemmas.Bool.{le-ltb, ne_eqb}
+use Rattle.model_bits.specs.Stream.{frame, overlong, dropped}
+use Rattle.model_bits.specs.declared.heard.Cause.TheVariants as cause
 use Rattle.lapd_frame.specs.declared.addresses.Side.{Side}
 use Rattle.lapd_frame.specs.declared.addresses.Side.TheVariants.{User, Network}
-use Rattle.lapd_frame.specs.Grammar.{Parts, AreOctets, IsFrame, head_of, spelling, other_side}
+use Rattle.lapd_frame.specs.Grammar.{Parts, IsFrame, spelling, other_side}
 use Rattle.lapd_frame.specs.Reading.{reading}
 use Rattle.lapd_frame.proofs.Spelling.{reading-again}
-use Rattle.laws_card.proofs.Spelling.{head, not-short}
+use Rattle.model_line.specs.Came.{came}
+use Rattle.laws_card.proofs.Spelling.{IsNotShort, not-short}
 
--- A frame of this side that the other hears whole, and reads as what it is.
+-- A frame that is neither too short nor too long comes as it is.
+not-three : (n : ℕ) → 4 ≤ n → nat_eq n 3 ≡ false
+not-three n h = ne_eqb n 3 (λ e. absurd (omega (arith, e, h)))
+
+by-length : (n rest : ℕ) → (4 ≤ n) ⊎ ((n ≡ 3) × (rest ≡ 3)) → (nat_lt n 3 || (nat_eq n 3 && not (nat_eq rest 3))) ≡ false
+by-length n rest (inl long) =
+    ap (λ b. b || (nat_eq n 3 && not (nat_eq rest 3))) (le-ltb n 3 (omega (arith, long)))
+    ∙ ap (λ b. b && not (nat_eq rest 3)) (not-three n long)
+by-length n rest (inr h) =
+    ap (λ n. nat_lt n 3 || (nat_eq n 3 && not (nat_eq rest 3))) h.0 ∙ ap (λ r. not (nat_eq r 3)) h.1
+
+came-whole : (n201 : ℕ) (octets : List ℕ) → IsNotShort octets → length octets ≤ n201 + 4 → came n201 octets ≡ frame octets
+came-whole n201 octets not-short few =
+    ap (λ b. cond b (dropped cause.Short) (cond (nat_lt (n201 + 4) (length octets)) (overlong (take 4 octets)) (frame octets)))
+    (by-length (length octets) (slice_index octets 2 % 4) not-short)
+    ∙ ap (λ b. cond b (overlong (take 4 octets)) (frame octets)) (le-ltb (n201 + 4) (length octets) few)
+
+-- A frame of this side that comes to the other as it is, and that the other reads as what it is.
 pub record Carries (side : Side) (n201 : ℕ) (f : Parts) (octets : List ℕ) : Type 0 where
-  pub whole : IsHeardWhole n201 octets
+  pub whole : came n201 octets ≡ frame octets
   pub read : reading side octets ≡ Ok f
 
-pub carries : (side : Side) (n201 : ℕ) (f : Parts) → IsFrame f → AreOctets f.info → length (spelling side f) ≤ n201 + 4 → Carries side n201 f (spelling side f)
-carries side n201 f is octets few = record {
-  whole = record { octets_are = All-append (λ octet. octet < 256) (head_of side f.address f.control) f.info (head side f.address f.control is.sapi is.tei) octets; not_short = not-short side f.address f.control f.info; not_long = few };
+pub carries : (side : Side) (n201 : ℕ) (f : Parts) → IsFrame f → length (spelling side f) ≤ n201 + 4 → Carries side n201 f (spelling side f)
+carries side n201 f is few = record {
+  whole = came-whole n201 (spelling side f) (not-short side f.address f.control f.info) few;
   read = reading-again side f (spelling side f) (record { is_frame = is; octets_are = refl });
 }
 

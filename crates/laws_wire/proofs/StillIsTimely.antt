@@ -22,9 +22,8 @@ use Rattle.model_link.specs.Words
 use Rattle.model_link.specs.Sound.{IsInRange}
 use Rattle.model_link.specs.TwoEnds.{End}
 use Rattle.model_line.specs.declared.config.Config.{Config}
-use Rattle.model_line.specs.Event.{LineTold}
+use Rattle.model_line.specs.Event.{LineTold, expiry}
 use Rattle.model_line.specs.Line.{terms}
-use Rattle.model_card.specs.Happening.{expires}
 use Rattle.laws_link.specs.Flags.{awaits_answer}
 use Rattle.laws_link.specs.Timed.{IsTimed}
 use Rattle.laws_wire.specs.Wire.{Station, Wire, happens, Act, requests, times_out, gives, takes, loses, Doing, at_near, at_far, acting, turned, doing, doing_all, IsStill}
@@ -84,10 +83,10 @@ up-asks Established up awaits = absurd (true≢false (sym awaits))
 up-asks TimerRecovery up awaits = refl
 
 -- so where none is told as T200 expires the command may be repeated
-module _ (service : Service) (tei : ℕ) (k : Config) (place : ℕ) (past : List LineTold) (s : Station) (n : End) (h : Held k service tei place past s n) (fair : HasNoError (happens (expires s.line (T200 service tei)) s)) where
+module _ (service : Service) (tei : ℕ) (k : Config) (place : ℕ) (past : List LineTold) (s : Station) (n : End) (h : Held k service tei place past s n) (fair : HasNoError (happens (expiry (T200 service tei)) s)) where
   no-error : HasError (course n.terms (link.expired timer.T200) n.link).notes → ⊥
   no-error error =
-      let s' = happens (expires s.line (T200 service tei)) s in
+      let s' = happens (expiry (T200 service tei)) s in
       not-erred s' fair (now-erred s s' (course n.terms (link.expired timer.T200) n.link) (expired-told service tei place past k s n h (T200 service tei) timer.T200 (λ l. refl)) error)
 
   up-may : IsTrue (is_multiple_frame n.link.state) → IsTimed n.link → MayRepeat n
@@ -101,7 +100,7 @@ module _ (service : Service) (tei : ℕ) (k : Config) (place : ℕ) (past : List
       go false e = absurd (no-error (ran-out n.terms n.link state (ap (timer_runs timer.T200) (timed-8 service tei k place past s n h timed state)) e))
 
 ring-may : (service : Service) (tei : ℕ) (k : Config) (place : ℕ) (s : Station) (t : Terms) (i : ℕ) → Held k service tei place [] s (end t (ringing i []) [])
-    → HasNoError (happens (expires s.line (T200 service tei)) s) → MayRepeat (end t (ringing i []) [])
+    → HasNoError (happens (expiry (T200 service tei)) s) → MayRepeat (end t (ringing i []) [])
 ring-may service tei k place s t i h fair awaits = go (nat_lt i t.n200) refl
   where
     go : (b : Bool) → nat_lt i t.n200 ≡ b → i < t.n200
@@ -136,7 +135,7 @@ module _ (service : Service) (tei : ℕ) (c d : Config) (p q : ℕ) (face : Face
 
   -- with no error as it expires
   abbrev NearFair : Wire → Type 0
-  NearFair w = HasNoError (happens (expires w.near.line (T200 service tei)) w.near)
+  NearFair w = HasNoError (happens (expiry (T200 service tei)) w.near)
 
   near-may : (w : Wire) → On w → IsStill w → NearFair w → MayRepeat (end_of service tei w.near)
   near-may w (inl h) still fair =

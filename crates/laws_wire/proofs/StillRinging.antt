@@ -3,7 +3,7 @@ use Rattle.std.proofs.Common.{◌≡◌, ℕ, false, List, [], map, drop, None, 
 use Rattle.std.specs.Prelude.{All, option_to_list}
 use Rattle.lapd_frame.specs.declared.services.Service.{Service}
 use Rattle.lapd_frame.specs.declared.timers.Timer.{Timer}
-use Rattle.lapd_frame.specs.Grammar.{Parts, AreOctets}
+use Rattle.lapd_frame.specs.Grammar.{Parts}
 use Rattle.model_link.specs.declared.frames.ControlFrame.{ControlFrame}
 use Rattle.model_link.specs.declared.terms.Terms.{Terms}
 use Rattle.model_link.specs.declared.timers.LinkTimer.{LinkTimer}
@@ -16,7 +16,7 @@ use Rattle.model_link.specs.TwoEnds.{End, with_link, with_sent}
 use Rattle.model_line.specs.declared.config.Config.{Config}
 use Rattle.model_line.specs.Line.{terms}
 use Rattle.model_line.specs.Request.{Data}
-use Rattle.model_card.specs.Happening.{goes, expires, asks}
+use Rattle.model_line.specs.Event.{expiry, request, next}
 use Rattle.laws_wire.specs.Wire.{Station, happens, with_first_lost}
 use Rattle.laws_wire.proofs.Calling.{end}
 use Rattle.laws_wire.proofs.Fair.{HasError}
@@ -39,24 +39,24 @@ module _ (service : Service) (tei : ℕ) (c : Config) (p : ℕ) where
     abbrev rung : End
     rung = end t (ringing k ws) way
 
-    pub rings-asks : (octets : List ℕ) → AreOctets octets → StillRings (happens (asks s.line (Data service tei octets)) s)
-    rings-asks octets are = go (held-asked service tei p [] c s rung h octets are)
+    pub rings-asks : (octets : List ℕ) → StillRings (happens (request (Data service tei octets)) s)
+    rings-asks octets = go (held-asked service tei p [] c s rung h octets)
       where
         s' : Station
-        s' = happens (asks s.line (Data service tei octets)) s
+        s' = happens (request (Data service tei octets)) s
 
         go : (s' ≡ s) ⊎ Grants service tei p [] c s rung h octets s' → StillRings s'
         go (inl same) = record { repeats = k; waiting = ws; way = way; held = subst (λ x. Held c service tei p [] x rung) (sym same) h; sabmes = sabmes }
         go (inr x) = let none : refusal t (ringing k ws) false (link.Data octets) ≡ None = x.none in absurd (cc)
 
-    pub rings-expires : (timer : Timer) (its : LinkTimer) → Aims service tei timer its → StillRings (happens (expires s.line timer) s) ⊎ Erred (happens (expires s.line timer) s)
+    pub rings-expires : (timer : Timer) (its : LinkTimer) → Aims service tei timer its → StillRings (happens (expiry timer) s) ⊎ Erred (happens (expiry timer) s)
     rings-expires timer its aims = go (by its)
       where
         x : Course
         x = course t (link.expired its) (ringing k ws)
 
         s' : Station
-        s' = happens (expires s.line timer) s
+        s' = happens (expiry timer) s
 
         by : (timer : LinkTimer) → HasError (course t (link.expired timer) (ringing k ws)).notes ⊎ Rings k ws (course t (link.expired timer) (ringing k ws))
         by link_timer.T200 = t200-rings t k ws
@@ -77,7 +77,7 @@ module _ (service : Service) (tei : ℕ) (c : Config) (p : ℕ) where
               sabmes = one-sabme_more t way ws r.waiting r.more sabmes;
             })
 
-    pub rings-gives : StillRings (happens (goes s.line) s)
+    pub rings-gives : StillRings (happens next s)
     rings-gives =
         let x : RingsOn t k ws way = gives-sabme t k ws way in
         let kept : (with_sent rung).link.contents ≡ rung.link.contents = ap (λ y. y.link.contents) x.is in
@@ -85,7 +85,7 @@ module _ (service : Service) (tei : ℕ) (c : Config) (p : ℕ) where
           repeats = k;
           waiting = x.waiting;
           way = x.went;
-          held = subst (Held c service tei p [] (happens (goes s.line) s)) x.is (held-given service tei p [] c s rung h kept);
+          held = subst (Held c service tei p [] (happens next s)) x.is (held-given service tei p [] c s rung h kept);
           sabmes = subst (All (IsSabme t)) (sym x.line) sabmes;
         }
 

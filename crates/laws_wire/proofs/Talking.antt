@@ -2,12 +2,12 @@
 use Rattle.std.proofs.Common.{◌≡◌, ℕ, ◌≤◌, Bool, true, false, cond, List, [], ◌∷◌, ◌++◌, length, map, drop, Option, Some, None, Ok, refl, sym, ap, subst, ◌∙◌, ◌⊎◌, inl, inr, append-nil, append_assoc}
 use Rattle.std.specs.Prelude.{All, option_to_list, nat_lt}
 use Rattle.std.proofs.lemmas.Bool.{ltb-false}
-use Rattle.std.proofs.lemmas.List.Elements.{All-nil, All-cons, All-tail, All-append}
+use Rattle.std.proofs.lemmas.List.Elements.{All-tail}
 use Rattle.lapd_frame.specs.declared.refusals.Refusal.{Refusal}
 use Rattle.lapd_frame.specs.declared.refusals.Refusal.TheVariants.{WrongState, TooLong}
 use Rattle.lapd_frame.specs.declared.services.Service.{Service}
-use Rattle.lapd_frame.specs.Grammar.{Parts, AreOctets, spelling, other_side}
-use Rattle.model_bits.specs.RoundTrip.{IsHeardWhole}
+use Rattle.lapd_frame.specs.Grammar.{Parts, spelling, other_side}
+use Rattle.model_bits.specs.Stream.{frame}
 use Rattle.model_link.specs.declared.terms.Terms.{Terms}
 use Rattle.model_link.specs.Events as link
 use Rattle.model_link.specs.Link.{Link}
@@ -16,15 +16,16 @@ use Rattle.model_link.specs.Requests as requests
 use Rattle.model_link.specs.TwoEnds.{End, with_link, with_sent}
 use Rattle.model_link.specs.TwoEnds as two_ends
 use Rattle.model_line.specs.declared.config.Config.{Config}
-use Rattle.model_line.specs.Event.{LineTold}
+use Rattle.model_line.specs.Came.{came}
+use Rattle.model_line.specs.Event.{LineTold, request, next}
 use Rattle.model_line.specs.Line.{link_in, terms}
-use Rattle.model_line.specs.Octet.{heard_side}
+use Rattle.model_line.specs.Heard.{heard_side}
 use Rattle.model_line.specs.Request.{Data}
 use Rattle.model_card.specs.Card.{line_at}
-use Rattle.model_card.specs.Happening.{comes, goes, asks}
 use Rattle.laws_line.proofs.Asked.{link-grants}
-use Rattle.laws_wire.specs.Wire.{Station, happens, with_first_lost}
+use Rattle.laws_wire.specs.Wire.{Station, happens, with_first_lost, comes}
 use Rattle.laws_wire.specs.Call.{data_told}
+use Rattle.laws_wire.proofs.Answered.{gives-told, gives-granted, takes-granted}
 use Rattle.laws_wire.proofs.Asking.{with_more, asked-form}
 use Rattle.laws_wire.proofs.Speaking.{said_by, TellsData, told-so-far}
 use Rattle.laws_wire.proofs.Standing.{IsCarried, Stands, Granted, gives-stands, takes-stands, takes-told, asks-stands}
@@ -48,7 +49,6 @@ after_note t = record { told = t ∷ []; had = [] }
 pub record Holds (c : Config) (service : Service) (tei place : ℕ) (past : Past) (s : Station) (n : End) : Type 0 where
   pub stands : Stands c service tei place s n
   pub granted : s.granted ≡ n.link.contents
-  pub octets : All AreOctets s.granted
   pub since : List (List ℕ)
   pub told : s.told ≡ past.told ++ map (data_told service tei) since
   pub delivered : n.delivered ≡ past.had ++ since
@@ -68,15 +68,14 @@ module _ (service : Service) (tei place : ℕ) (first : Past) where
 
   -- it gives
   pub holds-given : (c : Config) (s : Station) (n : End) → Holds c service tei place first s n → (with_sent n).link.contents ≡ n.link.contents
-      → Holds c service tei place first (happens (goes s.line) s) (with_sent n)
+      → Holds c service tei place first (happens next s) (with_sent n)
   holds-given c s n h kept = record {
     stands =
-        subst (λ k. Stands k service tei place (happens (goes s.line) s) (with_sent n)) h.stands.config
-        (gives-stands service tei place s n (own-stands c s n h.stands) (subst (All AreOctets) h.granted h.octets));
-    granted = append-nil s.granted ∙ h.granted ∙ sym kept;
-    octets = subst (All AreOctets) (sym (append-nil s.granted)) h.octets;
+        subst (λ k. Stands k service tei place (happens next s) (with_sent n)) h.stands.config
+        (gives-stands service tei place s n (own-stands c s n h.stands));
+    granted = gives-granted s ∙ h.granted ∙ sym kept;
     since = h.since;
-    told = append-nil s.told ∙ h.told;
+    told = gives-told s ∙ h.told;
     delivered = h.delivered;
   }
 
@@ -94,7 +93,6 @@ module _ (service : Service) (tei place : ℕ) (first : Past) where
     stands = record {
       config = h.stands.config;
       sound = h.stands.sound;
-      idle = h.stands.idle;
       within = h.stands.within;
       speaks = h.stands.speaks;
       terms = h.stands.terms;
@@ -102,7 +100,6 @@ module _ (service : Service) (tei place : ℕ) (first : Past) where
       carried = drop-carried c n.way h.stands.carried;
     };
     granted = h.granted;
-    octets = h.octets;
     since = h.since;
     told = h.told;
     delivered = h.delivered;
@@ -110,20 +107,20 @@ module _ (service : Service) (tei place : ℕ) (first : Past) where
 
   -- it takes a frame of the other side
   pub record Took (c : Config) (s : Station) (n : End) (octets : List ℕ) (f : Parts) : Type 0 where
-    pub stands : Stands c service tei place (happens (comes s.line octets) s) (with_link (link.received (link.frame f)) n)
-    pub told : (happens (comes s.line octets) s).told ≡ s.told ++ said_by (links.course n.terms (link.received (link.frame f)) n.link)
+    pub stands : Stands c service tei place (comes octets s) (with_link (link.received (link.frame f)) n)
+    pub told : (comes octets s).told ≡ s.told ++ said_by (links.course n.terms (link.received (link.frame f)) n.link)
 
   pub takes : (c d : Config) → Face c d → (s : Station) (n : End) (f : Parts) → Stands c service tei place s n → IsCarried d service tei f → Took c s n (spelling d.side f) f
   takes c d face s n f h from =
       let x = from.carried in
       let same-n201 : d.n201 ≡ s.card.config.n201 = sym face.n201 ∙ ap (λ k. k.n201) (sym h.config) in
-      let whole : IsHeardWhole s.card.config.n201 (spelling d.side f) = subst (λ k. IsHeardWhole k (spelling d.side f)) same-n201 x.whole in
+      let whole : came s.card.config.n201 (spelling d.side f) ≡ frame (spelling d.side f) = subst (λ k. came k (spelling d.side f) ≡ frame (spelling d.side f)) same-n201 x.whole in
       let side : d.side ≡ heard_side s.card.config = sym face.side ∙ ap (λ k. other_side k.side) (sym h.config) in
       let read : Rattle.lapd_frame.specs.Reading.reading (heard_side s.card.config) (spelling d.side f) ≡ Ok f = subst (λ k. Rattle.lapd_frame.specs.Reading.reading k (spelling d.side f) ≡ Ok f) side x.read in
       let own = own-stands c s n h in
       record {
         stands =
-            subst (λ k. Stands k service tei place (happens (comes s.line (spelling d.side f)) s) (with_link (link.received (link.frame f)) n)) h.config
+            subst (λ k. Stands k service tei place (comes (spelling d.side f) s) (with_link (link.received (link.frame f)) n)) h.config
             (takes-stands service tei place s n own f (spelling d.side f) whole read from.sapi from.by);
         told = takes-told service tei place s n own f (spelling d.side f) whole read from.sapi from.by;
       }
@@ -133,14 +130,13 @@ module _ (service : Service) (tei place : ℕ) (first : Past) where
 
   pub holds-taken : (c d : Config) → Face c d → (s : Station) (n : End) (f : Parts) → Holds c service tei place first s n → IsCarried d service tei f
       → TellsData n.terms (links.course n.terms (link.received (link.frame f)) n.link) → (with_link (link.received (link.frame f)) n).link.contents ≡ n.link.contents
-      → Holds c service tei place first (happens (comes s.line (spelling d.side f)) s) (with_link (link.received (link.frame f)) n)
+      → Holds c service tei place first (comes (spelling d.side f) s) (with_link (link.received (link.frame f)) n)
   holds-taken c d face s n f h from tells kept =
       let x = takes c d face s n f h.stands from in
       let more = option_to_list (links.course n.terms (link.received (link.frame f)) n.link).delivered in
       record {
         stands = x.stands;
-        granted = append-nil s.granted ∙ h.granted ∙ sym kept;
-        octets = subst (All AreOctets) (sym (append-nil s.granted)) h.octets;
+        granted = takes-granted (spelling d.side f) s ∙ h.granted ∙ sym kept;
         since = h.since ++ more;
         told = x.told ∙ told-so-far service tei first.told h.since more s.told _ h.told (tells ∙ same-data c n h.stands.terms more);
         delivered = ap (λ xs. xs ++ more) h.delivered ∙ append_assoc first.had h.since more;
@@ -164,14 +160,14 @@ module _ (service : Service) (tei place : ℕ) (first : Past) where
     pub holds : Holds c service tei place first s' (with_more octets n)
     pub granted : s'.granted ≡ s.granted ++ octets ∷ []
 
-  pub holds-asked : (c : Config) (s : Station) (n : End) (octets : List ℕ) → AreOctets octets → Holds c service tei place first s n
-      → (happens (asks s.line (Data service tei octets)) s ≡ s) ⊎ More c s (happens (asks s.line (Data service tei octets)) s) n octets
-  holds-asked c s n octets are h =
+  pub holds-asked : (c : Config) (s : Station) (n : End) (octets : List ℕ) → Holds c service tei place first s n
+      → (happens (request (Data service tei octets)) s ≡ s) ⊎ More c s (happens (request (Data service tei octets)) s) n octets
+  holds-asked c s n octets h =
       let own = own-stands c s n h.stands in
       go own (asks-stands service tei place s n own (Data service tei octets) (link.Data octets) (λ l. refl))
     where
       s' : Station
-      s' = happens (asks s.line (Data service tei octets)) s
+      s' = happens (request (Data service tei octets)) s
 
       go : (own : Stands s.card.config service tei place s n) → (s' ≡ s) ⊎ Granted service tei place s n own (Data service tei octets) (link.Data octets) (λ l. refl) s'
           → (s' ≡ s) ⊎ More c s s' n octets
@@ -188,9 +184,6 @@ module _ (service : Service) (tei place : ℕ) (first : Past) where
             holds = record {
               stands = subst (λ k. Stands k service tei place s' (with_more octets n)) h.stands.config (subst (Stands s.card.config service tei place s') (asked-form octets n none) x.stands);
               granted = x.granted ∙ ap (λ xs. xs ++ octets ∷ []) h.granted;
-              octets =
-                  subst (All AreOctets) (sym x.granted)
-                  (All-append AreOctets s.granted (octets ∷ []) h.octets (All-cons AreOctets octets [] are (All-nil AreOctets)));
               since = h.since;
               told = x.told ∙ ap (λ ts. s.told ++ ts) (nothing-told n.terms n.link octets none) ∙ append-nil s.told ∙ h.told;
               delivered = h.delivered;

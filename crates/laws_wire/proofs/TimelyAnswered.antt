@@ -1,10 +1,10 @@
 -- The next phases of such a call: the other end is up, and its UA waits, or is on its way before all else.
-use Rattle.std.proofs.Common.{◌≡◌, ℕ, false, List, [], ◌∷◌, ◌++◌, None, refl, sym, ap, subst, ◌∙◌, ◌⊎◌, inl, inr, append-nil}
+use Rattle.std.proofs.Common.{◌≡◌, ℕ, false, List, [], ◌∷◌, ◌++◌, None, refl, sym, ap, subst, ◌∙◌, ◌⊎◌, inl, inr}
 use Rattle.std.proofs.lemmas.List.Elements.{All-tail}
 use Rattle.lapd_frame.specs.declared.services.Service.{Service}
 use Rattle.lapd_frame.specs.declared.timers.Timer.{Timer}
 use Rattle.lapd_frame.specs.declared.timers.Timer.TheVariants as timers
-use Rattle.lapd_frame.specs.Grammar.{Parts, AreOctets, spelling}
+use Rattle.lapd_frame.specs.Grammar.{Parts, spelling}
 use Rattle.model_link.specs.declared.terms.Terms.{Terms}
 use Rattle.model_link.specs.declared.states.State.TheVariants.{TimerRecovery}
 use Rattle.model_link.specs.declared.timers.LinkTimer.{LinkTimer}
@@ -16,11 +16,10 @@ use Rattle.model_link.specs.Sound.{IsInRange}
 use Rattle.model_link.specs.TwoEnds.{End, with_link, with_sent}
 use Rattle.model_link.proofs.Sending.{offer-gave}
 use Rattle.model_line.specs.declared.config.Config.{Config}
-use Rattle.model_line.specs.Event.{LineTold}
+use Rattle.model_line.specs.Event.{LineTold, expiry, request, next}
 use Rattle.model_line.specs.Line.{terms}
 use Rattle.model_line.specs.Request.{Data}
-use Rattle.model_card.specs.Happening.{comes, goes, expires, asks}
-use Rattle.laws_wire.specs.Wire.{Station, Wire, happens, with_first_of, Act, requests, times_out, gives, takes, loses, acting, turned, IsStill}
+use Rattle.laws_wire.specs.Wire.{Station, Wire, happens, with_first_of, Act, requests, times_out, gives, takes, loses, acting, turned, IsStill, comes}
 use Rattle.laws_wire.specs.Call.{confirmed, indicated}
 use Rattle.laws_wire.specs.Losing.{IsRoughTalkOf}
 use Rattle.laws_wire.specs.Facing.{end_of}
@@ -28,6 +27,7 @@ use Rattle.laws_wire.specs.Timely.{is_final, IsLongEnough, IsTimelyOf, IsSpared}
 use Rattle.laws_link.specs.Flags.{awaits_answer}
 use Rattle.laws_two_links.specs.Ahead.{CanRepeat}
 use Rattle.laws_two_links.specs.Timely as two_links_timely
+use Rattle.laws_wire.proofs.Answered.{takes-granted}
 use Rattle.laws_wire.proofs.Awaited.{closed, link-is, as-here, may-there, open-there, waits-first, goes-first}
 use Rattle.laws_wire.proofs.Asking.{with_more, asked-form}
 use Rattle.laws_wire.proofs.Calling.{its_ua, ua, end, with_ua_waiting, with_ua_first}
@@ -80,16 +80,16 @@ module _ (service : Service) (tei : ℕ) (c d : Config) (p q : ℕ) (face : Face
   -- it is asked to send more
   module _ (k : ℕ) (m : End) (its : End → End) (form : (octets : List ℕ) → with_more octets (its m) ≡ its (with_more octets m))
       (same : (octets : List ℕ) → refusal m.terms m.link false (link.Data octets) ≡ refusal (its m).terms (its m).link false (link.Data octets))
-      (w : Wire) (held : Held d service tei q first_far w.far (its m)) (firm : Firm (end t (answered k []) []) m) (octets : List ℕ) (are : AreOctets octets) where
+      (w : Wire) (held : Held d service tei q first_far w.far (its m)) (firm : Firm (end t (answered k []) []) m) (octets : List ℕ) where
     record More (s' : Station) : Type 0 where
       held' : Held d service tei q first_far s' (its (with_more octets m))
       firm' : Firm (end t (answered k []) []) (with_more octets m)
 
-    asks-more : (happens (asks w.far.line (Data service tei octets)) w.far ≡ w.far) ⊎ More (happens (asks w.far.line (Data service tei octets)) w.far)
-    asks-more = go (held-asked service tei q first_far d w.far (its m) held octets are)
+    asks-more : (happens (request (Data service tei octets)) w.far ≡ w.far) ⊎ More (happens (request (Data service tei octets)) w.far)
+    asks-more = go (held-asked service tei q first_far d w.far (its m) held octets)
       where
         s' : Station
-        s' = happens (asks w.far.line (Data service tei octets)) w.far
+        s' = happens (request (Data service tei octets)) w.far
 
         go : (s' ≡ w.far) ⊎ Grants service tei q first_far d w.far (its m) held octets s' → (s' ≡ w.far) ⊎ More s'
         go (inl e) = inl e
@@ -113,18 +113,18 @@ module _ (service : Service) (tei : ℕ) (c d : Config) (p q : ℕ) (face : Face
     pub waits-near : (act : Act) → IsRoughTalkOf service tei act → IsTimelyOf act w → Goes (acting act w)
     waits-near (requests r) is x =
         for-data service tei (λ r. Goes (acting (requests r) w))
-        (λ octets are. as-waits m (subst (λ s. UaWaits m (record w { near = s })) (sym (asks-refused service tei c p [] w.near waits_end h.near (λ octets none. cc none) octets are)) h)) r is
+        (λ octets. as-waits m (subst (λ s. UaWaits m (record w { near = s })) (sym (asks-refused service tei c p [] w.near waits_end h.near (λ octets none. cc none) octets)) h)) r is
     waits-near (times_out timer) is x =
         each-timer service tei (λ timer. IsTimelyOf (times_out timer) w → Goes (acting (times_out timer) w)) (λ x. absurd (waits-first is_final (with_ua_waiting m) its_ua [] refl refl (ringing-open service tei c d p q h.repeats [] [] w (with_ua_waiting m) first_far h.near h.far x.0).responses))
-        (λ x. as-waits m (still-waits (happens (expires w.near.line (timers.T203 service tei)) w.near) (silent-t203 service tei c d p q h.repeats [] [] w.near h.near))) timer is x
-    waits-near gives is x = as-waits m (still-waits (happens (goes w.near.line) w.near) (gives-nothing service tei c p [] w.near waits_end h.near refl))
+        (λ x. as-waits m (still-waits (happens (expiry (timers.T203 service tei)) w.near) (silent-t203 service tei c d p q h.repeats [] [] w.near h.near))) timer is x
+    waits-near gives is x = as-waits m (still-waits (happens next w.near) (gives-nothing service tei c p [] w.near waits_end h.near refl))
     waits-near takes is x = as-waits m (subst (UaWaits m) (sym (takes-none w (empty service tei d q first_far w.far (with_ua_waiting m) h.far h.way))) h)
     waits-near loses is x = as-waits m (subst (UaWaits m) (sym (loses-none w (empty service tei c p [] w.near waits_end h.near refl))) h)
 
     pub gives-ua : UaGoes m (turned (acting gives (turned w)))
     gives-ua =
         let form = sends-ua m h.waiting h.way in
-        let s' = happens (goes w.far.line) w.far in
+        let s' = happens next w.far in
         record {
           repeats = h.repeats;
           near = h.near;
@@ -132,13 +132,13 @@ module _ (service : Service) (tei : ℕ) (c d : Config) (p q : ℕ) (face : Face
           firm = h.firm;
         }
 
-    waits-asks : (octets : List ℕ) → AreOctets octets → Goes (made w (happens (asks w.far.line (Data service tei octets)) w.far))
-    waits-asks octets are = go (asks-more h.repeats m with_ua_waiting (λ octets. refl) (λ octets. refl) w h.far h.firm octets are)
+    waits-asks : (octets : List ℕ) → Goes (made w (happens (request (Data service tei octets)) w.far))
+    waits-asks octets = go (asks-more h.repeats m with_ua_waiting (λ octets. refl) (λ octets. refl) w h.far h.firm octets)
       where
         s' : Station
-        s' = happens (asks w.far.line (Data service tei octets)) w.far
+        s' = happens (request (Data service tei octets)) w.far
 
-        go : (s' ≡ w.far) ⊎ More h.repeats m with_ua_waiting (λ octets. refl) (λ octets. refl) w h.far h.firm octets are s' → Goes (made w s')
+        go : (s' ≡ w.far) ⊎ More h.repeats m with_ua_waiting (λ octets. refl) (λ octets. refl) w h.far h.firm octets s' → Goes (made w s')
         go (inl e) = as-waits m (subst (λ s. UaWaits m (made w s)) (sym e) h)
         go (inr x) = as-waits (with_more octets m) (record { repeats = h.repeats; waiting = h.waiting; way = h.way; near = h.near; far = x.held'; firm = x.firm' })
 
@@ -163,11 +163,11 @@ module _ (service : Service) (tei : ℕ) (c d : Config) (p q : ℕ) (face : Face
     confirms =
         let f = ua m.terms in
         let way = first-way service tei d q first_far w.far (with_ua_first m) f m.way refl h.far in
-        let s' = happens (comes w.near.line (spelling d.side f)) w.near in
+        let s' = comes (spelling d.side f) w.near in
         let n' = end t (answered h.repeats []) [] in
         let held : Held c service tei p first_near s' n' =
         held-first service tei p [] c w.near comes_end h.near (confirmed service tei) s' n' (course t (link.received (link.frame f)) comes_end.link) refl refl refl
-        (taken-stands service tei p [] c w.near comes_end h.near d face f way.1) (append-nil w.near.granted) refl
+        (taken-stands service tei p [] c w.near comes_end h.near d face f way.1) (takes-granted (spelling d.side f) w.near) refl
         (taken-told service tei p [] c w.near comes_end h.near d face f way.1) refl refl in
         record {
           near = subst (λ ways. Held c service tei p first_near (with_first_of ways w.near) n') (sym way.0) held;
@@ -178,7 +178,7 @@ module _ (service : Service) (tei : ℕ) (c d : Config) (p q : ℕ) (face : Face
     pub comes-near : (act : Act) → IsRoughTalkOf service tei act → IsTimelyOf act w → Goes (acting act w)
     comes-near (requests r) is x =
         for-data service tei (λ r. Goes (acting (requests r) w))
-        (λ octets are. as-comes m (subst (λ s. UaGoes m (record w { near = s })) (sym (asks-refused service tei c p [] w.near comes_end h.near (λ octets none. cc none) octets are)) h)) r is
+        (λ octets. as-comes m (subst (λ s. UaGoes m (record w { near = s })) (sym (asks-refused service tei c p [] w.near comes_end h.near (λ octets none. cc none) octets)) h)) r is
     comes-near (times_out timer) is x =
         each-timer service tei (λ timer. IsTimelyOf (times_out timer) w → Goes (acting (times_out timer) w)) (λ x. absurd (goes-first is_final (with_ua_first m) (ua m.terms) m.way refl refl (ringing-open service tei c d p q h.repeats [] [] w (with_ua_first m) first_far h.near h.far x.0).responses))
         (λ x. as-comes m (record { repeats = h.repeats; near = silent-t203 service tei c d p q h.repeats [] [] w.near h.near; far = h.far; firm = h.firm })) timer is x
@@ -186,13 +186,13 @@ module _ (service : Service) (tei : ℕ) (c d : Config) (p q : ℕ) (face : Face
     comes-near takes is x = as-up (record { n = end t (answered h.repeats []) []; m = m; up = confirms })
     comes-near loses is x = as-comes m (subst (UaGoes m) (sym (loses-none w (empty service tei c p [] w.near comes_end h.near refl))) h)
 
-    comes-asks : (octets : List ℕ) → AreOctets octets → Goes (made w (happens (asks w.far.line (Data service tei octets)) w.far))
-    comes-asks octets are = go (asks-more h.repeats m with_ua_first (λ octets. refl) (λ octets. refl) w h.far h.firm octets are)
+    comes-asks : (octets : List ℕ) → Goes (made w (happens (request (Data service tei octets)) w.far))
+    comes-asks octets = go (asks-more h.repeats m with_ua_first (λ octets. refl) (λ octets. refl) w h.far h.firm octets)
       where
         s' : Station
-        s' = happens (asks w.far.line (Data service tei octets)) w.far
+        s' = happens (request (Data service tei octets)) w.far
 
-        go : (s' ≡ w.far) ⊎ More h.repeats m with_ua_first (λ octets. refl) (λ octets. refl) w h.far h.firm octets are s' → Goes (made w s')
+        go : (s' ≡ w.far) ⊎ More h.repeats m with_ua_first (λ octets. refl) (λ octets. refl) w h.far h.firm octets s' → Goes (made w s')
         go (inl e) = as-comes m (subst (λ s. UaGoes m (made w s)) (sym e) h)
         go (inr x) = as-comes (with_more octets m) (record { repeats = h.repeats; near = h.near; far = x.held'; firm = x.firm' })
 

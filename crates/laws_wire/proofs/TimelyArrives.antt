@@ -16,10 +16,7 @@ use Rattle.model_link.specs.TwoEnds.{End, Ends, with_link}
 use Rattle.model_link.proofs.Direction.{line_of}
 use Rattle.model_link.proofs.Lines.{rising-low}
 use Rattle.model_line.specs.declared.config.Config.{Config}
-use Rattle.model_line.specs.Event.{LineTold}
-use Rattle.model_card.specs.Happening.{goes}
-use Rattle.model_card.specs.Said as call
-use Rattle.model_card.specs.Said.{said}
+use Rattle.model_line.specs.Event.{LineTold, next, gave}
 use Rattle.laws_two_links.specs.CutOff as cut_off
 use Rattle.laws_two_links.specs.CutOff.{IsCutOff}
 use Rattle.laws_two_links.specs.Rounds as two_links
@@ -29,7 +26,7 @@ use Rattle.laws_two_links.proofs.Recovery.{all-recovered}
 use Rattle.laws_two_links.proofs.Shapes.{enquiry_with}
 use Rattle.laws_two_links.proofs.Waiting.{nothing-to_send}
 use Rattle.laws_link.specs.Flags.{awaits_answer}
-use Rattle.laws_wire.specs.Wire.{Station, Wire, times_out, acting, turned, IsStill}
+use Rattle.laws_wire.specs.Wire.{Station, Wire, times_out, acting, turned, IsStill, answered}
 use Rattle.laws_wire.specs.Call.{confirmed, indicated, data_told}
 use Rattle.laws_wire.specs.Losing.{heard_in}
 use Rattle.laws_wire.specs.Timely.{is_poll, is_final, IsNoneOpen, StayTimely}
@@ -102,7 +99,7 @@ module _ (service : Service) (tei : ℕ) where
     Up w n m = BothUp service tei c d p q first_near first_far w n m
 
     nothing-said : (k : Config) (place : ℕ) (past : List LineTold) (s : Station) (n : End) → Held k service tei place past s n → given n.terms n.link ≡ None
-        → said s.card (goes s.line) ≡ call.gives None
+        → answered next s ≡ gave None
     nothing-said k place past s n h none = gives-none service tei place s n (subst (λ k. Stands k service tei place s n) (sym h.stands.config) h.stands) none
 
     -- what has arrived at the links has arrived

@@ -2,7 +2,6 @@
 use Rattle.std.proofs.Common.{◌≡◌, ℕ, ◌≤◌, false, List, [], length, drop, None, refl, sym, ap, subst, ◌∙◌, ◌⊎◌, inl, inr, true≢false, arith}
 use Rattle.std.proofs.lemmas.List.Elements.{All-nil}
 use Rattle.lapd_frame.specs.declared.services.Service.{Service}
-use Rattle.lapd_frame.specs.Grammar.{AreOctets}
 use Rattle.model_link.specs.declared.terms.Terms.{Terms}
 use Rattle.model_link.specs.Events as link
 use Rattle.model_link.specs.Machine.{given}
@@ -11,9 +10,8 @@ use Rattle.model_link.specs.Sound.{IsInRange, IsSound}
 use Rattle.model_link.specs.TwoEnds.{End, Begins}
 use Rattle.model_link.proofs.Joined.{joined-first}
 use Rattle.model_line.specs.declared.config.Config.{Config}
-use Rattle.model_line.specs.Event.{LineTold}
+use Rattle.model_line.specs.Event.{LineTold, request, next}
 use Rattle.model_line.specs.Request.{Data}
-use Rattle.model_card.specs.Happening.{goes, asks}
 use Rattle.laws_two_links.specs.Rounds.{IsReady, IsTaken}
 use Rattle.laws_two_links.proofs.Flow.{Flow}
 use Rattle.laws_wire.specs.Wire.{Station, Wire, happens, with_first_of, with_first_lost, takes, loses, acting}
@@ -129,18 +127,18 @@ loses-none w e = λ i. record w { near = lost-none w.near e i }
 
 module _ (service : Service) (tei : ℕ) (k : Config) (place : ℕ) (past : List LineTold) (s : Station) (n : End) (h : Held k service tei place past s n) where
   -- nor is any given
-  pub gives-nothing : given n.terms n.link ≡ None → Held k service tei place past (happens (goes s.line) s) n
+  pub gives-nothing : given n.terms n.link ≡ None → Held k service tei place past (happens next s) n
   gives-nothing none =
       let same = stays n none in
-      subst (Held k service tei place past (happens (goes s.line) s)) same (held-given service tei place past k s n h (ap (λ (x : End). x.link.contents) same))
+      subst (Held k service tei place past (happens next s)) same (held-given service tei place past k s n h (ap (λ (x : End). x.link.contents) same))
 
   -- data that the link refuses
-  pub asks-refused : ((octets : List ℕ) → refusal n.terms n.link false (link.Data octets) ≡ None → ⊥) → (octets : List ℕ) → AreOctets octets
-      → happens (asks s.line (Data service tei octets)) s ≡ s
-  asks-refused never octets are = go (held-asked service tei place past k s n h octets are)
+  pub asks-refused : ((octets : List ℕ) → refusal n.terms n.link false (link.Data octets) ≡ None → ⊥) → (octets : List ℕ)
+      → happens (request (Data service tei octets)) s ≡ s
+  asks-refused never octets = go (held-asked service tei place past k s n h octets)
     where
       s' : Station
-      s' = happens (asks s.line (Data service tei octets)) s
+      s' = happens (request (Data service tei octets)) s
 
       go : (s' ≡ s) ⊎ Grants service tei place past k s n h octets s' → s' ≡ s
       go (inl same) = same

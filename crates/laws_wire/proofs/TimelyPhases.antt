@@ -9,9 +9,8 @@ use Rattle.model_link.specs.declared.timers.LinkTimer.TheVariants.{T203}
 use Rattle.model_link.specs.Link.{fresh}
 use Rattle.model_link.specs.TwoEnds.{End}
 use Rattle.model_line.specs.declared.config.Config.{Config}
-use Rattle.model_line.specs.Event.{LineTold}
+use Rattle.model_line.specs.Event.{LineTold, expiry}
 use Rattle.model_line.specs.Line.{terms}
-use Rattle.model_card.specs.Happening.{expires}
 use Rattle.laws_link.specs.Flags.{awaits_answer}
 use Rattle.laws_wire.specs.Wire.{Station, Wire, happens}
 use Rattle.laws_wire.specs.Call.{confirmed, indicated}
@@ -78,5 +77,5 @@ module _ (service : Service) (tei : ℕ) (c d : Config) (p q : ℕ) where
 
   -- while an end rings T203 does not run
   pub silent-t203 : (k : ℕ) (ws : List ControlFrame) (way : List Parts) (s : Station) → Held c service tei p [] s (end t (ringing k ws) way)
-      → Held c service tei p [] (happens (expires s.line (timers.T203 service tei)) s) (end t (ringing k ws) way)
+      → Held c service tei p [] (happens (expiry (timers.T203 service tei)) s) (end t (ringing k ws) way)
   silent-t203 k ws way s h = held-expired service tei p [] c s (end t (ringing k ws) way) h (timers.T203 service tei) T203 (λ l. refl) (record { its_notes = refl; no_unit = refl }) refl

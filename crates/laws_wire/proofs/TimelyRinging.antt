@@ -1,12 +1,12 @@
 -- The first phases of such a call: one end rings, and the other is down.
-use Rattle.std.proofs.Common.{◌≡◌, ℕ, ◌+◌, ◌<◌, true, List, [], ◌∷◌, map, None, refl, sym, ap, subst, ◌∙◌, inl, inr, append-nil, arith}
+use Rattle.std.proofs.Common.{◌≡◌, ℕ, ◌+◌, ◌<◌, true, List, [], ◌∷◌, map, None, refl, sym, ap, subst, ◌∙◌, inl, inr, arith}
 use Rattle.std.specs.Prelude.{nat_lt, option_to_list}
 use Rattle.std.proofs.lemmas.Bool.{lt-ltb}
 use Rattle.lapd_frame.specs.declared.notes.Note.TheVariants as notes
 use Rattle.lapd_frame.specs.declared.services.Service.{Service}
 use Rattle.lapd_frame.specs.declared.timers.Timer.{Timer}
 use Rattle.lapd_frame.specs.declared.timers.Timer.TheVariants as timers
-use Rattle.lapd_frame.specs.Grammar.{Parts, AreOctets, spelling}
+use Rattle.lapd_frame.specs.Grammar.{Parts, spelling}
 use Rattle.model_link.specs.declared.frames.ControlFrame.{ControlFrame}
 use Rattle.model_link.specs.declared.terms.Terms.{Terms}
 use Rattle.model_link.specs.declared.timers.LinkTimer.{LinkTimer}
@@ -18,15 +18,15 @@ use Rattle.model_link.specs.Sound.{IsInRange}
 use Rattle.model_link.specs.Steps.{Course}
 use Rattle.model_link.specs.TwoEnds.{End, with_link}
 use Rattle.model_line.specs.declared.config.Config.{Config}
-use Rattle.model_line.specs.Event.{LineTold}
+use Rattle.model_line.specs.Event.{LineTold, expiry}
 use Rattle.model_line.specs.Line.{terms}
 use Rattle.model_line.specs.Request.{Data}
-use Rattle.model_card.specs.Happening.{comes, expires}
-use Rattle.laws_wire.specs.Wire.{Wire, happens, with_first_of, Act, requests, times_out, gives, takes, loses, acting, turned, IsStill}
+use Rattle.laws_wire.specs.Wire.{Wire, happens, with_first_of, Act, requests, times_out, gives, takes, loses, acting, turned, IsStill, comes}
 use Rattle.laws_wire.specs.Call.{confirmed, indicated}
 use Rattle.laws_wire.specs.Losing.{IsRoughTalkOf}
 use Rattle.laws_wire.specs.Timely.{is_poll, MayRepeat, IsTimelyOf}
 use Rattle.laws_wire.specs.Facing.{end_of}
+use Rattle.laws_wire.proofs.Answered.{takes-granted}
 use Rattle.laws_wire.proofs.Awaited.{may-there, waits-first, goes-first}
 use Rattle.laws_wire.proofs.Calling.{sabme, end, answering, called, takes-sabme, told-of-sabme}
 use Rattle.laws_wire.proofs.Held.{Held, TellsIt, held-given, held-lost, held-first, taken-told, taken-stands, held-expired}
@@ -74,9 +74,9 @@ module _ (service : Service) (tei : ℕ) (c d : Config) (p q : ℕ) (face : Face
   as-waits m h = inr (inr (inr (inl (record { m = m; is = h }))))
 
   module _ (ws : List ControlFrame) (way : List Parts) (w : Wire) (h : Rings ws way w) where
-    rings-asks : (octets : List ℕ) → AreOctets octets → Rings ws way (acting (requests (Data service tei octets)) w)
-    rings-asks octets are =
-        subst (λ s. Rings ws way (record w { near = s })) (sym (asks-refused service tei c p [] w.near (end t (ringing h.repeats ws) way) h.near (λ octets none. cc none) octets are)) h
+    rings-asks : (octets : List ℕ) → Rings ws way (acting (requests (Data service tei octets)) w)
+    rings-asks octets =
+        subst (λ s. Rings ws way (record w { near = s })) (sym (asks-refused service tei c p [] w.near (end t (ringing h.repeats ws) way) h.near (λ octets none. cc none) octets)) h
 
     rings-t203 : Rings ws way (acting (times_out (timers.T203 service tei)) w)
     rings-t203 = record { repeats = h.repeats; near = silent-t203 service tei c d p q h.repeats ws way w.near h.near; far = h.far }
@@ -84,9 +84,9 @@ module _ (service : Service) (tei : ℕ) (c d : Config) (p q : ℕ) (face : Face
     rings-takes : Rings ws way (acting takes w)
     rings-takes = subst (Rings ws way) (sym (takes-none w (empty service tei d q [] w.far (end u fresh []) h.far refl))) h
 
-    down-asks : (octets : List ℕ) → AreOctets octets → Rings ws way (turned (acting (requests (Data service tei octets)) (turned w)))
-    down-asks octets are =
-        subst (λ s. Rings ws way (made w s)) (sym (asks-refused service tei d q [] w.far (end u fresh []) h.far (λ octets none. cc none) octets are)) h
+    down-asks : (octets : List ℕ) → Rings ws way (turned (acting (requests (Data service tei octets)) (turned w)))
+    down-asks octets =
+        subst (λ s. Rings ws way (made w s)) (sym (asks-refused service tei d q [] w.far (end u fresh []) h.far (λ octets none. cc none) octets)) h
 
     pub down-expires : (timer : Timer) (its : LinkTimer) → Aims service tei timer its → Rings ws way (turned (acting (times_out timer) (turned w)))
     down-expires timer its aims = record {
@@ -120,7 +120,7 @@ module _ (service : Service) (tei : ℕ) (c d : Config) (p q : ℕ) (face : Face
 
     pub repeats-sabme : (timer : Timer) → Aims service tei timer T200 → h.repeats < t.n200 → Rings (its_sabme ∷ []) [] (acting (times_out timer) w)
     repeats-sabme timer aims few =
-        let s' = happens (expires w.near.line timer) w.near in
+        let s' = happens (expiry timer) w.near in
         let x : Course = course t (link.expired T200) (ringing h.repeats []) in
         let is : x ≡ repeated t h.repeats room = t200-repeats t h.repeats room few in
         let delivered = ap (λ (y : Course). y.delivered) is in
@@ -141,7 +141,7 @@ module _ (service : Service) (tei : ℕ) (c d : Config) (p q : ℕ) (face : Face
     few-repeats may = may-there service tei c p w.near rung h.near.stands may refl
 
     pub silent-near : (act : Act) → IsRoughTalkOf service tei act → IsTimelyOf act w → Goes (acting act w)
-    silent-near (requests r) is x = for-data service tei (λ r. Goes (acting (requests r) w)) (λ octets are. as-lost (rings-asks [] [] w h octets are)) r is
+    silent-near (requests r) is x = for-data service tei (λ r. Goes (acting (requests r) w)) (λ octets. as-lost (rings-asks [] [] w h octets)) r is
     silent-near (times_out timer) is x =
         each-timer service tei (λ timer. IsTimelyOf (times_out timer) w → Goes (acting (times_out timer) w))
         (λ x. as-asking (repeats-sabme (timers.T200 service tei) (λ l. refl) (few-repeats x.1))) (λ x. as-lost (rings-t203 [] [] w h)) timer is x
@@ -161,7 +161,7 @@ module _ (service : Service) (tei : ℕ) (c d : Config) (p q : ℕ) (face : Face
     not-still still = let no : given t (ringing h.repeats (its_sabme ∷ [])) ≡ None = (hushed service tei c p [] w.near asker h.near still.near still.near_way).given in cc no
 
     pub asking-near : (act : Act) → IsRoughTalkOf service tei act → IsTimelyOf act w → Goes (acting act w)
-    asking-near (requests r) is x = for-data service tei (λ r. Goes (acting (requests r) w)) (λ octets are. as-asking (rings-asks (its_sabme ∷ []) [] w h octets are)) r is
+    asking-near (requests r) is x = for-data service tei (λ r. Goes (acting (requests r) w)) (λ octets. as-asking (rings-asks (its_sabme ∷ []) [] w h octets)) r is
     asking-near (times_out timer) is x =
         each-timer service tei (λ timer. IsTimelyOf (times_out timer) w → Goes (acting (times_out timer) w)) (λ x. absurd (waits-first is_poll asker its_sabme [] refl refl (ringing-open service tei c d p q h.repeats (its_sabme ∷ []) [] w (end u fresh []) [] h.near h.far x.0).commands))
         (λ x. as-asking (rings-t203 (its_sabme ∷ []) [] w h)) timer is x
@@ -178,7 +178,7 @@ module _ (service : Service) (tei : ℕ) (c d : Config) (p q : ℕ) (face : Face
     called-still still = let no : sabme t ∷ [] ≡ [] = (hushed service tei c p [] w.near caller_end h.near still.near still.near_way).way in cc no
 
     pub called-near : (act : Act) → IsRoughTalkOf service tei act → IsTimelyOf act w → Goes (acting act w)
-    called-near (requests r) is x = for-data service tei (λ r. Goes (acting (requests r) w)) (λ octets are. as-called (rings-asks [] (sabme t ∷ []) w h octets are)) r is
+    called-near (requests r) is x = for-data service tei (λ r. Goes (acting (requests r) w)) (λ octets. as-called (rings-asks [] (sabme t ∷ []) w h octets)) r is
     called-near (times_out timer) is x =
         each-timer service tei (λ timer. IsTimelyOf (times_out timer) w → Goes (acting (times_out timer) w)) (λ x. absurd (goes-first is_poll caller_end (sabme t) [] refl refl (ringing-open service tei c d p q h.repeats [] (sabme t ∷ []) w (end u fresh []) [] h.near h.far x.0).commands))
         (λ x. as-called (rings-t203 [] (sabme t ∷ []) w h)) timer is x
@@ -191,11 +191,11 @@ module _ (service : Service) (tei : ℕ) (c d : Config) (p q : ℕ) (face : Face
     answers =
         let f = sabme t in
         let way = first-way service tei c p [] w.near caller_end f [] refl h.near in
-        let reached = happens (comes w.far.line (spelling c.side f)) w.far in
+        let reached = comes (spelling c.side f) w.far in
         let becomes : with_link (link.received (link.frame f)) (end u fresh []) ≡ end u answering [] = ap (λ y. end u y []) (takes-sabme u ru t) in
         let held : Held d service tei q first_far reached (end u answering []) =
         held-first service tei q [] d w.far (end u fresh []) h.far (indicated service tei) reached (end u answering []) (course u (link.received (link.frame f)) fresh) refl refl refl
-        (subst (Stands d service tei q reached) becomes (taken-stands service tei q [] d w.far (end u fresh []) h.far c back f way.1)) (append-nil w.far.granted) refl
+        (subst (Stands d service tei q reached) becomes (taken-stands service tei q [] d w.far (end u fresh []) h.far c back f way.1)) (takes-granted (spelling c.side f) w.far) refl
         (taken-told service tei q [] d w.far (end u fresh []) h.far c back f way.1) (told-of-sabme u ru t) refl in
         record {
           repeats = h.repeats;
@@ -208,7 +208,7 @@ module _ (service : Service) (tei : ℕ) (c d : Config) (p q : ℕ) (face : Face
 
     pub called-far : (act : Act) → IsRoughTalkOf service tei act → Goes (turned (acting act (turned w)))
     called-far (requests r) is =
-        for-data service tei (λ r. Goes (turned (acting (requests r) (turned w)))) (λ octets are. as-called (down-asks [] (sabme t ∷ []) w h octets are)) r is
+        for-data service tei (λ r. Goes (turned (acting (requests r) (turned w)))) (λ octets. as-called (down-asks [] (sabme t ∷ []) w h octets)) r is
     called-far (times_out timer) is =
         for-timer service tei (λ timer. Goes (turned (acting (times_out timer) (turned w)))) (λ timer its aims. as-called (down-expires [] (sabme t ∷ []) w h timer its aims)) timer is
     called-far gives is = as-called (down-gives [] (sabme t ∷ []) w h)

@@ -6,7 +6,7 @@ use Rattle.lapd_frame.specs.declared.controls.Control.{Control}
 use Rattle.lapd_frame.specs.declared.services.Service.{Service}
 use Rattle.lapd_frame.specs.declared.timers.Timer.{Timer}
 use Rattle.lapd_frame.specs.declared.timers.Timer.TheVariants as timers
-use Rattle.lapd_frame.specs.Grammar.{Parts, AreOctets, spelling}
+use Rattle.lapd_frame.specs.Grammar.{Parts, spelling}
 use Rattle.model_link.specs.declared.frames.ControlFrame.{ControlFrame}
 use Rattle.model_link.specs.declared.states.State.TheVariants.{TimerRecovery}
 use Rattle.model_link.specs.declared.timers.LinkTimer.{LinkTimer}
@@ -21,16 +21,13 @@ use Rattle.model_link.specs.TwoEnds.{End, Ends, with_link, with_sent}
 use Rattle.model_link.specs.TwoEnds as two_ends
 use Rattle.model_link.proofs.Sending.{offer-gave}
 use Rattle.model_line.specs.declared.config.Config.{Config}
-use Rattle.model_line.specs.Event.{LineTold}
+use Rattle.model_line.specs.Event.{LineTold, expiry, request, next, gave}
 use Rattle.model_line.specs.Request.{Data}
-use Rattle.model_card.specs.Happening.{goes, expires, asks}
-use Rattle.model_card.specs.Said as call
-use Rattle.model_card.specs.Said.{said}
 use Rattle.laws_two_links.specs.Ahead.{CanRepeat}
 use Rattle.laws_two_links.specs.Rounds as two_links
 use Rattle.laws_two_links.specs.Timely as two_links_timely
 use Rattle.laws_two_links.proofs.Waiting.{nothing-given}
-use Rattle.laws_wire.specs.Wire.{Station, Wire, happens, with_first_of, Act, requests, times_out, gives, takes, loses, acting, turned, doing_all}
+use Rattle.laws_wire.specs.Wire.{Station, Wire, happens, with_first_of, Act, requests, times_out, gives, takes, loses, acting, turned, doing_all, answered}
 use Rattle.laws_wire.specs.Losing.{IsOfLink, IsRoughTalkOf}
 use Rattle.laws_wire.specs.Timely.{is_poll, is_final, IsNoneOpen, IsTimelyOf}
 use Rattle.laws_wire.specs.Recovering.{round, rounds}
@@ -60,7 +57,7 @@ module _ (service : Service) (tei : ℕ) where
     pub given : given n.terms n.link ≡ None
     pub way : n.way ≡ []
 
-  pub hushed : (k : Config) (place : ℕ) (past : List LineTold) (s : Station) (n : End) → Held k service tei place past s n → said s.card (goes s.line) ≡ call.gives None → s.way ≡ []
+  pub hushed : (k : Config) (place : ℕ) (past : List LineTold) (s : Station) (n : End) → Held k service tei place past s n → answered next s ≡ gave None → s.way ≡ []
       → IsHushed n
   hushed k place past s n h none empty = record {
     given = still-gives-none service tei place s n (subst (λ k. Stands k service tei place s n) (sym h.stands.config) h.stands) none;
@@ -86,7 +83,7 @@ module _ (service : Service) (tei : ℕ) where
     IsUpAt n = IsTrue (is_multiple_frame n.link.state)
 
     abbrev after : Timer → Station
-    after timer = happens (expires s.line timer) s
+    after timer = happens (expiry timer) s
 
     pub timer-held : IsUpAt n → (timer : Timer) (its : LinkTimer) → Aims service tei timer its → IsUpAt (with_link (link.expired its) n)
         → Held k service tei place past (after timer) (with_link (link.expired its) n)
@@ -149,11 +146,11 @@ module _ (service : Service) (tei : ℕ) where
             let fine = takes-fine n m h.firm f fs e in
             held-taken service tei p past c w.near n h.near d face f from (record { its_notes = fine.its_notes; no_unit = fine.no_unit }) (takes-kept n m h.firm f fs e)
 
-    pub up-asks : (octets : List ℕ) → AreOctets octets → AreUp c d p q past other (acting (requests (Data service tei octets)) w)
-    up-asks octets are = go (held-asked service tei p past c w.near n h.near octets are)
+    pub up-asks : (octets : List ℕ) → AreUp c d p q past other (acting (requests (Data service tei octets)) w)
+    up-asks octets = go (held-asked service tei p past c w.near n h.near octets)
       where
         s' : Station
-        s' = happens (asks w.near.line (Data service tei octets)) w.near
+        s' = happens (request (Data service tei octets)) w.near
 
         go : (s' ≡ w.near) ⊎ Grants service tei p past c w.near n h.near octets s' → AreUp c d p q past other (record w { near = s' })
         go (inl same) = record { n = n; m = m; up = record { near = subst (λ s. Held c service tei p past s n) (sym same) h.near; far = h.far; firm = h.firm } }

@@ -3,7 +3,7 @@ use Rattle.std.proofs.Common.{◌≡◌, ℕ, ◌+◌, ◌*◌, ◌≤◌, false
 use Rattle.std.specs.Prelude.{All, if◌then◌else◌}
 use Rattle.std.proofs.lemmas.List.Elements.{All-head, All-tail}
 use Rattle.lapd_frame.specs.declared.services.Service.{Service}
-use Rattle.lapd_frame.specs.Grammar.{Parts, AreOctets, spelling}
+use Rattle.lapd_frame.specs.Grammar.{Parts, spelling}
 use Rattle.model_link.specs.declared.terms.Terms.{Terms}
 use Rattle.model_link.specs.Events as link
 use Rattle.model_link.specs.Link.{Link}
@@ -15,16 +15,16 @@ use Rattle.model_link.specs.TwoEnds as two_ends
 use Rattle.model_line.specs.declared.config.Config.{Config}
 use Rattle.model_line.specs.Request as asked
 use Rattle.model_line.specs.Request.{Request, Establish, Release, Data, Assign, Remove, Check, SetBusy, ClearBusy}
-use Rattle.model_card.specs.Happening.{comes, goes, asks}
-use Rattle.model_card.specs.Said.{said}
+use Rattle.model_line.specs.Event.{request, next}
 use Rattle.laws_two_links.specs.AnyOrder.{weight_at}
 use Rattle.laws_two_links.specs.Waits.{HasNothingToSend}
 use Rattle.laws_two_links.proofs.AnyOrder as any_order
-use Rattle.laws_two_links.proofs.AnyOrder.{Steady, Direction, takes-first}
+use Rattle.laws_two_links.proofs.AnyOrder.{takes-first}
 use Rattle.laws_two_links.proofs.AnyOrderRuns.{Pair}
 use Rattle.laws_two_links.proofs.Waiting.{nothing-given, nothing-to_send, silent-stays}
-use Rattle.laws_wire.specs.Wire.{Station, Wire, happens, frames_by, with_first_of, with_first_lost, Act, requests, times_out, gives, takes, loses, Doing, at_near, at_far, acting, turned, doing, doing_all, is_any, is_turn_of, is_turn, turns}
+use Rattle.laws_wire.specs.Wire.{Station, Wire, happens, frames_by, with_first_of, with_first_lost, Act, requests, times_out, gives, takes, loses, Doing, at_near, at_far, acting, turned, doing, doing_all, is_any, is_turn_of, is_turn, turns, answered, comes}
 use Rattle.laws_wire.specs.Call.{IsTalkOf, IsTalk}
+use Rattle.laws_wire.proofs.Answered.{gives-granted, takes-granted}
 use Rattle.laws_wire.proofs.Asking.{with_more, asked-form, asks-more, Asked}
 use Rattle.laws_wire.proofs.Speaking.{tells-data}
 use Rattle.laws_wire.proofs.Standing.{IsCarried, Stands, gives-frames}
@@ -84,9 +84,6 @@ end-gives f n m h = go (given n.terms n.link) refl
 abbrev pub granted_of : Wire → ℕ
 granted_of w = length w.near.granted + length w.far.granted
 
-pub same-length : (xs : List (List ℕ)) → length (xs ++ []) ≡ length xs
-same-length xs = ap length (append-nil xs)
-
 pub one-longer : (xs : List (List ℕ)) (x : List ℕ) → length (xs ++ x ∷ []) ≡ length xs + 1
 one-longer xs x = length-append xs (x ∷ [])
 
@@ -132,10 +129,10 @@ module _ (service : Service) (tei : ℕ) where
       pub price : b + (weight_at n' + weight_at m') + 4 * granted_of w ≤ (weight_at n + weight_at m) + 4 * granted_of w'
 
     module _ (w : Wire) (n m : End) (h : Talk c d p q first second w n m) where
-      turn-is : turn_of (frames_by (said w.near.card (goes w.near.line))) ≡ turn_of (map (spelling w.near.card.config.side) (frame_given n.terms (given n.terms n.link)))
+      turn-is : turn_of (frames_by (answered next w.near)) ≡ turn_of (map (spelling w.near.card.config.side) (frame_given n.terms (given n.terms n.link)))
       turn-is = ap turn_of (gives-frames service tei p w.near n (subst (λ k. Stands k service tei p w.near n) (sym h.near.stands.config) h.near.stands))
 
-      acts-gives : Acted w (acting gives w) n m (turn_of (frames_by (said w.near.card (goes w.near.line))))
+      acts-gives : Acted w (acting gives w) n m (turn_of (frames_by (answered next w.near)))
       acts-gives =
           let x = end-gives (spelling w.near.card.config.side) n m h.pair in
           record {
@@ -144,7 +141,7 @@ module _ (service : Service) (tei : ℕ) where
             talk = record { near = holds-given service tei p first c w.near n h.near x.kept; far = h.far; pair = x.pair };
             price =
                 price-turn _ (weight_at (with_sent n)) (weight_at m) (weight_at n) 0 (length w.near.granted) _ (length w.far.granted)
-                (subst (λ b. b + weight_at (with_sent n) ≤ weight_at n) (sym turn-is) x.price) (same-length w.near.granted);
+                (subst (λ b. b + weight_at (with_sent n) ≤ weight_at n) (sym turn-is) x.price) (ap length (gives-granted w.near));
           }
 
       -- nothing is on its way
@@ -171,7 +168,7 @@ module _ (service : Service) (tei : ℕ) where
       takes-some : (f : Parts) (fs : List Parts) → m.way ≡ f ∷ fs → Acted w (acting takes w) n m (turn_of w.far.way)
       takes-some f fs e =
           let way : w.far.way ≡ spelling d.side f ∷ map (spelling d.side) fs = h.far.stands.way ∙ ap (map (spelling d.side)) e in
-          let same : with_first_of w.far.way w.near ≡ happens (comes w.near.line (spelling d.side f)) w.near = ap (λ way. with_first_of way w.near) way in
+          let same : with_first_of w.far.way w.near ≡ comes (spelling d.side f) w.near = ap (λ way. with_first_of way w.near) way in
           let there : 1 ≤ length m.way = subst (λ fs'. 1 ≤ length fs') (sym e) (omega arith) in
           let x = takes-first m n h.pair.far h.pair.near h.pair.back h.pair.there there in
           let n' = with_link (link.received (link.frame f)) n in
@@ -191,7 +188,7 @@ module _ (service : Service) (tei : ℕ) where
             price =
                 subst (λ s. turn_of w.far.way + (weight_at n' + weight_at (two_ends.with_first_lost m)) + 4 * granted_of w ≤ (weight_at n + weight_at m) + 4 * (length s.granted + length w.far.granted)) (sym same)
                 (price-both (turn_of w.far.way) (weight_at n) (weight_at m) (weight_at n') (weight_at (two_ends.with_first_lost m)) (length w.near.granted) _ (length w.far.granted)
-                (ap turn_of way) taken.lighter (same-length w.near.granted));
+                (ap turn_of way) taken.lighter (ap length (takes-granted (spelling d.side f) w.near)));
           }
 
       acts-takes : Acted w (acting takes w) n m (turn_of w.far.way)
@@ -201,11 +198,11 @@ module _ (service : Service) (tei : ℕ) where
           go [] e = takes-none e
           go (f ∷ fs) e = takes-some f fs e
 
-      acts-asks : (octets : List ℕ) → AreOctets octets → Acted w (acting (requests (Data service tei octets)) w) n m 0
-      acts-asks octets are = go (holds-asked service tei p first c w.near n octets are h.near)
+      acts-asks : (octets : List ℕ) → Acted w (acting (requests (Data service tei octets)) w) n m 0
+      acts-asks octets = go (holds-asked service tei p first c w.near n octets h.near)
         where
           s' : Station
-          s' = happens (asks w.near.line (Data service tei octets)) w.near
+          s' = happens (request (Data service tei octets)) w.near
 
           go : (s' ≡ w.near) ⊎ More service tei p first c w.near s' n octets → Acted w (record w { near = s' }) n m 0
           go (inl same) = record {
@@ -232,7 +229,7 @@ module _ (service : Service) (tei : ℕ) where
       acts-request : (r : Request) → IsTalkOf service tei (requests r) → Acted w (acting (requests r) w) n m 0
       acts-request (Data s t octets) is =
           subst (λ s'. Acted w (acting (requests (Data s' t octets)) w) n m 0) (sym is.0)
-          (subst (λ t'. Acted w (acting (requests (Data service t' octets)) w) n m 0) (sym is.1) (acts-asks octets is.2))
+          (subst (λ t'. Acted w (acting (requests (Data service t' octets)) w) n m 0) (sym is.1) (acts-asks octets))
       acts-request (Establish s t) is = absurd is
       acts-request (Release s t) is = absurd is
       acts-request (asked.Unit s t octets) is = absurd is

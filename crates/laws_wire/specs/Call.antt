@@ -1,14 +1,13 @@
 -- A call between two cards: what layer 3 of each asks for, and what it is told.
 use Rattle.std.specs.Prelude.{◌≡◌, ◌≤◌, ◌<◌, ℕ, ◌+◌, ◌*◌, List, [], ◌∷◌, ◌++◌, length, map, All, Some}
-use Rattle.lapd_frame.specs.Grammar.{AreOctets, other_side}
+use Rattle.lapd_frame.specs.Grammar.{other_side}
 use Rattle.lapd_frame.specs.declared.notes.Note.TheVariants as notes
 use Rattle.lapd_frame.specs.declared.services.Service.{Service}
 use Rattle.model_line.specs.declared.config.Config.{Config}
-use Rattle.model_line.specs.Event.{LineTold, nothing}
+use Rattle.model_line.specs.Event.{request, LineTold, nothing}
 use Rattle.model_line.specs.Request.{Request, Establish, Data, Assign}
 use Rattle.model_line.specs.Sound.{IsInRange}
 use Rattle.model_card.specs.Card.{fresh}
-use Rattle.model_card.specs.Happening.{asks}
 use Rattle.laws_wire.specs.Wire.{Station, Wire, happens, Act, requests, gives, takes, Doing, at_near, at_far, doing_all, turns, IsStill}
 
 -- A card that has just begun, at one of its lines; it has the TEI assigned; and two such, of which one is asked to establish.
@@ -16,11 +15,11 @@ abbrev pub station : Config → ℕ → Station
 station c line = record { card = fresh c; line = line; way = []; granted = []; told = [] }
 
 abbrev pub assigned : Config → ℕ → ℕ → Station
-assigned c line tei = happens (asks line (Assign tei)) (station c line)
+assigned c line tei = happens (request (Assign tei)) (station c line)
 
 abbrev pub calling : Service → ℕ → Config → ℕ → Config → ℕ → Wire
 calling service tei c line d other =
-    record { near = happens (asks line (Establish service tei)) (assigned c line tei); far = assigned d other tei }
+    record { near = happens (request (Establish service tei)) (assigned c line tei); far = assigned d other tei }
 
 -- Two configurations of the two sides, in range, with the same N201; a line of each; and a TEI that a terminal can have.
 pub record CanCall (c : Config) (line : ℕ) (d : Config) (other tei : ℕ) : Type 0 where
@@ -32,9 +31,9 @@ pub record CanCall (c : Config) (line : ℕ) (d : Config) (other tei : ℕ) : Ty
   pub far_line : other < d.lines
   pub terminal : tei ≤ 126
 
--- What is done in a call: either layer 3 asks to send data, which are octets, and is granted or refused; and turns.
+-- What is done in a call: either layer 3 asks to send data, and is granted or refused; and turns.
 abbrev pub IsData : Service → ℕ → Request → Type 0
-IsData service tei (Data s t contents) = (s ≡ service) × (t ≡ tei) × AreOctets contents
+IsData service tei (Data s t contents) = (s ≡ service) × (t ≡ tei)
 IsData service tei other = ⊥
 
 abbrev pub IsTalkOf : Service → ℕ → Act → Type 0

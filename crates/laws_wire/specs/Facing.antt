@@ -5,7 +5,7 @@ use Rattle.lapd_frame.specs.declared.notes.Note.{Note}
 use Rattle.lapd_frame.specs.declared.notes.Note.TheVariants.{Data}
 use Rattle.lapd_frame.specs.declared.faults.ReadFault.{ReadFault}
 use Rattle.lapd_frame.specs.declared.services.Service.{Service}
-use Rattle.lapd_frame.specs.Grammar.{Parts, AreOctets, other_side}
+use Rattle.lapd_frame.specs.Grammar.{Parts, other_side}
 use Rattle.lapd_frame.specs.Reading.{reading}
 use Rattle.lapd_frame.specs.Services.{same_service}
 use Rattle.model_link.specs.TwoEnds.{End, Ends}
@@ -13,7 +13,6 @@ use Rattle.model_line.specs.declared.config.Config.{Config}
 use Rattle.model_line.specs.Event.{LineTold}
 use Rattle.model_line.specs.Line.{Line, link_number, link_count, link_at, link_of, place_in, terms, terms_at}
 use Rattle.model_card.specs.Card.{line_at}
-use Rattle.model_card.specs.Happening.{AreIdle}
 use Rattle.model_card.specs.Sound as card_sound
 use Rattle.laws_two_links.specs.AnyOrder.{weight}
 use Rattle.laws_two_links.specs.Rounds.{IsReady, IsTaken}
@@ -55,12 +54,10 @@ end_of service tei s = record {
 abbrev pub ends_of : Service → ℕ → Wire → Ends
 ends_of service tei w = record { near = end_of service tei w.near; far = end_of service tei w.far }
 
--- The TEI is on the line of a sound card whose lines are idle; neither a message of TEI management nor unit data waits there, no
--- other link of the line has anything to send, and nothing is on its way; and what the link's layer 3 was granted, which are
--- octets, are its contents.
+-- The TEI is on the line of a sound card; neither a message of TEI management nor unit data waits there, no other link of
+-- the line has anything to send, and nothing is on its way; and what the link's layer 3 was granted is its contents.
 pub record Speaks (service : Service) (tei : ℕ) (s : Station) : Type 0 where
   pub sound : card_sound.IsSound s.card
-  pub idle : AreIdle s.card
   pub within : s.line < s.card.config.lines
   pub place : ℕ
   pub placed : place_in (line_of s) tei ≡ Some place
@@ -70,7 +67,6 @@ pub record Speaks (service : Service) (tei : ℕ) (s : Station) : Type 0 where
       HasNothingToSend (terms_at s.card.config number (line_of s)) (link_at number (line_of s))
   pub way : s.way ≡ []
   pub granted : s.granted ≡ (link_of service tei (line_of s)).contents
-  pub octets : All AreOctets s.granted
 
 -- Two cards of the two sides, with the same N201, whose links are ready, and have taken what the other sent.
 pub record Face (service : Service) (tei : ℕ) (w : Wire) : Type 0 where

@@ -1,13 +1,12 @@
 -- Two cards on one wire: a line of one faces a line of the other, and what one gives the other takes.
 use Rattle.std.specs.Prelude.{◌≡◌, ℕ, ◌+◌, ◌==◌, Bool, true, false, ◌&&◌, not, List, [], ◌∷◌, ◌++◌, length, drop, None, Some, is_some, if◌then◌else◌}
 use Rattle.lapd_frame.specs.declared.timers.Timer.{Timer}
-use Rattle.model_line.specs.Event.{LineTold, told}
+use Rattle.model_line.specs.Came.{came}
+use Rattle.model_line.specs.Event.{Event, hears, expiry, request, next, LineTold, Answer, told, gave}
 use Rattle.model_line.specs.Request.{Request, Data}
 use Rattle.model_card.specs.Card.{Card}
-use Rattle.model_card.specs.Happening.{Happening, comes, goes, expires, asks, events_of}
-use Rattle.model_card.specs.Run.{after_all}
-use Rattle.model_card.specs.Said.{Said, says, said}
-use Rattle.model_card.specs.Said as call
+use Rattle.model_card.specs.Event.{at}
+use Rattle.model_card.specs.Machine.{after, answer}
 
 -- A card at one end of the wire, which is at one of its lines; the frames that it gave and that the other end has not taken
 -- yet, the oldest first; the contents that its layer 3 asked to send and was granted; and what its layer 3 was told.
@@ -25,13 +24,13 @@ tells_nothing t = length t.notes == 0 && not (is_some t.contents) && not (is_som
 abbrev pub without_orders : LineTold → List LineTold
 without_orders t = if tells_nothing t then [] else record t { orders = [] } ∷ []
 
-abbrev pub told_by : Said → List LineTold
-told_by (says (told t)) = without_orders t
+abbrev pub told_by : Answer → List LineTold
+told_by (told t) = without_orders t
 told_by other = []
 
 -- The frame that a call for the next frame gives.
-abbrev pub frames_by : Said → List (List ℕ)
-frames_by (call.gives (Some next)) = next.octets ∷ []
+abbrev pub frames_by : Answer → List (List ℕ)
+frames_by (gave (Some frame)) = frame.octets ∷ []
 frames_by other = []
 
 -- The contents of a request for data, where it is granted.
@@ -39,23 +38,29 @@ abbrev pub contents_of : Request → List (List ℕ)
 contents_of (Data service tei contents) = contents ∷ []
 contents_of other = []
 
-abbrev pub contents_in : Happening → List (List ℕ)
-contents_in (asks line r) = contents_of r
+abbrev pub contents_in : Event → List (List ℕ)
+contents_in (request r) = contents_of r
 contents_in other = []
 
-abbrev pub unless_refused : Said → List (List ℕ) → List (List ℕ)
-unless_refused (says (told t)) contents = contents
+abbrev pub unless_refused : Answer → List (List ℕ) → List (List ℕ)
+unless_refused (told t) contents = contents
 unless_refused other contents = []
 
--- Something happens at a station.
-abbrev pub happens : Happening → Station → Station
-happens h s = record {
-  card = after_all s.card (events_of s.card h);
+-- Something happens at a station: an event at its line, which its card answers.
+abbrev pub answered : Event → Station → Answer
+answered e s = answer (at s.line e) s.card
+
+abbrev pub happens : Event → Station → Station
+happens e s = record {
+  card = after (at s.line e) s.card;
   line = s.line;
-  way = s.way ++ frames_by (said s.card h);
-  granted = s.granted ++ unless_refused (said s.card h) (contents_in h);
-  told = s.told ++ told_by (said s.card h);
+  way = s.way ++ frames_by (answered e s);
+  granted = s.granted ++ unless_refused (answered e s) (contents_in e);
+  told = s.told ++ told_by (answered e s);
 }
+
+abbrev pub comes : List ℕ → Station → Station
+comes octets s = happens (hears (came s.card.config.n201 octets)) s
 
 pub record Wire : Type 0 where
   pub near : Station
@@ -76,15 +81,15 @@ pub data Doing : Type 0 where
 
 abbrev pub with_first_of : List (List ℕ) → Station → Station
 with_first_of [] s = s
-with_first_of (octets ∷ more) s = happens (comes s.line octets) s
+with_first_of (octets ∷ more) s = comes octets s
 
 abbrev pub with_first_lost : Station → Station
 with_first_lost s = record s { way = drop 1 s.way }
 
 abbrev pub acting : Act → Wire → Wire
-acting (requests r) w = record w { near = happens (asks w.near.line r) w.near }
-acting (times_out timer) w = record w { near = happens (expires w.near.line timer) w.near }
-acting gives w = record w { near = happens (goes w.near.line) w.near }
+acting (requests r) w = record w { near = happens (request r) w.near }
+acting (times_out timer) w = record w { near = happens (expiry timer) w.near }
+acting gives w = record w { near = happens next w.near }
 acting takes w = record { near = with_first_of w.far.way w.near; far = with_first_lost w.far }
 acting loses w = record w { near = with_first_lost w.near }
 
@@ -105,7 +110,7 @@ is_any [] = false
 is_any (octets ∷ more) = true
 
 abbrev pub is_turn_of : Act → Wire → Bool
-is_turn_of gives w = is_any (frames_by (said w.near.card (goes w.near.line)))
+is_turn_of gives w = is_any (frames_by (answered next w.near))
 is_turn_of takes w = is_any w.far.way
 is_turn_of other w = false
 
@@ -119,7 +124,7 @@ turns (d ∷ ds) w = (if is_turn d w then 1 else 0) + turns ds (doing d w)
 
 -- No turn is left: neither end has a frame to give, and none is on its way.
 pub record IsStill (w : Wire) : Type 0 where
-  pub near : said w.near.card (goes w.near.line) ≡ call.gives None
-  pub far : said w.far.card (goes w.far.line) ≡ call.gives None
+  pub near : answered next w.near ≡ gave None
+  pub far : answered next w.far ≡ gave None
   pub near_way : w.near.way ≡ []
   pub far_way : w.far.way ≡ []

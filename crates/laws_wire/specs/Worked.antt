@@ -1,6 +1,5 @@
 -- Worked values: a card of the user's side calls one of the network's, and each end sends data while the other does. Each computes.
 use Rattle.std.specs.Prelude.{◌≡◌, List, [], ◌∷◌, refl}
-use Rattle.model_bits.specs.Bits.{low_bits}
 use Rattle.lapd_frame.specs.declared.addresses.Side.TheVariants.{User, Network}
 use Rattle.lapd_frame.specs.declared.services.Service.TheVariants.{Call}
 use Rattle.lapd_frame.specs.Reading.{reading, header_of, control_of, unnumbered_of, supervisory_of}
@@ -10,7 +9,6 @@ use Rattle.lapd_tei.specs.Events as teis
 use Rattle.model_line.specs.declared.config.Config.{Config}
 use Rattle.model_line.specs.Machine as lines
 use Rattle.model_line.specs.Request.{Data}
-use Rattle.model_card.specs.Run.{after_all}
 use Rattle.laws_wire.specs.Wire.{Wire, requests, gives, takes, Doing, at_near, at_far, doing_all, turns}
 use Rattle.laws_wire.specs.Call.{calling, confirmed, indicated, data_told}
 
@@ -27,11 +25,11 @@ abbrev pub establishes : List Doing
 establishes = at_near gives ∷ at_far takes ∷ at_far gives ∷ at_near takes ∷ []
 
 established_near : (doing_all establishes begins).near.told ≡ confirmed Call 0 ∷ []
-unfolding after_all lines.after lines.answer lines.takes_slot reading header_of control_of unnumbered_of supervisory_of teis.course teis.refusal low_bits seq distance_of named doing_all turns
+unfolding lines.after lines.answer lines.takes_slot reading header_of control_of unnumbered_of supervisory_of teis.course teis.refusal seq distance_of named doing_all turns
 established_near = refl
 
 established_far : (doing_all establishes begins).far.told ≡ indicated Call 0 ∷ []
-unfolding after_all lines.after lines.answer lines.takes_slot reading header_of control_of unnumbered_of supervisory_of teis.course teis.refusal low_bits seq distance_of named doing_all turns
+unfolding lines.after lines.answer lines.takes_slot reading header_of control_of unnumbered_of supervisory_of teis.course teis.refusal seq distance_of named doing_all turns
 established_far = refl
 
 -- The network's end is granted data as soon as it has taken SABME, and its I-frame follows UA. Then the user's end sends, while
@@ -43,14 +41,14 @@ talks =
     ∷ []
 
 told_near : (doing_all talks begins).near.told ≡ confirmed Call 0 ∷ data_told Call 0 (0xAB ∷ []) ∷ []
-unfolding after_all lines.after lines.answer lines.takes_slot reading header_of control_of unnumbered_of supervisory_of teis.course teis.refusal low_bits seq distance_of named doing_all turns
+unfolding lines.after lines.answer lines.takes_slot reading header_of control_of unnumbered_of supervisory_of teis.course teis.refusal seq distance_of named doing_all turns
 told_near = refl
 
 told_far : (doing_all talks begins).far.told ≡ indicated Call 0 ∷ data_told Call 0 (0xCD ∷ 0xEF ∷ []) ∷ []
-unfolding after_all lines.after lines.answer lines.takes_slot reading header_of control_of unnumbered_of supervisory_of teis.course teis.refusal low_bits seq distance_of named doing_all turns
+unfolding lines.after lines.answer lines.takes_slot reading header_of control_of unnumbered_of supervisory_of teis.course teis.refusal seq distance_of named doing_all turns
 told_far = refl
 
 -- Twelve turns, which is the bound: four, and four for each of two requests.
 turns_of_talk : turns talks begins ≡ 12
-unfolding after_all lines.after lines.answer lines.takes_slot reading header_of control_of unnumbered_of supervisory_of teis.course teis.refusal low_bits seq distance_of named doing_all turns
+unfolding lines.after lines.answer lines.takes_slot reading header_of control_of unnumbered_of supervisory_of teis.course teis.refusal seq distance_of named doing_all turns
 turns_of_talk = refl

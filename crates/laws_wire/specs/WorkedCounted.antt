@@ -1,6 +1,5 @@
 -- Worked values of expiries that N200 counts. Each computes.
 use Rattle.std.specs.Prelude.{◌≡◌, List, [], ◌∷◌, ◌++◌, refl}
-use Rattle.model_bits.specs.Bits.{low_bits}
 use Rattle.lapd_frame.specs.declared.notes.ErrorCode.TheVariants.{G}
 use Rattle.lapd_frame.specs.declared.notes.Note.TheVariants.{Error, ReleaseIndication}
 use Rattle.lapd_frame.specs.declared.services.Service.TheVariants.{Call}
@@ -11,7 +10,6 @@ use Rattle.lapd_seq.specs.Numbers.{seq}
 use Rattle.lapd_tei.specs.Events as teis
 use Rattle.model_line.specs.Event.{LineTold, nothing}
 use Rattle.model_line.specs.Machine as lines
-use Rattle.model_card.specs.Run.{after_all}
 use Rattle.laws_wire.specs.Wire.{times_out, gives, loses, Doing, at_near, doing_all, turns}
 use Rattle.laws_wire.specs.Losing.{heard_in}
 use Rattle.laws_wire.specs.Worked.{begins}
@@ -25,9 +23,9 @@ abbrev pub given_up : LineTold
 given_up = record nothing { notes = Error Call 0 G ∷ ReleaseIndication Call 0 ∷ [] }
 
 heard_of_three : heard_in (doing_all (is_lost ++ is_lost ++ is_lost) begins).near ≡ []
-unfolding after_all lines.after lines.answer lines.takes_slot reading header_of control_of unnumbered_of supervisory_of teis.course teis.refusal low_bits seq distance_of named doing_all turns
+unfolding lines.after lines.answer lines.takes_slot reading header_of control_of unnumbered_of supervisory_of teis.course teis.refusal seq distance_of named doing_all turns
 heard_of_three = refl
 
 heard_of_four : heard_in (doing_all (is_lost ++ is_lost ++ is_lost ++ is_lost) begins).near ≡ given_up ∷ []
-unfolding after_all lines.after lines.answer lines.takes_slot reading header_of control_of unnumbered_of supervisory_of teis.course teis.refusal low_bits seq distance_of named doing_all turns
+unfolding lines.after lines.answer lines.takes_slot reading header_of control_of unnumbered_of supervisory_of teis.course teis.refusal seq distance_of named doing_all turns
 heard_of_four = refl

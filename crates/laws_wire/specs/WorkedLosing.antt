@@ -1,6 +1,5 @@
 -- Worked values of a call in which frames are lost and timers expire. Each computes.
 use Rattle.std.specs.Prelude.{◌≡◌, List, [], ◌∷◌, ◌++◌, refl}
-use Rattle.model_bits.specs.Bits.{low_bits}
 use Rattle.lapd_frame.specs.declared.notes.ErrorCode.TheVariants.{F}
 use Rattle.lapd_frame.specs.declared.notes.Note.TheVariants.{Error}
 use Rattle.lapd_frame.specs.declared.services.Service.TheVariants.{Call}
@@ -12,7 +11,6 @@ use Rattle.lapd_tei.specs.Events as teis
 use Rattle.model_line.specs.Event.{LineTold, nothing}
 use Rattle.model_line.specs.Machine as lines
 use Rattle.model_line.specs.Request.{Data}
-use Rattle.model_card.specs.Run.{after_all}
 use Rattle.laws_wire.specs.Wire.{requests, times_out, gives, takes, loses, Doing, at_near, at_far, doing_all, turns}
 use Rattle.laws_wire.specs.Call.{confirmed, indicated, data_told}
 use Rattle.laws_wire.specs.Losing.{heard_in}
@@ -26,11 +24,11 @@ loses_two =
     ∷ at_near gives ∷ at_far takes ∷ at_far gives ∷ at_near takes ∷ at_near gives ∷ at_far takes ∷ at_far gives ∷ at_near takes ∷ []
 
 heard_near : heard_in (doing_all loses_two begins).near ≡ confirmed Call 0 ∷ []
-unfolding after_all lines.after lines.answer lines.takes_slot reading header_of control_of unnumbered_of supervisory_of teis.course teis.refusal low_bits seq distance_of named doing_all turns
+unfolding lines.after lines.answer lines.takes_slot reading header_of control_of unnumbered_of supervisory_of teis.course teis.refusal seq distance_of named doing_all turns
 heard_near = refl
 
 heard_far : heard_in (doing_all loses_two begins).far ≡ indicated Call 0 ∷ data_told Call 0 (0xAB ∷ []) ∷ []
-unfolding after_all lines.after lines.answer lines.takes_slot reading header_of control_of unnumbered_of supervisory_of teis.course teis.refusal low_bits seq distance_of named doing_all turns
+unfolding lines.after lines.answer lines.takes_slot reading header_of control_of unnumbered_of supervisory_of teis.course teis.refusal seq distance_of named doing_all turns
 heard_far = refl
 
 -- No frame is lost, but T200 expires while an enquiry is on its way (`specs/WorkedUntimely` of `laws_two_links`, with cards): an error
@@ -49,5 +47,5 @@ abbrev pub error_f : LineTold
 error_f = record nothing { notes = Error Call 0 F ∷ [] }
 
 heard_twice : heard_in (doing_all comes_twice begins).far ≡ indicated Call 0 ∷ data_told Call 0 (0xAB ∷ []) ∷ error_f ∷ data_told Call 0 (0xAB ∷ []) ∷ []
-unfolding after_all lines.after lines.answer lines.takes_slot reading header_of control_of unnumbered_of supervisory_of teis.course teis.refusal low_bits seq distance_of named doing_all turns
+unfolding lines.after lines.answer lines.takes_slot reading header_of control_of unnumbered_of supervisory_of teis.course teis.refusal seq distance_of named doing_all turns
 heard_twice = refl

@@ -1,6 +1,5 @@
 -- Worked values of a call that recovers from its losses, and of one that does not. Each computes.
 use Rattle.std.specs.Prelude.{◌≡◌, List, [], ◌∷◌, ◌++◌, refl}
-use Rattle.model_bits.specs.Bits.{low_bits}
 use Rattle.lapd_frame.specs.declared.services.Service.TheVariants.{Call}
 use Rattle.lapd_frame.specs.declared.timers.Timer.TheVariants.{T200}
 use Rattle.lapd_frame.specs.Reading.{reading, header_of, control_of, unnumbered_of, supervisory_of}
@@ -9,7 +8,6 @@ use Rattle.lapd_seq.specs.Numbers.{seq}
 use Rattle.lapd_tei.specs.Events as teis
 use Rattle.model_line.specs.Machine as lines
 use Rattle.model_line.specs.Request.{Data}
-use Rattle.model_card.specs.Run.{after_all}
 use Rattle.laws_wire.specs.Wire.{Wire, requests, times_out, gives, takes, loses, Doing, at_near, at_far, doing_all, turns}
 use Rattle.laws_wire.specs.Call.{confirmed, indicated, data_told}
 use Rattle.laws_wire.specs.Losing.{heard_in}
@@ -27,11 +25,11 @@ abbrev pub lost : Wire
 lost = doing_all loses_three begins
 
 lost_near : heard_in lost.near ≡ confirmed Call 0 ∷ []
-unfolding after_all lines.after lines.answer lines.takes_slot reading header_of control_of unnumbered_of supervisory_of teis.course teis.refusal low_bits seq distance_of named doing_all turns rounds
+unfolding lines.after lines.answer lines.takes_slot reading header_of control_of unnumbered_of supervisory_of teis.course teis.refusal seq distance_of named doing_all turns rounds
 lost_near = refl
 
 lost_far : heard_in lost.far ≡ indicated Call 0 ∷ []
-unfolding after_all lines.after lines.answer lines.takes_slot reading header_of control_of unnumbered_of supervisory_of teis.course teis.refusal low_bits seq distance_of named doing_all turns rounds
+unfolding lines.after lines.answer lines.takes_slot reading header_of control_of unnumbered_of supervisory_of teis.course teis.refusal seq distance_of named doing_all turns rounds
 lost_far = refl
 
 -- One note is missing at each end. T200 expires at both, and four rounds later all is told.
@@ -39,11 +37,11 @@ abbrev pub recovered : Wire
 recovered = rounds 4 (with_t200_expired Call 0 lost)
 
 recovered_near : heard_in recovered.near ≡ confirmed Call 0 ∷ data_told Call 0 (0xCD ∷ []) ∷ []
-unfolding after_all lines.after lines.answer lines.takes_slot reading header_of control_of unnumbered_of supervisory_of teis.course teis.refusal low_bits seq distance_of named doing_all turns rounds
+unfolding lines.after lines.answer lines.takes_slot reading header_of control_of unnumbered_of supervisory_of teis.course teis.refusal seq distance_of named doing_all turns rounds
 recovered_near = refl
 
 recovered_far : heard_in recovered.far ≡ indicated Call 0 ∷ data_told Call 0 (0xAB ∷ []) ∷ []
-unfolding after_all lines.after lines.answer lines.takes_slot reading header_of control_of unnumbered_of supervisory_of teis.course teis.refusal low_bits seq distance_of named doing_all turns rounds
+unfolding lines.after lines.answer lines.takes_slot reading header_of control_of unnumbered_of supervisory_of teis.course teis.refusal seq distance_of named doing_all turns rounds
 recovered_far = refl
 
 -- Then each end loses an I-frame again, and one an enquiry, too: T200 expires in state 7 while its I-frame is on its
@@ -61,11 +59,11 @@ abbrev pub recovered_again : Wire
 recovered_again = rounds 4 (with_t200_expired Call 0 lost_again)
 
 again_near : heard_in recovered_again.near ≡ confirmed Call 0 ∷ data_told Call 0 (0xCD ∷ []) ∷ data_told Call 0 (0x12 ∷ []) ∷ []
-unfolding after_all lines.after lines.answer lines.takes_slot reading header_of control_of unnumbered_of supervisory_of teis.course teis.refusal low_bits seq distance_of named doing_all turns rounds
+unfolding lines.after lines.answer lines.takes_slot reading header_of control_of unnumbered_of supervisory_of teis.course teis.refusal seq distance_of named doing_all turns rounds
 again_near = refl
 
 again_far : heard_in recovered_again.far ≡ indicated Call 0 ∷ data_told Call 0 (0xAB ∷ []) ∷ data_told Call 0 (0xEF ∷ []) ∷ []
-unfolding after_all lines.after lines.answer lines.takes_slot reading header_of control_of unnumbered_of supervisory_of teis.course teis.refusal low_bits seq distance_of named doing_all turns rounds
+unfolding lines.after lines.answer lines.takes_slot reading header_of control_of unnumbered_of supervisory_of teis.course teis.refusal seq distance_of named doing_all turns rounds
 again_far = refl
 
 -- In state 5 T200 has to be long enough, too: where it expires while SABME is on its way SABME comes twice, and error F
@@ -74,7 +72,7 @@ abbrev pub rings_twice : List Doing
 rings_twice = at_near gives ∷ at_near (times_out (T200 Call 0)) ∷ at_near gives ∷ at_far takes ∷ at_far takes ∷ []
 
 heard_ringing : heard_in (doing_all rings_twice begins).far ≡ indicated Call 0 ∷ error_f ∷ []
-unfolding after_all lines.after lines.answer lines.takes_slot reading header_of control_of unnumbered_of supervisory_of teis.course teis.refusal low_bits seq distance_of named doing_all turns
+unfolding lines.after lines.answer lines.takes_slot reading header_of control_of unnumbered_of supervisory_of teis.course teis.refusal seq distance_of named doing_all turns
 heard_ringing = refl
 
 -- That UA is not lost is needed: as SABME comes again error F is told.
@@ -82,5 +80,5 @@ abbrev pub loses_ua : List Doing
 loses_ua = at_near gives ∷ at_far takes ∷ at_far gives ∷ at_far loses ∷ at_near (times_out (T200 Call 0)) ∷ round
 
 heard_again : heard_in (doing_all loses_ua begins).far ≡ indicated Call 0 ∷ error_f ∷ []
-unfolding after_all lines.after lines.answer lines.takes_slot reading header_of control_of unnumbered_of supervisory_of teis.course teis.refusal low_bits seq distance_of named doing_all turns rounds
+unfolding lines.after lines.answer lines.takes_slot reading header_of control_of unnumbered_of supervisory_of teis.course teis.refusal seq distance_of named doing_all turns rounds
 heard_again = refl

@@ -1,7 +1,6 @@
 -- Worked values of calls in which frames are lost, and of how many moves there are. Each computes.
 use Rattle.std.specs.Prelude.{◌≡◌, ◌*◌, ◌≤◌, List, [], ◌∷◌, ◌++◌, refl}
 use Rattle.std.proofs.Common.{arith}
-use Rattle.model_bits.specs.Bits.{low_bits}
 use Rattle.lapd_frame.specs.declared.services.Service.TheVariants.{Call}
 use Rattle.lapd_frame.specs.declared.timers.Timer.TheVariants.{T200}
 use Rattle.lapd_frame.specs.Reading.{reading, header_of, control_of, unnumbered_of, supervisory_of}
@@ -10,7 +9,6 @@ use Rattle.lapd_seq.specs.Numbers.{seq}
 use Rattle.lapd_tei.specs.Events as teis
 use Rattle.model_line.specs.Machine as lines
 use Rattle.model_line.specs.Request.{Data}
-use Rattle.model_card.specs.Run.{after_all}
 use Rattle.laws_wire.specs.Wire.{requests, times_out, gives, takes, loses, Wire, Doing, at_near, at_far, doing_all, IsStill}
 use Rattle.laws_wire.specs.Losing.{heard_in}
 use Rattle.laws_wire.specs.Call.{indicated, data_told}
@@ -25,16 +23,16 @@ rejects_one =
     ∷ at_far gives ∷ at_near takes ∷ at_near gives ∷ at_near gives ∷ at_far takes ∷ at_far takes ∷ at_far gives ∷ at_near takes ∷ []
 
 rejected_come : heard_in (doing_all rejects_one begins).far ≡ indicated Call 0 ∷ data_told Call 0 (0xAB ∷ []) ∷ data_told Call 0 (0xCD ∷ []) ∷ []
-unfolding after_all lines.after lines.answer lines.takes_slot reading header_of control_of unnumbered_of supervisory_of teis.course teis.refusal low_bits seq distance_of named doing_all moves expiries
+unfolding lines.after lines.answer lines.takes_slot reading header_of control_of unnumbered_of supervisory_of teis.course teis.refusal seq distance_of named doing_all moves expiries
 rejected_come = refl
 
 -- Sixteen moves; the bound is 76, with k = 7.
 moves_of_rejects : moves rejects_one begins ≡ 16
-unfolding after_all lines.after lines.answer lines.takes_slot reading header_of control_of unnumbered_of supervisory_of teis.course teis.refusal low_bits seq distance_of named doing_all moves expiries
+unfolding lines.after lines.answer lines.takes_slot reading header_of control_of unnumbered_of supervisory_of teis.course teis.refusal seq distance_of named doing_all moves expiries
 moves_of_rejects = refl
 
 bound_of_rejects : 2 * most_frames 7 (expiries rejects_one) 2 ≡ 76
-unfolding after_all lines.after lines.answer lines.takes_slot reading header_of control_of unnumbered_of supervisory_of teis.course teis.refusal low_bits seq distance_of named doing_all moves expiries
+unfolding lines.after lines.answer lines.takes_slot reading header_of control_of unnumbered_of supervisory_of teis.course teis.refusal seq distance_of named doing_all moves expiries
 bound_of_rejects = refl
 
 -- Three I-frames are lost, and lost again each time that T200 has expired and the other end was asked.
@@ -51,7 +49,7 @@ loses_always =
 
 -- Forty moves. So what goes again is to be counted: without it the bound would be 38.
 moves_of_losses : moves loses_always begins ≡ 40
-unfolding after_all lines.after lines.answer lines.takes_slot reading header_of control_of unnumbered_of supervisory_of teis.course teis.refusal low_bits seq distance_of named doing_all moves expiries
+unfolding lines.after lines.answer lines.takes_slot reading header_of control_of unnumbered_of supervisory_of teis.course teis.refusal seq distance_of named doing_all moves expiries
 moves_of_losses = refl
 
 expiries_of_losses : expiries loses_always ≡ 3
@@ -66,5 +64,5 @@ abbrev pub two_accepted : Wire
 two_accepted = doing_all (establishes ++ at_near (requests (Data Call 0 (1 ∷ []))) ∷ at_near (requests (Data Call 0 (2 ∷ []))) ∷ []) begins
 
 rests : IsStill (rounds 2 two_accepted)
-unfolding after_all lines.after lines.answer lines.takes_slot reading header_of control_of unnumbered_of supervisory_of teis.course teis.refusal low_bits seq distance_of named doing_all rounds
+unfolding lines.after lines.answer lines.takes_slot reading header_of control_of unnumbered_of supervisory_of teis.course teis.refusal seq distance_of named doing_all rounds
 rests = record { near = refl; far = refl; near_way = refl; far_way = refl }

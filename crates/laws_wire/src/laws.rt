@@ -8,8 +8,8 @@ ghost use Rattle.laws_wire.specs.Recovering.{WhatIsLostArrives};
 
 /// A call comes through. Two cards have just begun, one of each side, with configurations in range and the same N201,
 /// and a line of one faces a line of the other; each has the same TEI assigned, 0 to 126, and layer 3 of one asks for
-/// the establishment of a link, of either service. Then data of octets is asked for on this link, at either end, as it
-/// is granted or refused, and turns come, in any order: an end gives its next frame, or takes the first that is on its
+/// the establishment of a link, of either service. Then data is asked for on this link, at either end, as it is
+/// granted or refused, and turns come, in any order: an end gives its next frame, or takes the first that is on its
 /// way to it. Nothing is lost, and no timer expires. Whatever is done, in whatever order, layer 3 of each is told one
 /// establishment and then the data that the other was granted to send, in order, and nothing else: at any time a
 /// beginning of that, and all of it where no turn is left. And there are at most four turns, and four more for each
@@ -19,13 +19,13 @@ pub fn a_call_comes_through()
 {}
 
 /// Cards deliver. Two cards, one of each side, with the same N201, face each other by a link of the same service and TEI:
-/// their links are in state 7, as [`laws_two_links::arrives_in_any_order`] has them, nothing else waits on their lines,
-/// and these are idle, however the cards came there. Then data is asked for at either end, as it is granted or refused,
-/// and turns come, in any order, on ways that lose nothing; no timer expires. There are at most as many turns as the
-/// weight of the two ends says, and four for each request that is granted meanwhile. Layer 3 of each is told of data and
-/// of nothing else; and where no turn is left, the data that it was told of is exactly what the other's layer 3 was
-/// granted to send, in order, each once, and the two face each other again. So do two cards in a call, where no turn is
-/// left (`calls`).
+/// their links are in state 7, as [`laws_two_links::arrives_in_any_order`] has them, and nothing else waits on their
+/// lines, however the cards came there. Then data is asked for at either end, as it is granted or refused, and turns
+/// come, in any order, on ways that lose nothing; no timer expires. There are at most as many turns as the weight of the
+/// two ends says, and four for each request that is granted meanwhile. Layer 3 of each is told of data and of nothing
+/// else; and where no turn is left, the data that it was told of is exactly what the other's layer 3 was granted to
+/// send, in order, each once, and the two face each other again. So do two cards in a call, where no turn is left
+/// (`calls`).
 pub fn cards_deliver()
     ensures cards { CardsDeliver }
     ensures calls { CallsFace }

@@ -2,19 +2,19 @@
 //! gives the other takes. There is nothing to call: each law is the contract of a function that does nothing.
 //!
 //! `specs/` has the wire and what can happen at its ends (`Wire`), a call between two cards that have just begun, in
-//! the words of the calls of a card alone (`Call`), the same where frames are lost and timers expire (`Losing`), a T200
-//! that is long enough (`Timely`), what it recovers (`Recovering`) and how often it may expire (`Counted`), how many
-//! turns there are at most (`Resting`), two cards that face each other by links in state 7 (`Facing`), and worked values
-//! that compute (`Worked`, `WorkedLosing`, `WorkedRecovering`, `WorkedCounted`, `WorkedResting`). What a card does at a
-//! happening is the machine of `model_card`, to the octet; the laws of two links are those of `laws_two_links`.
+//! the words of the events and answers of a card alone (`Call`), the same where frames are lost and timers expire
+//! (`Losing`), a T200 that is long enough (`Timely`), what it recovers (`Recovering`) and how often it may expire
+//! (`Counted`), how many turns there are at most (`Resting`), two cards that face each other by links in state 7
+//! (`Facing`), and worked values that compute (`Worked`, `WorkedLosing`, `WorkedRecovering`, `WorkedCounted`,
+//! `WorkedResting`). What a card does at an event is the machine of `model_card`, of frames; the laws of two links are
+//! those of `laws_two_links`.
 //!
 //! # Open
 //!
 //! What is told after an error, so also where a UA was lost, and whether turns come to an end then; a timer of the called
 //! end that expires while its UA waits to go; that a given T200 is long enough; losses in a call whose layer 3 asks for
 //! anything but data (so own busy never comes), where other links or lines are at work, or which begin elsewhere than from
-//! nothing; that both links are in state 7 again, and all is acknowledged, where what was lost has arrived; the octets that
-//! one card's pulls give, taken one by one by the other.
+//! nothing; that both links are in state 7 again, and all is acknowledged, where what was lost has arrived.
 #![tactic(auto)]
 
 mod laws;

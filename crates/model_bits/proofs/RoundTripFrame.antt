@@ -107,7 +107,7 @@ hears_item n201 past (frame octets) items h =
     ∙ ap (λ e. e ∷ []) (gap_event_whole n201 octets h.0)
 
 -- What items are heard as, after a flag, and a cut flag after them.
-hears_items : (n201 : ℕ) (past : List Bool) (items : List Item) (more : ℕ) → more < 8 → AreHeardWhole n201 items → hears (room_for n201) (after_flag past) (flat_map item_text items ++ take more flag) ≡ frames_of items
+pub hears_items : (n201 : ℕ) (past : List Bool) (items : List Item) (more : ℕ) → more < 8 → AreHeardWhole n201 items → hears (room_for n201) (after_flag past) (flat_map item_text items ++ take more flag) ≡ frames_of items
 hears_items n201 past [] more h all = hears_cut_flag (room_for n201) past more h
 hears_items n201 past (idle ∷ items) more h all = hears_items n201 (after_flag past) items more h all
 hears_items n201 past (frame octets ∷ items) more h all =

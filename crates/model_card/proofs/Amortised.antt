@@ -1,20 +1,20 @@
 -- The frames sent, amortised.
-use Rattle.model_card.proofs.Vocabulary.{◌+◌, ◌*◌, ◌≤◌, List, [], ◌∷◌, arith, sum_by, All-head, All-tail, event_rises, Event, Card, line_at, may_send, window, is_sent, is_heard, is_accepted, is_running_expiry, is_reject, FramesAmortised, after, answer, IsAmortised, Moment, moments, after_all, IsAtLine, AreAtLines}
+use Rattle.model_card.proofs.Vocabulary.{◌≡◌, ap, ◌∙◌, sum_by-replicate, Config, fresh, fresh_line, fresh_may_send, event_rejects, is_long_heard, FramesAmortisedFromZero, RejectsAreLong, ◌+◌, ◌*◌, ◌≤◌, List, [], ◌∷◌, arith, sum_by, All-head, All-tail, event_rises, Event, Card, line_at, may_send, window, is_sent, is_heard, is_accepted, is_running_expiry, is_reject, FramesAmortised, after, answer, IsAmortised, Moment, moments, after_all, IsAtLine, AreAtLines}
 use Rattle.model_line.specs.Machine as lines
 use Rattle.model_line.specs.Counts as line
-use Rattle.model_card.proofs.Steps.{HasLines, has_lines, by_room, line_sound, after_lines, one_line, count_cons}
+use Rattle.model_card.proofs.Steps.{HasLines, has_lines, by_room, line_sound, after_lines, fresh_lines, one_line, count_cons}
 
 -- one event
 pub event_within : (card : Card) (e : Event) → HasLines card → IsAtLine card e
     → let k = window card.config in
-    line.one (line.is_begun (answer e card)) + may_send (after e card)
-    ≤ may_send card + 2 * line.one (line.hears card.config e.what (line_at e.line card)) + line.one (line.is_accepted e.what (answer e card))
+    line.one (line.is_given (answer e card)) + may_send (after e card)
+    ≤ may_send card + 2 * line.one (line.hears_frame e.what) + line.one (line.is_accepted e.what (answer e card))
     + (k + 1) * line.one (line.is_running_expiry e.what (line_at e.line card))
     + k * line.one (line.rejects card.config e.what (line_at e.line card))
 event_within card e h within =
     by_room (λ ls a.
-    line.one (line.is_begun a) + sum_by (line.may_send card.config) ls
-    ≤ may_send card + 2 * line.one (line.hears card.config e.what (line_at e.line card)) + line.one (line.is_accepted e.what a)
+    line.one (line.is_given a) + sum_by (line.may_send card.config) ls
+    ≤ may_send card + 2 * line.one (line.hears_frame e.what) + line.one (line.is_accepted e.what a)
     + (window card.config + 1) * line.one (line.is_running_expiry e.what (line_at e.line card))
     + window card.config * line.one (line.rejects card.config e.what (line_at e.line card))) e card
     (λ full. omega arith)
@@ -41,3 +41,19 @@ amortised card (e ∷ events) h within =
 
 pub frames_amortised : FramesAmortised
 frames_amortised card events s within = amortised card events (has_lines card s) within
+
+fresh_sends_nothing : (c : Config) → may_send (fresh c) ≡ 0
+fresh_sends_nothing c = sum_by-replicate (line.may_send c) c.lines (fresh_line c) ∙ omega (arith, ap (λ x. c.lines * x) (fresh_may_send c))
+
+pub frames_amortised_from_zero : FramesAmortisedFromZero
+frames_amortised_from_zero c events ranged within = omega (arith, amortised (fresh c) events (fresh_lines c ranged) within, fresh_sends_nothing c)
+
+-- REJ frames are among the frames of four octets or more
+pub rejects_are_long : RejectsAreLong
+unfolding moments
+rejects_are_long card [] = omega arith
+rejects_are_long card (e ∷ events) =
+    let m : Moment = record { card = card; event = e; answer = answer e card } in
+    let ms = moments (after e card) events in
+    rw (count_cons is_reject m ms, count_cons is_long_heard m ms)
+    (omega (arith, event_rejects card.config e.what (line_at e.line card), rejects_are_long (after e card) events))

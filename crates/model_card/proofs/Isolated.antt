@@ -8,24 +8,24 @@ use Rattle.model_card.proofs.Steps.{HasLines, by_line, after_lines, fresh_lines}
 
 -- A card of the same configuration on which only the events at one line happened: the line is the same, and all slots
 -- in use are the line's.
-abbrev with_lines : Card → List Line → Card
+abbrev pub with_lines : Card → List Line → Card
 with_lines card ls = record { config = card.config; lines = ls }
 
-record Alone (number : ℕ) (c : Config) (l : Line) (ls : List Line) : Type 0 where
-  inside : number < length ls
-  same : get_or ls number (fresh_line c) ≡ l
-  own : sum_by (slots_of c) ls ≡ slots_of c l
+pub record Alone (number : ℕ) (c : Config) (l : Line) (ls : List Line) : Type 0 where
+  pub inside : number < length ls
+  pub same : get_or ls number (fresh_line c) ≡ l
+  pub own : sum_by (slots_of c) ls ≡ slots_of c l
 
 -- an event that is served on a card is served there too
 room_alone : (takes : Bool) (slots in_use own : ℕ) → (takes && nat_le slots in_use) ≡ false → own ≤ in_use → (takes && nat_le slots own) ≡ false
 room_alone true slots in_use own e h = let below : in_use < slots = leb-false slots in_use e in lt-leb slots own (omega (arith, below, h))
 room_alone false slots in_use own e h = refl
 
-record Alike (e : Event) (card : Card) (ls : List Line) (l : Line) (a : Answer) : Type 0 where
-  next : List Line
-  moves : after e (with_lines card ls) ≡ with_lines card next
-  answers : a ≡ answer e (with_lines card ls)
-  alone : Alone e.line card.config l next
+pub record Alike (e : Event) (card : Card) (ls : List Line) (l : Line) (a : Answer) : Type 0 where
+  pub next : List Line
+  pub moves : after e (with_lines card ls) ≡ with_lines card next
+  pub answers : a ≡ answer e (with_lines card ls)
+  pub alone : Alone e.line card.config l next
 
 served_alike : (card : Card) (ls : List Line) (e : Event) → HasLines card → IsAtLine card e → wants_room e card ≡ false
     → Alone e.line card.config (line_at e.line card) ls
@@ -61,11 +61,11 @@ served_alike card ls e h within served a =
 -- ---- lists of events
 
 -- a moment that is not served at the line leaves the line as it was, and one that is served is served there
-abbrev Goes : ℕ → Event → Card → List Line → Line → Answer → Bool → Type 0
+abbrev pub Goes : ℕ → Event → Card → List Line → Line → Answer → Bool → Type 0
 Goes number e card ls l a true = Alike (record e { line = number }) card ls l a
 Goes number e card ls l a false = Alone number card.config l ls
 
-moment_goes : (number : ℕ) (card : Card) (ls : List Line) (e : Event) → HasLines card → IsAtLine card e → Alone number card.config (line_at number card) ls
+pub moment_goes : (number : ℕ) (card : Card) (ls : List Line) (e : Event) → HasLines card → IsAtLine card e → Alone number card.config (line_at number card) ls
     → Goes number e card ls (line_at number (after e card)) (answer e card) ((e.line == number) && not (is_pool_full (answer e card)))
 moment_goes number card ls e h within a =
     by_line card e number h within (λ at l answered. Goes number e card ls l answered (at && not (is_pool_full answered))) (λ answered. a) (λ takes. a)
@@ -107,12 +107,12 @@ isolated number (e ∷ events) card ls h all a =
         (later like.next like.alone ∙ ap (λ (k : Card). map answer_in (moments k (map event_in rest))) (sym like.moves))
         ∙ ap (λ x. answer x (with_lines card ls) ∷ map answer_in (moments (after x (with_lines card ls)) (map event_in rest))) (sym here)
 
+pub fresh_alone : (c : Config) (number : ℕ) → HasLines (fresh c) → number < c.lines → Alone number c (line_at number (fresh c)) (fresh c).lines
+fresh_alone c number h few =
+    let there : line_at number (fresh c) ≡ fresh_line c = get_or-replicate c.lines number (fresh_line c) (fresh_line c) few in
+    record { inside = omega (arith, few, h.count); same = refl; own = fresh_used c ∙ sym (ap (slots_of c) there ∙ fresh_slots c) }
+
 pub lines_isolated : LinesIsolated
 lines_isolated c events ranged within number few =
     let h = fresh_lines c ranged in
-    let there : line_at number (fresh c) ≡ fresh_line c = get_or-replicate c.lines number (fresh_line c) (fresh_line c) few in
-    isolated number events (fresh c) (fresh c).lines h within (record {
-      inside = omega (arith, few, h.count);
-      same = refl;
-      own = fresh_used c ∙ sym (ap (slots_of c) there ∙ fresh_slots c);
-    })
+    isolated number events (fresh c) (fresh c).lines h within (fresh_alone c number h few)

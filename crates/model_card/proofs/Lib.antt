@@ -1,7 +1,7 @@
--- Lemmas: events of a card one by one, whole runs of it, and what whole frames mean to it.
+-- Lemmas: events of a card one by one, whole runs of it.
 pub mod Vocabulary
 pub mod Steps
-pub mod Heard
+pub mod Runs
 pub mod Amortised
 pub mod EachMoment
 pub mod ByEvent
@@ -12,12 +12,8 @@ pub mod Fold
 pub mod Refusals
 pub mod CardSound
 pub mod Reaching
-pub mod TextGoesOn
 pub mod NumberedForms
 pub mod Numbering
 pub mod Isolated
-pub mod Linear
 pub mod NeverFull
 pub mod Rooms
-pub mod Happening
-pub mod Saying

@@ -1,7 +1,7 @@
 -- Cards that are reached: one that begins is, each event at a line leads to another, and all of them are sound.
 use Rattle.model_card.proofs.Vocabulary.{[], ◌∷◌, ◌++◌, refl, sym, ap, ◌∙◌, subst, All-nil, All-push, Config, IsInRange, Card, fresh, Event, after, IsReached, after_all, IsAtLine, IsSound}
 use Rattle.model_card.proofs.CardSound.{always_sound, fresh_is_sound}
-use Rattle.model_card.proofs.Happening.{after_all-append}
+use Rattle.model_card.proofs.Runs.{after_all-append}
 
 pub reached-fresh : (c : Config) → IsInRange c → IsReached (fresh c)
 unfolding after_all

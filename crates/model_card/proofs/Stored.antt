@@ -2,7 +2,7 @@
 use Rattle.model_card.proofs.Vocabulary.{◌+◌, ◌*◌, ◌≤◌, List, [], ◌∷◌, length, subst, arith, sum_by, All, All-head, All-tail, sum_by-cons, mul-le-mul_left, Config, Line, slots_of, stored_in, stored_few, Card, used, StoredWithinLimit, after_all, IsSound, limit_in, stored, limit}
 use Rattle.model_line.specs.Sound as line
 use Rattle.model_card.proofs.CardSound.{always_sound}
-use Rattle.model_card.proofs.Happening.{config_stays}
+use Rattle.model_card.proofs.Runs.{config_stays}
 
 stored_by_lines : (c : Config) (ls : List Line) → All (line.IsSound c) ls
     → sum_by (stored_in c) ls ≤ length ls * limit_in c + sum_by (slots_of c) ls * c.n201

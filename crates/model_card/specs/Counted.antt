@@ -6,18 +6,17 @@ use Rattle.lapd_count.specs.Counters.{More, count, most, none_counted, value_in,
 use Rattle.model_line.specs.declared.config.Config.{Config}
 use Rattle.model_line.specs.Counted.{shown}
 use Rattle.model_line.specs.Event as line_event
-use Rattle.model_line.specs.Line as machine
-use Rattle.model_card.specs.Card.{Card, line_at}
+use Rattle.model_card.specs.Card.{Card}
 use Rattle.model_card.specs.Event.{Event}
 use Rattle.model_card.specs.Machine.{answer}
 use Rattle.model_card.specs.Run.{Moment}
 
 -- An event at one line is counted there, and on no other.
-abbrev pub one_counted : ℕ → Config → line_event.Event → machine.Line → line_event.Answer → List Counters → List Counters
-one_counted number c e l a all = set all number (with_all (get_or all number none_counted) (shown c e l a))
+abbrev pub one_counted : ℕ → Config → line_event.Event → line_event.Answer → List Counters → List Counters
+one_counted number c e a all = set all number (with_all (get_or all number none_counted) (shown c e a))
 
 abbrev pub moment_counted : List Counters → Moment → List Counters
-moment_counted all m = one_counted m.event.line m.card.config m.event.what (line_at m.event.line m.card) m.answer all
+moment_counted all m = one_counted m.event.line m.card.config m.event.what m.answer all
 
 abbrev pub all_counted : List Counters → List Moment → List Counters
 all_counted all ms = fold moment_counted all ms
@@ -29,7 +28,7 @@ moment_of card e = record { card = card; event = e; answer = answer e card }
 -- What the moments at a line show.
 abbrev pub shown_at : ℕ → Moment → List More
 shown_at number m =
-    if m.event.line == number then shown m.card.config m.event.what (line_at number m.card) m.answer else []
+    if m.event.line == number then shown m.card.config m.event.what m.answer else []
 
 abbrev pub all_shown : ℕ → List Moment → List More
 all_shown number ms = flat_map (shown_at number) ms

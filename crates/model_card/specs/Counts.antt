@@ -1,25 +1,11 @@
 -- What is counted of a card, and of the moments of a run.
-use Rattle.std.specs.Prelude.{ℕ, max, Bool, List, length, sum_by, count_by}
+use Rattle.std.specs.Prelude.{ℕ, max, Bool, List, sum_by, count_by}
 use Rattle.model_line.specs.declared.config.Config.{Config}
-use Rattle.model_line.specs.Line.{Line}
 use Rattle.model_line.specs.Counts as line
 use Rattle.model_card.specs.Card.{Card, line_at}
 use Rattle.model_card.specs.Run.{Moment}
 
--- Of all lines together: the octets received; the frames heard in them, and those of four octets or more among
--- these; and what may be sent without anything else happening.
-abbrev pub octets_of_line : Line → ℕ
-octets_of_line l = length l.received
-
-abbrev pub octets_received : Card → ℕ
-octets_received card = sum_by octets_of_line card.lines
-
-abbrev pub frames_heard : Card → ℕ
-frames_heard card = sum_by (line.frames_heard card.config) card.lines
-
-abbrev pub long_frames_heard : Card → ℕ
-long_frames_heard card = sum_by (line.long_frames_heard card.config) card.lines
-
+-- Of all lines together: what may be sent without anything else happening.
 abbrev pub may_send : Card → ℕ
 may_send card = sum_by (line.may_send card.config) card.lines
 
@@ -27,19 +13,25 @@ may_send card = sum_by (line.may_send card.config) card.lines
 abbrev pub window : Config → ℕ
 window c = max c.k c.k16
 
--- Over the moments of a run: the frames sent, which are those that pulls began;
+-- Over the moments of a run: the frames sent, which are those that were given;
 abbrev pub is_sent : Moment → Bool
-is_sent m = line.is_begun m.answer
+is_sent m = line.is_given m.answer
 
 abbrev pub sent : List Moment → ℕ
 sent ms = count_by is_sent ms
 
--- the frames heard, by the octets that end them;
+-- the frames heard, and those of four octets or more among these;
 abbrev pub is_heard : Moment → Bool
-is_heard m = line.hears m.card.config m.event.what (line_at m.event.line m.card)
+is_heard m = line.hears_frame m.event.what
 
 abbrev pub heard : List Moment → ℕ
 heard ms = count_by is_heard ms
+
+abbrev pub is_long_heard : Moment → Bool
+is_long_heard m = line.hears_long_frame m.event.what
+
+abbrev pub long_heard : List Moment → ℕ
+long_heard ms = count_by is_long_heard ms
 
 -- the requests that were accepted;
 abbrev pub is_accepted : Moment → Bool

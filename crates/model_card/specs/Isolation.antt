@@ -15,7 +15,7 @@ event_in m = m.event
 abbrev pub answer_in : Moment → Answer
 answer_in m = m.answer
 
--- Their events, and their answers, octets pulled among them.
+-- Their events, and their answers, frames given among them.
 abbrev pub events_at : ℕ → List Moment → List Event
 events_at number ms = map event_in (filter (is_served_at number) ms)
 

@@ -1,5 +1,6 @@
 -- Laws of whole runs. Each holds for every list of events, and so for every front of a list.
 use Rattle.std.specs.Prelude.{◌≡◌, ◌↔◌, ℕ, ◌≤◌, ◌<◌, Some, IsSome, List, map}
+use Rattle.model_bits.specs.Stream as stream
 use Rattle.lapd_frame.specs.declared.refusals.Refusal.{Refusal}
 use Rattle.lapd_frame.specs.declared.timers.Timer.{Timer}
 use Rattle.model_line.specs.declared.config.Config.{Config}
@@ -13,9 +14,9 @@ use Rattle.model_card.specs.Machine.{after, answer}
 use Rattle.model_card.specs.Run.{Moment, run, moments, after_all, AreAtLines}
 use Rattle.model_card.specs.Sound.{IsSound}
 use Rattle.model_card.specs.Stored.{stored, limit}
-use Rattle.model_card.specs.ByEvent.{RisesByOctet, RisesByExpiry, RisesByRequest, FallsByPull, ArePriced}
+use Rattle.model_card.specs.ByEvent.{RisesByHeard, RisesByExpiry, RisesByRequest, FallsByNext, ArePriced}
 use Rattle.model_card.specs.Drops.{AreDropsWithoutCost, AreDropsWithoutEffect}
-use Rattle.model_card.specs.Promises.{IsWithinLimit, IsAmortised, IsAmortisedFromZero, HasSixOctetsAFrame, HasSevenOctetsAReject, IsLinear, IsNumbered, IsNumberedFromZero, IsTextual, IsIsolated, IsNeverFull}
+use Rattle.model_card.specs.Promises.{IsWithinLimit, IsAmortised, IsAmortisedFromZero, AreRejectsLong, IsNumbered, IsNumberedFromZero, IsIsolated, IsNeverFull}
 
 -- A run as one fold is its moments.
 abbrev pub reply_of : Moment → ℕ × Answer
@@ -47,45 +48,40 @@ pub record RefusedByTheTable : Type 0 where
 
 -- The frames sent, and those that may still be sent, rise by at most two for each frame that is heard, by one for
 -- each request that is accepted, by k + 1 for each expiry of a running timer, and by k for each REJ with a valid N(R).
--- Pulls and refusals never raise them, nor do drops by the deframer; a frame dropped later is one that was
--- heard here, though it costs nothing (`DropsCostNothing`).
+-- Calls for the next frame and refusals never raise them, nor does what is dropped before it is a frame; a frame dropped later
+-- is one that was heard here, though it costs nothing (`DropsCostNothing`).
 abbrev pub FramesAmortised : Type 0
 FramesAmortised = (card : Card) (events : List Event) → IsSound card → AreAtLines card events → IsAmortised card events
 
--- The same event by event: how much each raises them at most, and that a pull which begins a frame lowers them.
+-- The same event by event: how much each raises them at most, and that a call which gives a frame lowers them.
 pub record FramesByEvent : Type 0 where
-  pub octets : (card : Card) (number value : ℕ) → IsSound card → number < card.config.lines → RisesByOctet number value card
+  pub heard : (card : Card) (number : ℕ) (e : stream.Event) → IsSound card → number < card.config.lines → RisesByHeard number e card
   pub expiries : (card : Card) (number : ℕ) (timer : Timer) → IsSound card → number < card.config.lines → RisesByExpiry number timer card
   pub requests : (card : Card) (number : ℕ) (r : Request) → IsSound card → number < card.config.lines → RisesByRequest number r card
-  pub pulls : (card : Card) (number : ℕ) → IsSound card → number < card.config.lines → FallsByPull number card
+  pub calls : (card : Card) (number : ℕ) → IsSound card → number < card.config.lines → FallsByNext number card
   pub in_runs : (card : Card) (events : List Event) → IsSound card → AreAtLines card events → ArePriced card events
 
 -- What is dropped costs nothing, in no moment of a run.
 abbrev pub DropsCostNothing : Type 0
 DropsCostNothing = (card : Card) (events : List Event) → IsSound card → AreAtLines card events → AreDropsWithoutCost card events
 
--- And nothing else is told of it, and it changes nothing but the octets received, from any card on.
+-- And nothing else is told of it, and it changes nothing, from any card on.
 abbrev pub DropsChangeNothing : Type 0
 DropsChangeNothing = (card : Card) (events : List Event) → AreDropsWithoutEffect card events
 
--- From a fresh card on, where nothing may be sent before, they are within the same bound; and as a frame has six octets
--- of its own at least, with its check and a flag, and an REJ seven, they are linear in the octets received, the accepted
--- requests and the expiries.
-pub record FramesLinear : Type 0 where
-  pub amortised : (c : Config) (events : List Event) → IsInRange c → AreAtLines (fresh c) events → IsAmortisedFromZero c events
-  pub frames : (c : Config) (events : List Event) → IsInRange c → AreAtLines (fresh c) events → HasSixOctetsAFrame c events
-  pub rejects : (c : Config) (events : List Event) → IsInRange c → AreAtLines (fresh c) events → HasSevenOctetsAReject c events
-  pub linear : (c : Config) (events : List Event) → IsInRange c → AreAtLines (fresh c) events → IsLinear c events
+-- From a fresh card on, where nothing may be sent before, they are within the same bound.
+abbrev pub FramesAmortisedFromZero : Type 0
+FramesAmortisedFromZero = (c : Config) (events : List Event) → IsInRange c → AreAtLines (fresh c) events → IsAmortisedFromZero c events
+
+-- And an REJ with a valid N(R) is a frame of four octets at least.
+abbrev pub RejectsAreLong : Type 0
+RejectsAreLong = (card : Card) (events : List Event) → AreRejectsLong card events
 
 -- Each link's deliveries are numbered without gap since its establishment, each told in the moment of its frame; and on
 -- a card that began fresh from 0 on.
 pub record DeliveriesNumbered : Type 0 where
   pub numbered : (card : Card) (events : List Event) → IsSound card → AreAtLines card events → IsNumbered card events
   pub from_zero : (c : Config) (events : List Event) → IsInRange c → AreAtLines (fresh c) events → IsNumberedFromZero c events
-
--- The octets pulled of a line go on with its text.
-abbrev pub TextGoesOn : Type 0
-TextGoesOn = (card : Card) (events : List Event) → IsSound card → AreAtLines card events → IsTextual card events
 
 -- From a fresh card on, what a line answers except for a full pool is what it would answer on a card of its own, to the
 -- events at it that did not find the pool full.

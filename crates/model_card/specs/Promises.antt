@@ -4,12 +4,11 @@ use Rattle.model_link.specs.Numbered.{Numbered}
 use Rattle.model_line.specs.declared.config.Config.{Config}
 use Rattle.model_line.specs.Counts.{is_pool_full}
 use Rattle.model_line.specs.Line.{link_count}
-use Rattle.model_card.specs.Card.{Card, fresh, line_at}
-use Rattle.model_card.specs.Counts.{may_send, octets_received, window, sent, heard, accepted, expired, rejected}
+use Rattle.model_card.specs.Card.{Card, fresh}
+use Rattle.model_card.specs.Counts.{may_send, window, sent, heard, long_heard, accepted, expired, rejected}
 use Rattle.model_card.specs.Event.{Event}
 use Rattle.model_card.specs.Isolation.{events_at, answers_at, answer_in}
 use Rattle.model_card.specs.Numbered.{LinkName, History, history, received_by, AreNumbered, frames_of, deliveries_of}
-use Rattle.model_card.specs.Pulled.{octets_pulled, frames_begun, GoesOn}
 use Rattle.model_card.specs.Run.{Moment, moments, after_all}
 use Rattle.model_card.specs.Stored.{stored, limit}
 
@@ -35,24 +34,9 @@ IsAmortisedFromZero c events =
     let k = window c in
     sent ms + may_send end ≤ 2 * heard ms + accepted ms + (k + 1) * expired ms + k * rejected ms
 
--- Each frame heard has taken six octets of the octets received: an address of two, a control field of one, a check of
--- two and a flag.
-abbrev pub HasSixOctetsAFrame : Config → List Event → Type 0
-HasSixOctetsAFrame c events = 6 * heard (moments (fresh c) events) ≤ octets_received (after_all (fresh c) events)
-
--- And each REJ with a valid N(R) seven, as its control field has two.
-abbrev pub HasSevenOctetsAReject : Config → List Event → Type 0
-HasSevenOctetsAReject c events = 7 * rejected (moments (fresh c) events) ≤ octets_received (after_all (fresh c) events)
-
--- So the frames sent are linear in the octets received, the accepted requests and the expiries: two frames for six
--- octets, k more for seven. In twenty-firsts of a frame, as 21 is the least multiple of 3 and 7, an octet is worth
--- 21 * 2 / 6 = 7 of the former and 21 * k / 7 = 3 * k of the latter.
-abbrev pub IsLinear : Config → List Event → Type 0
-IsLinear c events =
-    let ms = moments (fresh c) events in
-    let octets = octets_received (after_all (fresh c) events) in
-    let k = window c in
-    21 * sent ms ≤ (7 + 3 * k) * octets + 21 * accepted ms + 21 * (k + 1) * expired ms
+-- Each REJ with a valid N(R) is one of the frames heard that have four octets or more.
+abbrev pub AreRejectsLong : Card → List Event → Type 0
+AreRejectsLong m events = rejected (moments m events) ≤ long_heard (moments m events)
 
 -- On a card as it begins, what a line answers except for a full pool is what it would answer on a card of its own, to the
 -- events at it that did not find the pool full.
@@ -91,10 +75,3 @@ IsNumbered m events = (name : LinkName) → HasLink m name → IsNumberedAt m ev
 -- From a card as it begins they are numbered from 0 on.
 abbrev pub IsNumberedFromZero : Config → List Event → Type 0
 IsNumberedFromZero c events = (name : LinkName) → HasLink (fresh c) name → (history name (fresh c) (moments (fresh c) events)).first ≡ 0
-
--- The octets pulled of each line go on with its text, whose frames are those that pulls began, in order.
-abbrev pub IsTextual : Card → List Event → Type 0
-IsTextual m events =
-    (number : ℕ) → number < m.config.lines →
-    let ms = moments m events in
-    GoesOn (line_at number m) (line_at number (after_all m events)) (octets_pulled number ms) (frames_begun number ms)

@@ -7,11 +7,10 @@ use Rattle.model_card.specs.Card.{Card}
 abbrev pub stored : Card → ℕ
 stored card = sum_by (stored_in card.config) card.lines
 
--- For each line: a frame that is received, with its check, and one that is sent, without; four octets for each control
--- frame that waits, of two links for each TEI; eight for each of four management messages; and three for each of four
--- assignments that are remembered. For each slot: the contents.
+-- For each line: four octets for each control frame that waits, of two links for each TEI; eight for each of four management
+-- messages; and three for each of four assignments that are remembered. For each slot: the contents.
 abbrev pub limit_in : Config → ℕ
-limit_in c = 2 * c.n201 + 10 + 8 * c.control * c.terminals + 32 + 12
+limit_in c = 8 * c.control * c.terminals + 32 + 12
 
 abbrev pub limit : Config → ℕ
 limit c = c.lines * limit_in c + c.slots * c.n201

@@ -1,7 +1,7 @@
 //! What holds of whole runs of the machine. Each law is the contract of a call that does nothing; it holds for every
 //! list of events, and so for every front of a list.
 
-ghost use Rattle.model_card.specs.Laws.{CardsStaySound, DeliveriesNumbered, DropsChangeNothing, DropsCostNothing, FramesAmortised, FramesByEvent, FramesLinear, LinesIsolated, PoolNeverFull, RefusedByTheTable, RunIsMoments, StoredWithinLimit, TextGoesOn};
+ghost use Rattle.model_card.specs.Laws.{CardsStaySound, DeliveriesNumbered, DropsChangeNothing, DropsCostNothing, FramesAmortised, FramesAmortisedFromZero, FramesByEvent, LinesIsolated, PoolNeverFull, RefusedByTheTable, RejectsAreLong, RunIsMoments, StoredWithinLimit};
 
 /// A run as one fold is its moments, one after the other.
 #[tactic(auto, using(crate::proofs::Fold::run_is_moments))]
@@ -21,7 +21,7 @@ pub fn stored_within_limit()
     ensures { StoredWithinLimit }
 {}
 
-/// From any sound card on, whatever the number of pulls: the frames sent, and those that may still be sent, are at most
+/// From any sound card on, however often the next frame is called for: the frames sent, and those that may still be sent, are at most
 /// those that could be sent before, two for each frame heard, one for each accepted request, k + 1 for each expiry
 /// of a running timer, and k for each REJ with a valid N(R), where k is the greater of both windows. So no terminal can
 /// make a card a source of frames.
@@ -30,26 +30,25 @@ pub fn frames_amortised()
     ensures { FramesAmortised }
 {}
 
-/// The same bound for single events, and so in every moment of a run. What may be sent rises by at most two for an
-/// octet that ends a frame which is heard (one octet ends one frame at most), and by k more where that is an REJ with a
-/// valid N(R); by k + 1 for an expiry of a running timer; by one for an accepted request. A drop by the deframer
-/// (abort, ragged, short, frame check), a refusal and an expiry of a timer that does not run let it rise by nothing. A
-/// frame that is dropped later is one that was heard: see [`drops_cost_nothing`]. A pull that begins a frame lowers it
-/// by one or two, and any other pull leaves it as it is.
+/// The same bound for single events, and so in every moment of a run. What may be sent rises by at most two for a frame
+/// that is heard, and by k more where that is an REJ with a valid N(R); by k + 1 for an expiry of a running timer; by one for
+/// an accepted request. What is dropped before it is a frame (abort, ragged, short, frame check), a refusal and an expiry of a
+/// timer that does not run let it rise by nothing. A frame that is dropped later is one that was heard: see
+/// [`drops_cost_nothing`]. A call that gives a frame lowers it by one or two, and any other leaves it as it is.
 #[tactic(auto, using(crate::proofs::ByEvent::frames_by_event))]
 pub fn frames_by_event()
     ensures { FramesByEvent }
 {}
 
-/// In every moment of a run: where the answer to an octet names a cause, whichever, what may be sent stays as it is. So
-/// a frame that is dropped raises it by nothing, for its address and for want of service too.
+/// In every moment of a run: where the answer names a cause, whichever, what may be sent stays as it is. So a frame that is
+/// dropped raises it by nothing, for its address and for want of service too.
 pub fn drops_cost_nothing()
     ensures { DropsCostNothing }
 {}
 
-/// In every moment of a run, from any card on: where the answer to an octet names a cause, whichever, the cause is all
-/// that it says, and the card is afterwards what it was, but that its line has received this octet. So what is dropped
-/// is never answered: no frame waits for it, no note and no order is told, and no link, TEI, timer or slot has changed.
+/// In every moment of a run, from any card on: where the answer names a cause, whichever, the cause is all that it says, and
+/// the card is afterwards what it was. So what is dropped is never answered: no frame waits for it, no note and no order is
+/// told, and no link, TEI, timer or slot has changed.
 pub fn drops_change_nothing()
     ensures { DropsChangeNothing }
 {}
@@ -61,18 +60,9 @@ pub fn refused_by_the_table()
     ensures { RefusedByTheTable }
 {}
 
-/// The octets pulled of a line are a beginning of one text: that of the items before and of those that the pulls put on
-/// the line, closed by flags, whose frames are exactly those that the pulls began, in order. So what a line gives is
-/// flags and whole frames with bits stuffed (Q.921 clause 2), from the first octet on, and no other event, at this line
-/// or at another, puts a bit into it.
-#[tactic(auto, using(crate::proofs::TextGoesOn::text_goes_on))]
-pub fn text_goes_on()
-    ensures { TextGoesOn }
-{}
-
 /// From any sound card on, what each link delivers since its establishment is numbered without gap: delivery i is the
 /// contents of the first eligible I-frame after that of delivery i - 1 whose N(S) is i modulo 128, it is told in the
-/// answer to the octet that ended this frame, and after the last delivery no eligible frame had the next number. V(R)
+/// answer to this frame, and after the last delivery no eligible frame had the next number. V(R)
 /// counts them (Q.921 clauses 3.5.2.4 to 3.5.2.6 and 5.6.2). An I-frame is eligible where it has at most N201 octets
 /// and meets state 7 or 8 with own busy off. An establishment is an event in which the tables set the link's numbers to
 /// zero, or the link is cleared. On a card that began fresh the first number is 0.
@@ -81,7 +71,7 @@ pub fn deliveries_numbered()
     ensures { DeliveriesNumbered }
 {}
 
-/// From a fresh card on, for each line: its answers except for a full pool, octets pulled among them, are those of a fresh
+/// From a fresh card on, for each line: its answers except for a full pool, frames given among them, are those of a fresh
 /// card of the same configuration on which only the events at that line happened, without the requests that found the
 /// pool full.
 #[tactic(auto, using(crate::proofs::Isolated::lines_isolated))]
@@ -89,13 +79,17 @@ pub fn lines_isolated()
     ensures { LinesIsolated }
 {}
 
-/// From a fresh card on, the frames sent, and those that may still be sent, are at most two for each frame heard,
-/// one for each accepted request, k + 1 for each expiry of a running timer, and k for each REJ with a valid N(R); and
-/// they are linear in the octets received, the accepted requests and those expiries: each frame takes six octets of its
-/// line at least, and each REJ seven.
-#[tactic(auto, using(crate::proofs::Linear::frames_linear))]
-pub fn frames_linear()
-    ensures { FramesLinear }
+/// From a fresh card on, the frames sent, and those that may still be sent, are at most two for each frame heard, one for
+/// each accepted request, k + 1 for each expiry of a running timer, and k for each REJ with a valid N(R).
+#[tactic(auto, using(crate::proofs::Amortised::frames_amortised_from_zero))]
+pub fn frames_amortised_from_zero()
+    ensures { FramesAmortisedFromZero }
+{}
+
+/// Each REJ with a valid N(R) is one of the frames heard that have four octets or more (Q.921 clause 3.4).
+#[tactic(auto, using(crate::proofs::Amortised::rejects_are_long))]
+pub fn rejects_are_long()
+    ensures { RejectsAreLong }
 {}
 
 /// From a fresh card on, no request finds the pool full where there are as many slots as all queues together have

@@ -1,5 +1,5 @@
--- What an octet brings that is dropped changes nothing, and costs nothing.
-use Rattle.model_line.proofs.Vocabulary.{◌≡◌, ℕ, Bool, true, false, [], Option, Some, None, IsSome, refl, ap, sym, ◌∙◌, option_map_or, unwrap_or, false≢true, set-get_or, none-some, Cause, Unserved, Service, Terms, LinkTimer, fresh, orders_for, Change, Gained, Left, Config, LineTold, octet, told, nothing, may_send, cause_in, Line, link_number, link_in, with_link, terms, gained, aim_of_heard, with_received, Effect, at_none, unserved_cause, told_of_link, told_of_management, of_link, of_change, of_management, of_aim, unserved_leaves}
+-- What is dropped changes nothing, and costs nothing.
+use Rattle.model_line.proofs.Vocabulary.{◌≡◌, ℕ, Bool, true, false, [], Option, Some, None, IsSome, refl, ap, sym, ◌∙◌, unwrap_or, false≢true, set-get_or, none-some, Cause, Unserved, Service, Terms, LinkTimer, fresh, orders_for, Change, Gained, Left, Config, LineTold, hears, told, may_send, cause_in, Line, link_number, link_in, with_link, terms, aim_of_heard, Effect, unserved_cause, told_of_link, told_of_management, of_link, of_change, of_management, of_aim, unserved_leaves}
 use Rattle.model_bits.specs.Stream as stream
 use Rattle.model_link.specs.declared.timers.LinkTimer.TheVariants.{T200, T203}
 use Rattle.model_link.specs.Events as link
@@ -15,7 +15,7 @@ unserved_is : (b : Bool) (cause : Cause) → unserved_cause b ≡ Some cause →
 unserved_is true cause e = (refl, ap (λ o. unwrap_or o Unserved) e)
 unserved_is false cause e = absurd (none-some cause e)
 
--- What an octet comes to where a cause is named: the cause is all that is told, and the line has received the octet.
+-- What is left where a cause is named: the cause is all that is told, and the line is as it was.
 abbrev Leaves : Line → Effect → Type 0
 Leaves l out = (cause : Cause) → out.told.cause ≡ Some cause → (out.told ≡ dropped cause) × (out.line ≡ l)
 
@@ -54,30 +54,29 @@ management_leaves c event l cause h =
     ap (λ x. of_change c x.change (told_of_management x) next) still.1 ∙ ap (λ m. record { line = record l { management = m }; told = dropped Unserved }) still.0 in
     (ap (λ o. o.told) out ∙ ap dropped known.1, ap (λ o. o.line) out)
 
--- an octet whose answer names a cause
-pub octet_leaves : (c : Config) (value : ℕ) (l : Line) (cause : Cause) → cause_in (lines.answer c (octet value) l) ≡ Some cause
-    → (lines.answer c (octet value) l ≡ told (dropped cause)) × (lines.after c (octet value) l ≡ with_received value l)
+-- what is heard whose answer names a cause
+pub heard_leaves : (c : Config) (e : stream.Event) (l : Line) (cause : Cause) → cause_in (lines.answer c (hears e) l) ≡ Some cause
+    → (lines.answer c (hears e) l ≡ told (dropped cause)) × (lines.after c (hears e) l ≡ l)
 unfolding lines.answer lines.after
-octet_leaves c value l cause h =
-    let left = go (gained c.n201 l.received value) cause h in
+heard_leaves c e l cause h =
+    let left = go e cause h in
     (ap told left.0, left.1)
   where
-    go : (o : Option stream.Event) → Leaves (with_received value l) (of_aim c (option_map_or (aim_of_heard c l) o (at_none nothing)) (with_received value l))
-    go None = λ cause h. absurd (none-some cause h)
-    go (Some e) =
-        heard_aims c l (λ aim. Leaves (with_received value l) (of_aim c aim (with_received value l)))
-        (λ why cause h. (ap dropped (ap (λ o. unwrap_or o why) h), refl))
-        (λ service tei place what at. link_leaves c service tei place what (with_received value l))
-        (λ info. management_leaves c (teis.message info) (with_received value l))
-        (λ parts service to cause h. absurd (none-some cause h)) e
+    go : (e : stream.Event) → Leaves l (of_aim c (aim_of_heard c l e) l)
+    go =
+        heard_aims c l (λ aim. Leaves l (of_aim c aim l)) (λ why cause h. (ap dropped (ap (λ o. unwrap_or o why) h), refl))
+        (λ service tei place what at. link_leaves c service tei place what l)
+        (λ info. management_leaves c (teis.message info) l)
+        (λ parts service to cause h. absurd (none-some cause h))
 
--- and what may be sent does not depend on what was received
+-- a cause that is named
 pub named_cause : (o : Option Cause) → IsSome o → (cause : Cause) × (o ≡ Some cause)
 named_cause None h = absurd (false≢true h)
 named_cause (Some cause) h = (cause, refl)
 
-pub drop_costs_nothing : (c : Config) (value : ℕ) (l : Line) → IsSome (cause_in (lines.answer c (octet value) l))
-    → may_send c (lines.after c (octet value) l) ≡ may_send c l
-drop_costs_nothing c value l h =
-    let some = named_cause (cause_in (lines.answer c (octet value) l)) h in
-    ap (may_send c) (octet_leaves c value l some.0 some.1).1
+-- and what may be sent stays
+pub drop_costs_nothing : (c : Config) (e : stream.Event) (l : Line) → IsSome (cause_in (lines.answer c (hears e) l))
+    → may_send c (lines.after c (hears e) l) ≡ may_send c l
+drop_costs_nothing c e l h =
+    let some = named_cause (cause_in (lines.answer c (hears e) l)) h in
+    ap (may_send c) (heard_leaves c e l some.0 some.1).1

@@ -1,5 +1,5 @@
 -- By how much an event raises what a line sends and may still send.
-use Rattle.model_line.proofs.Vocabulary.{◌≡◌, ℕ, ◌+◌, ◌*◌, ◌≤◌, Bool, true, false, max, Option, Some, None, is_some, refl, ap, sym, subst, cond, arith, Service, Refusal, T200, T203, T201, LinkTimer, Management, expire_check, Course, Config, Event, octet, expiry, request, pull, one, may_send, rejects_aimed, is_accepted, is_begun, at_timer, aim_of_expiry, runs_at, Rises, Line, window, place_in, link_in, terms, after, answer, unless_refused, unless_refused_told, aim_of_octet, with_received, at_management, told_of_management, of_change, of_management, of_aim, refusal, Request, aim_of_request, IsInRange, IsSound}
+use Rattle.model_line.proofs.Vocabulary.{◌≡◌, ℕ, ◌+◌, ◌*◌, ◌≤◌, Bool, true, false, max, Option, Some, None, is_some, refl, ap, sym, subst, cond, arith, Service, Refusal, T200, T203, T201, LinkTimer, Management, expire_check, Course, Config, Event, hears, expiry, request, next, one, may_send, rejects_aimed, is_accepted, is_given, at_timer, aim_of_expiry, runs_at, Rises, Line, window, place_in, link_in, terms, after, answer, unless_refused, unless_refused_told, aim_of_heard, at_management, told_of_management, of_change, of_management, of_aim, refusal, Request, aim_of_request, IsInRange, IsSound}
 use Rattle.model_link.specs.Machine as links
 use Rattle.model_link.specs.Requests as requests
 use Rattle.model_link.specs.declared.timers.LinkTimer.TheVariants as link_timer
@@ -8,10 +8,9 @@ use Rattle.lapd_tei.specs.Words.{begun}
 use Rattle.lapd_tei.specs.declared.check.Check as checks
 use Rattle.model_line.proofs.AimsRise.{sends}
 use Rattle.model_line.proofs.AimsSound.{IsProper}
-use Rattle.model_line.proofs.LineRises.{octet_costs, window_most}
-use Rattle.model_line.proofs.LineSound.{received_sound}
-use Rattle.model_line.proofs.ProperAims.{octet_proper, expiry_proper, request_proper, request_aims}
-use Rattle.model_line.proofs.PullRises.{pull_falls}
+use Rattle.model_line.proofs.LineRises.{event_costs, window_most}
+use Rattle.model_line.proofs.ProperAims.{heard_proper, expiry_proper, request_proper, request_aims}
+use Rattle.model_line.proofs.NextRises.{next_falls}
 use Rattle.model_line.proofs.Sums.{price_at, aim_rises}
 
 -- T201 that does not run has no effect
@@ -55,15 +54,14 @@ module _ (c : Config) (ranged : IsInRange c) (l : Line) (s : IsSound c l) where
       → price_at (sends c ranged) l (unless_refused o (aim_of_request r l)) ≤ 1
       → let out = of_aim c (unless_refused o (aim_of_request r l)) l in
       let a = unless_refused_told o out in
-      one (is_begun a) + may_send c out.line ≤ may_send c l + one (is_accepted (request r) a) + max c.k c.k16 * one (rejects_aimed l (unless_refused o (aim_of_request r l)))
+      one (is_given a) + may_send c out.line ≤ may_send c l + one (is_accepted (request r) a) + max c.k c.k16 * one (rejects_aimed l (unless_refused o (aim_of_request r l)))
   request_rises r None proper costs = omega (arith, aim_rises (sends c ranged) l (aim_of_request r l) ranged s proper, costs)
   request_rises r (Some why) proper costs = omega arith
 
   pub event_rises : (e : Event) → Rises c e l
   unfolding after answer
-  event_rises (octet value) =
-      let aim = aim_of_octet c value l in
-      omega (arith, aim_rises (sends c ranged) (with_received value l) aim ranged (received_sound c value l s) (octet_proper c l value), octet_costs c ranged l value)
+  event_rises (hears e) =
+      omega (arith, aim_rises (sends c ranged) l (aim_of_heard c l e) ranged s (heard_proper c l e), event_costs c ranged l e)
   event_rises (expiry (T200 service tei)) =
       let aim = aim_of_expiry (T200 service tei) l in
       omega (arith, aim_rises (sends c ranged) l aim ranged s (expiry_proper c l (T200 service tei)), timer_costs service tei link_timer.T200 (place_in l tei))
@@ -72,4 +70,4 @@ module _ (c : Config) (ranged : IsInRange c) (l : Line) (s : IsSound c l) where
       omega (arith, aim_rises (sends c ranged) l aim ranged s (expiry_proper c l (T203 service tei)), timer_costs service tei link_timer.T203 (place_in l tei))
   event_rises (expiry T201) = omega (arith, t201_rises)
   event_rises (request r) = omega (arith, request_rises r (refusal c false r l) (request_proper c l r) (request_costs r))
-  event_rises pull = omega (arith, (pull_falls c ranged l s).0)
+  event_rises next = omega (arith, (next_falls c ranged l s).0)

@@ -1,4 +1,4 @@
--- Lemmas: what stays sound, what rises and what is numbered at a line; what whole frames mean to it.
+-- Lemmas: what stays sound, what rises and what is numbered at a line.
 pub mod Vocabulary
 pub mod Ranges
 pub mod Numbers
@@ -8,9 +8,9 @@ pub mod AimsSound
 pub mod Sides
 pub mod ProperAims
 pub mod Offered
-pub mod PullWalk
-pub mod PullSound
-pub mod TextGoesOn
+pub mod TakenWalk
+pub mod TakenSound
+pub mod NotShort
 pub mod EventWalk
 pub mod LineSound
 pub mod StoredBounds
@@ -18,7 +18,7 @@ pub mod Sums
 pub mod AimsRise
 pub mod LineRises
 pub mod EventsRise
-pub mod PullRises
+pub mod NextRises
 pub mod ByEvent
 pub mod Numbered
 pub mod NumberedEvents
@@ -30,11 +30,3 @@ pub mod EventsReject
 pub mod RoomForAll
 pub mod Starts
 pub mod Drops
-pub mod FramesIdle
-pub mod FramesJudged
-pub mod FramesHeard
-pub mod FramesReceived
-pub mod FramesTaken
-pub mod FramesCome
-pub mod FramesGo
-pub mod Begun

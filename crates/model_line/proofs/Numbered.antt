@@ -107,14 +107,11 @@ abbrev pub HasNoContents : Aim → Type 0
 HasNoContents (at_none t) = (service : Service) (tei : ℕ) → delivered_in service tei (told t) ≡ None
 HasNoContents other = Unit {0}
 
-module _ (c : Config) (l : Line) (s : IsSound c l) (received : List ℕ) (number : ℕ) (few : number < link_count c) where
-  abbrev pub now : Line
-  now = record l { received = received }
-
+module _ (c : Config) (l : Line) (s : IsSound c l) (number : ℕ) (few : number < link_count c) where
   abbrev pub Parts : Aim → Type 0
   Parts aim =
-      Part (link_at number l).r (arrived_aimed c number l aim) (link_at number (of_aim c aim now).line).r
-      (delivered number l (told (of_aim c aim now).told)) (restarts_aimed c number l aim)
+      Part (link_at number l).r (arrived_aimed c number l aim) (link_at number (of_aim c aim l).line).r
+      (delivered number l (told (of_aim c aim l).told)) (restarts_aimed c number l aim)
 
   -- an event of a link
   at_its_link : (service : Service) (tei place : ℕ) (e : link.Event) → IsAt l.management.places place tei → Parts (at_link service tei place e)
@@ -174,14 +171,14 @@ module _ (c : Config) (l : Line) (s : IsSound c l) (received : List ℕ) (number
       (ap (λ (y : Link). y.r) (begin_away l.links place number apart)) (none_at number l (told r) (λ service tei. none_in service tei r none)) refl
 
   change_parts : (o : Option Change) (r : LineTold) (new : Places) (m : Management) → r.contents ≡ None → Moves l.management.places o new
-      → let of = of_change c o r (record now { management = m }) in
+      → let of = of_change c o r (record l { management = m }) in
       Part (link_at number l).r None (link_at number of.line).r (delivered number l (told of.told)) (is_change_at (place_at number) o)
   change_parts None r new m none moves =
       brings_none (link_at number l).r (link_at number l).r None (delivered number l (told r)) false refl refl
       (none_at number l (told r) (λ service tei. none_in service tei r none)) refl
   change_parts (Some (Gained tei place)) r new m none moves = place_parts place r moves.within none (place == place_at number) refl
   change_parts (Some (Left tei place)) r new m none moves =
-      place_parts place (of_change c (Some (Left tei place)) r (record now { management = m })).told moves.within none (place == place_at number) refl
+      place_parts place (of_change c (Some (Left tei place)) r (record l { management = m })).told moves.within none (place == place_at number) refl
 
   pub aim_parts : (aim : Aim) → IsProper c l aim → HasNoContents aim → Parts aim
   aim_parts (at_none t) proper none = brings_none _ _ _ _ _ refl refl (none_at number l (told t) none) refl

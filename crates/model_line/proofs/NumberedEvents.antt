@@ -1,11 +1,11 @@
 -- Each event of a line is what a link's numbers say of it.
-use Rattle.model_line.proofs.Vocabulary.{◌≡◌, ℕ, zero, suc, ◌<◌, Bool, true, false, cond, List, [], ◌∷◌, ◌++◌, get_or, set, ◌==◌, Option, Some, None, refl, sym, true≢false, Refusal, Service, Link, fresh, offer-keeps-r, transfer-goes-on, Config, Event, octet, expiry, request, pull, refused, arrived_aimed, arrived, restarts_aimed, restarts, delivered, Line, link_number, link_at, link_in, terms, service_at, link_count, after, answer, takes_slot, unless_refused, unless_refused_told, aim_of_octet, aim_of_expiry, Aim, at_link, of_aim, Taken, after_pull, answer_to_pull, refusal, aim_of_request, IsSound}
+use Rattle.model_line.proofs.Vocabulary.{◌≡◌, ℕ, zero, suc, ◌<◌, Bool, true, false, cond, List, [], ◌∷◌, get_or, set, ◌==◌, Option, Some, None, refl, sym, true≢false, Refusal, Service, Link, fresh, offer-keeps-r, transfer-goes-on, Config, Event, hears, expiry, request, next, gave, refused, arrived_aimed, arrived, restarts_aimed, restarts, delivered, Line, link_number, link_at, link_in, terms, service_at, link_count, after, answer, takes_slot, unless_refused, unless_refused_told, aim_of_heard, aim_of_expiry, Aim, at_link, of_aim, Taken, taken, line_of, next_of, option_map, option_map_or, refusal, aim_of_request, IsSound}
 use Rattle.model_link.specs.Events as link
 use Rattle.model_link.specs.Machine as links
 use Rattle.model_line.proofs.Numbered.{Part, brings_none, none_at, HasNoContents, aim_parts}
 use Rattle.model_line.proofs.AimsSound.{IsProper}
-use Rattle.model_line.proofs.ProperAims.{brings_data, event_aims, octet_proper, expiry_proper, request_proper}
-use Rattle.model_line.proofs.PullWalk.{taken_walk, due_walk}
+use Rattle.model_line.proofs.ProperAims.{brings_data, event_aims, heard_proper, expiry_proper, request_proper}
+use Rattle.model_line.proofs.TakenWalk.{taken_walk, next_walk}
 use Rattle.model_line.specs.Machine.{aim_of}
 
 -- No aim has contents but at a link.
@@ -14,7 +14,7 @@ event_none c l =
     event_aims c l (λ takes aim. HasNoContents aim) (λ takes service tei. refl) (λ cause service tei. refl) (λ parts service to by tei. refl)
     (λ service tei place e at. tt) (λ e range. tt) (λ unit is few. tt)
 
--- A pull leaves V(R) of each link.
+-- A call for the next frame leaves V(R) of each link.
 set_keeps_r : (all : List Link) (n number : ℕ) (x : Link) → x.r ≡ (get_or all n fresh).r → (get_or (set all n x) number fresh).r ≡ (get_or all number fresh).r
 set_keeps_r [] n number x same = refl
 set_keeps_r (y ∷ ys) zero zero x same = same
@@ -25,23 +25,21 @@ set_keeps_r (y ∷ ys) (suc n) (suc number) x same = set_keeps_r ys n number x s
 abbrev KeepsR : Line → ℕ → Taken → Type 0
 KeepsR l number t = (link_at number t.line).r ≡ (link_at number l).r
 
-pull_keeps : (c : Config) (l : Line) (number : ℕ) → IsSound c l → (link_at number (after_pull c l)).r ≡ (link_at number l).r
-pull_keeps c l number s =
-    due_walk c l (KeepsR l number) (λ o m. (link_at number m).r ≡ (link_at number l).r)
+next_keeps : (c : Config) (l : Line) (number : ℕ) → IsSound c l → (link_at number (option_map_or line_of (taken c l) l)).r ≡ (link_at number l).r
+next_keeps c l number s =
+    next_walk c l (KeepsR l number) (λ o m. (link_at number m).r ≡ (link_at number l).r)
     (taken_walk c l s (KeepsR l number) (λ m ms e. refl) (λ u us e. refl)
     (λ n tei few at sound g e.
     let t = terms c (service_at n) tei in
     set_keeps_r l.links n number (links.after t link.offer (link_at n l)) (offer-keeps-r t (link_at n l))))
-    (λ rests. refl) refl (λ t h. h)
+    refl (λ t h. h)
 
 -- Any event.
 pub event_parts : (c : Config) (e : Event) (l : Line) (number : ℕ) → IsSound c l → number < link_count c
     → Part (link_at number l).r (arrived c number e l) (link_at number (after c e l)).r (delivered number l (answer c e l)) (restarts c number e l)
 unfolding after answer
-event_parts c (octet value) l number s few =
-    aim_parts c l s (l.received ++ value ∷ []) number few (aim_of_octet c value l) (octet_proper c l value) (event_none c l (octet value))
-event_parts c (expiry timer) l number s few =
-    aim_parts c l s l.received number few (aim_of_expiry timer l) (expiry_proper c l timer) (event_none c l (expiry timer))
+event_parts c (hears e) l number s few = aim_parts c l s number few (aim_of_heard c l e) (heard_proper c l e) (event_none c l (hears e))
+event_parts c (expiry timer) l number s few = aim_parts c l s number few (aim_of_expiry timer l) (expiry_proper c l timer) (event_none c l (expiry timer))
 event_parts c (request r) l number s few = go (refusal c false r l) (request_proper c l r) (event_none c l (request r))
   where
     go : (o : Option Refusal) → IsProper c l (unless_refused o (aim_of_request r l)) → HasNoContents (unless_refused o (aim_of_request r l))
@@ -49,10 +47,10 @@ event_parts c (request r) l number s few = go (refusal c false r l) (request_pro
         (link_at number (of_aim c (unless_refused o (aim_of_request r l)) l).line).r
         (delivered number l (unless_refused_told o (of_aim c (unless_refused o (aim_of_request r l)) l)))
         (restarts_aimed c number l (unless_refused o (aim_of_request r l)))
-    go None proper none = aim_parts c l s l.received number few (aim_of_request r l) proper none
+    go None proper none = aim_parts c l s number few (aim_of_request r l) proper none
     go (Some why) proper none = brings_none _ _ _ _ _ refl refl (none_at number l (refused why) (λ service tei. refl)) refl
-event_parts c pull l number s few =
-    brings_none _ _ _ _ _ refl (pull_keeps c l number s) (none_at number l (answer_to_pull c l) (λ service tei. refl)) refl
+event_parts c next l number s few =
+    brings_none _ _ _ _ _ refl (next_keeps c l number s) (none_at number l (gave (option_map next_of (taken c l))) (λ service tei. refl)) refl
 
 -- Contents that find no slot bring no frame and begin no numbers anew.
 pub record BringsNothing (c : Config) (number : ℕ) (e : Event) (l : Line) : Type 0 where

@@ -3,7 +3,7 @@ use Rattle.model_line.proofs.Vocabulary.{◌≡◌, ℕ, ◌+◌, ◌≤◌, Boo
 use Rattle.model_link.specs.Sound.{IsSound}
 use Rattle.model_link.specs.Steps.{Course, begun}
 use Rattle.model_link.specs.declared.timers.LinkTimer.TheVariants.{T200}
-use Rattle.model_line.specs.Pull.{frame_of}
+use Rattle.model_line.specs.Taken.{frame_of}
 
 abbrev octets_sent : Config → Terms → Sent → List ℕ
 octets_sent c t s =

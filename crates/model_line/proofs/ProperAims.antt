@@ -1,5 +1,5 @@
 -- What holds of each aim that events can have holds of the aim of every event.
-use Rattle.model_line.proofs.Vocabulary.{◌≡◌, ℕ, ◌<◌, Bool, true, false, ◌==◌, ◌&&◌, not, List, length, Option, Some, None, is_some, Result, Ok, Err, refl, cond, option_map_or, ltb-false, leb-false, Cause, Tei, Unserved, Address, Control, ReadFault, BadExtension, Undefined, WrongSize, Short, Long, Refusal, Service, Timer, T200, T203, T201, Parts, reading, long_reading, service_of, LinkTimer, place_of-is, IsAt, Config, Event, octet, expiry, request, pull, nothing, Line, UnitData, place_in, takes_slot, Request, Establish, Release, Data, Unit, Assign, Remove, Check, SetBusy, ClearBusy, Aim, at_none, at_link, at_management, at_units, gained, management_sapi, group_tei, drop_for, at_place, to_service, addressed, message_of, aim_of_reading, unless_at_link, aim_of_long, heard_side, aim_of_heard, aim_of_octet, group_told, IsToGroup, at_timer, aim_of_expiry, at_requested, aim_of_request, carries_contents, refusal, unless_refused, IsUnitData}
+use Rattle.model_line.proofs.Vocabulary.{◌≡◌, ℕ, ◌<◌, Bool, true, false, ◌==◌, ◌&&◌, not, List, length, Option, Some, None, is_some, Result, Ok, Err, refl, cond, ltb-false, leb-false, Cause, Tei, Unserved, Address, Control, ReadFault, BadExtension, Undefined, WrongSize, Short, Long, Refusal, Service, Timer, T200, T203, T201, Parts, reading, long_reading, service_of, LinkTimer, place_of-is, IsAt, Config, Event, hears, expiry, request, next, nothing, Line, UnitData, place_in, takes_slot, Request, Establish, Release, Data, Unit, Assign, Remove, Check, SetBusy, ClearBusy, Aim, at_none, at_link, at_management, at_units, management_sapi, group_tei, drop_for, at_place, to_service, addressed, message_of, aim_of_reading, unless_at_link, aim_of_long, heard_side, aim_of_heard, group_told, IsToGroup, at_timer, aim_of_expiry, at_requested, aim_of_request, carries_contents, refusal, unless_refused, IsUnitData}
 use Rattle.model_bits.specs.Stream as stream
 use Rattle.lapd_frame.specs.declared.controls.Control.TheVariants as control
 use Rattle.lapd_frame.specs.declared.overlong.Long.TheVariants as long
@@ -146,18 +146,14 @@ module _ (c : Config) (l : Line) (P : Bool → Aim → Type 0) (none : (takes : 
     (to_units : (unit : UnitData) → IsUnitData c unit → length l.units < c.unit_queue → P true (at_units unit)) where
   pub event_aims : (e : Event) → P (takes_slot c e l) (aim_of c e l)
   unfolding takes_slot
-  event_aims (octet value) = go (gained c.n201 l.received value)
-    where
-      go : (o : Option stream.Event) → P false (option_map_or (aim_of_heard c l) o (at_none nothing))
-      go None = none false
-      go (Some e) =
-          heard_aims c l (P false) drop (λ service tei place what at. to_link service tei place (link.received what) (place_of-is l.management.places tei place at).1)
-          (λ info. to_management (teis.message info) tt) to_group e
+  event_aims (hears e) =
+      heard_aims c l (P false) drop (λ service tei place what at. to_link service tei place (link.received what) (place_of-is l.management.places tei place at).1)
+      (λ info. to_management (teis.message info) tt) to_group e
   event_aims (expiry timer) =
       expiry_aims l (P false) (none false) (λ service tei place timer at. to_link service tei place (link.expired timer) at) (to_management teis.expiry tt) timer
   event_aims (request r) =
       request_aims c l P none (λ service tei place what at. to_link service tei place (link.requested what false) at) to_management to_units r
-  event_aims pull = none false
+  event_aims next = none false
 
 -- So the aim of each event is one that a line can have.
 module _ (c : Config) (l : Line) where
@@ -166,8 +162,8 @@ module _ (c : Config) (l : Line) where
       event_aims c l (λ takes aim. IsProper c l aim) (λ takes. tt) (λ cause. tt) (λ parts service to. tt) (λ service tei place e at. at)
       (λ e range. range) (λ unit is few. (is, few))
 
-  pub octet_proper : (value : ℕ) → IsProper c l (aim_of_octet c value l)
-  octet_proper value = event_proper (octet value)
+  pub heard_proper : (e : stream.Event) → IsProper c l (aim_of_heard c l e)
+  heard_proper e = event_proper (hears e)
 
   pub expiry_proper : (timer : Timer) → IsProper c l (aim_of_expiry timer l)
   expiry_proper timer = event_proper (expiry timer)

@@ -1,24 +1,9 @@
--- A line is sound by its parts: TEI management with the links, the units that wait, and what was received and given.
-use Rattle.model_line.proofs.Vocabulary.{◌≡◌, ℕ, ◌+◌, ◌≤◌, ◌<◌, List, length, get_or, Option, Some, None, refl, sym, subst, All, unwrap_or, item_octets, Item, Link, fresh, Terms, Management, Config, Line, UnitData, link_count, service_at, place_at, tei_at, terms, terms_at, link_at, IsSoundAt, IsSound, IsUnitData, IsTextOf}
+-- A line is sound by its parts: TEI management with the links, and the units that wait.
+use Rattle.model_line.proofs.Vocabulary.{◌≡◌, ℕ, ◌≤◌, ◌<◌, List, length, get_or, Option, Some, None, refl, sym, subst, All, unwrap_or, Link, fresh, Terms, Management, Config, Line, UnitData, link_count, service_at, place_at, tei_at, terms, terms_at, link_at, IsSoundAt, IsSound, IsUnitData}
 use Rattle.model_link.specs.Sound as links
 use Rattle.lapd_tei.specs.Sound as tei
 
 module _ (c : Config) (l : Line) (s : IsSound c l) where
-  -- other octets received, other items, and other octets given
-  pub with_text : (received : List ℕ) (items : List Item) (given : List ℕ) → All (λ item. item_octets item ≤ c.n201 + 4) items → IsTextOf items given
-      → IsSound c (record l { received = received; items = items; given = given })
-  with_text received items given sizes text = record {
-    management = s.management;
-    places = s.places;
-    count = s.count;
-    links = s.links;
-    units = s.units;
-    few_units = s.few_units;
-    turn = s.turn;
-    sizes = sizes;
-    text = text;
-  }
-
   -- other units
   pub with_units : (units : List UnitData) → All (IsUnitData c) units → length units ≤ c.unit_queue → IsSound c (record l { units = units })
   with_units units all few = record {
@@ -29,8 +14,6 @@ module _ (c : Config) (l : Line) (s : IsSound c l) where
     units = all;
     few_units = few;
     turn = s.turn;
-    sizes = s.sizes;
-    text = s.text;
   }
 
   -- other TEI management, and other links
@@ -45,8 +28,6 @@ module _ (c : Config) (l : Line) (s : IsSound c l) where
     units = s.units;
     few_units = s.few_units;
     turn = within;
-    sizes = s.sizes;
-    text = s.text;
   }
 
   -- What holds of a link that begins, and of each that is sound, holds of each link of the line.

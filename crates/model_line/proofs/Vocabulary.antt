@@ -1,17 +1,16 @@
 -- The words with which the proofs of this crate speak, from where they are defined.
-pub use Rattle.std.proofs.Common.{Bool, Err, IfSome, IsSome, List, None, Ok, Option, Result, Some, [], add-one, ap, append-nil, append_assoc, arith, cond, drop, eq-eqb, eqb-true, false, get_or, if◌then◌else◌, inl, inr, is_some, length, length-append, length-drop, length-set, map, max, nat_eq, nat_le, nat_lt, not, option_map, option_to_list, refl, replicate, reverse, set, slice_get, slice_index, subst, suc, sym, take, true, true≢false, zero, ℕ, ⊎_elim, ◌%◌, ◌&&◌, ◌*◌, ◌++◌, ◌+◌, ◌-◌, ◌/◌, ◌<◌, ◌==◌, ◌^◌, ◌||◌, ◌∙◌, ◌∷◌, ◌≡◌, ◌≢◌, ◌≤◌, ◌⊎◌}
-pub use Rattle.std.proofs.Math.Seq.{drop-append_seam}
-pub use Rattle.std.proofs.lemmas.Bool.{and_left, and_parts, cases_eq, cases_lt, false≢true, le-leb, le-ltb, leb-false, leb-true, lt-ltb, ltb-false, ltb-true, ne_eqb, or_from}
-pub use Rattle.std.proofs.lemmas.List.{append_cancel_left, get_or-replicate, get_or-set_other, get_or-set_same, get_or_past, length-replicate, length-take-le, set-get_or, take-append-drop, take_at}
+pub use Rattle.std.proofs.Common.{Bool, Err, IfSome, IsSome, List, None, Ok, Option, Result, Some, [], ap, arith, cond, drop, eq-eqb, eqb-true, false, get_or, inl, inr, is_some, length, length-append, length-drop, length-set, max, nat_le, nat_lt, not, option_map, refl, replicate, set, slice_get, slice_index, subst, suc, sym, take, true, true≢false, zero, ℕ, ⊎_elim, ◌%◌, ◌&&◌, ◌*◌, ◌++◌, ◌+◌, ◌-◌, ◌<◌, ◌==◌, ◌||◌, ◌∙◌, ◌∷◌, ◌≡◌, ◌≢◌, ◌≤◌, ◌⊎◌}
+pub use Rattle.std.proofs.lemmas.Bool.{and_parts, cases_eq, cases_lt, false≢true, le-leb, leb-false, leb-true, ltb-false, ne_eqb}
+pub use Rattle.std.proofs.lemmas.List.{get_or-replicate, get_or-set_other, get_or-set_same, get_or_past, length-replicate, set-get_or}
 pub use Rattle.std.proofs.lemmas.List.Elements.{All-append, All-cons, All-drop, All-get_or, All-head, All-nil, All-tail, All-take}
-pub use Rattle.std.proofs.lemmas.List.Sums.{sum_by-append, sum_by-cons, sum_by-le}
+pub use Rattle.std.proofs.lemmas.List.Sums.{sum_by-cons, sum_by-le}
 pub use Rattle.std.proofs.lemmas.Option.{none-some, slice_get_cases}
 pub use Rattle.std.specs.List.{list_any, range_with_len}
 pub use Rattle.std.specs.Option.{option_map_or, option_or, unwrap_or}
-pub use Rattle.std.specs.Prelude.{All, count_by, sum_by}
+pub use Rattle.std.specs.Prelude.{All, sum_by}
 pub use Rattle.lapd_frame.specs.Faults.{has_bad_extension}
 pub use Rattle.lapd_frame.specs.Grammar.{Parts, allows, row, spelling, takes}
-pub use Rattle.lapd_frame.specs.Reading.{address_of, checked, completed, long_reading, sized, start_of, supervisory_of}
+pub use Rattle.lapd_frame.specs.Reading.{address_of, checked, completed, long_reading, sized, start_of}
 unfoldable pub use Rattle.lapd_frame.specs.Reading.{control_of, header_of, reading, unnumbered_of}
 pub use Rattle.lapd_frame.specs.Services.{same_service, service_of}
 pub use Rattle.lapd_frame.specs.declared.addresses.Address.{Address}
@@ -29,7 +28,6 @@ pub use Rattle.lapd_frame.specs.declared.timers.Order.{Order}
 pub use Rattle.lapd_frame.specs.declared.timers.Order.TheVariants.{Start, Stop}
 pub use Rattle.lapd_frame.specs.declared.timers.Timer.{Timer}
 pub use Rattle.lapd_frame.specs.declared.timers.Timer.TheVariants.{T200, T201, T203}
-pub use Rattle.lapd_seq.specs.Numbers.{seq}
 pub use Rattle.lapd_tei.proofs.Brief.{IsBrief, told_brief}
 pub use Rattle.lapd_tei.proofs.LawLemmas.{sound-after_offer, sound-empty}
 pub use Rattle.lapd_tei.proofs.Tables.{at-within, place_of-is}
@@ -44,57 +42,29 @@ pub use Rattle.lapd_tei.specs.declared.messages.Message.{Message}
 pub use Rattle.lapd_tei.specs.declared.messages.Message.TheVariants.{IdentityAssigned, IdentityCheckRequest, IdentityDenied, IdentityRemove}
 pub use Rattle.lapd_tei.specs.declared.outcome.Change.{Change}
 pub use Rattle.lapd_tei.specs.declared.outcome.Change.TheVariants.{Gained, Left}
-pub use Rattle.model_bits.proofs.BitLemmas.{bits-append, bits-push, bits-two_octets, length-bits, low_bits-number_of_n, number_of-lt}
-pub use Rattle.model_bits.proofs.Division.Unique.{is_good-check, length-check}
-pub use Rattle.model_bits.proofs.Hearing.{heard_at-abort, heard_at-flag, heard_at-one, heard_at-zero, open_gap-abort, open_gap-one, open_gap-zero}
-pub use Rattle.model_bits.proofs.Items.{latest-push, line_text-push}
-pub use Rattle.model_bits.proofs.OneEvent.{one_event_an_octet}
-pub use Rattle.model_bits.proofs.RoundTripFrame.{check_octets}
-pub use Rattle.model_bits.proofs.RoundTripPlaces.{after_flag, after_text, heard_until-onto, hears, hears-append, hears_text, reverse_aux-append}
-pub use Rattle.model_bits.proofs.StreamLengths.{IsWeight, heard_within_stream, judged_as, weight_of_heard}
-pub use Rattle.model_bits.proofs.StuffingCounted.{stuffed-counted}
-pub use Rattle.model_bits.proofs.StuffingLengths.{stuffed_after-at_least}
-pub use Rattle.model_bits.proofs.StuffingOctets.{octets_sent-stuffed}
-pub use Rattle.model_bits.proofs.StuffingShape.{NoSix-stuffed}
-pub use Rattle.model_bits.specs.Bits.{bits, flag, number_of, octets_of}
-unfoldable pub use Rattle.model_bits.specs.Bits.{low_bits}
-pub use Rattle.model_bits.specs.Check.{check, is_good}
-pub use Rattle.model_bits.specs.Framer.{item_octets, last_octets, runs_low}
-pub use Rattle.model_bits.specs.Heads.{latest_frame}
-pub use Rattle.model_bits.specs.OpenGap.{closed_event, given_up_event, kept_count, one_more, open_gap, run_of}
-pub use Rattle.model_bits.specs.Sent.{Item, frame, frame_text, idle, item_text, line_text}
-pub use Rattle.model_bits.specs.Stream.{dropped, gap_event, heard_at, heard_in, heard_until, is_short, judged, overlong, room_for}
-pub use Rattle.model_bits.specs.StreamLaws.{IsWhole}
-pub use Rattle.model_bits.specs.Stuffing.{octets_sent, stuffed, unstuffed}
-pub use Rattle.model_bits.specs.StuffingLaws.{AreOctets}
+pub use Rattle.model_bits.specs.Stream.{dropped, overlong}
 pub use Rattle.model_bits.specs.declared.heard.Cause.{Cause}
-pub use Rattle.model_bits.specs.declared.heard.Cause.TheVariants.{Fcs, Ragged, Tei, Unserved}
-pub use Rattle.model_line.specs.Begun.{LatestIsBegun, frame_taken}
+pub use Rattle.model_bits.specs.declared.heard.Cause.TheVariants.{Tei, Unserved}
 pub use Rattle.model_line.specs.Config.{is_within}
-pub use Rattle.model_line.specs.Counts.{frames_heard, is_accepted, is_begun, is_frame, is_long_frame, is_pool, is_pool_full, is_running_expiry, long_frames_heard, may_send, may_send_at_link, one, rejects, rejects_aimed}
+pub use Rattle.model_line.specs.Counts.{hears_frame, is_accepted, is_given, is_long_frame, is_pool, is_pool_full, may_send, one, rejects, rejects_aimed}
 pub use Rattle.model_line.specs.Deliveries.{arrived, arrived_aimed, delivered, delivered_at, delivered_in, is_change_at, is_data_of, restarts, restarts_aimed}
 pub use Rattle.model_line.specs.Effect.{Aim, Effect, at_link, at_management, at_none, at_units, of_aim, of_change, of_link, of_management, told_of_link, told_of_management, unserved_cause}
-pub use Rattle.model_line.specs.Event.{Answer, Event, LineTold, expiry, nothing, octet, pull, pulled, refused, request, told}
+pub use Rattle.model_line.specs.Event.{Answer, Event, LineTold, expiry, gave, hears, next, nothing, refused, request, told}
 pub use Rattle.model_line.specs.Expiry.{aim_of_expiry, at_timer, runs_at}
-pub use Rattle.model_line.specs.Laws.{FallsByPull, IsHeardCounted, IsRejectHeard, Rises, cause_in, orders_in}
+pub use Rattle.model_line.specs.Laws.{FallsByNext, IsRejectHeard, Rises, cause_in, orders_in}
 pub use Rattle.model_line.specs.Line.{Line, UnitData, fresh_line, link_at, link_count, link_in, link_number, place_at, place_in, service_at, tei_at, terms, terms_at, window, with_link}
 pub use Rattle.model_line.specs.Machine.{of_request, unless_refused, unless_refused_told}
 unfoldable pub use Rattle.model_line.specs.Machine.{after, answer, takes_slot}
-pub use Rattle.model_line.specs.Octet.{addressed, aim_of_heard, aim_of_long, aim_of_octet, aim_of_reading, at_place, drop_for, gained, group_tei, heard_side, management_sapi, message_of, to_service, unless_at_link, with_received}
-pub use Rattle.model_line.specs.Pull.{Taken, after_pull, answer_to_pull, begun, first_taken, is_due, left_of, link_taken, message_taken, next_octet, orders_of, round, taken, unit_frame, unit_taken, with_due, with_given_frame, with_item, with_message, with_octet, with_unit}
-pub use Rattle.model_line.specs.Refusal.{Row, bad_tei, bad_tei_or_group, check_running, control_full, first_that_holds, no_link, no_link_nor_group, pool_full, queue_full, refusal, table_full, tei_taken, too_long, unit_queue_full, wrong_side, wrong_state}
+pub use Rattle.model_line.specs.Heard.{addressed, aim_of_heard, aim_of_long, aim_of_reading, at_place, drop_for, group_tei, heard_side, management_sapi, message_of, to_service, unless_at_link}
+pub use Rattle.model_line.specs.Taken.{first_taken, line_of, link_taken, message_taken, next_of, round, Taken, taken, unit_taken, with_given_frame, with_message, with_unit}
+pub use Rattle.model_line.specs.Refusal.{Row, bad_tei, bad_tei_or_group, first_that_holds, no_link, no_link_nor_group, pool_full, queue_full, refusal, too_long, unit_queue_full, wrong_state}
 pub use Rattle.model_line.specs.Request.{Assign, Check, ClearBusy, Data, Establish, Release, Remove, Request, SetBusy, Unit}
 pub use Rattle.model_line.specs.Requested.{aim_of_request, at_requested, carries_contents}
 pub use Rattle.model_line.specs.Sides.{IsToGroup, at_side, group_told, last_unit_tei, managed_at, told_at, told_of_group, told_of_ui}
-pub use Rattle.model_line.specs.Sound.{IsInRange, IsSound, IsSoundAt, IsTextOf, IsUnitData}
-pub use Rattle.model_line.specs.Stored.{held_by_link, held_in, held_received, held_sent, octets_by_link, slots_by_link, slots_of, stored_in, sum_of_links, total_length, unit_length}
-pub use Rattle.model_line.specs.Whole.{IsIdle, came, cause_of, fault_octets, filled, filling, framed, is_too_short, line_octets}
-pub use Rattle.model_line.specs.WholeAtLine.{AreOneEvent, after_events, answers_to, giving, octet_alone, of_heard, pulls_for, pulls_to_begin, receiving}
-pub use Rattle.model_line.specs.WholeLaws.{AreHeardAs, FramesAreHeard, FramesComeWhole, FramesGoWhole, NothingElseIsReceived}
+pub use Rattle.model_line.specs.Sound.{IsInRange, IsSound, IsSoundAt, IsUnitData}
+pub use Rattle.model_line.specs.Stored.{held_by_link, held_in, octets_by_link, slots_by_link, slots_of, stored_in, sum_of_links, total_length, unit_length}
 pub use Rattle.model_line.specs.declared.config.Config.{Config}
 pub use Rattle.model_line.specs.declared.config.Field.{Field}
-pub use Rattle.model_line.specs.declared.faults.Fault.{Fault}
-pub use Rattle.model_line.specs.declared.faults.Fault.TheVariants.{Abort}
 pub use Rattle.model_link.proofs.Counting.{done}
 pub use Rattle.model_link.proofs.Delivering.{counted_on, delivery, event-delivers}
 pub use Rattle.model_link.proofs.OwnNotes.{IsOwn, notes-own, offer-keeps-r, transfer-goes-on}

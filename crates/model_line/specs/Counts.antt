@@ -1,19 +1,17 @@
 -- What is counted of a line.
-use Rattle.std.specs.Prelude.{ℕ, ◌+◌, nat_le, Bool, true, false, length, count_by, if◌then◌else◌}
-use Rattle.std.specs.Option.{option_map_or}
+use Rattle.std.specs.Prelude.{ℕ, ◌+◌, nat_le, Bool, true, false, length, is_some, if◌then◌else◌}
 use Rattle.model_bits.specs.Stream as stream
 use Rattle.lapd_frame.specs.declared.refusals.Refusal.{Refusal}
 use Rattle.lapd_frame.specs.declared.refusals.Refusal.TheVariants as refusals
 use Rattle.model_link.specs.Rises as links
 use Rattle.lapd_tei.specs.Machine as tei
 use Rattle.model_line.specs.declared.config.Config.{Config}
-use Rattle.model_line.specs.Event.{Event, octet, expiry, request, pull, Answer, told, refused, pulled}
+use Rattle.model_line.specs.Event.{Event, hears, expiry, request, next, Answer, told, refused, gave}
 use Rattle.model_line.specs.Line.{Line, terms_at, link_at, link_in}
 use Rattle.model_line.specs.Stored.{sum_of_links}
 use Rattle.model_line.specs.Expiry.{is_running}
 use Rattle.model_line.specs.Effect.{Aim, at_link}
 use Rattle.model_line.specs.Machine.{aim_of}
-use Rattle.model_line.specs.Octet.{gained}
 
 -- A test, counted.
 abbrev pub one : Bool → ℕ
@@ -26,19 +24,15 @@ may_send_at_link c l number = links.may_send (terms_at c number l) (link_at numb
 abbrev pub may_send : Config → Line → ℕ
 may_send c l = tei.may_send l.management + length l.units + sum_of_links c (may_send_at_link c l)
 
--- The frames that were heard in all octets received.
+-- A frame is heard, or something is dropped in place of one.
 abbrev pub is_frame : stream.Event → Bool
 is_frame (stream.frame octets) = true
 is_frame (stream.overlong head) = true
 is_frame (stream.dropped cause) = false
 
-abbrev pub frames_heard : Config → Line → ℕ
-frames_heard c l = count_by is_frame (stream.heard_in c.n201 l.received)
-
--- An octet that ends such a frame.
-abbrev pub hears : Config → Event → Line → Bool
-hears c (octet value) l = option_map_or is_frame (gained c.n201 l.received value) false
-hears c other l = false
+abbrev pub hears_frame : Event → Bool
+hears_frame (hears e) = is_frame e
+hears_frame other = false
 
 -- Those of four octets or more, as each with a control field of two octets is.
 abbrev pub is_long_frame : stream.Event → Bool
@@ -46,28 +40,24 @@ is_long_frame (stream.frame octets) = nat_le 4 (length octets)
 is_long_frame (stream.overlong head) = true
 is_long_frame (stream.dropped cause) = false
 
-abbrev pub long_frames_heard : Config → Line → ℕ
-long_frames_heard c l = count_by is_long_frame (stream.heard_in c.n201 l.received)
+abbrev pub hears_long_frame : Event → Bool
+hears_long_frame (hears e) = is_long_frame e
+hears_long_frame other = false
 
--- An octet that came from the line.
-abbrev pub is_octet : Event → Bool
-is_octet (octet value) = true
-is_octet other = false
-
--- A frame that a pull began.
-abbrev pub is_begun : Answer → Bool
-is_begun (told t) = false
-is_begun (refused why) = false
-is_begun (pulled value begun orders) = begun
+-- A frame that is given.
+abbrev pub is_given : Answer → Bool
+is_given (told t) = false
+is_given (refused why) = false
+is_given (gave frame) = is_some frame
 
 -- A request that was accepted.
 abbrev pub is_accepted : Event → Answer → Bool
 is_accepted (request r) (told t) = true
 is_accepted (request r) (refused why) = false
-is_accepted (request r) (pulled value begun orders) = false
-is_accepted (octet value) answer = false
+is_accepted (request r) (gave frame) = false
+is_accepted (hears e) answer = false
 is_accepted (expiry timer) answer = false
-is_accepted pull answer = false
+is_accepted next answer = false
 
 -- An expiry of a timer that was running.
 abbrev pub is_running_expiry : Event → Line → Bool
@@ -90,4 +80,4 @@ is_pool other = false
 abbrev pub is_pool_full : Answer → Bool
 is_pool_full (told t) = false
 is_pool_full (refused why) = is_pool why
-is_pool_full (pulled value begun orders) = false
+is_pool_full (gave frame) = false

@@ -11,7 +11,7 @@ use Rattle.lapd_tei.specs.Events as teis
 use Rattle.lapd_tei.specs.declared.outcome.Change.{Change}
 use Rattle.lapd_tei.specs.declared.outcome.Change.TheVariants.{Gained, Left}
 use Rattle.model_line.specs.declared.config.Config.{Config}
-use Rattle.model_line.specs.Event.{Event, Answer, told, refused, pulled}
+use Rattle.model_line.specs.Event.{Event, Answer, told, refused, gave}
 use Rattle.model_line.specs.Line.{Line, link_number, service_at, place_at, tei_at, terms, link_in}
 use Rattle.model_line.specs.Effect.{Aim, at_none, at_link, at_management, at_units}
 use Rattle.model_line.specs.Machine.{aim_of}
@@ -53,7 +53,7 @@ is_data_of service tei _ = false
 abbrev pub delivered_in : Service → ℕ → Answer → Option (List ℕ)
 delivered_in service tei (told t) = if list_any (is_data_of service tei) t.notes then t.contents else None
 delivered_in service tei (refused why) = None
-delivered_in service tei (pulled value begun orders) = None
+delivered_in service tei (gave frame) = None
 
 -- What an answer says is delivered by a link of the line: by the TEI that is at its place.
 abbrev pub delivered_at : Service → Answer → ℕ → Option (List ℕ)

@@ -1,5 +1,6 @@
 -- What happens at a line, and what it is answered with, as plain values.
-use Rattle.std.specs.Prelude.{ℕ, Bool, List, [], Option, Some, None}
+use Rattle.std.specs.Prelude.{ℕ, List, [], Option, Some, None}
+use Rattle.model_bits.specs.Stream as stream
 use Rattle.model_bits.specs.declared.heard.Cause.{Cause}
 use Rattle.lapd_frame.specs.declared.notes.Note.{Note}
 use Rattle.lapd_frame.specs.declared.refusals.Refusal.{Refusal}
@@ -7,17 +8,16 @@ use Rattle.lapd_frame.specs.declared.timers.Order.{Order}
 use Rattle.lapd_frame.specs.declared.timers.Timer.{Timer}
 use Rattle.model_line.specs.Request.{Request}
 
--- An octet comes from the line; a timer expires; layer 3 or management asks for something; the line asks for the
--- next octet to send.
+-- A frame is heard, or what stood for one is dropped; a timer expires; layer 3 or management asks for something; the
+-- next frame to send is called for.
 pub data Event : Type 0 where
-  octet : ℕ → Event
+  hears : stream.Event → Event
   expiry : Timer → Event
   request : Request → Event
-  pull : Event
+  next : Event
 
--- What an octet, an expiry or an accepted request is answered with: notes for layer 3 and management, the
--- contents that a frame brought, why something was dropped, timer orders, and how many frames found no place to
--- wait.
+-- What is heard, an expiry or an accepted request is answered with: notes for layer 3 and management, the contents that a
+-- frame brought, why something was dropped, timer orders, and how many frames found no place to wait.
 pub record LineTold : Type 0 where
   pub notes : List Note
   pub contents : Option (List ℕ)
@@ -25,11 +25,16 @@ pub record LineTold : Type 0 where
   pub orders : List Order
   pub lost : ℕ
 
--- The answer to an event. A pull is answered with the octet, whether the pull began a frame, and timer orders.
+-- The next frame to send, from its address to its information, and timer orders.
+pub record NextFrame : Type 0 where
+  pub octets : List ℕ
+  pub orders : List Order
+
+-- The answer to an event. A call for the next frame is answered with it, or with none where none may go.
 pub data Answer : Type 0 where
   told : LineTold → Answer
   refused : Refusal → Answer
-  pulled : ℕ → Bool → List Order → Answer
+  gave : Option NextFrame → Answer
 
 -- Nothing happened.
 abbrev pub nothing : LineTold

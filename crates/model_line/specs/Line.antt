@@ -1,7 +1,6 @@
--- A line: its whole past, and what it holds.
+-- A line: TEI management, the links of its TEIs, unit data that waits, and whose turn it is.
 use Rattle.std.specs.Prelude.{ℕ, ◌+◌, ◌*◌, ◌/◌, ◌%◌, ◌==◌, Bool, List, [], replicate, get_or, set, Option, None, option_map, if◌then◌else◌}
 use Rattle.std.specs.Option.{option_map_or, unwrap_or}
-use Rattle.model_bits.specs.Sent.{Item}
 use Rattle.lapd_frame.specs.declared.services.Service.{Service}
 use Rattle.lapd_frame.specs.declared.services.Service.TheVariants.{Call, Packet}
 use Rattle.model_link.specs.declared.terms.Terms.{Terms}
@@ -17,11 +16,6 @@ pub record UnitData : Type 0 where
   pub contents : List ℕ
 
 pub record Line : Type 0 where
-  -- all octets that were received
-  pub received : List ℕ
-  -- all items that were put on the line, and all octets of them that were given
-  pub items : List Item
-  pub given : List ℕ
   -- TEI management
   pub management : Management
   -- the links of all places of the TEI table, at each place that of call control before that of packet mode
@@ -48,9 +42,6 @@ link_count c = 2 * c.terminals
 -- As a line begins.
 abbrev pub fresh_line : Config → Line
 fresh_line c = record {
-  received = [];
-  items = [];
-  given = [];
   management = empty c.terminals;
   links = replicate (link_count c) fresh;
   units = [];

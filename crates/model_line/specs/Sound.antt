@@ -1,8 +1,5 @@
 -- What holds of every line between two events.
-use Rattle.std.specs.Prelude.{◌≡◌, ℕ, ◌+◌, ◌≤◌, ◌<◌, ◌++◌, Bool, List, length, All, Option, Some, None}
-use Rattle.model_bits.specs.Bits.{bits}
-use Rattle.model_bits.specs.Framer.{item_octets}
-use Rattle.model_bits.specs.Sent.{Item, line_text}
+use Rattle.std.specs.Prelude.{◌≡◌, ℕ, ◌≤◌, ◌<◌, length, All, Option, Some, None}
 use Rattle.model_link.specs.Link.{Link, fresh}
 use Rattle.model_link.specs.Sound as links
 use Rattle.lapd_tei.specs.Sound as tei
@@ -24,11 +21,6 @@ pub record IsUnitData (c : Config) (unit : UnitData) : Type 0 where
   pub tei : unit.tei ≤ 127
   pub size : length unit.contents ≤ c.n201
 
--- The octets given are a beginning of the text of the items.
-pub record IsTextOf (items : List Item) (given : List ℕ) : Type 0 where
-  pub left : List Bool
-  pub text : line_text items ≡ bits given ++ left
-
 pub record IsSound (c : Config) (l : Line) : Type 0 where
   pub management : tei.IsSound l.management
   pub places : length l.management.places ≡ c.terminals
@@ -37,6 +29,3 @@ pub record IsSound (c : Config) (l : Line) : Type 0 where
   pub units : All (IsUnitData c) l.units
   pub few_units : length l.units ≤ c.unit_queue
   pub turn : l.turn ≤ link_count c
-  -- no item is longer than the longest frame
-  pub sizes : All (λ item. item_octets item ≤ c.n201 + 4) l.items
-  pub text : IsTextOf l.items l.given

@@ -1,28 +1,16 @@
--- The octets that a line stores (profile): what it holds of a frame that is received, of the frame that is sent, of the
--- frames that wait and of assignments that are remembered; and the contents that wait, which stand in slots of the
--- card.
+-- The octets that a line stores (profile): those of the frames that wait and of assignments that are remembered; and the
+-- contents that wait, which stand in slots of the card.
 use Rattle.std.specs.Prelude.{ℕ, ◌+◌, length, sum_by, List}
 use Rattle.std.specs.List.{range_with_len}
-use Rattle.model_bits.specs.OpenGap.{octets_held}
-use Rattle.model_bits.specs.Framer.{still_held, last_octets}
 use Rattle.model_link.specs.Link.{queue_of}
 use Rattle.model_link.specs.Rises as links
 use Rattle.lapd_tei.specs.Machine.{held}
 use Rattle.model_line.specs.declared.config.Config.{Config}
 use Rattle.model_line.specs.Line.{Line, UnitData, link_count, terms_at, link_at}
-use Rattle.model_line.specs.Pull.{left_of}
 
 -- The sum over the links of a line.
 abbrev pub sum_of_links : Config → (ℕ → ℕ) → ℕ
 sum_of_links c f = sum_by f (range_with_len 0 (link_count c))
-
--- Of the frame that is received: its whole octets so far.
-abbrev pub held_received : Config → Line → ℕ
-held_received c l = octets_held c.n201 l.received
-
--- Of the frame that is sent: its octets without check, while eight bits or more are left.
-abbrev pub held_sent : Line → ℕ
-held_sent l = still_held (left_of l) (last_octets l.items)
 
 -- Of the control frames of a link.
 abbrev pub held_by_link : Config → Line → ℕ → ℕ
@@ -30,7 +18,7 @@ held_by_link c l number = links.held (terms_at c number l) (link_at number l)
 
 -- What a line holds beside contents in slots.
 abbrev pub held_in : Config → Line → ℕ
-held_in c l = held_received c l + held_sent l + held l.management + sum_of_links c (held_by_link c l)
+held_in c l = held l.management + sum_of_links c (held_by_link c l)
 
 -- The slots that a line uses: one for each contents that a link keeps until they are acknowledged, and for each unit
 -- data.

@@ -1,7 +1,9 @@
 -- A script is a run of the card: each line's events lead the card as the line does.
-use Rattle.model_sim.proofs.Vocabulary.{◌≡◌, ℕ, zero, suc, ◌+◌, ◌<◌, Bool, true, false, cond, List, [], ◌∷◌, ◌++◌, replicate, Option, Some, None, Result, Ok, Err, refl, sym, ap, ◌∙◌, subst, not, nat_lt, nat_le, arith, ◌≤◌, fold, All, ltb-true, nat_tests, All-nil, All-cons, All-append, All-map, recursion_from_All, none-some, Timer, LengthFault, Lengths, AreInRange, standard, is_length, first_out_of_range, Config, Field, pull, expiry, request, IsInRange, Event, at, Card, fresh, after_all, IsAtLine, AreAtLines, Happening, comes, failed, goes, line_of, events_at, events_of, CardKind, Octets, Frames, FaultKind, TooLong, BadNumber, BadCard, BadLine, BadFrame, TimeOver, read, pieces_of, line_in, Setup, begun, terminal_at, octets_sent, after_sending, with_terminal, Scene, with_event, with_events, octets_at, Pulls, one_pull, pulls, expired, expiries, after_rx, after_in, after_pull, after_happening, after_next, after_counters, after_coming, can_come, for_octets, for_frames, after_wait, after_timers, with_timers, with_card, without_card, last_moment, request_for, Fault, Played, not_begun, played, faulty, is_too_long, after_scene, after_bench, after_reading, unless_faulty, one_more, expiry_events, events_until, coming_events, meant_events, read_events, unless_fault, line_events, events_from, card_meant, first_card, ScriptsAreRuns}
+use Rattle.model_sim.proofs.Vocabulary.{◌≡◌, ℕ, zero, suc, ◌+◌, ◌<◌, Bool, true, false, cond, List, [], ◌∷◌, ◌++◌, replicate, Option, Some, None, Result, Ok, Err, refl, sym, ap, ◌∙◌, subst, not, nat_lt, nat_le, arith, ◌≤◌, fold, All, ltb-true, nat_tests, All-nil, All-cons, All-append, recursion_from_All, none-some, Timer, LengthFault, Lengths, AreInRange, standard, is_length, first_out_of_range, Config, Field, pull, expiry, request, hears, next, IsInRange, Event, at, Board, fresh, after_all, IsAtLine, AreAtLines, CardKind, Octets, Frames, FaultKind, TooLong, BadNumber, BadCard, BadLine, BadFrame, TimeOver, read, pieces_of, line_in, Setup, begun, terminal_at, octets_sent, after_sending, with_terminal, Scene, with_event, with_events, octets_at, Pulls, one_pull, pulls, is_heard_as, expired, expiries, after_rx, after_in, after_pull, after_counters, after_coming, can_come, for_octets, for_frames, after_wait, after_timers, with_timers, with_card, without_card, last_moment, request_for, Fault, Played, not_begun, played, faulty, is_too_long, after_scene, after_bench, after_reading, unless_faulty, one_more, expiry_events, events_until, coming_events, meant_events, read_events, unless_fault, line_events, events_from, board_meant, first_board, ScriptsAreRuns}
 use Rattle.lapd_clock.specs.declared.fault.LengthFault.TheVariants as fault
 use Rattle.lapd_clock.specs.Timers as clocks
+use Rattle.model_bits.specs.Stream.{dropped}
+use Rattle.model_line.specs.Came.{cause_of}
 use Rattle.model_line.specs.Config as configs
 use Rattle.lapd_script.specs.Meaning as line
 use Rattle.model_sim.proofs.Expiries.{drained}
@@ -9,36 +11,36 @@ use Rattle.model_sim.proofs.Runs.{after_all-append, config_stays, one_event, no_
 use Rattle.model_sim.proofs.Kept.{IsKept, events_kept, pulls_kept, octets_within, pulls_within, wait_ticks, none_later}
 
 -- Events, pulls and expiries.
-events_lead : (events : List Event) (s : Scene) → (with_events events s).setup.card ≡ after_all s.setup.card events
+events_lead : (events : List Event) (s : Scene) → (with_events events s).setup.board ≡ after_all s.setup.board events
 unfolding after_all
 events_lead [] s = refl
 events_lead (e ∷ events) s = events_lead events (with_event s e)
 
-pulls_lead : (count number : ℕ) (p : Pulls) → (pulls count number p).setup.card ≡ after_all p.setup.card (replicate count (at number pull))
+pulls_lead : (count number : ℕ) (p : Pulls) → (pulls count number p).setup.board ≡ after_all p.setup.board (replicate count (at number pull))
 unfolding after_all
 pulls_lead zero number p = refl
 pulls_lead (suc count) number p = pulls_lead count number (one_pull number p)
 
-expiries_lead : (most end : ℕ) (s : Scene) → (expiries most end s).setup.card ≡ after_all s.setup.card (expiry_events most end s)
-expiries_lead zero end s = no_event s.setup.card
+expiries_lead : (most end : ℕ) (s : Scene) → (expiries most end s).setup.board ≡ after_all s.setup.board (expiry_events most end s)
+expiries_lead zero end s = no_event s.setup.board
 expiries_lead (suc most) end s = go (λ t. expiries_lead most end t) (clocks.due_at s.setup.clock end)
   where
-    go : ((t : Scene) → (expiries most end t).setup.card ≡ after_all t.setup.card (expiry_events most end t)) → (o : Option (ℕ × Timer))
-        → (elim o as (λ o. Scene) [ None ↦ s | Some due ↦ expiries most end (expired end due.0 due.1 s) ]).setup.card
-        ≡ after_all s.setup.card (elim o as (λ o. List Event) [ None ↦ [] | Some due ↦ at due.0 (expiry due.1) ∷ expiry_events most end (expired end due.0 due.1 s) ])
-    go more None = no_event s.setup.card
+    go : ((t : Scene) → (expiries most end t).setup.board ≡ after_all t.setup.board (expiry_events most end t)) → (o : Option (ℕ × Timer))
+        → (elim o as (λ o. Scene) [ None ↦ s | Some due ↦ expiries most end (expired end due.0 due.1 s) ]).setup.board
+        ≡ after_all s.setup.board (elim o as (λ o. List Event) [ None ↦ [] | Some due ↦ at due.0 (expiry due.1) ∷ expiry_events most end (expired end due.0 due.1 s) ])
+    go more None = no_event s.setup.board
     go more (Some due) =
         more (expired end due.0 due.1 s)
-        ∙ event_before s.setup.card (at due.0 (expiry due.1)) (expiry_events most end (expired end due.0 due.1 s))
+        ∙ event_before s.setup.board (at due.0 (expiry due.1)) (expiry_events most end (expired end due.0 due.1 s))
 
 -- Events lead one setup to another; and where what each line keeps holds of the first, it holds of the other, and the
 -- events are at lines of the card.
 pub record Led (before : Setup) (events : List Event) (after : Setup) : Type 0 where
-  pub card : after.card ≡ after_all before.card events
-  pub kept : IsKept before → IsKept after × AreAtLines before.card events
+  pub board : after.board ≡ after_all before.board events
+  pub kept : IsKept before → IsKept after × AreAtLines before.board events
 
 nothing_led : (b : Setup) → Led b [] b
-nothing_led b = record { card = no_event b.card; kept = λ k. (k, All-nil (IsAtLine b.card)) }
+nothing_led b = record { board = no_event b.board; kept = λ k. (k, All-nil (IsAtLine b.board)) }
 
 -- A line, where there is a card.
 abbrev Leads : Setup → List Event → Result Scene FaultKind → Type 0
@@ -49,35 +51,34 @@ if_good : (good : Bool) (b : Setup) (events : List Event) (r : Result Scene Faul
 if_good true b events r kind h = h refl
 if_good false b events r kind h = tt
 
-octets_led : (number : ℕ) (octets : List ℕ) (s : Scene) → number < s.setup.card.config.lines → Led s.setup (octets_at number octets) (after_rx number octets s).setup
+octets_led : (number : ℕ) (octets : List ℕ) (s : Scene) → number < s.setup.board.config.lines → Led s.setup (octets_at number octets) (after_rx number octets s).setup
 octets_led number octets s within =
-    let at_lines = octets_within s.setup.card number octets within in
-    record { card = events_lead (octets_at number octets) s; kept = λ k. (events_kept (octets_at number octets) s at_lines k, at_lines) }
+    let at_lines = octets_within s.setup.board number octets within in
+    record { board = events_lead (octets_at number octets) s; kept = λ k. (events_kept (octets_at number octets) s at_lines k, at_lines) }
 
-in_led : (number : ℕ) (octets : List ℕ) (s : Scene) → number < s.setup.card.config.lines
+in_led : (number : ℕ) (octets : List ℕ) (s : Scene) → number < s.setup.board.config.lines
     → Led s.setup (octets_at number (octets_sent octets (terminal_at number s.setup))) (after_in number octets s).setup
 in_led number octets s within =
     let terminal = terminal_at number s.setup in
     let led = octets_led number (octets_sent octets terminal) (record s { setup = with_terminal number (after_sending octets terminal) s.setup }) within in
-    record { card = led.card; kept = led.kept }
+    record { board = led.board; kept = led.kept }
 
-happening_led : (h : Happening) (s : Scene) → line_of h < s.setup.card.config.lines → Led s.setup (events_of s.setup.card h) (after_happening h s).setup
-happening_led h s within =
-    let events = events_of s.setup.card h in
-    let at_lines : AreAtLines s.setup.card events = All-map (IsAtLine s.setup.card) (at (line_of h)) (events_at s.setup.card h) (λ i d below. within) in
-    record { card = events_lead events s; kept = λ k. (events_kept events s at_lines k, at_lines) }
+event_led : (e : Event) (s : Scene) → IsAtLine s.setup.board e → Led s.setup (e ∷ []) (with_event s e).setup
+event_led e s within =
+    let at_lines = All-cons (IsAtLine s.setup.board) e [] within (All-nil (IsAtLine s.setup.board)) in
+    record { board = one_event s.setup.board e; kept = λ k. (events_kept (e ∷ []) s at_lines k, at_lines) }
 
-coming_led : (kind : CardKind) (number : ℕ) (octets : List ℕ) (s : Scene) → number < s.setup.card.config.lines
+coming_led : (kind : CardKind) (number : ℕ) (octets : List ℕ) (s : Scene) → number < s.setup.board.config.lines
     → Led s.setup (coming_events kind number octets s) (after_coming kind number octets s).setup
 coming_led Octets number octets s within = in_led number octets s within
-coming_led Frames number octets s within = happening_led (comes number octets) s within
+coming_led Frames number octets s within = event_led (at number (is_heard_as s octets)) s within
 
-pulls_led : (number count : ℕ) (s : Scene) → number < s.setup.card.config.lines → Led s.setup (replicate count (at number pull)) (after_pull number count s).setup
+pulls_led : (number count : ℕ) (s : Scene) → number < s.setup.board.config.lines → Led s.setup (replicate count (at number pull)) (after_pull number count s).setup
 pulls_led number count s within =
     let start : Pulls = record { setup = s.setup; octets = [] } in
     record {
-      card = pulls_lead count number start;
-      kept = λ k. (pulls_kept count number start within k, pulls_within s.setup.card number count within);
+      board = pulls_lead count number start;
+      kept = λ k. (pulls_kept count number start within k, pulls_within s.setup.board number count within);
     }
 
 wait_led : (milliseconds : ℕ) (s : Scene) → Led s.setup (events_until (s.setup.now + milliseconds) s) (after_wait milliseconds s).setup
@@ -86,18 +87,13 @@ wait_led milliseconds s =
     let most = clocks.time_until end s.setup.clock in
     let last = expiries most end s in
     record {
-      card = expiries_lead most end s;
+      board = expiries_lead most end s;
       kept = λ k.
           let waited = wait_ticks most end s k.ticks in
           let none = drained most end s (clocks.due_at s.setup.clock end) k.ticks.lengths refl (omega arith) in
           let later = recursion_from_All (λ x. end < x.moment) last.setup.clock.running (none_later last.setup.clock.running end waited.ticks.in_order none) in
           (record { ticks = waited.ticks; later = later }, waited.within);
     }
-
-event_led : (e : Event) (s : Scene) → IsAtLine s.setup.card e → Led s.setup (e ∷ []) (with_event s e).setup
-event_led e s within =
-    let at_lines = All-cons (IsAtLine s.setup.card) e [] within (All-nil (IsAtLine s.setup.card)) in
-    record { card = one_event s.setup.card e; kept = λ k. (events_kept (e ∷ []) s at_lines k, at_lines) }
 
 -- timers run a millisecond at least
 in_range : (lengths : Lengths) → first_out_of_range lengths ≡ None → AreInRange lengths
@@ -130,8 +126,8 @@ timers_led lengths s = go (first_out_of_range lengths) refl
     go : (o : Option LengthFault) → first_out_of_range lengths ≡ o → Leads s.setup [] (elim o as (λ o. Result Scene FaultKind) [ None ↦ Ok (after_timers lengths s) | Some timer ↦ Err BadNumber ])
     go (Some timer) e = tt
     go None e = record {
-      card = no_event s.setup.card;
-      kept = λ k. (record { ticks = record { in_order = k.ticks.in_order; on_lines = k.ticks.on_lines; lengths = in_range lengths e }; later = k.later }, All-nil (IsAtLine s.setup.card));
+      board = no_event s.setup.board;
+      kept = λ k. (record { ticks = record { in_order = k.ticks.in_order; on_lines = k.ticks.on_lines; lengths = in_range lengths e }; later = k.later }, All-nil (IsAtLine s.setup.board));
     }
 
 -- at a card of the other kind a line is faulty
@@ -147,38 +143,36 @@ meaning_leads : (m : line.Meaning) (s : Scene) → Leads s.setup (meant_events m
 meaning_leads line.skip s = nothing_led s.setup
 meaning_leads (line.card kind config) s = tt
 meaning_leads (line.rx number octets) s =
-    octets_only s.setup.kind s.setup (octets_at number octets) _
-    (if_good (nat_lt number s.setup.card.config.lines) s.setup (octets_at number octets) (Ok (after_rx number octets s)) BadLine
+    octets_only s.setup.board.kind s.setup (octets_at number octets) _
+    (if_good (nat_lt number s.setup.board.config.lines) s.setup (octets_at number octets) (Ok (after_rx number octets s)) BadLine
     (λ good. octets_led number octets s (ltb-true _ _ good)))
 meaning_leads (line.into number octets) s =
-    let kind = s.setup.kind in
+    let kind = s.setup.board.kind in
     let events = coming_events kind number octets s in
     let come = Ok (after_coming kind number octets s) in
-    if_good (nat_lt number s.setup.card.config.lines) s.setup events (cond (can_come kind octets) come (Err BadFrame)) BadLine
+    if_good (nat_lt number s.setup.board.config.lines) s.setup events (cond (can_come kind octets) come (Err BadFrame)) BadLine
     (λ good. if_good (can_come kind octets) s.setup events come BadFrame (λ _. coming_led kind number octets s (ltb-true _ _ good)))
 meaning_leads (line.failed number fault) s =
-    let h : Happening = failed number fault in
-    frames_only s.setup.kind s.setup (events_of s.setup.card h) _
-    (if_good (nat_lt number s.setup.card.config.lines) s.setup (events_of s.setup.card h) (Ok (after_happening h s)) BadLine
-    (λ good. happening_led h s (ltb-true _ _ good)))
+    let e : Event = at number (hears (dropped (cause_of fault))) in
+    frames_only s.setup.board.kind s.setup (e ∷ []) _
+    (if_good (nat_lt number s.setup.board.config.lines) s.setup (e ∷ []) (Ok (with_event s e)) BadLine (λ good. event_led e s (ltb-true _ _ good)))
 meaning_leads (line.next number) s =
-    let h : Happening = goes number in
-    frames_only s.setup.kind s.setup (events_of s.setup.card h) _
-    (if_good (nat_lt number s.setup.card.config.lines) s.setup (events_of s.setup.card h) (Ok (after_next number s)) BadLine
-    (λ good. happening_led h s (ltb-true _ _ good)))
+    let e : Event = at number next in
+    frames_only s.setup.board.kind s.setup (e ∷ []) _
+    (if_good (nat_lt number s.setup.board.config.lines) s.setup (e ∷ []) (Ok (with_event s e)) BadLine (λ good. event_led e s (ltb-true _ _ good)))
 meaning_leads (line.pull number count) s =
-    octets_only s.setup.kind s.setup (replicate count (at number pull)) _
-    (if_good (nat_lt number s.setup.card.config.lines) s.setup (replicate count (at number pull)) (Ok (after_pull number count s)) BadLine
+    octets_only s.setup.board.kind s.setup (replicate count (at number pull)) _
+    (if_good (nat_lt number s.setup.board.config.lines) s.setup (replicate count (at number pull)) (Ok (after_pull number count s)) BadLine
     (λ good. pulls_led number count s (ltb-true _ _ good)))
 meaning_leads (line.wait milliseconds) s =
     let end = s.setup.now + milliseconds in
     if_good (nat_le end last_moment) s.setup (events_until end s) (Ok (after_wait milliseconds s)) TimeOver (λ _. wait_led milliseconds s)
 meaning_leads (line.timers t200 t203 t201) s = timers_led (record { t200 = t200; t203 = t203; t201 = t201 }) s
 meaning_leads line.stored s = nothing_led s.setup
-meaning_leads (line.counters number) s = if_good (nat_lt number s.setup.card.config.lines) s.setup [] (Ok (after_counters number s)) BadLine (λ within. nothing_led s.setup)
+meaning_leads (line.counters number) s = if_good (nat_lt number s.setup.board.config.lines) s.setup [] (Ok (after_counters number s)) BadLine (λ within. nothing_led s.setup)
 meaning_leads (line.ask number tei what octets) s =
     let e : Event = at number (request (request_for what tei octets)) in
-    if_good (nat_lt number s.setup.card.config.lines) s.setup (e ∷ []) (Ok (with_event s e)) BadLine (λ good. event_led e s (ltb-true _ _ good))
+    if_good (nat_lt number s.setup.board.config.lines) s.setup (e ∷ []) (Ok (with_event s e)) BadLine (λ good. event_led e s (ltb-true _ _ good))
 
 -- Where there is a card before the line there is one after it.
 pub record Goes (before : Setup) (events : List Event) (q : Played) : Type 0 where
@@ -222,12 +216,12 @@ one_goes piece b p e =
 -- One list of events, and then another.
 led_then : (a b c : Setup) (xs ys : List Event) → Led a xs b → Led b ys c → Led a (xs ++ ys) c
 led_then a b c xs ys first then = record {
-  card = then.card ∙ ap (λ x. after_all x ys) first.card ∙ sym (after_all-append a.card xs ys);
+  board = then.board ∙ ap (λ x. after_all x ys) first.board ∙ sym (after_all-append a.board xs ys);
   kept = λ k.
       let here = first.kept k in
       let there = then.kept here.0 in
-      let same : b.card.config ≡ a.card.config = ap (λ (x : Card). x.config) first.card ∙ config_stays a.card xs in
-      (there.0, All-append (IsAtLine a.card) xs ys here.1 (subst (λ (x : Config). All (λ (e : Event). e.line < x.lines) ys) same there.1));
+      let same : b.board.config ≡ a.board.config = ap (λ (x : Board). x.config) first.board ∙ config_stays a.board xs in
+      (there.0, All-append (IsAtLine a.board) xs ys here.1 (subst (λ (x : Config). All (λ (e : Event). e.line < x.lines) ys) same there.1));
 }
 
 lines_go : (pieces : List (List ℕ)) (p : Played) (b : Setup) → p.setup ≡ Some b
@@ -242,9 +236,9 @@ lines_go (piece ∷ pieces) p b e last there =
 
 -- Where there is none before the line: none yet, none for good, or the one that begins.
 pub data Begins (r : Result line.Meaning FaultKind) (q : Played) : Type 0 where
-  waits : q.setup ≡ None → card_meant r ≡ None → Begins r q
+  waits : q.setup ≡ None → board_meant r ≡ None → Begins r q
   stops : q.setup ≡ None → (fault : Fault) → q.fault ≡ Some fault → Begins r q
-  begins : (kind : CardKind) (c : Config) → card_meant r ≡ Some c → q.setup ≡ Some (begun kind c) → IsInRange c → Begins r q
+  begins : (kind : CardKind) (c : Config) → board_meant r ≡ Some (fresh kind c) → q.setup ≡ Some (begun kind c) → IsInRange c → Begins r q
 
 card_begins : (piece : List ℕ) (kind : CardKind) (config : Config) (p : Played) → p.setup ≡ None
     → Begins (Ok (line.card kind config)) (after_bench piece (without_card (line.card kind config)) p)
@@ -290,11 +284,12 @@ fresh_kept : (kind : CardKind) (c : Config) → IsKept (begun kind c)
 fresh_kept kind c = record { ticks = record { in_order = tt; on_lines = tt; lengths = in_range standard refl }; later = tt }
 
 pub record Ran (p : Played) (pieces : List (List ℕ)) (last : Setup) : Type 0 where
+  pub kind : CardKind
   pub config : Config
-  pub begun : first_card pieces ≡ Some config
+  pub begun : first_board pieces ≡ Some (fresh kind config)
   pub in_range : IsInRange config
-  pub at_lines : AreAtLines (fresh config) (events_from p pieces)
-  pub card : last.card ≡ after_all (fresh config) (events_from p pieces)
+  pub at_lines : AreAtLines (fresh kind config) (events_from p pieces)
+  pub board : last.board ≡ after_all (fresh kind config) (events_from p pieces)
   pub kept : IsKept last
 
 lines_run : (pieces : List (List ℕ)) (p : Played) (last : Setup) → p.setup ≡ None → (fold one_more p pieces).setup ≡ Some last → Ran p pieces last
@@ -307,18 +302,19 @@ lines_run (piece ∷ pieces) p last e there = go (λ f. lines_run pieces (one_mo
     no_more_events : events_from next pieces ≡ events_from p (piece ∷ pieces)
     no_more_events = sym (ap (λ events. events ++ events_from next pieces) (nothing_brought piece p e))
 
-    after_line : Option Config → Option Config
-    after_line o = elim o [ None ↦ first_card pieces | Some c ↦ Some c ]
+    after_line : Option Board → Option Board
+    after_line o = elim o [ None ↦ first_board pieces | Some b ↦ Some b ]
 
     go : (next.setup ≡ None → Ran next pieces last) → Begins (read (line_in piece)) next → Ran p (piece ∷ pieces) last
     go later (waits none no_card) =
         let ran = later none in
         record {
+          kind = ran.kind;
           config = ran.config;
           begun = ap after_line no_card ∙ ran.begun;
           in_range = ran.in_range;
-          at_lines = subst (AreAtLines (fresh ran.config)) no_more_events ran.at_lines;
-          card = ran.card ∙ ap (λ events. after_all (fresh ran.config) events) no_more_events;
+          at_lines = subst (AreAtLines (fresh ran.kind ran.config)) no_more_events ran.at_lines;
+          board = ran.board ∙ ap (λ events. after_all (fresh ran.kind ran.config) events) no_more_events;
           kept = ran.kept;
         }
     go later (stops none fault f) = absurd (none-some last (sym none ∙ sym (stopped pieces next fault f) ∙ there))
@@ -326,11 +322,12 @@ lines_run (piece ∷ pieces) p last e there = go (λ f. lines_run pieces (one_mo
         let led = lines_go pieces next (begun kind c) starts last there in
         let kept = led.kept (fresh_kept kind c) in
         record {
+          kind = kind;
           config = c;
           begun = ap after_line is_card;
           in_range = ranged;
-          at_lines = subst (AreAtLines (fresh c)) no_more_events kept.1;
-          card = led.card ∙ ap (λ events. after_all (fresh c) events) no_more_events;
+          at_lines = subst (AreAtLines (fresh kind c)) no_more_events kept.1;
+          board = led.board ∙ ap (λ events. after_all (fresh kind c) events) no_more_events;
           kept = kept.0;
         }
 
@@ -340,4 +337,4 @@ script_ran text setup there = lines_run (pieces_of text) not_begun setup refl th
 pub scripts_are_runs : ScriptsAreRuns
 scripts_are_runs text setup there =
     let ran = script_ran text setup there in
-    record { config = ran.config; begun = ran.begun; in_range = ran.in_range; at_lines = ran.at_lines; card = ran.card }
+    record { kind = ran.kind; config = ran.config; begun = ran.begun; in_range = ran.in_range; at_lines = ran.at_lines; board = ran.board }

@@ -1,8 +1,8 @@
 -- To wait ends: with each expiry, the time that is left until the end falls, and it is tried often enough.
-use Rattle.model_sim.proofs.Vocabulary.{◌≡◌, ℕ, zero, suc, ◌+◌, ◌-◌, ◌<◌, ◌≤◌, Bool, true, false, cond, nat_le, List, [], ◌∷◌, ◌++◌, Option, Some, None, refl, sym, ap, ◌∙◌, subst, arith, append_assoc, append-nil, nat_tests, Event, at, answer, expiry_starts, time_until-due, time_until-stop, time_until-start, put_in_order, Lengths, AreInRange, T200, T203, T201, Order, Start, Stop, duration, Expiry, Timers, is_before, without, finds_place, with_order, first_due, due_at, after_due, next_moment, time_until, orders_in, starts, Setup, ordered, happened, Scene, answer_text, at_expiry, expired, expiries, until, moment_of}
+use Rattle.model_sim.proofs.Vocabulary.{◌≡◌, ℕ, zero, suc, ◌+◌, ◌-◌, ◌<◌, ◌≤◌, Bool, true, false, cond, nat_le, List, [], ◌∷◌, ◌++◌, Option, Some, None, refl, sym, ap, ◌∙◌, subst, arith, append_assoc, append-nil, nat_tests, Event, at, reply, expiry, time_until-due, time_until-stop, time_until-start, put_in_order, Lengths, AreInRange, T200, T203, T201, Order, Start, Stop, duration, Expiry, Timers, is_before, without, finds_place, with_order, first_due, due_at, after_due, next_moment, time_until, orders_in, starts, Setup, ordered, happened, Scene, reply_text, at_expiry, expired, expiries, until, moment_of}
 use Rattle.std.proofs.Common.{fold}
 use Rattle.lapd_clock.specs.Timer.{Timer}
-use Rattle.model_line.specs.Event as line_event
+use Rattle.model_sim.proofs.Orders.{expiry_starts}
 
 -- ---- with each expiry, as it starts at most one timer, the time that is left falls
 
@@ -27,7 +27,7 @@ orders_lengths line now [] c = refl
 orders_lengths line now (order ∷ orders) c = orders_lengths line now orders (with_order c line order now) ∙ order_lengths line now order c
 
 pub happens_in_range : (b : Setup) (e : Event) → AreInRange b.clock.lengths → AreInRange (happened b e).clock.lengths
-happens_in_range b e range = subst AreInRange (sym (orders_lengths e.line b.now (orders_in (answer e b.card)) b.clock)) range
+happens_in_range b e range = subst AreInRange (sym (orders_lengths e.line b.now (orders_in (reply e b.board)) b.clock)) range
 
 module _ (end line now : ℕ) where
   time_until-none : (orders : List Order) (c : Timers) → starts orders ≡ 0 → time_until end (fold (ordered line now) c orders) ≤ time_until end c
@@ -58,17 +58,17 @@ first_is_due e es end due is = go (nat_le e.moment end) refl is
     go false within is = not_due _ due is
 
 pub expiry_lowers : (end line : ℕ) (timer : Timer) (due : ℕ × Timer) (b : Setup) → AreInRange b.clock.lengths → due_at b.clock end ≡ Some due
-    → time_until end (happened (at_expiry end b) (at line (line_event.expiry timer))).clock < time_until end b.clock
+    → time_until end (happened (at_expiry end b) (at line (expiry timer))).clock < time_until end b.clock
 expiry_lowers end line timer due b range is = go b.clock.running refl
   where
-    go : (running : List Expiry) → b.clock.running ≡ running → time_until end (happened (at_expiry end b) (at line (line_event.expiry timer))).clock < time_until end b.clock
+    go : (running : List Expiry) → b.clock.running ≡ running → time_until end (happened (at_expiry end b) (at line (expiry timer))).clock < time_until end b.clock
     go [] none = not_due _ due (sym (ap (λ es. first_due es end) none) ∙ is)
     go (e ∷ es) some =
         let now = moment_of (next_moment b.clock) in
         let is_now : now ≡ e.moment = ap (λ es. moment_of (next_moment (record b.clock { running = es }))) some in
         let within = first_is_due e es end due (sym (ap (λ es. first_due es end) some) ∙ is) in
         let less = time_until-due b.clock e es end end some within in
-        let more = time_until-one end line now (orders_in (answer (at line (line_event.expiry timer)) b.card)) (after_due b.clock end) (expiry_starts line timer b.card) range in
+        let more = time_until-one end line now (orders_in (reply (at line (expiry timer)) b.board)) (after_due b.clock end) (expiry_starts line timer b.board) range in
         omega (arith, is_now, within, less, more)
 
 -- ---- what falls due is applied one after the other, however often it is tried beyond that
@@ -85,7 +85,7 @@ one_left n end s due is = ap (next_by n end s) is
 
 -- the lengths stay in range with an expiry
 stay : (end : ℕ) (due : ℕ × Timer) (s : Scene) → AreInRange s.setup.clock.lengths → AreInRange (expired end due.0 due.1 s).setup.clock.lengths
-stay end due s range = happens_in_range (at_expiry end s.setup) (at due.0 (line_event.expiry due.1)) range
+stay end due s range = happens_in_range (at_expiry end s.setup) (at due.0 (expiry due.1)) range
 
 one_more : (n end : ℕ) (s : Scene) (o : Option (ℕ × Timer)) → AreInRange s.setup.clock.lengths → due_at s.setup.clock end ≡ o → time_until end s.setup.clock ≤ n → expiries (suc n) end s ≡ expiries n end s
 one_more n end s None range is h = none_left (suc n) end s is ∙ sym (none_left n end s is)
@@ -136,6 +136,6 @@ text_grows zero end s o is = ([], sym (append-nil s.text))
 text_grows (suc n) end s None is = ([], ap (λ (x : Scene). x.text) (none_left (suc n) end s is) ∙ sym (append-nil s.text))
 text_grows (suc n) end s (Some due) is =
     let next = expired end due.0 due.1 s in
-    let said = answer_text due.0 (answer (at due.0 (line_event.expiry due.1)) s.setup.card) in
+    let said = reply_text due.0 (reply (at due.0 (expiry due.1)) s.setup.board) in
     let later : (later : List ℕ) × ((expiries n end next).text ≡ next.text ++ later) = text_grows n end next (due_at next.setup.clock end) refl in
     (said ++ later.0, ap (λ (x : Scene). x.text) (one_left n end s due is) ∙ later.1 ∙ append_assoc s.text said later.0)

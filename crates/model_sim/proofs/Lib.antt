@@ -1,5 +1,6 @@
 -- Lemmas: expiries until a moment, and scripts as runs of a card.
 pub mod Vocabulary
+pub mod Orders
 pub mod Expiries
 pub mod Kept
 pub mod Runs
@@ -9,4 +10,4 @@ pub mod Waits
 pub mod Within
 pub mod Asked
 pub mod Heard
-pub mod AtOnce
+pub mod OnBoards

@@ -44,39 +44,22 @@ pub use Rattle.model_bits.specs.RoundTrip.{AreHeardWhole, IsHeardWhole, frames_o
 pub use Rattle.model_bits.specs.Sent.{Item, idle, item_text, line_text}
 pub use Rattle.model_bits.specs.Stream.{heard_in}
 pub use Rattle.model_bits.specs.StuffingLaws.{AreOctets}
-pub use Rattle.model_card.proofs.CardSound.{cards_stay_sound}
-pub use Rattle.model_card.proofs.Happening.{frames_are_of_lines, lines_stay_idle}
 pub use Rattle.model_card.proofs.Starts.{expiry_starts}
-pub use Rattle.model_card.proofs.Stored.{stored_within_limit}
-pub use Rattle.model_card.specs.Card.{Card, fresh, line_at}
-pub use Rattle.model_card.specs.Event.{Event, at}
-pub use Rattle.model_card.specs.Happening.{AreIdle, Happening, HappensAt, answer_in, comes, events_at, events_of, failed, goes, line_of}
-pub use Rattle.model_card.specs.HappeningsCounted.{happening_counted}
-pub use Rattle.model_card.specs.Machine.{after, answer}
-pub use Rattle.model_card.specs.Run.{AreAtLines, IsAtLine}
-unfoldable pub use Rattle.model_card.specs.Run.{after_all, moments}
-pub use Rattle.model_card.specs.Said.{Means, Said, gives, said, says}
-pub use Rattle.model_card.specs.Stored.{stored}
-pub use Rattle.model_line.proofs.FramesCome.{frames_come_whole}
-pub use Rattle.model_line.proofs.FramesGo.{frames_go_whole}
 pub use Rattle.model_line.proofs.Ranges.{Within, ranges_of}
 pub use Rattle.model_line.specs.Config.{is_within}
-pub use Rattle.model_line.specs.Event.{Answer, expiry, nothing, octet, pull, pulled, request, told}
-pub use Rattle.model_line.specs.Laws.{orders_in}
-pub use Rattle.model_line.specs.Line.{Line}
-pub use Rattle.model_line.specs.Pull.{Taken, taken}
 pub use Rattle.model_line.specs.Sound.{IsInRange}
-pub use Rattle.model_line.specs.WholeAtLine.{answers_to, octet_alone, pulls_to_begin}
 pub use Rattle.model_line.specs.declared.config.Config.{Config}
 pub use Rattle.model_line.specs.declared.config.Field.{Field}
 pub use Rattle.model_line.specs.declared.config.Field.TheVariants.{Control, Lines, N201, Slots, Terminals}
 unfoldable pub use Rattle.model_link.specs.Told.{starts}
 pub use Rattle.model_sim.specs.Asked.{LimitsAreOfCards, limits_of_card, limits_words}
-pub use Rattle.model_sim.specs.Events.{HasRun, ScriptsAreRuns, card_meant, coming_events, events_from, events_until, expiry_events, first_card, line_events, meant_events, read_events, script_events, unless_fault}
+pub use Rattle.model_sim.specs.Board.{after, AreAtLines, Board, Event, IsAtLine, Moment, at, expiry, fresh, hears, next, octet, orders_in, pull, request}
+unfoldable pub use Rattle.model_sim.specs.Board.{after_all, moments, reply}
+pub use Rattle.model_sim.specs.Events.{HasRun, RunsOnBoards, ScriptsAreRuns, board_meant, coming_events, events_from, events_until, expiry_events, first_board, line_events, meant_events, read_events, script_events, unless_fault}
 pub use Rattle.model_sim.specs.Heard.{FramesAreHeard, all_sent}
 pub use Rattle.model_sim.specs.Replies.{TranscriptsAreReplies, line_moments, meant_moments, moments_from, octet_given, read_moments, read_text, replies_text, text_from}
 pub use Rattle.model_sim.specs.Script.{Fault, Played, after_bench, after_reading, after_scene, faulty, is_too_long, not_begun, one_more, played, unless_faulty}
 pub use Rattle.model_sim.specs.Setup.{Setup, begun, happened, ordered, terminal_at, with_terminal}
-pub use Rattle.model_sim.specs.Steps.{Pulls, Scene, after_coming, after_counters, after_happening, after_in, after_next, after_pull, after_rx, after_timers, after_wait, answer_text, at_expiry, can_come, expired, expiries, for_frames, for_octets, held, last_moment, moment_of, octet_in, octets_at, one_pull, pulls, request_for, until, with_card, with_counters, with_event, with_events, with_timers, without_card}
+pub use Rattle.model_sim.specs.Steps.{Pulls, Scene, after_coming, after_counters, after_failed, after_in, after_next, after_pull, after_rx, after_timers, after_wait, at_expiry, can_come, expired, expiries, for_frames, for_octets, held, last_moment, moment_of, octet_in, octets_at, is_heard_as, one_pull, pulls, reply_text, request_for, until, with_card, with_event, with_events, with_timers, without_card}
 pub use Rattle.model_sim.specs.Waits.{AllLater, WaitsLeaveNothingDue}
 pub use Rattle.model_sim.specs.Within.{ScriptsStayWithin, bound_of}

@@ -1,4 +1,5 @@
--- A script as a run of a card. Read in this order: Pieces of `lapd_script`, Setup, Steps, Script; the others are what its laws say.
+-- A script as a run of a card. Read in this order: Pieces of `lapd_script`, Board, Setup, Steps, Script; the others are what its laws say.
+pub mod Board
 pub mod Setup
 pub mod Steps
 pub mod Script

@@ -1,10 +1,7 @@
 -- The text of a script, by the answers to its events.
 use Rattle.std.specs.Prelude.{◌≡◌, ℕ, List, [], ◌∷◌, ◌++◌, map, flat_map, Option, None, Some, Result, Ok, Err}
-use Rattle.model_line.specs.declared.config.Config.{Config}
-use Rattle.model_line.specs.Pull.{taken}
-use Rattle.model_card.specs.Card.{fresh, line_at}
-use Rattle.model_card.specs.Run.{Moment, moments}
-use Rattle.model_card.specs.Stored.{limit}
+use Rattle.model_ports.specs.Stored.{limit}
+use Rattle.model_sim.specs.Board.{Board, Moment, moments}
 use Rattle.lapd_script.specs.declared.kind.FaultKind.{FaultKind}
 use Rattle.lapd_script.specs.Meaning as line
 use Rattle.lapd_script.specs.Read.{read}
@@ -12,40 +9,40 @@ use Rattle.lapd_transcript.specs.Counted.{counters_text}
 use Rattle.lapd_transcript.specs.Text.{stored_text}
 use Rattle.lapd_script.specs.Pieces.{pieces_of, line_in}
 use Rattle.model_sim.specs.Setup.{Setup, counters_at, taken_at}
-use Rattle.model_sim.specs.Steps.{answer_text, octet_in, next_text, held}
+use Rattle.model_sim.specs.Steps.{reply_text, octet_in, held}
 use Rattle.lapd_transcript.specs.Listened.{pulled_text}
 use Rattle.model_sim.specs.Script.{Played, not_begun, one_more, played, transcript}
-use Rattle.model_sim.specs.Events.{meant_events, unless_fault, script_events, first_card}
+use Rattle.model_sim.specs.Events.{meant_events, unless_fault, script_events, first_board}
 
--- What an answer says, and the octet that it gives.
-abbrev pub reply_text : Moment → List ℕ
-reply_text m = answer_text m.event.line m.answer
+-- What a reply says, and the octet that it gives.
+abbrev pub text_of : Moment → List ℕ
+text_of m = reply_text m.event.line m.reply
 
 abbrev pub replies_text : List Moment → List ℕ
-replies_text ms = flat_map reply_text ms
+replies_text ms = flat_map text_of ms
 
 abbrev pub octet_given : Moment → ℕ
-octet_given m = octet_in m.answer
+octet_given m = octet_in m.reply
 
--- What a line says, where its events have these answers: of the octets that it pulls, all together; `next` tells the
--- frame that is taken from the card, `stored` shows the card, and `counters` what was counted.
+-- What a line says, where its events have these replies: of the octets that it pulls, all together; `stored` shows the card,
+-- and `counters` what was counted.
 abbrev pub said : line.Meaning → Setup → List Moment → List ℕ
 said line.skip b ms = []
 said (line.card kind config) b ms = []
 said (line.rx number octets) b ms = replies_text ms
 said (line.into number octets) b ms = replies_text ms
 said (line.failed number fault) b ms = replies_text ms
-said (line.next number) b ms = next_text number (taken b.card.config (line_at number b.card))
+said (line.next number) b ms = replies_text ms
 said (line.pull number count) b ms = pulled_text number (taken_at number b) (map octet_given ms)
 said (line.wait milliseconds) b ms = replies_text ms
 said (line.timers t200 t203 t201) b ms = []
-said line.stored b ms = stored_text (held b.kind b.card) (limit b.card.config)
+said line.stored b ms = stored_text (held b.board) (limit b.board.config)
 said (line.counters number) b ms = counters_text number (counters_at number b)
 said (line.ask number tei what octets) b ms = replies_text ms
 
 -- The moments of a line, and what it says; before the card line, and from the first faulty line on, nothing.
 abbrev pub meant_moments : line.Meaning → Setup → List Moment
-meant_moments m b = moments b.card (meant_events m (record { setup = b; text = [] }))
+meant_moments m b = moments b.board (meant_events m (record { setup = b; text = [] }))
 
 abbrev pub read_moments : Result line.Meaning FaultKind → Option Setup → List Moment
 read_moments (Err kind) setup = []
@@ -72,9 +69,9 @@ abbrev pub text_from : Played → List (List ℕ) → List ℕ
 text_from p [] = []
 text_from p (piece ∷ pieces) = line_text piece p ++ text_from (one_more p piece) pieces
 
--- The moments of the lines, one after the other, are those of the run of the script's events from the fresh card on;
+-- The moments of the lines, one after the other, are those of the run of the script's events from the fresh board on;
 -- and the transcript is what the lines say of them.
 pub record TranscriptsAreReplies : Type 0 where
-  pub by_line : (text : List ℕ) (setup : Setup) (c : Config) → (played (pieces_of text)).setup ≡ Some setup → first_card (pieces_of text) ≡ Some c
-      → moments (fresh c) (script_events text) ≡ moments_from not_begun (pieces_of text)
+  pub by_line : (text : List ℕ) (setup : Setup) (begun : Board) → (played (pieces_of text)).setup ≡ Some setup → first_board (pieces_of text) ≡ Some begun
+      → moments begun (script_events text) ≡ moments_from not_begun (pieces_of text)
   pub text : (text : List ℕ) → transcript text ≡ text_from not_begun (pieces_of text)

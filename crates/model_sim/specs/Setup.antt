@@ -1,5 +1,5 @@
--- What a script is played on: a card for octets or for frames, its counters, the clock of its timers, and for octets, at
--- each line, a terminal and a listener.
+-- What a script is played on: a board, the counters of its lines, the clock of its timers, and for octets, at each line, a
+-- terminal and a listener.
 use Rattle.std.specs.Prelude.{ℕ, List, [], ◌++◌, set, get_or, replicate, fold}
 use Rattle.lapd_frame.specs.declared.timers.Order.{Order}
 use Rattle.lapd_clock.specs.Timers as clocks
@@ -8,16 +8,11 @@ use Rattle.lapd_count.specs.Counters.{none_counted}
 use Rattle.lapd_script.specs.declared.command.CardKind.{CardKind}
 use Rattle.lapd_transcript.specs.Terminal.{Terminal}
 use Rattle.model_line.specs.declared.config.Config.{Config}
-use Rattle.model_line.specs.Laws.{orders_in}
-use Rattle.model_card.specs.Event.{Event}
-use Rattle.model_card.specs.Card.{Card, fresh}
-use Rattle.model_card.specs.Counted.{moment_counted, moment_of}
-use Rattle.model_card.specs.Machine.{after, answer}
+use Rattle.model_sim.specs.Board.{Board, Event, fresh, after, reply, counted, orders_in}
 
 -- The moment is in milliseconds; the octets of a line are all that it has taken.
 pub record Setup : Type 0 where
-  pub kind : CardKind
-  pub card : Card
+  pub board : Board
   pub counters : List Counters
   pub clock : clocks.Timers
   pub now : ℕ
@@ -27,8 +22,7 @@ pub record Setup : Type 0 where
 -- As a card line sets it up.
 abbrev pub begun : CardKind → Config → Setup
 begun kind c = record {
-  kind = kind;
-  card = fresh c;
+  board = fresh kind c;
   counters = replicate c.lines none_counted;
   clock = clocks.idle c.lines c.terminals;
   now = 0;
@@ -45,15 +39,15 @@ counters_at line b = get_or b.counters line none_counted
 abbrev pub taken_at : ℕ → Setup → List ℕ
 taken_at line b = get_or b.taken line []
 
--- An event at the card: it is counted, and the orders that it gives are applied at the moment.
+-- An event: it is counted, and the orders that the reply gives are applied at the moment.
 abbrev pub ordered : ℕ → ℕ → clocks.Timers → Order → clocks.Timers
 ordered line now clock order = clocks.with_order clock line order now
 
 abbrev pub happened : Setup → Event → Setup
 happened b e = record b {
-  card = after e b.card;
-  counters = moment_counted b.counters (moment_of b.card e);
-  clock = fold (ordered e.line b.now) b.clock (orders_in (answer e b.card));
+  board = after e b.board;
+  counters = counted b.counters e b.board;
+  clock = fold (ordered e.line b.now) b.clock (orders_in (reply e b.board));
 }
 
 abbrev pub with_terminal : ℕ → Terminal → Setup → Setup

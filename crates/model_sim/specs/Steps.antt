@@ -1,21 +1,18 @@
 -- What each line of a script makes of the setup, and what it says in the transcript.
-use Rattle.std.specs.Prelude.{ℕ, zero, suc, ◌+◌, ◌-◌, ◌^◌, nat_lt, nat_le, Bool, true, ◌&&◌, if◌then◌else◌, List, [], ◌∷◌, ◌++◌, length, map, fold, sum_by, Option, None, Some, Result, Ok, Err}
+use Rattle.std.specs.Prelude.{ℕ, zero, suc, ◌+◌, ◌-◌, ◌^◌, nat_lt, nat_le, Bool, true, ◌&&◌, if◌then◌else◌, List, [], ◌∷◌, ◌++◌, length, map, fold, Option, None, Some, Result, Ok, Err}
 use Rattle.lapd_frame.specs.declared.timers.Timer.{Timer}
 use Rattle.lapd_clock.specs.Timer.{Lengths, first_out_of_range}
 use Rattle.lapd_clock.specs.Timers as clocks
 use Rattle.model_line.specs.declared.config.Config.{Config}
 use Rattle.model_line.specs.Config.{first_fault}
-use Rattle.model_line.specs.Event.{Answer, told, refused, pulled, octet, expiry, request, pull}
+use Rattle.model_bits.specs.Stream.{dropped}
+use Rattle.model_line.specs.Came.{came, cause_of}
+use Rattle.model_line.specs.declared.faults.Fault.{Fault}
 use Rattle.model_line.specs.Request as asking
-use Rattle.model_line.specs.Pull.{Taken, taken}
-use Rattle.model_line.specs.Stored.{held_sent}
-use Rattle.model_card.specs.Card.{Card, line_at}
-use Rattle.model_card.specs.Event.{Event, at}
-use Rattle.model_card.specs.Machine.{answer}
-use Rattle.model_card.specs.Stored.{stored, limit}
-use Rattle.model_card.specs.Happening.{Happening, comes, failed, goes, events_of}
-use Rattle.model_card.specs.HappeningsCounted.{happening_counted}
-use Rattle.lapd_count.specs.declared.counters.Counters.{Counters}
+use Rattle.model_card.specs.Stored as cards
+use Rattle.model_ports.specs.Card.{OctetCard}
+use Rattle.model_ports.specs.Stored.{stored, limit}
+use Rattle.model_sim.specs.Board.{Board, What, octet, pull, hears, next, expiry, request, Event, at, Reply, told, refused, pulled, gave, reply}
 use Rattle.lapd_script.specs.declared.kind.FaultKind.{FaultKind}
 use Rattle.lapd_script.specs.declared.kind.FaultKind.TheVariants.{BadNumber, NoCard, SecondCard, BadCard, WrongCard, BadLine, BadFrame, TimeOver}
 use Rattle.lapd_script.specs.declared.command.Asked.{Asked}
@@ -34,15 +31,17 @@ pub record Scene : Type 0 where
   pub setup : Setup
   pub text : List ℕ
 
--- What an answer says. Octets that are pulled are told together, and timer orders are not told.
-abbrev pub answer_text : ℕ → Answer → List ℕ
-answer_text line (told t) = report_text line t.notes t.contents t.cause t.lost
-answer_text line (refused why) = refused_text line why
-answer_text line (pulled value begins orders) = []
+-- What a reply says. Octets that are pulled are told together, and timer orders are not told.
+abbrev pub reply_text : ℕ → Reply → List ℕ
+reply_text line (told t) = report_text line t.notes t.contents t.cause t.lost
+reply_text line (refused why) = refused_text line why
+reply_text line (pulled value begins orders) = []
+reply_text line (gave None) = nothing_text line
+reply_text line (gave (Some given)) = frame_text line given.octets
 
 -- An event, and events one after the other.
 abbrev pub with_event : Scene → Event → Scene
-with_event s e = record { setup = happened s.setup e; text = s.text ++ answer_text e.line (answer e s.setup.card) }
+with_event s e = record { setup = happened s.setup e; text = s.text ++ reply_text e.line (reply e s.setup.board) }
 
 abbrev pub with_events : List Event → Scene → Scene
 with_events events s = fold with_event s events
@@ -61,17 +60,18 @@ after_in line frame s =
     after_rx line (octets_sent frame terminal) (record s { setup = with_terminal line (after_sending frame terminal) s.setup })
 
 -- `pull`: the octets that the line takes, and the frames that are complete in them.
-abbrev pub octet_in : Answer → ℕ
+abbrev pub octet_in : Reply → ℕ
 octet_in (told t) = 0
 octet_in (refused why) = 0
 octet_in (pulled value begins orders) = value
+octet_in (gave given) = 0
 
 pub record Pulls : Type 0 where
   pub setup : Setup
   pub octets : List ℕ
 
 abbrev pub one_pull : ℕ → Pulls → Pulls
-one_pull line p = record { setup = happened p.setup (at line pull); octets = p.octets ++ octet_in (answer (at line pull) p.setup.card) ∷ [] }
+one_pull line p = record { setup = happened p.setup (at line pull); octets = p.octets ++ octet_in (reply (at line pull) p.setup.board) ∷ [] }
 
 abbrev pub pulls : ℕ → ℕ → Pulls → Pulls
 pulls zero line p = p
@@ -83,29 +83,20 @@ after_pulls line p text = record { setup = with_taken line p.octets p.setup; tex
 abbrev pub after_pull : ℕ → ℕ → Scene → Scene
 after_pull line count s = after_pulls line (pulls count line (record { setup = s.setup; octets = [] })) s.text
 
--- On a card for frames a frame that comes, a fault that is told in its place (`failed`), and a call for the next frame are
--- the events that they spell; and they are counted as one.
-abbrev pub with_counters : List Counters → Scene → Scene
-with_counters counters s = record s { setup = record s.setup { counters = counters } }
+-- `in`: a frame comes, on either kind of card. On a card for frames it is heard as `Came` of `model_line` has it.
+abbrev pub is_heard_as : Scene → List ℕ → What
+is_heard_as s frame = hears (came s.setup.board.config.n201 frame)
 
-abbrev pub after_happening : Happening → Scene → Scene
-after_happening h s = with_counters (happening_counted s.setup.counters s.setup.card h) (with_events (events_of s.setup.card h) s)
-
--- `next`: what is taken, if anything.
-abbrev pub next_text : ℕ → Option Taken → List ℕ
-next_text line None = nothing_text line
-next_text line (Some t) = frame_text line t.frame
-
-abbrev pub after_next : ℕ → Scene → Scene
-after_next line s = record {
-  setup = (after_happening (goes line) s).setup;
-  text = s.text ++ next_text line (taken s.setup.card.config (line_at line s.setup.card));
-}
-
--- `in`: a frame comes, on either kind of card.
 abbrev pub after_coming : CardKind → ℕ → List ℕ → Scene → Scene
 after_coming Octets line frame s = after_in line frame s
-after_coming Frames line frame s = after_happening (comes line frame) s
+after_coming Frames line frame s = with_event s (at line (is_heard_as s frame))
+
+-- `failed`: a fault is told in place of a frame; `next`: the next frame is taken, if there is one.
+abbrev pub after_failed : ℕ → Fault → Scene → Scene
+after_failed line fault s = with_event s (at line (hears (dropped (cause_of fault))))
+
+abbrev pub after_next : ℕ → Scene → Scene
+after_next line s = with_event s (at line next)
 
 -- `wait`: what falls due at or before the end, one after the other, each at its moment. A timer that expires is taken
 -- from the clock, and the orders of its event are applied at that moment. It ends: with each expiry, the time that the
@@ -152,12 +143,15 @@ abbrev pub after_request : ℕ → ℕ → Asked → List ℕ → Scene → Scen
 after_request line tei what octets s = with_event s (at line (request (request_for what tei octets)))
 
 -- `stored`: what the card holds, and its bound. A card for frames keeps nothing of those that came and went.
-abbrev pub held : CardKind → Card → ℕ
-held Octets card = stored card
-held Frames card = stored card - sum_by held_sent card.lines
+abbrev pub held_in : CardKind → OctetCard → ℕ
+held_in Octets card = stored card
+held_in Frames card = cards.stored card.card
+
+abbrev pub held : Board → ℕ
+held b = held_in b.kind b.card
 
 abbrev pub after_stored : Scene → Scene
-after_stored s = record s { text = s.text ++ stored_text (held s.setup.kind s.setup.card) (limit s.setup.card.config) }
+after_stored s = record s { text = s.text ++ stored_text (held s.setup.board) (limit s.setup.board.config) }
 
 -- `counters`: what was counted of the line.
 abbrev pub after_counters : ℕ → Scene → Scene
@@ -174,7 +168,7 @@ for_frames Octets said = Err WrongCard
 for_frames Frames said = said
 
 abbrev pub at_line : ℕ → Scene → Scene → Result Scene FaultKind
-at_line line s after = if nat_lt line s.setup.card.config.lines then Ok after else Err BadLine
+at_line line s after = if nat_lt line s.setup.board.config.lines then Ok after else Err BadLine
 
 abbrev pub is_frame : List ℕ → Bool
 is_frame octets = nat_le 3 (length octets) && nat_le (length octets) 1028
@@ -184,7 +178,7 @@ can_come Octets octets = is_frame octets
 can_come Frames octets = true
 
 abbrev pub in_at_line : ℕ → List ℕ → Scene → Result Scene FaultKind
-in_at_line line octets s = if can_come s.setup.kind octets then Ok (after_coming s.setup.kind line octets s) else Err BadFrame
+in_at_line line octets s = if can_come s.setup.board.kind octets then Ok (after_coming s.setup.board.kind line octets s) else Err BadFrame
 
 abbrev pub last_moment : ℕ
 last_moment = 2 ^ 63 - 1
@@ -200,11 +194,11 @@ with_timers lengths s = elim (first_out_of_range lengths) [ None ↦ Ok (after_t
 abbrev pub with_card : line.Meaning → Scene → Result Scene FaultKind
 with_card line.skip s = Ok s
 with_card (line.card kind config) s = Err SecondCard
-with_card (line.rx number octets) s = for_octets s.setup.kind (at_line number s (after_rx number octets s))
-with_card (line.into number octets) s = if nat_lt number s.setup.card.config.lines then in_at_line number octets s else Err BadLine
-with_card (line.failed number fault) s = for_frames s.setup.kind (at_line number s (after_happening (failed number fault) s))
-with_card (line.next number) s = for_frames s.setup.kind (at_line number s (after_next number s))
-with_card (line.pull number count) s = for_octets s.setup.kind (at_line number s (after_pull number count s))
+with_card (line.rx number octets) s = for_octets s.setup.board.kind (at_line number s (after_rx number octets s))
+with_card (line.into number octets) s = if nat_lt number s.setup.board.config.lines then in_at_line number octets s else Err BadLine
+with_card (line.failed number fault) s = for_frames s.setup.board.kind (at_line number s (after_failed number fault s))
+with_card (line.next number) s = for_frames s.setup.board.kind (at_line number s (after_next number s))
+with_card (line.pull number count) s = for_octets s.setup.board.kind (at_line number s (after_pull number count s))
 with_card (line.wait milliseconds) s = in_time milliseconds s
 with_card (line.timers t200 t203 t201) s = with_timers (record { t200 = t200; t203 = t203; t201 = t201 }) s
 with_card line.stored s = Ok (after_stored s)

@@ -1,9 +1,8 @@
 -- What a script's card stores, and the bound of it.
 use Rattle.std.specs.Prelude.{◌≡◌, ℕ, ◌≤◌, List, take, Some}
 use Rattle.model_line.specs.declared.config.Config.{Config}
-use Rattle.model_card.specs.Card.{fresh}
-use Rattle.model_card.specs.Run.{after_all}
-use Rattle.model_card.specs.Stored.{stored, limit}
+use Rattle.model_ports.specs.Stored.{limit}
+use Rattle.model_sim.specs.Board.{fresh, after_all}
 use Rattle.lapd_script.specs.Bound.{bound}
 use Rattle.lapd_script.specs.Pieces.{pieces_of}
 use Rattle.model_sim.specs.Setup.{Setup}
@@ -18,8 +17,7 @@ bound_of c = bound c.lines c.terminals c.control c.slots c.n201
 -- A card stores no more after each of the script's events,
 pub record ScriptsStayWithin : Type 0 where
   pub always : (text : List ℕ) (setup : Setup) (count : ℕ) → (played (pieces_of text)).setup ≡ Some setup
-      → stored (after_all (fresh setup.card.config) (take count (script_events text))) ≤ bound_of setup.card.config
-  -- and so after its last line; what the line `stored` tells is no more. The limit that it tells is the same number.
-  pub last : (text : List ℕ) (setup : Setup) → (played (pieces_of text)).setup ≡ Some setup → stored setup.card ≤ bound_of setup.card.config
-  pub shown : (text : List ℕ) (setup : Setup) → (played (pieces_of text)).setup ≡ Some setup → held setup.kind setup.card ≤ bound_of setup.card.config
+      → held (after_all (fresh setup.board.kind setup.board.config) (take count (script_events text))) ≤ bound_of setup.board.config
+  -- and so after its last line, which is what the line `stored` tells. The limit that it tells is the same number.
+  pub last : (text : List ℕ) (setup : Setup) → (played (pieces_of text)).setup ≡ Some setup → held setup.board ≤ bound_of setup.board.config
   pub same : (c : Config) → limit c ≡ bound_of c

@@ -1,7 +1,7 @@
 //! What holds of whole scripts. Each law is the contract of a call that does nothing; it holds for every text.
 
 ghost use Rattle.model_sim.specs.Asked.{LimitsAreOfCards};
-ghost use Rattle.model_sim.specs.Events.{ScriptsAreRuns};
+ghost use Rattle.model_sim.specs.Events.{RunsOnBoards, ScriptsAreRuns};
 ghost use Rattle.model_sim.specs.Heard.{FramesAreHeard};
 ghost use Rattle.model_sim.specs.Replies.{TranscriptsAreReplies};
 ghost use Rattle.model_sim.specs.Waits.{WaitsLeaveNothingDue};
@@ -9,7 +9,8 @@ ghost use Rattle.model_sim.specs.Within.{ScriptsStayWithin};
 
 /// A script is a run of the card. Where it has come to a card, that card is the one of the card line, fresh, after the
 /// events of the script's lines up to the first faulty one: an octet for each that comes from a line, a pull for each
-/// that a line takes, a request, and for a wait the expiries that fall due, one after the other.
+/// that a line takes, or what is heard and a call for the next frame; a request; and for a wait the expiries that fall due, one
+/// after the other.
 ///
 /// The configuration is in range (`in_range`), and each event is at a line of the card (`at_lines`). The laws of runs
 /// of a card ask for nothing else of a configuration and of events, except one: that the pool is never full asks for
@@ -17,6 +18,12 @@ ghost use Rattle.model_sim.specs.Within.{ScriptsStayWithin};
 /// script: what is stored, numbered, sent and pulled is as they say. [`scripts_stay_within`] says so of what is stored.
 pub fn scripts_are_runs()
     ensures { ScriptsAreRuns }
+{}
+
+/// What a script is played on is a card of octets or one of frames: runs on it are runs of that card.
+#[tactic(auto, using(crate::proofs::OnBoards::runs_on_boards))]
+pub fn runs_on_boards()
+    ensures { RunsOnBoards }
 {}
 
 /// A transcript is what the replies of that run say. The moments of the run, each a card, an event and its answer, are

@@ -14,6 +14,6 @@
 mod laws;
 
 pub use laws::{
-    frames_are_heard, limits_are_of_cards, scripts_are_runs, scripts_stay_within,
+    frames_are_heard, limits_are_of_cards, runs_on_boards, scripts_are_runs, scripts_stay_within,
     transcripts_are_replies, waits_leave_nothing_due,
 };

@@ -1,11 +1,11 @@
-//! A card for frames: a list of happenings, a sink that fails, and a room that is too small.
+//! A card of frames: a list of events, a sink that fails, and a room that is too small.
 
 ghost use Rattle.std.specs.Prelude.{◌≡◌, ⊤, IfOk};
 ghost use Rattle.lapd_card.specs.FrameCard.{line_count};
 
 use crate::starts::USUAL;
 use lapd_card::{
-    Fault, FrameCard, FrameReply, FrameSink, Happening, Request, RoomTooSmall, SinkFailed,
+    Fault, FrameCard, FrameEvent, FrameReply, FrameSink, Request, RoomTooSmall, SinkFailed,
     SinkFault,
 };
 use lapd_frame::{Note, Refusal, Service, Timer};
@@ -16,7 +16,7 @@ use std::test::Fail;
 
 const CALL: Service = Service::Call;
 
-/// A card for frames of the usual sizes.
+/// A card of frames of the usual sizes.
 fn frame_card(alloc: Global) -> Result<FrameCard<SlabShelf>, Fail>
     ensures { IfOk result (λ card. line_count card ≡ 1) }
 {
@@ -69,9 +69,9 @@ struct Expecting {
 }
 
 impl FrameSink for Expecting {
-    ghost takes = { λ old line said new. ⊤ };
+    ghost takes = { λ old line answer new. ⊤ };
 
-    ghost misses = { λ old line said new. ⊤ };
+    ghost misses = { λ old line answer new. ⊤ };
 
     ghost failures = { λ s. s.failures };
 
@@ -89,16 +89,16 @@ impl FrameSink for Expecting {
 
 /// TEI 64 establishes its call control link, and sends contents and asks for an answer; the controller tells a fault; a
 /// timer that does not run expires; and a request is refused.
-const HAPPENINGS: [Happening<'static>; 9] = [
-    Happening::Asks(0, Request::Assign(64)),
-    Happening::Comes(0, &[0x00, 0x81, 0x7F]),
-    Happening::Goes(0),
-    Happening::Comes(0, &[0x00, 0x81, 0x00, 0x01, 0xCB]),
-    Happening::Goes(0),
-    Happening::Goes(0),
-    Happening::Failed(0, Fault::Fcs),
-    Happening::Expires(0, Timer::T200(CALL, 64)),
-    Happening::Asks(0, Request::Assign(64)),
+const EVENTS: [FrameEvent<'static>; 9] = [
+    FrameEvent::Request(0, Request::Assign(64)),
+    FrameEvent::Frame(0, &[0x00, 0x81, 0x7F]),
+    FrameEvent::Next(0),
+    FrameEvent::Frame(0, &[0x00, 0x81, 0x00, 0x01, 0xCB]),
+    FrameEvent::Next(0),
+    FrameEvent::Next(0),
+    FrameEvent::Failed(0, Fault::Fcs),
+    FrameEvent::Expire(0, Timer::T200(CALL, 64)),
+    FrameEvent::Request(0, Request::Assign(64)),
 ];
 
 /// What they are answered with: UA, and RR with F=1, are the frames that go.
@@ -115,13 +115,13 @@ const KINDS: [Kind; 9] = [
 ];
 
 #[test]
-fn happenings_are_answered(rt: HostRuntime) -> Result<(), Fail> {
+fn events_are_answered(rt: HostRuntime) -> Result<(), Fail> {
     let mut card = frame_card(rt.alloc())?;
     let mut sink = Expecting { at: 0, failures: 0 };
-    assert!(rt; card.drive(&HAPPENINGS, &mut sink) == Ok(9));
+    assert!(rt; card.drive(&EVENTS, &mut sink) == Ok(9));
     assert!(rt; sink.at == 9 && sink.failures == 0);
     assert!(rt; card.lines() == 1);
-    assert!(rt; card.drive(&HAPPENINGS, &mut sink) == Err(SinkFault { at: 0 }));
+    assert!(rt; card.drive(&EVENTS, &mut sink) == Err(SinkFault { at: 0 }));
     assert!(rt; sink.at == 9 && sink.failures == 1);
     Ok(())
 }
@@ -141,7 +141,7 @@ fn next_length(
 fn a_room_that_is_too_small(rt: HostRuntime) -> Result<(), Fail> {
     let mut card = frame_card(rt.alloc())?;
     let mut sink = Expecting { at: 0, failures: 0 };
-    assert!(rt; card.drive(&HAPPENINGS[..2], &mut sink) == Ok(2));
+    assert!(rt; card.drive(&EVENTS[..2], &mut sink) == Ok(2));
     let mut room = [0x55u8; 264];
     let fault = RoomTooSmall {
         room: card.frame_room(),

@@ -7,7 +7,7 @@
 //! - `own_shelf`: a card over a shelf of the caller's own: `shelf`, an array of places (`place`), as firmware without an
 //!   allocator would write it. It is no part of the product, and shows what such a shelf has to keep. It takes no memory
 //!   at all, and looks for a free place from the first on, so that a `put` takes longer the fuller it is.
-//! - `frames`: a card for frames, with a list of happenings and a room that is too small.
+//! - `frames`: a card of frames, with a list of events and a room that is too small.
 //! - `example`: a line that is served, as in the README.
 //! - `memory`: starts and long runs, of which `tests/memory` counts the allocations.
 #![tactic(auto)]

@@ -1,5 +1,4 @@
-//! Starts. The ranges of a configuration are in `tests/scripts/faults.txt`, and its least and greatest in
-//! `tests/scripts/card`.
+//! Starts. The ranges of a configuration are in `tests/scripts/faults.txt`, and its least and greatest in `tests/scripts/card`.
 
 ghost use Rattle.std.specs.Prelude.{◌≡◌, ◌≤◌, IfOk};
 ghost use Rattle.lapd_card.specs.Card.{line_count};

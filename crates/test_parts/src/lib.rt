@@ -1,6 +1,6 @@
 //! Tests of the lower crates of the product by their public contracts; there is nothing to call. They stand in a crate of
-//! their own, so that what they test isn't proved again for them. What a link does is in docs/TABLES.md, which `tool_tables`
-//! prints, and in `tests/scripts/link`.
+//! their own, so that what they test isn't proved again for them. What a link does `tool_tables` prints, and
+//! `tests/scripts/link` shows.
 //!
 //! - `bits`: framers, deframers and frame checks. `frame`: the grammar of frames. `clock`: when timers fall due. `store`:
 //!   shelves, and queues of slots over them.

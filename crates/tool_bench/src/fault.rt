@@ -33,6 +33,12 @@ impl From<lapd_bits::StartFault> for Fault {
     }
 }
 
+impl From<lapd_clock::StartFault> for Fault {
+    fn from(_: lapd_clock::StartFault) -> Fault {
+        Fault::OutOfMemory
+    }
+}
+
 impl From<lapd_store::StartFault> for Fault {
     fn from(_: lapd_store::StartFault) -> Fault {
         Fault::OutOfMemory

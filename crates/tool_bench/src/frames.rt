@@ -1,10 +1,14 @@
 //! A card for frames, on whose lines the same frames come and go.
 
+ghost use Rattle.std.specs.Prelude.{◌≤◌, ◌^◌};
+
+use crate::clocks::carry_out;
 use crate::done::Done;
 use crate::fault::Fault;
 use crate::lines::{INFORMATION, SABME, TEI, config};
 use crate::sender::N201;
-use lapd_card::{FrameCard, Request};
+use lapd_card::{FrameCard, NextFrame, Request};
+use lapd_clock::Clock;
 use lapd_frame::Service;
 use lapd_store::SlabShelf;
 use std::alloc::Global;
@@ -17,6 +21,8 @@ const POLL: [u8; 4] = [0x00, 0x81, 0x01, 0x01];
 pub enum Whole {
     /// A poll comes, and its answer is taken.
     Polls,
+    /// The same, with a clock: all orders for timers are carried out on it, and it is asked what is due.
+    Timed,
     /// An I-frame with 64 octets of information comes and is handed on, and its acknowledgement is taken.
     Came,
     /// Layer 3 asks for an I-frame with 64 octets of information, it is taken, and its acknowledgement comes.
@@ -27,6 +33,7 @@ pub enum Whole {
 #[derive(Drop)]
 struct Frames {
     card: FrameCard<SlabShelf>,
+    clock: Clock,
     /// An I-frame of the terminal.
     comes: [u8; 68],
     /// The frame that was taken last.
@@ -37,9 +44,9 @@ struct Frames {
 /// Does so many rounds of 128 frames on each of so many lines.
 pub fn serve(alloc: Global, whole: Whole, lines: u16, rounds: u32) -> Result<Done, Fault> {
     let mut frames = started(alloc, lines)?;
-    for _ in 0..rounds {
+    for round in 0..rounds {
         for number in 0..128u8 {
-            frames.turn(whole, number);
+            frames.turn(whole, number, u64::from(round));
         }
         frames.done.count(0, 0, frames.card.stored());
     }
@@ -51,8 +58,10 @@ fn started(alloc: Global, lines: u16) -> Result<Frames, Fault> {
     let config = config(lines);
     let shelf = SlabShelf::start(alloc, u32::from(config.slots), N201)?;
     let card = FrameCard::start(alloc, config, shelf)?;
+    let clock = Clock::start(alloc, card.lines().clamp(1, 64), 8)?;
     let mut frames = Frames {
         card,
+        clock,
         comes: [0x5A; 68],
         taken: [0; 264],
         done: Done::new(),
@@ -78,10 +87,13 @@ impl Frames {
     }
 
     /// A frame comes or goes on each line, and its answer.
-    fn turn(&mut self, whole: Whole, number: u8) {
+    fn turn(&mut self, whole: Whole, number: u8, now: u64)
+        requires { now ≤ 2 ^ 63 }
+    {
         for line in 0..self.card.lines() {
             let is_one = match whole {
                 Whole::Polls => self.poll(line),
+                Whole::Timed => self.timed_poll(line, now),
                 Whole::Came => self.come(line, number),
                 Whole::Gone => self.go(line, number),
             };
@@ -92,6 +104,18 @@ impl Frames {
     fn poll(&mut self, line: usize) -> bool {
         self.hear(line, &POLL);
         self.take(line)
+    }
+
+    fn timed_poll(&mut self, line: usize, now: u64) -> bool
+        requires { now ≤ 2 ^ 63 }
+    {
+        if line < self.card.lines() {
+            let report = self.card.frame(line, &POLL);
+            carry_out(&mut self.clock, line, report.orders(), now);
+            self.done.count(POLL.len(), 0, 0);
+        }
+        let is_none = self.clock.due(now).is_none();
+        self.take_timed(line, now) && is_none
     }
 
     fn come(&mut self, line: usize, number: u8) -> bool {
@@ -133,15 +157,30 @@ impl Frames {
 
     /// Takes the next frame of a line, and answers whether there was one.
     fn take(&mut self, line: usize) -> bool {
-        if line >= self.card.lines() {
+        self.take_with(line).is_some()
+    }
+
+    /// The same, and carries out its orders.
+    fn take_timed(&mut self, line: usize, now: u64) -> bool
+        requires { now ≤ 2 ^ 63 }
+    {
+        let Some(next) = self.take_with(line) else {
             return false;
+        };
+        carry_out(&mut self.clock, line, next.orders(), now);
+        true
+    }
+
+    fn take_with(&mut self, line: usize) -> Option<NextFrame> {
+        if line >= self.card.lines() {
+            return None;
         }
         let Ok(Some(next)) = self.card.next_frame(line, &mut self.taken) else {
-            return false;
+            return None;
         };
         self.done.count(next.length, 0, 0);
         self.done
             .add(u64::from(self.taken[2]) + u64::from(self.taken[3]));
-        true
+        Some(next)
     }
 }

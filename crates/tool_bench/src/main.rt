@@ -9,6 +9,7 @@
 #![tactic(auto)]
 
 mod busy;
+mod clocks;
 mod done;
 mod fault;
 mod frames;

@@ -3,6 +3,7 @@
 ghost use Rattle.std.specs.Prelude.{◌≤◌};
 
 use crate::busy::busy;
+use crate::clocks::{Timed, tick};
 use crate::done::Done;
 use crate::fault::Fault;
 use crate::frames::{Whole, serve};
@@ -48,6 +49,8 @@ pub enum Work {
     Frames(Whole, u16),
     /// A card with 64 busy lines.
     Busy,
+    /// A clock of so many lines.
+    Clock(Timed, u16),
     /// Contents that are put on a shelf, lent and released.
     Keep(Shelves, Size),
 }
@@ -57,7 +60,7 @@ pub fn works() -> &'static [(&'static str, Work)] {
     &WORKS
 }
 
-const WORKS: [(&str, Work); 35] = [
+const WORKS: [(&str, Work); 41] = [
     ("check", Work::Check),
     ("hear-short", Work::HearShort),
     ("hear-long", Work::HearLong),
@@ -82,11 +85,17 @@ const WORKS: [(&str, Work); 35] = [
     ("faulty-64", Work::Card(Traffic::Faulty, 64)),
     ("frame-polls-1", Work::Frames(Whole::Polls, 1)),
     ("frame-polls-64", Work::Frames(Whole::Polls, 64)),
+    ("clock-polls-1", Work::Frames(Whole::Timed, 1)),
+    ("clock-polls-64", Work::Frames(Whole::Timed, 64)),
     ("frames-came-1", Work::Frames(Whole::Came, 1)),
     ("frames-came-64", Work::Frames(Whole::Came, 64)),
     ("frames-gone-1", Work::Frames(Whole::Gone, 1)),
     ("frames-gone-64", Work::Frames(Whole::Gone, 64)),
     ("busy-64", Work::Busy),
+    ("clock-idle-1", Work::Clock(Timed::Idle, 1)),
+    ("clock-idle-64", Work::Clock(Timed::Idle, 64)),
+    ("clock-orders-1", Work::Clock(Timed::Orders, 1)),
+    ("clock-orders-64", Work::Clock(Timed::Orders, 64)),
     ("raw-keep-8", Work::Keep(Shelves::Raw, Size::Narrow)),
     ("raw-keep-64", Work::Keep(Shelves::Raw, Size::Middle)),
     ("raw-keep-260", Work::Keep(Shelves::Raw, Size::Wide)),
@@ -110,6 +119,7 @@ impl Work {
             Work::Card(traffic, lines) => exchange(alloc, traffic, lines, rounds),
             Work::Frames(kind, lines) => serve(alloc, kind, lines, rounds),
             Work::Busy => busy(alloc, rounds),
+            Work::Clock(timed, lines) => tick(alloc, timed, lines, rounds),
             Work::Keep(shelves, size) => keep(alloc, shelves, size, rounds),
         }
     }

@@ -1,5 +1,5 @@
-//! `tool_tables` prints `docs/TABLES.md`: what a link and TEI management do in each state with each event, played on
-//! the proved `Link` and `Teis` by their public calls.
+//! `tool_tables` prints what a link and TEI management do in each state with each event, played on the proved `Link`
+//! and `Teis` by their public calls. `stdout` beside `src` has it.
 //!
 //! - `shelved_link`: a link with its shelf. `events`: what happens to it, and what it leads to.
 //! - `cases`: the states of a link, and the events.
@@ -11,7 +11,7 @@
 //!
 //! # Only tested
 //!
-//! That docs/TABLES.md is what it prints.
+//! What it prints, against `stdout`.
 #![tactic(auto)]
 
 mod cases;

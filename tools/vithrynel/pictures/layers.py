@@ -35,11 +35,12 @@ def layer_3(draw: Drawing) -> None:
 
 
 def line(draw: Drawing) -> None:
-    """One of the lines of the card, before the others."""
+    """One of the lines of the card, before the others; and its port, which a card of octets adds."""
     for step in (16, 8):
-        draw.box(172 + step, 190 - step, 516, 304, "panel", "rule", round=9)
-    draw.box(172, 190, 516, 304, "panel", "ink", round=9)
-    draw.text(188, 214, "line: the D-channel of a subscriber", size=13.5, bold=True)
+        draw.box(172 + step, 190 - step, 516, 212, "panel", "rule", round=9)
+        draw.box(172 + step, 418 - step, 516, 74, "panel", "rule", round=9)
+    draw.box(172, 190, 516, 212, "panel", "ink", round=9)
+    draw.text(188, 214, "line: the D-channel of a subscriber, in frames", size=13.5, bold=True)
     draw.text(676, 214, "lapd_line", "soft", 11.5, anchor="end", mono=True)
     for x, width, name, rows, crate in (
         (186, 184, "two links for each TEI", ["call control: SAPI 0", "packet mode: SAPI 16"], "lapd_link"),
@@ -49,9 +50,12 @@ def line(draw: Drawing) -> None:
         part(draw, (x, 228, width, 98), name, rows)
         draw.text(x + 14, 313, crate, "soft", 11.5, mono=True)
     of_frames = ["address, control field and information are read and written"]
-    part(draw, (186, 338, 488, 58), "frames", of_frames, "lapd_frame")
-    of_bits = ["deframer and framer: flags, stuffed bits, aborts, frame check,", "at any bit of an octet"]
-    part(draw, (186, 408, 488, 74), "bits", of_bits, "lapd_bits")
+    part(draw, (186, 338, 488, 54), "frames", of_frames, "lapd_frame")
+    draw.box(172, 418, 516, 74, "panel", "ink", round=9, dashed=1)
+    draw.text(188, 439, "port, of a card of octets: deframer and framer", size=13.5, bold=True)
+    draw.text(676, 439, "lapd_bits", "soft", 11.5, anchor="end", mono=True)
+    draw.text(188, 459, "flags, stuffed bits, aborts, frame check, at any bit of an octet", "soft", 12.5)
+    draw.text(188, 476, "(without it, the card is of frames: a controller gives and takes these)", "soft", 12.5)
 
 
 def beside(draw: Drawing) -> None:
@@ -71,10 +75,10 @@ def beside(draw: Drawing) -> None:
 def d_channel(draw: Drawing) -> None:
     """The line below the card, and its terminals."""
     upwards(draw, 216, 572, 508, IN)
-    draw.text(230, 538, "octets received, one at a time", IN, 12.5)
+    draw.text(230, 538, "octets received, one at a time; or frames", IN, 12.5)
     draw.text(230, 555, "a frame that is dropped is told with its cause, and never answered", "soft", 12.5)
     upwards(draw, 664, 508, 572, OUT)
-    draw.text(678, 538, "octets to send, one at a pull", OUT, 12.5)
+    draw.text(678, 538, "octets to send, one at a pull; or frames", OUT, 12.5)
     draw.line([(60, 580), (964, 580)], "ink", 3)
     draw.text(964, 572, "D-channel", "ink", 13, anchor="end", bold=True)
     for number in range(4):
@@ -88,8 +92,9 @@ def draw(_: str) -> str:
     """The picture."""
     it = Drawing(
         "The layers of a line card",
-        "Layer 3 above, the D-channel below, between them the card and its lines: links, TEI management, frames, bits. "
-        "In go requests, octets and expiries; out come notes, octets and orders for timers.",
+        "Layer 3 above, the D-channel below, between them the card and its lines: links, TEI management, frames; and a port "
+        "below each line, which a card of octets adds. In go requests, octets or frames, and expiries; out come notes, "
+        "octets or frames, and orders for timers.",
     )
     it.box(150, 142, 730, 366, "on-blue", "blue", round=12)
     it.text(720, 168, "card: 1 to 64 lines", "blue", 14, bold=True)

@@ -20,16 +20,17 @@ class Call(NamedTuple):
 
 
 COMES = [
-    Call("Card::octet", "lapd_card", "hands the octet to its line"),
-    Call("Line::hear", "lapd_line", "asks what the octet ends, if anything"),
+    Call("Card::octet", "lapd_card", "hands the octet to the port of its line"),
+    Call("Port::octet", "lapd_line", "asks what the octet ends, if anything"),
     Call("Deframer::step", "lapd_bits", "flags, stuffed bits, aborts, frame check", [NOTHING, "abort, ragged, short, fcs"]),
+    Call("FrameLine::heard", "lapd_line", "hears a frame: here a card of frames begins"),
     Call("read", "lapd_frame", "reads the frame; the line finds its link", ["extension, sapi, tei"]),
 ]
 ENDS = [Call("Link::receive", "lapd_link", ""), Call("Teis::message", "lapd_tei", "")]
 OFFERS = [Call("Teis::offer", "lapd_tei", ""), Call("Link::offer", "lapd_link", "")]
 GOES = [
-    Call("Card::pull", "lapd_card", "asks its line for eight bits"),
-    Call("Line::pull", "lapd_line", "goes on where eight bits or more are left"),
+    Call("Card::pull", "lapd_card", "asks the port whether eight bits are left"),
+    Call("FrameLine::load_next", "lapd_line", "takes the next frame, for the port to load"),
     Call("write", "lapd_frame", "writes address and control field"),
     Call("Framer::load", "lapd_bits", "takes a copy, and works out the check"),
     Call("Framer::octet", "lapd_bits", "puts stuffed bits in, closes with a flag"),
@@ -105,11 +106,11 @@ def goes(draw: Drawing) -> None:
     end(draw, RIGHT, 60, BOX, "the line takes an octet", "on-green", "green")
     y, middle = 124.0, RIGHT + BOX / 2
     down(draw, middle, 100, y, "green")
-    for it in GOES[:2]:
+    for it, words in zip(GOES[:2], ("fewer are left", "")):
         call(draw, RIGHT, y, it)
         y += HIGH + 26
         down(draw, middle, y - 26, y, "green")
-    draw.text(middle + 12, y - 9, "fewer are left", "green", 12.5)
+        draw.text(middle + 12, y - 9, words, "green", 12.5)
     y = offers(draw, y)
     for it in GOES[2:]:
         down(draw, middle, y, y + 26, "green")
@@ -118,7 +119,7 @@ def goes(draw: Drawing) -> None:
         y += HIGH
     down(draw, middle, y, y + 26, "green")
     end(draw, RIGHT, y + 26, BOX, "an octet for the line", "on-green", "green")
-    far, begin, back = RIGHT + BOX + 60, 124 + HIGH + 26 + HIGH / 2, y - HIGH / 2
+    far, begin, back = RIGHT + BOX + 60, 124 + HIGH / 2, y - HIGH / 2
     draw.arrow([(RIGHT + BOX, begin), (far, begin), (far, back), (RIGHT + BOX, back)], "soft", 1.8)
     for number, words in enumerate(("eight bits", "or more are", "left, or no", "frame waits:", "then an idle", "flag goes")):
         draw.text(far + 8, back - 170 + 17 * number, words, "soft", 12.5)
@@ -128,9 +129,10 @@ def draw(_: str) -> str:
     """The picture."""
     it = Drawing(
         "The way of an octet in and out",
-        "An octet that comes goes by Card::octet, Line::hear, Deframer::step and read to Link::receive or Teis::message, "
-        "and comes back as a Report. One that goes is asked for by Card::pull and Line::pull, and comes by Teis::offer, "
-        "unit data or Link::offer, write, Framer::load and Framer::octet.",
+        "An octet that comes goes by Card::octet, Port::octet and Deframer::step; what it ends goes by FrameLine::heard and "
+        "read to Link::receive or Teis::message, and comes back as a Report. One that goes is asked for by Card::pull; the "
+        "next frame comes by FrameLine::load_next from Teis::offer, unit data or Link::offer, and goes by write, "
+        "Framer::load and Framer::octet.",
     )
     it.text(LEFT, 36, "An octet comes", "blue", 16, bold=True)
     it.text(RIGHT, 36, "An octet goes", "green", 16, bold=True)

@@ -2,15 +2,16 @@
 
 ghost use Rattle.std.specs.Prelude.{◌≡◌, ◌≤◌, [], false, length, take, map};
 ghost use Rattle.std.specs.Option.{option_copied};
+ghost use Rattle.lapd_line.specs.Reports.{report_told};
 ghost use Rattle.model_line.specs.Event.{nothing};
 ghost use Rattle.lapd_c.specs.Notes.{plain_note};
 ghost use Rattle.lapd_c.specs.Timers.{plain_order};
-ghost use Rattle.lapd_c.specs.Reports.{Shows, ShowsPull, SameButContents, contents_in, contents_of, mark_of, orders_of, told_by};
+ghost use Rattle.lapd_c.specs.Reports.{Shows, ShowsPull, SameButContents, contents_in, contents_of, mark_of, orders_of};
 
 use crate::plain::notes::{PlainNote, cause_number};
 use crate::plain::timers::PlainOrder;
+use lapd_card::Report;
 use lapd_frame::{Note, Order};
-use model_bits::Cause;
 
 /// The most octets of contents that a configuration allows.
 const MOST_OCTETS: usize = 260;
@@ -61,25 +62,17 @@ impl PlainReport {
     ///
     /// It stands apart, so that what tells nothing has no part of it in its way.
     #[inline(never)]
-    pub fn show(
-        &mut self,
-        notes: &[Note],
-        orders: &[Order],
-        cause: Option<Cause>,
-        lost: u8,
-        delivered: Option<&[u8]>,
-    )
-        requires notes { length notes.now ≤ 4 }
-        requires orders { length orders.now ≤ 4 }
-        ensures { length (contents_of (option_copied delivered.entry)) ≤ 260
-            → Shows self.new (told_by notes.now orders.now cause lost (option_copied delivered.entry)) }
+    pub fn show(&mut self, told: &Report<'_>)
+        requires notes { length (report_told told.now).notes ≤ 4 }
+        requires orders { length (report_told told.now).orders ≤ 4 }
+        ensures { length (contents_of (report_told told.now).contents) ≤ 260 → Shows self.new (report_told told.now) }
     {
-        self.note_count = write_notes(&mut self.notes, notes);
-        self.order_count = write_orders(&mut self.orders, orders);
-        self.cause = cause_number(cause);
-        self.lost = lost;
+        self.note_count = write_notes(&mut self.notes, told.notes());
+        self.order_count = write_orders(&mut self.orders, told.orders());
+        self.cause = cause_number(told.cause);
+        self.lost = told.lost;
         self.begun = 0;
-        self.deliver(delivered);
+        self.deliver(told.delivered);
     }
 
     /// Shows what a pull was answered with: whether it began a frame, and at most four orders.

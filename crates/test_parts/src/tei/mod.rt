@@ -1,5 +1,5 @@
-//! What terminals that ask for a TEI are answered, and how a check of a TEI ends. Each event in each state is in
-//! `docs/TABLES.md`, which `tool_tables` prints.
+//! What terminals that ask for a TEI are answered, and how a check of a TEI ends. `tool_tables` prints what each event
+//! leads to in each state.
 
 mod assignments;
 mod checks;

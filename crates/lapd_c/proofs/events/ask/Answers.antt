@@ -1,7 +1,7 @@
 -- Hand-written answers for `ask`.
-use Rattle.lapd_c.proofs.Vocabulary.{refl, sym, ap, subst, ◌∙◌, none-some, request_of, read_of, answer_of_result, at, AnyStands}
+use Rattle.lapd_c.proofs.Vocabulary.{card_in, refl, sym, ap, subst, ◌∙◌, none-some, request_of, read_of, answer_of_result, at, AnyStands}
 use Rattle.model_line.specs.Event as line_event
-use Rattle.lapd_c.proofs.Kinded.{reached_of}
+use Rattle.lapd_c.proofs.Kinded.{ranges_in}
 use Rattle.lapd_c.proofs.Served.{if_ok, if_some, shown}
 use Rattle.lapd_c.proofs.events.ask.Goals as goal
 
@@ -9,7 +9,7 @@ pub returns-in-Ok-request-clause-served : goal.returns-in-Ok-request-clause-serv
 returns-in-Ok-request-clause-served c = λ m s w. if_ok _ _ (request_of c.in-Ok.asked) (sym c.request_in.ensures ∙ ap read_of c.in-Ok.is) (λ granted. (
   refl,
   c.request.ensures.after.stands m s,
-  shown m (at c.args.line (line_event.request (request_of c.in-Ok.asked))) c.in-Ok-request.told _ _ c.show.new.self (reached_of c.args.card.now m s) (ap answer_of_result (sym c.in-Ok-request.is) ∙ c.request.ensures.told m s) c.notes.ensures c.orders.ensures c.show.ensures,
+  shown (card_in m) (at c.args.line (line_event.request (request_of c.in-Ok.asked))) c.in-Ok-request.told c.show.new.self (ranges_in c.args.card.now m s) (ap answer_of_result (sym c.in-Ok-request.is) ∙ c.request.ensures.told m s) c.show.ensures,
 ))
 
 pub returns-in-Err-request-clause-refused : goal.returns-in-Err-request-clause-refused

@@ -16,7 +16,7 @@ loop-step-init c =
         omega arith,
         λ m s. record {
           stands = subst (CardStands c.args.card.now) (sym (card-none c.args.line taken from m)) s;
-          counted = counted-none c.args.line taken from m (counters_in c.args.card.now.lines);
+          counted = counted-none c.args.line taken from m (counters_in c.args.card.now.frames.lines);
           octets = given-none c.args.line taken from m c.args.given.now;
           quiet = quiet-none c.args.line taken from m;
         },

@@ -1,6 +1,6 @@
 -- Hand-written answers for `give_frame`.
-use Rattle.lapd_c.proofs.Vocabulary.{refl, ◌∙◌}
-use Rattle.lapd_c.proofs.Kinded.{none_goes, none_counts, unwritten}
+use Rattle.lapd_c.proofs.Vocabulary.{refl, ap, ◌∙◌, option_map, next_in}
+use Rattle.lapd_c.proofs.Kinded.{next_is, none_goes, none_counted, unwritten}
 use Rattle.lapd_c.proofs.frames.give_frame.Goals as goal
 
 pub returns-in-Ok-None-clause-none : goal.returns-in-Ok-None-clause-none
@@ -15,4 +15,4 @@ returns-in-Ok-None-clause-none c = λ m s within room none. (
 pub returns-in-Ok-None-clause-uncounted : goal.returns-in-Ok-None-clause-uncounted
 returns-in-Ok-None-clause-uncounted c = λ m s not_served.
     c.in-Ok-None.ensures.after.counted m s
-    ∙ none_counts c.args.line m _ c.in-Ok-None.field-0 c.next_frame.new.out c.in-Ok-None.field-0-is (c.in-Ok-None.ensures.gives m s)
+    ∙ none_counted c.args.line m _ (next_is c.args.line m c.next_frame.new.out c.in-Ok-None.field-0 (c.in-Ok-None.ensures.gave m s) ∙ ap (option_map (next_in c.next_frame.new.out)) c.in-Ok-None.field-0-is)

@@ -1,15 +1,13 @@
 -- Hand-written answers for `limit`.
-use Rattle.lapd_card.proofs.Vocabulary.{◌≡◌, ◌+◌, ◌*◌, sym, subst, Fits, w32, limit}
-use Rattle.lapd_card.proofs.Amounts.{limit_small, fits_32}
+use Rattle.lapd_card.proofs.Vocabulary.{◌≡◌, ◌+◌, ◌*◌, sym, subst, Fits, w32}
+use Rattle.model_ports.specs.Stored.{limit}
+use Rattle.lapd_card.proofs.Amounts.{octets_small, fits_32}
 use Rattle.lapd_card.proofs.stored.limit.Goals as goal
 
-pub overflow_add-result : goal.overflow_add-result
-overflow_add-result c =
-    let control = c.from.ensures in
-    let terminals = c.from-2.ensures in
-    let n201 = c.from-3.ensures in
-    let lines = c.from-4.ensures in
-    let slots = c.from-5.ensures in
-    let width = c.from-6.ensures in
-    let is : c.from-4.result * (2 * c.from-3.result + 10 + 8 * c.from.result * c.from-2.result + 32 + 12) + c.from-5.result * c.from-6.result ≡ limit c.args.config.now = cc in
-    subst (λ n. Fits w32 n) (sym is) (fits_32 (limit c.args.config.now) (limit_small c.args.config.now c.requires))
+pub overflow_add-result-2 : goal.overflow_add-result-2
+overflow_add-result-2 c =
+    let frames = c.frame_limit.ensures in
+    let lines = c.from.ensures in
+    let width = c.from-2.ensures in
+    let is : c.frame_limit.result + c.from.result * (2 * c.from-2.result + 10) ≡ limit c.args.config.now = cc in
+    subst (λ n. Fits w32 n) (sym is) (fits_32 (limit c.args.config.now) (octets_small c.args.config.now c.requires))

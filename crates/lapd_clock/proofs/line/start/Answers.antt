@@ -1,14 +1,36 @@
--- Without the timer the line has no more timers than before, and with it at most one more.
-use Rattle.lapd_clock.proofs.Vocabulary.{length, ap, arith, all_but, held_before}
-use Rattle.lapd_clock.proofs.Ordered.{length-put_in_order}
-use Rattle.lapd_clock.proofs.Calls.{length-all_but}
+-- One that runs keeps its place, and another gets one where there is one.
+use Rattle.lapd_clock.proofs.Vocabulary.{◌≡◌, ◌++◌, [], ◌∷◌, true, cond, is_ok, length, set, sym, ap, ◌∙◌, subst, arith, rules, all_but, IsWith}
+use Rattle.lapd_clock.proofs.InPlace.{found_at, not_found, has_place, no_place, a_place, with_set, with_push}
 use Rattle.lapd_clock.proofs.line.start.Goals as goal
 
-pub put_in-requires : goal.put_in-requires
-put_in-requires c =
-    omega (arith, length-all_but c.args.held.timer c.args.running.now.items, ap length c.stop.ensures.items, c.stop.new.running.ok.0, c.args.running.now.ok.0)
+pub returns-in-Some-clause-placed : goal.returns-in-Some-clause-placed
+returns-in-Some-clause-placed c =
+    let it = found_at c.args.held.timer c.args.running.now.items c.deref.result.now c.in-Some.place c.deref.ensures.value c.in-Some.ensures.line c.in-Some.ensures.there c.requires.each_once in
+    has_place c.args.held.timer c.args.running.now.items c.in-Some.place c.args.places it.0 (omega (arith, c.requires.fits, c.args.running.now.ok.0)) it.1
 
-pub returns-clause-fits : goal.returns-clause-fits
-returns-clause-fits c =
-    let others = all_but c.args.held.timer c.args.running.now.items in
-    omega (arith, length-all_but c.args.held.timer c.args.running.now.items, ap length c.stop.ensures.items, c.stop.new.running.ok.0, c.args.running.now.ok.0, ap length c.put_in.ensures.items, c.put_in.new.running.ok.0, length-put_in_order held_before c.args.held c.stop.new.running.items)
+pub returns-in-Some-clause-items : goal.returns-in-Some-clause-items
+returns-in-Some-clause-items c =
+    let it = found_at c.args.held.timer c.args.running.now.items c.deref.result.now c.in-Some.place c.deref.ensures.value c.in-Some.ensures.line c.in-Some.ensures.there c.requires.each_once in
+    subst (λ others. IsWith c.args.held others (set c.args.running.now.items c.in-Some.place c.args.held)) (sym it.1) (with_set c.args.held c.args.running.now.items c.in-Some.place it.0)
+
+pub returns-then-len-places-clause-placed : goal.returns-then-len-places-clause-placed
+returns-then-len-places-clause-placed c =
+    let others = not_found c.args.held.timer c.args.running.now.items c.deref.result.now c.deref.ensures.value c.in_default.ensures.none in
+    no_place (length (all_but c.args.held.timer c.args.running.now.items)) c.args.places (omega (arith, ap length others, c.if-len-places.true, c.len.ensures, c.args.running.now.ok.0))
+
+pub returns-then-len-places-clause-items : goal.returns-then-len-places-clause-items
+returns-then-len-places-clause-items c = sym (not_found c.args.held.timer c.args.running.now.items c.deref.result.now c.deref.ensures.value c.in_default.ensures.none)
+
+pub returns-clause-placed : goal.returns-clause-placed
+returns-clause-placed c =
+    let others = not_found c.args.held.timer c.args.running.now.items c.deref.result.now c.deref.ensures.value c.in_default.ensures.none in
+    a_place (length (all_but c.args.held.timer c.args.running.now.items)) c.args.places (omega (arith, ap length others, c.requires.fits, c.args.running.now.ok.0)) (omega (arith, ap length others, c.if-len-places.false, c.len.ensures, c.args.running.now.ok.0))
+
+pub returns-clause-items : goal.returns-clause-items
+returns-clause-items c =
+    let hs = c.args.running.now.items in
+    let others = not_found c.args.held.timer hs c.deref.result.now c.deref.ensures.value c.in_default.ensures.none in
+    let fitted = c.push.ensures.succeeds (omega (arith, c.requires.fits, c.requires.taken, c.if-len-places.false, c.len.ensures)) in
+    let room : is_ok c.push.result ≡ true = search rules in
+    subst (λ all. IsWith c.args.held (all_but c.args.held.timer hs) all) (sym (c.push.ensures.items ∙ ap (λ b. cond b (hs ++ c.args.held ∷ []) hs) room))
+    (subst (λ rest. IsWith c.args.held rest (hs ++ c.args.held ∷ [])) (sym others) (with_push c.args.held hs))

@@ -1,6 +1,12 @@
--- Hand-written answers for `stop`.
-use Rattle.lapd_clock.proofs.Vocabulary.{rules, not, filter_same, is_same}
+-- One that runs is taken out of its place; where it does not run, the others are all.
+use Rattle.lapd_clock.proofs.Vocabulary.{sym, ◌∙◌}
+use Rattle.lapd_clock.proofs.InPlace.{found_at, not_found}
 use Rattle.lapd_clock.proofs.line.stop.Goals as goal
 
-pub returns-clause-items : goal.returns-clause-items
-returns-clause-items c = filter_same _ (λ h. not (is_same h.timer c.args.timer)) _ (λ x b q h. search rules) _ _ c.retain.ensures.filtered
+pub returns-in-Some-clause-items : goal.returns-in-Some-clause-items
+returns-in-Some-clause-items c =
+    let it = found_at c.args.timer c.args.running.now.items c.deref.result.now c.in-Some.place c.deref.ensures.value c.in-Some.ensures.line c.in-Some.ensures.there c.requires.each_once in
+    c.remove.ensures.items ∙ sym it.1
+
+pub returns-in_default-clause-items : goal.returns-in_default-clause-items
+returns-in_default-clause-items c = sym (not_found c.args.timer c.args.running.now.items c.deref.result.now c.deref.ensures.value c.in_default.ensures.none)

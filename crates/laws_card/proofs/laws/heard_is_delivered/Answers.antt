@@ -1,10 +1,6 @@
 -- Hand-written answers for `heard_is_delivered`.
 use Rattle.laws_card.proofs.Hearing.{heard-all}
-use Rattle.laws_card.proofs.Receiving.{run-received}
 use Rattle.laws_card.proofs.laws.heard_is_delivered.Goals as goal
 
 pub returns : goal.returns
-returns c = record {
-  delivered = λ card events s all. heard-all card events s all;
-  received = λ card events s all. run-received card events s all;
-}
+returns c = λ card events s all. heard-all card events s all

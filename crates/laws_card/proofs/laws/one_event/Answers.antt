@@ -1,5 +1,5 @@
 -- Hand-written answers for `one_event`.
-use Rattle.laws_card.proofs.Happening.{one-all}
+use Rattle.laws_card.proofs.OneEvent.{one-all}
 use Rattle.laws_card.proofs.laws.one_event.Goals as goal
 
 pub returns : goal.returns

@@ -1,11 +1,27 @@
 -- Hand-written answers for `drive_frames`.
-use Rattle.lapd_card.specs.FrameDrive.{all_of}
-use Rattle.lapd_card.proofs.Headline.{happen_at_lines, all-idle}
-use Rattle.laws_promises.proofs.FramesKept.{frame-promises-kept}
+use Rattle.std.proofs.Common.{ap, sym, subst, take}
+use Rattle.std.specs.Prelude.{All}
+use Rattle.std.proofs.lemmas.List.Elements.{All-take}
+use Rattle.model_card.specs.Run.{IsAtLine}
+use Rattle.model_card.proofs.Reaching.{reached-sound}
+use Rattle.lapd_card.specs.FrameDrive.{events_of}
+use Rattle.lapd_card.proofs.Headline.{events_at_lines}
+use Rattle.laws_promises.proofs.Kept.{promises-kept}
+use Rattle.laws_promises.proofs.Linear.{TakesItsOctets, all_take, is_linear}
 use Rattle.laws_promises.proofs.frame_call.drive_frames.Goals as goal
 
--- the happenings are at lines of every machine for which the card stands, and its lines are idle
+-- each frame that came takes its octets
+pub returns-clause-linear : goal.returns-clause-linear
+returns-clause-linear g c = λ m count s.
+    let n201 = c.args.card.now.config.n201 in
+    let all = events_of n201 c.args.events.now in
+    let within = events_at_lines g.S.Shelf.store c.args.card.now n201 c.args.events.now c.requires m s in
+    is_linear m (take count all) (reached-sound m s.reached) (All-take (IsAtLine m) count all within)
+    (subst (λ n. All (TakesItsOctets n) (take count all)) (sym (ap (λ d. d.n201) s.config)) (All-take (TakesItsOctets n201) count all (all_take n201 c.args.events.now)))
+
+-- the events are at lines of every machine for which the card stands
 pub returns-clause-promises : goal.returns-clause-promises
 returns-clause-promises g c = λ m s.
-    frame-promises-kept m (all_of c.args.happenings.now) s.reached (all-idle g.S.Shelf.store c.args.card.now m s)
-    (happen_at_lines g.S.Shelf.store c.args.card.now c.args.happenings.now c.requires m s)
+    let n201 = c.args.card.now.config.n201 in
+    promises-kept m (events_of n201 c.args.events.now) s.reached
+    (events_at_lines g.S.Shelf.store c.args.card.now n201 c.args.events.now c.requires m s)

@@ -1,5 +1,5 @@
 -- Hand-written answers for `frames_are_read`.
-use Rattle.laws_trace.proofs.OctetsBegin.{frames-are-octets, frames-go-out-as-they-are}
+use Rattle.laws_trace.proofs.OctetsBegin.{frames-are-octets}
 use Rattle.laws_trace.proofs.Spelled.{frames-are-read}
 use Rattle.laws_trace.proofs.laws.frames_are_read.Goals as goal
 
@@ -8,6 +8,3 @@ returns-clause-grammar c = λ config events number ranged all within. frames-are
 
 pub returns-clause-octets : goal.returns-clause-octets
 returns-clause-octets c = λ config events number ranged all within. frames-are-octets config events number ranged all within
-
-pub returns-clause-heard : goal.returns-clause-heard
-returns-clause-heard c = λ config events number ranged all within. frames-go-out-as-they-are config events number ranged all within

@@ -1,13 +1,13 @@
 -- Hand-written answers for `timers_are_timely`.
 use Rattle.laws_trace.proofs.ChecksAreTimely.{checks-are-timed, orders-have-reasons}
-use Rattle.laws_trace.proofs.TimersAreTimely.{timers-run, timers-are-started}
+use Rattle.laws_trace.proofs.ObservedLaws.{timers-run-so, timers-are-started-so}
 use Rattle.laws_trace.proofs.laws.timers_are_timely.Goals as goal
 
 pub returns-clause-run : goal.returns-clause-run
-returns-clause-run c = λ config events number ranged all within. timers-run config events number ranged all within
+returns-clause-run c = λ config events number ranged all within. timers-run-so config events number ranged all within
 
 pub returns-clause-started : goal.returns-clause-started
-returns-clause-started c = λ config events number ranged all within. timers-are-started config events number ranged all within
+returns-clause-started c = λ config events number ranged all within. timers-are-started-so config events number ranged all within
 
 pub returns-clause-checks : goal.returns-clause-checks
 returns-clause-checks c = λ config events number ranged all within. checks-are-timed config events number ranged all within

@@ -1,10 +1,6 @@
 -- Hand-written answers for `Card::counters`.
-use Rattle.lapd_card.proofs.Vocabulary.{◌∙◌}
-use Rattle.lapd_card.proofs.OneLine.{line-there, counters_at, is_octets}
+use Rattle.lapd_card.proofs.Vocabulary.{ap, ◌∙◌, get_or, none_counted, counters_in}
 use Rattle.lapd_card.proofs.card.Card.counters.Goals as goal
 
-pub index-requires : goal.index-requires
-index-requires g c = line-there is_octets g.S.Shelf.store _ c.args.self.now c.args.line _ c.self.invariant c.self.view_is c.requires c.self.inside.lines.ok.0
-
 pub returns : goal.returns
-returns g c = c.counters.ensures ∙ counters_at is_octets g.S.Shelf.store _ c.args.self.now c.args.line c.index.result.now (record { past = c.self.invariant; same = c.self.view_is; within = c.requires; is = c.index.ensures })
+returns g c = c.counters.ensures ∙ ap (λ card. get_or (counters_in card.frames.lines) c.args.line none_counted) c.self.view_is

@@ -1,27 +1,62 @@
 -- Hand-written answers for `Card::hear`.
-use Rattle.lapd_card.proofs.Vocabulary.{RisesByOctet, frames_by_event, ap, refl, ◌∙◌}
-use Rattle.model_line.specs.Event as line_event
-use Rattle.lapd_card.proofs.OneLine.{line-there, one_serves, event_moves, told_if_there, is_octets}
-use Rattle.lapd_card.proofs.OneEvent.{has_room, octet_takes, past_after, event_leads, event_told}
-use Rattle.lapd_card.proofs.Headline.{at_line}
+use Rattle.lapd_card.proofs.Vocabulary.{◌≡◌, ◌<◌, None, Some, IsSome, IfSome, refl, sym, ap, subst, ◌∙◌, Card, latest_in, told_in}
+use Rattle.model_card.specs.Event as frames
+use Rattle.model_card.specs.Machine.{answer}
+use Rattle.model_line.specs.Event as line
+use Rattle.model_ports.specs.Event.{at}
+use Rattle.model_ports.specs.Port as port
+use Rattle.lapd_line.specs.Reports.{octets_of}
+use Rattle.lapd_line.proofs.PortSteps.{nothing_heard, is_dropped}
+use Rattle.lapd_card.specs.Card.{line_count}
+use Rattle.lapd_card.specs.FrameStands as frame
+use Rattle.lapd_card.proofs.OnePort.{port-there, port-in, port_put, told_if_there, seen, stood, past_after}
+use Rattle.lapd_card.proofs.OneOctet.{LeadsIfHeard, Tells, if_leads, if_tells, ended_something, octet_leads, octet_told, priced}
 use Rattle.lapd_card.proofs.card.Card.hear.Goals as goal
 
 pub index_mut-requires : goal.index_mut-requires
-index_mut-requires g c = line-there is_octets g.S.Shelf.store _ c.args.self.now c.args.line _ c.self.invariant c.self.view_is c.requires c.self.inside.lines.ok.0
+index_mut-requires g c = port-there g.S.Shelf.store _ c.args.self.now c.args.line _ c.self.invariant c.self.view_is c.requires c.self.inside.ports.ok.0
 
-pub hear-requires : goal.hear-requires
-hear-requires g c = one_serves is_octets g.S.Shelf.store _ c.args.self.now c.args.line c.index_mut.result.now (record { past = c.self.invariant; same = c.self.view_is; within = c.requires; is = c.index_mut.ensures.value })
+pub returns-in-Nothing-clause-told : goal.returns-in-Nothing-clause-told
+returns-in-Nothing-clause-told g c = λ m s. ap port.told (told_if_there c.self.inside.ports.items c.args.line c.octet.new.self None (port-in g.S.Shelf.store c.self.invariant c.self.view_is c.requires)) ∙ octet_told g.S.Shelf.store (record { past = c.self.invariant; within = (subst (λ d. c.args.line < line_count d) (sym c.self.view_is) c.requires); is = c.index_mut.ensures.value }) c.octet.ensures.gained c.octet.ensures.after None (subst (λ h. Tells g.S.Shelf.store c.args.line h c.self.inside.frames None) (sym (nothing_heard (latest_in c.octet.new.self) c.in-Nothing.ensures.told)) refl) m (stood g.S.Shelf.store c.self.view_is m s)
+
+pub returns-in-Nothing-clause-after : goal.returns-in-Nothing-clause-after
+returns-in-Nothing-clause-after g c = seen g.S.Shelf.store c.self.view_is (octet_leads g.S.Shelf.store (record { past = c.self.invariant; within = (subst (λ d. c.args.line < line_count d) (sym c.self.view_is) c.requires); is = c.index_mut.ensures.value }) c.octet.ensures.gained c.octet.ensures.after c.self.inside.frames (subst (λ h. LeadsIfHeard g.S.Shelf.store c.args.line h c.self.inside.frames c.self.inside.frames) (sym (nothing_heard (latest_in c.octet.new.self) c.in-Nothing.ensures.told)) refl))
 
 pub invariant_of-self : goal.invariant_of-self
-invariant_of-self g c =
-    past_after is_octets g.S.Shelf.store _ _ _ c.args.self.now _ c.self.view_is
-    (event_leads is_octets g.S.Shelf.store _ c.args.self.now c.args.line c.index_mut.result.now (record { past = c.self.invariant; same = c.self.view_is; within = c.requires; is = c.index_mut.ensures.value }) (line_event.octet c.args.octet) _ _ (event_moves _ _ _ _ _ c.hear.ensures.after) (λ m s. has_room c.args.line (line_event.octet c.args.octet) (octet_takes c.args.octet) m)) c.self.invariant
+invariant_of-self g c = past_after g.S.Shelf.store (octet_leads g.S.Shelf.store (record { past = c.self.invariant; within = (subst (λ d. c.args.line < line_count d) (sym c.self.view_is) c.requires); is = c.index_mut.ensures.value }) c.octet.ensures.gained c.octet.ensures.after c.self.inside.frames (subst (λ h. LeadsIfHeard g.S.Shelf.store c.args.line h c.self.inside.frames c.self.inside.frames) (sym (nothing_heard (latest_in c.octet.new.self) c.in-Nothing.ensures.told)) refl)) c.self.invariant
 
-pub returns-clause-told : goal.returns-clause-told
-returns-clause-told g c = λ m s. ap line_event.told (told_if_there c.self.inside.lines.items c.args.line c.hear.new.self c.hear.result (line-there is_octets g.S.Shelf.store _ c.args.self.now c.args.line _ c.self.invariant c.self.view_is c.requires refl)) ∙ event_told is_octets g.S.Shelf.store _ c.args.self.now c.args.line c.index_mut.result.now (record { past = c.self.invariant; same = c.self.view_is; within = c.requires; is = c.index_mut.ensures.value }) (line_event.octet c.args.octet) _ c.hear.ensures.told (λ m s. has_room c.args.line (line_event.octet c.args.octet) (octet_takes c.args.octet) m) m s
+pub returns-in-Nothing-clause-frames : goal.returns-in-Nothing-clause-frames
+returns-in-Nothing-clause-frames g c = λ m s. priced m (at c.args.line (port.octet c.args.octet)) s.reached (subst (λ d. c.args.line < d.lines) (sym s.frames.config) c.requires)
 
-pub returns-clause-after : goal.returns-clause-after
-returns-clause-after g c = event_leads is_octets g.S.Shelf.store _ c.args.self.now c.args.line c.index_mut.result.now (record { past = c.self.invariant; same = c.self.view_is; within = c.requires; is = c.index_mut.ensures.value }) (line_event.octet c.args.octet) _ _ (event_moves _ _ _ _ _ c.hear.ensures.after) (λ m s. has_room c.args.line (line_event.octet c.args.octet) (octet_takes c.args.octet) m)
+pub heard-requires : goal.heard-requires
+heard-requires g c = record { within = (subst (λ d. c.args.line < line_count d) (sym c.self.view_is) c.requires); something = refl }
 
-pub returns-clause-frames : goal.returns-clause-frames
-returns-clause-frames g c = at_line g.S.Shelf.store c.args.self.now c.args.line c.requires (RisesByOctet c.args.line c.args.octet) (λ m s w. frames_by_event.octets m c.args.line c.args.octet s w)
+pub returns-in-Dropped-clause-told : goal.returns-in-Dropped-clause-told
+returns-in-Dropped-clause-told g c = λ m s. ap port.told (told_if_there c.self.inside.ports.items c.args.line c.octet.new.self (Some c.heard.result) (port-in g.S.Shelf.store c.self.invariant c.self.view_is c.requires)) ∙ octet_told g.S.Shelf.store (record { past = c.self.invariant; within = (subst (λ d. c.args.line < line_count d) (sym c.self.view_is) c.requires); is = c.index_mut.ensures.value }) c.octet.ensures.gained c.octet.ensures.after (Some c.heard.result) (subst (λ h. Tells g.S.Shelf.store c.args.line h c.self.inside.frames (Some c.heard.result)) (sym (is_dropped (latest_in c.octet.new.self) c.in-Dropped.cause c.in-Dropped.ensures.told)) c.heard.ensures.told) m (stood g.S.Shelf.store c.self.view_is m s)
+
+pub returns-in-Dropped-clause-after : goal.returns-in-Dropped-clause-after
+returns-in-Dropped-clause-after g c = seen g.S.Shelf.store c.self.view_is (octet_leads g.S.Shelf.store (record { past = c.self.invariant; within = (subst (λ d. c.args.line < line_count d) (sym c.self.view_is) c.requires); is = c.index_mut.ensures.value }) c.octet.ensures.gained c.octet.ensures.after c.heard.new.self (subst (λ h. LeadsIfHeard g.S.Shelf.store c.args.line h c.self.inside.frames c.heard.new.self) (sym (is_dropped (latest_in c.octet.new.self) c.in-Dropped.cause c.in-Dropped.ensures.told)) c.heard.ensures.after))
+
+pub invariant_of-self-in-Dropped : goal.invariant_of-self-in-Dropped
+invariant_of-self-in-Dropped g c = past_after g.S.Shelf.store (octet_leads g.S.Shelf.store (record { past = c.self.invariant; within = (subst (λ d. c.args.line < line_count d) (sym c.self.view_is) c.requires); is = c.index_mut.ensures.value }) c.octet.ensures.gained c.octet.ensures.after c.heard.new.self (subst (λ h. LeadsIfHeard g.S.Shelf.store c.args.line h c.self.inside.frames c.heard.new.self) (sym (is_dropped (latest_in c.octet.new.self) c.in-Dropped.cause c.in-Dropped.ensures.told)) c.heard.ensures.after)) c.self.invariant
+
+pub returns-in-Dropped-clause-frames : goal.returns-in-Dropped-clause-frames
+returns-in-Dropped-clause-frames g c = λ m s. priced m (at c.args.line (port.octet c.args.octet)) s.reached (subst (λ d. c.args.line < d.lines) (sym s.frames.config) c.requires)
+
+pub index-requires : goal.index-requires
+index-requires g c = port-there g.S.Shelf.store _ c.args.self.now c.args.line _ c.self.invariant c.self.view_is c.requires c.self.inside.ports.ok.0
+
+pub heard-requires-in-Frame : goal.heard-requires-in-Frame
+heard-requires-in-Frame g c = record { within = (subst (λ d. c.args.line < line_count d) (sym c.self.view_is) c.requires); something = subst (λ h. IsSome h) (sym (c.latest.ensures ∙ ap latest_in (port_put c.self.inside.ports.items c.args.line c.octet.new.self c.index.result.now (port-in g.S.Shelf.store c.self.invariant c.self.view_is c.requires) c.index.ensures))) (ended_something (latest_in c.octet.new.self) c.octet.ensures.told c.in-Frame.is) }
+
+pub returns-in-Frame-clause-told : goal.returns-in-Frame-clause-told
+returns-in-Frame-clause-told g c = λ m s. ap port.told (told_if_there c.self.inside.ports.items c.args.line c.octet.new.self (Some c.heard-in-Frame.result) (port-in g.S.Shelf.store c.self.invariant c.self.view_is c.requires)) ∙ octet_told g.S.Shelf.store (record { past = c.self.invariant; within = (subst (λ d. c.args.line < line_count d) (sym c.self.view_is) c.requires); is = c.index_mut.ensures.value }) c.octet.ensures.gained c.octet.ensures.after (Some c.heard-in-Frame.result) (if_tells g.S.Shelf.store c.args.line c.self.inside.frames c.heard-in-Frame.result (latest_in c.octet.new.self) (ended_something (latest_in c.octet.new.self) c.octet.ensures.told c.in-Frame.is) (subst (λ h. IfSome h (λ e. (m : Card) → frame.Stands g.S.Shelf.store c.self.inside.frames m → line.told (told_in (octets_of h) c.heard-in-Frame.result) ≡ answer (frames.at c.args.line (line.hears e)) m)) (c.latest.ensures ∙ ap latest_in (port_put c.self.inside.ports.items c.args.line c.octet.new.self c.index.result.now (port-in g.S.Shelf.store c.self.invariant c.self.view_is c.requires) c.index.ensures)) c.heard-in-Frame.ensures.told)) m (stood g.S.Shelf.store c.self.view_is m s)
+
+pub returns-in-Frame-clause-after : goal.returns-in-Frame-clause-after
+returns-in-Frame-clause-after g c = seen g.S.Shelf.store c.self.view_is (octet_leads g.S.Shelf.store (record { past = c.self.invariant; within = (subst (λ d. c.args.line < line_count d) (sym c.self.view_is) c.requires); is = c.index_mut.ensures.value }) c.octet.ensures.gained c.octet.ensures.after c.heard-in-Frame.new.self (if_leads g.S.Shelf.store c.args.line c.self.inside.frames c.heard-in-Frame.new.self (latest_in c.octet.new.self) (ended_something (latest_in c.octet.new.self) c.octet.ensures.told c.in-Frame.is) (subst (λ h. IfSome h (λ e. frame.Leads g.S.Shelf.store (frames.at c.args.line (line.hears e)) c.self.inside.frames c.heard-in-Frame.new.self)) (c.latest.ensures ∙ ap latest_in (port_put c.self.inside.ports.items c.args.line c.octet.new.self c.index.result.now (port-in g.S.Shelf.store c.self.invariant c.self.view_is c.requires) c.index.ensures)) c.heard-in-Frame.ensures.after)))
+
+pub invariant_of-self-in-Frame : goal.invariant_of-self-in-Frame
+invariant_of-self-in-Frame g c = past_after g.S.Shelf.store (octet_leads g.S.Shelf.store (record { past = c.self.invariant; within = (subst (λ d. c.args.line < line_count d) (sym c.self.view_is) c.requires); is = c.index_mut.ensures.value }) c.octet.ensures.gained c.octet.ensures.after c.heard-in-Frame.new.self (if_leads g.S.Shelf.store c.args.line c.self.inside.frames c.heard-in-Frame.new.self (latest_in c.octet.new.self) (ended_something (latest_in c.octet.new.self) c.octet.ensures.told c.in-Frame.is) (subst (λ h. IfSome h (λ e. frame.Leads g.S.Shelf.store (frames.at c.args.line (line.hears e)) c.self.inside.frames c.heard-in-Frame.new.self)) (c.latest.ensures ∙ ap latest_in (port_put c.self.inside.ports.items c.args.line c.octet.new.self c.index.result.now (port-in g.S.Shelf.store c.self.invariant c.self.view_is c.requires) c.index.ensures)) c.heard-in-Frame.ensures.after))) c.self.invariant
+
+pub returns-in-Frame-clause-frames : goal.returns-in-Frame-clause-frames
+returns-in-Frame-clause-frames g c = λ m s. priced m (at c.args.line (port.octet c.args.octet)) s.reached (subst (λ d. c.args.line < d.lines) (sym s.frames.config) c.requires)

@@ -1,5 +1,7 @@
 -- Hand-written answers for `Card::octet`.
-use Rattle.lapd_card.proofs.Vocabulary.{◌<◌, IsSome, subst, sym, cause_in, drop_costs_nothing, reached-sound, refl, ap, ◌∙◌, told}
+use Rattle.lapd_card.proofs.Vocabulary.{◌<◌, subst, sym, refl, ap, ◌∙◌, report_told}
+use Rattle.model_ports.specs.Port.{told}
+use Rattle.lapd_card.proofs.OneOctet.{dropped}
 use Rattle.lapd_card.proofs.card.Card.octet.Goals as goal
 
 pub returns : goal.returns
@@ -8,7 +10,7 @@ returns g c = (
   record {
     told = λ m s. ap told c.report.ensures ∙ c.hear-bare.ensures.told m s;
     frames = c.hear-bare.ensures.frames;
-    dropped = λ m s some. drop_costs_nothing m c.args.line c.args.octet (reached-sound m s.reached) (subst (λ d. c.args.line < d.lines) (sym s.config) c.requires) (subst (λ a. IsSome (cause_in a)) (ap told c.report.ensures ∙ c.hear-bare.ensures.told m s) some);
+    dropped = λ m s some. dropped m c.args.line c.args.octet (report_told c.report.result) s.reached (subst (λ d. c.args.line < d.lines) (sym s.frames.config) c.requires) (ap told c.report.ensures ∙ c.hear-bare.ensures.told m s) some;
     after = tt;
   },
 )

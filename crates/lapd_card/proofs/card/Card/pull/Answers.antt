@@ -1,27 +1,49 @@
 -- Hand-written answers for `Card::pull`.
-use Rattle.lapd_card.proofs.Vocabulary.{FallsByPull, frames_by_event}
-use Rattle.model_line.specs.Event as line_event
-use Rattle.lapd_card.proofs.OneLine.{line-there, one_serves, event_moves, is_octets}
-use Rattle.lapd_card.proofs.OneEvent.{has_room, pull_takes, past_after, event_leads, event_told}
-use Rattle.lapd_card.proofs.Headline.{at_line}
+use Rattle.lapd_card.proofs.Vocabulary.{◌<◌, length, refl, sym, subst, slice_get, IfSome, port_at}
+use Rattle.model_ports.specs.Event.{at}
+use Rattle.model_ports.specs.Port as port
+use Rattle.lapd_card.specs.Card.{line_count}
+use Rattle.lapd_card.proofs.OnePort.{port-there, port-in, to_place, port_holds, seen, stood, past_after}
+use Rattle.lapd_card.proofs.OneOctet.{priced, not_due, quiet, none_told, none_leads}
 use Rattle.lapd_card.proofs.card.Card.pull.Goals as goal
 
-pub index_mut-requires : goal.index_mut-requires
-index_mut-requires g c = line-there is_octets g.S.Shelf.store _ c.args.self.now c.args.line _ c.self.invariant c.self.view_is c.requires c.self.inside.lines.ok.0
+pub index-requires : goal.index-requires
+index-requires g c = port-there g.S.Shelf.store _ c.args.self.now c.args.line _ c.self.invariant c.self.view_is c.requires c.self.inside.ports.ok.0
 
-pub pull-requires : goal.pull-requires
-pull-requires g c = one_serves is_octets g.S.Shelf.store _ c.args.self.now c.args.line c.index_mut.result.now (record { past = c.self.invariant; same = c.self.view_is; within = c.requires; is = c.index_mut.ensures.value })
+pub index_mut-requires : goal.index_mut-requires
+index_mut-requires g c = port-there g.S.Shelf.store _ c.args.self.now c.args.line _ c.self.invariant c.self.view_is c.requires c.self.inside.ports.ok.0
+
+pub index_mut-requires-then-is_quiet : goal.index_mut-requires-then-is_quiet
+index_mut-requires-then-is_quiet g c = port-there g.S.Shelf.store _ c.args.self.now c.args.line _ c.self.invariant c.self.view_is c.requires c.self.inside.ports.ok.0
+
+pub returns-then-not-is_due-clause-told : goal.returns-then-not-is_due-clause-told
+returns-then-not-is_due-clause-told g c = λ m s. none_told g.S.Shelf.store (record { past = c.self.invariant; within = (subst (λ d. c.args.line < line_count d) (sym c.self.view_is) c.requires); is = c.index_mut.ensures.value }) c.give.ensures (λ m s. not_due m c.args.line (sym (c.if-not-is_due.ensures.due m.card.config.n201 (port_at c.args.line m) (port_holds g.S.Shelf.store (record { past = c.self.invariant; within = (subst (λ d. c.args.line < line_count d) (sym c.self.view_is) c.requires); is = c.index.ensures }) m s)))) m (stood g.S.Shelf.store c.self.view_is m s)
+
+pub returns-then-not-is_due-clause-after : goal.returns-then-not-is_due-clause-after
+returns-then-not-is_due-clause-after g c = seen g.S.Shelf.store c.self.view_is (none_leads g.S.Shelf.store (record { past = c.self.invariant; within = (subst (λ d. c.args.line < line_count d) (sym c.self.view_is) c.requires); is = c.index_mut.ensures.value }) c.give.ensures (λ m s. not_due m c.args.line (sym (c.if-not-is_due.ensures.due m.card.config.n201 (port_at c.args.line m) (port_holds g.S.Shelf.store (record { past = c.self.invariant; within = (subst (λ d. c.args.line < line_count d) (sym c.self.view_is) c.requires); is = c.index.ensures }) m s)))))
 
 pub invariant_of-self : goal.invariant_of-self
-invariant_of-self g c =
-    past_after is_octets g.S.Shelf.store _ _ _ c.args.self.now _ c.self.view_is
-    (event_leads is_octets g.S.Shelf.store _ c.args.self.now c.args.line c.index_mut.result.now (record { past = c.self.invariant; same = c.self.view_is; within = c.requires; is = c.index_mut.ensures.value }) line_event.pull _ _ (event_moves _ _ _ _ _ c.pull.ensures.after) (λ m s. has_room c.args.line line_event.pull pull_takes m)) c.self.invariant
+invariant_of-self g c = past_after g.S.Shelf.store (none_leads g.S.Shelf.store (record { past = c.self.invariant; within = (subst (λ d. c.args.line < line_count d) (sym c.self.view_is) c.requires); is = c.index_mut.ensures.value }) c.give.ensures (λ m s. not_due m c.args.line (sym (c.if-not-is_due.ensures.due m.card.config.n201 (port_at c.args.line m) (port_holds g.S.Shelf.store (record { past = c.self.invariant; within = (subst (λ d. c.args.line < line_count d) (sym c.self.view_is) c.requires); is = c.index.ensures }) m s))))) c.self.invariant
 
-pub returns-clause-told : goal.returns-clause-told
-returns-clause-told g c = event_told is_octets g.S.Shelf.store _ c.args.self.now c.args.line c.index_mut.result.now (record { past = c.self.invariant; same = c.self.view_is; within = c.requires; is = c.index_mut.ensures.value }) line_event.pull _ c.pull.ensures.told (λ m s. has_room c.args.line line_event.pull pull_takes m)
+pub returns-then-is_quiet-clause-told : goal.returns-then-is_quiet-clause-told
+returns-then-is_quiet-clause-told g c = λ m s. none_told g.S.Shelf.store (record { past = c.self.invariant; within = (subst (λ d. c.args.line < line_count d) (sym c.self.view_is) c.requires); is = c.index_mut-then-is_quiet.ensures.value }) c.give-then-is_quiet.ensures (λ m s. quiet m c.args.line (c.is_quiet.ensures m.card s.frames c.if-is_quiet.true)) m (stood g.S.Shelf.store c.self.view_is m s)
 
-pub returns-clause-after : goal.returns-clause-after
-returns-clause-after g c = event_leads is_octets g.S.Shelf.store _ c.args.self.now c.args.line c.index_mut.result.now (record { past = c.self.invariant; same = c.self.view_is; within = c.requires; is = c.index_mut.ensures.value }) line_event.pull _ _ (event_moves _ _ _ _ _ c.pull.ensures.after) (λ m s. has_room c.args.line line_event.pull pull_takes m)
+pub returns-then-is_quiet-clause-after : goal.returns-then-is_quiet-clause-after
+returns-then-is_quiet-clause-after g c = seen g.S.Shelf.store c.self.view_is (none_leads g.S.Shelf.store (record { past = c.self.invariant; within = (subst (λ d. c.args.line < line_count d) (sym c.self.view_is) c.requires); is = c.index_mut-then-is_quiet.ensures.value }) c.give-then-is_quiet.ensures (λ m s. quiet m c.args.line (c.is_quiet.ensures m.card s.frames c.if-is_quiet.true)))
+
+pub invariant_of-self-then-is_quiet : goal.invariant_of-self-then-is_quiet
+invariant_of-self-then-is_quiet g c = past_after g.S.Shelf.store (none_leads g.S.Shelf.store (record { past = c.self.invariant; within = (subst (λ d. c.args.line < line_count d) (sym c.self.view_is) c.requires); is = c.index_mut-then-is_quiet.ensures.value }) c.give-then-is_quiet.ensures (λ m s. quiet m c.args.line (c.is_quiet.ensures m.card s.frames c.if-is_quiet.true))) c.self.invariant
+
+pub pull_next-requires-clause-few : goal.pull_next-requires-clause-few
+pull_next-requires-clause-few g c =
+    subst (λ d. IfSome (slice_get d.ports c.args.line) (λ port. length port.framer.left < 8)) c.self.view_is
+    (to_place c.self.inside.ports.items c.args.line c.index.result.now (λ port. length port.framer.left < 8) (port-in g.S.Shelf.store c.self.invariant c.self.view_is c.requires) c.index.ensures (c.if-not-is_due.ensures.few refl))
+
+pub returns-then-not-is_due-clause-frames : goal.returns-then-not-is_due-clause-frames
+returns-then-not-is_due-clause-frames g c = λ m s. priced m (at c.args.line port.pull) s.reached (subst (λ d. c.args.line < d.lines) (sym s.frames.config) c.requires)
+
+pub returns-then-is_quiet-clause-frames : goal.returns-then-is_quiet-clause-frames
+returns-then-is_quiet-clause-frames g c = λ m s. priced m (at c.args.line port.pull) s.reached (subst (λ d. c.args.line < d.lines) (sym s.frames.config) c.requires)
 
 pub returns-clause-frames : goal.returns-clause-frames
-returns-clause-frames g c = at_line g.S.Shelf.store c.args.self.now c.args.line c.requires (FallsByPull c.args.line) (λ m s w. frames_by_event.pulls m c.args.line s w)
+returns-clause-frames g c = λ m s. priced m (at c.args.line port.pull) s.reached (subst (λ d. c.args.line < d.lines) (sym s.frames.config) c.requires)

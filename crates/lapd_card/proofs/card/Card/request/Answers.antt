@@ -1,29 +1,28 @@
 -- Hand-written answers for `Card::request`.
-use Rattle.lapd_card.proofs.Vocabulary.{IfOk-weaker, request_of, RisesByRequest, frames_by_event, of_octets}
-use Rattle.lapd_card.proofs.OneLine.{line-there, one_serves, event_moves, is_octets}
-use Rattle.lapd_card.proofs.OneEvent.{Requested, past_after, request_refused, request_accepted, request_unchanged, request_told, request_leads}
-use Rattle.lapd_card.proofs.Headline.{at_line}
+use Rattle.lapd_card.proofs.Vocabulary.{◌<◌, sym, subst, ◌∙◌, IfErr-weaker, IfOk-weaker}
+use Rattle.model_line.specs.Request.{request_of}
+use Rattle.lapd_card.specs.Card.{line_count}
+use Rattle.lapd_card.proofs.OnePort.{past_after, seen, stood, inside}
+use Rattle.lapd_card.proofs.OneOctet.{request_passes, passed_leads, passed_told, same_result, same_card}
 use Rattle.lapd_card.proofs.card.Card.request.Goals as goal
 
-pub index_mut-requires : goal.index_mut-requires
-index_mut-requires g c = line-there is_octets g.S.Shelf.store _ c.args.self.now c.args.line _ c.self.invariant c.self.view_is c.requires c.self.inside.lines.ok.0
-
-pub request-requires-clause-stands : goal.request-requires-clause-stands
-request-requires-clause-stands g c = one_serves is_octets g.S.Shelf.store _ c.args.self.now c.args.line c.index_mut.result.now (record { past = c.self.invariant; same = c.self.view_is; within = c.requires; is = c.index_mut.ensures.value })
-
 pub invariant_of-self : goal.invariant_of-self
-invariant_of-self g c =
-    past_after is_octets g.S.Shelf.store _ _ _ c.args.self.now _ c.self.view_is
-    (request_leads is_octets g.S.Shelf.store (request_of c.args.request) _ c.args.self.now c.args.line c.from.result c.index_mut.result.now (record { past = c.self.invariant; same = c.self.view_is; within = c.requires; is = c.index_mut.ensures.value }) c.request.new.self c.request.new.shelf c.request.result (record { most = c.from.ensures; refused = c.request.ensures.refused; accepted = c.request.ensures.accepted; unchanged = c.request.ensures.unchanged; kept = c.request.ensures.kept; told = c.request.ensures.told; leads = IfOk-weaker c.request.result _ _ (λ report. event_moves _ _ _ _ _) c.request.ensures.after })) c.self.invariant
+invariant_of-self g c = past_after g.S.Shelf.store (passed_leads (request_passes (request_of c.args.request)) g.S.Shelf.store (subst (λ d. c.args.line < line_count d) (sym c.self.view_is) c.requires) c.request.ensures.after) c.self.invariant
 
-pub returns : goal.returns
-returns g c =
-    let asked : Requested of_octets g.S.Shelf.store (request_of c.args.request) _ c.from.result c.index_mut.result.now c.request.result c.request.new.self c.request.new.shelf = record { most = c.from.ensures; refused = c.request.ensures.refused; accepted = c.request.ensures.accepted; unchanged = c.request.ensures.unchanged; kept = c.request.ensures.kept; told = c.request.ensures.told; leads = IfOk-weaker c.request.result _ _ (λ report. event_moves _ _ _ _ _) c.request.ensures.after } in
-    record {
-      refused = request_refused is_octets g.S.Shelf.store (request_of c.args.request) _ c.args.self.now c.args.line c.from.result c.index_mut.result.now (record { past = c.self.invariant; same = c.self.view_is; within = c.requires; is = c.index_mut.ensures.value }) c.request.new.self c.request.new.shelf c.request.result asked;
-      unchanged = request_unchanged is_octets g.S.Shelf.store (request_of c.args.request) _ c.args.self.now c.args.line c.from.result c.index_mut.result.now (record { past = c.self.invariant; same = c.self.view_is; within = c.requires; is = c.index_mut.ensures.value }) c.request.new.self c.request.new.shelf c.request.result asked;
-      accepted = request_accepted is_octets g.S.Shelf.store (request_of c.args.request) _ c.args.self.now c.args.line c.from.result c.index_mut.result.now (record { past = c.self.invariant; same = c.self.view_is; within = c.requires; is = c.index_mut.ensures.value }) c.request.new.self c.request.new.shelf c.request.result asked;
-      told = request_told is_octets g.S.Shelf.store (request_of c.args.request) _ c.args.self.now c.args.line c.from.result c.index_mut.result.now (record { past = c.self.invariant; same = c.self.view_is; within = c.requires; is = c.index_mut.ensures.value }) c.request.new.self c.request.new.shelf c.request.result asked;
-      after = request_leads is_octets g.S.Shelf.store (request_of c.args.request) _ c.args.self.now c.args.line c.from.result c.index_mut.result.now (record { past = c.self.invariant; same = c.self.view_is; within = c.requires; is = c.index_mut.ensures.value }) c.request.new.self c.request.new.shelf c.request.result asked;
-      frames = at_line g.S.Shelf.store c.args.self.now c.args.line c.requires (RisesByRequest c.args.line (request_of c.args.request)) (λ m s w. frames_by_event.requests m c.args.line (request_of c.args.request) s w);
-    }
+pub returns-clause-refused : goal.returns-clause-refused
+returns-clause-refused g c = IfErr-weaker c.request.result _ _ (λ why. inside g.S.Shelf.store c.self.view_is) c.request.ensures.refused
+
+pub returns-clause-unchanged : goal.returns-clause-unchanged
+returns-clause-unchanged g c = same_card c.request.result _ c.self.view_is c.request.ensures.unchanged
+
+pub returns-clause-accepted : goal.returns-clause-accepted
+returns-clause-accepted g c = IfOk-weaker c.request.result _ _ (λ report. inside g.S.Shelf.store c.self.view_is) c.request.ensures.accepted
+
+pub returns-clause-told : goal.returns-clause-told
+returns-clause-told g c = λ m s. same_result c.request.result ∙ passed_told (request_passes (request_of c.args.request)) g.S.Shelf.store c.args.line c.request.ensures.told m (stood g.S.Shelf.store c.self.view_is m s)
+
+pub returns-clause-after : goal.returns-clause-after
+returns-clause-after g c = seen g.S.Shelf.store c.self.view_is (passed_leads (request_passes (request_of c.args.request)) g.S.Shelf.store (subst (λ d. c.args.line < line_count d) (sym c.self.view_is) c.requires) c.request.ensures.after)
+
+pub returns-clause-frames : goal.returns-clause-frames
+returns-clause-frames g c = inside g.S.Shelf.store c.self.view_is c.request.ensures.frames

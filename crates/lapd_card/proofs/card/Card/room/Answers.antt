@@ -1,13 +1,9 @@
 -- Hand-written answers for `Card::room`.
-use Rattle.lapd_card.proofs.OneLine.{line-there, is_octets}
-use Rattle.lapd_card.proofs.OneEvent.{room_is, refuses_so}
+use Rattle.lapd_card.proofs.OnePort.{inside}
 use Rattle.lapd_card.proofs.card.Card.room.Goals as goal
 
-pub index-requires : goal.index-requires
-index-requires g c = line-there is_octets g.S.Shelf.store _ c.args.self.now c.args.line _ c.self.invariant c.self.view_is c.requires c.self.inside.lines.ok.0
-
 pub returns-clause-told : goal.returns-clause-told
-returns-clause-told g c = room_is is_octets g.S.Shelf.store _ c.args.self.now c.args.line c.index.result.now (record { past = c.self.invariant; same = c.self.view_is; within = c.requires; is = c.index.ensures }) c.args.service c.args.tei c.from.result c.room.result c.from.ensures c.room.ensures
+returns-clause-told g c = inside g.S.Shelf.store c.self.view_is c.room.ensures.told
 
 pub returns-clause-refuses : goal.returns-clause-refuses
-returns-clause-refuses g c = λ m s. refuses_so c.args.line c.args.service c.args.tei m c.room.result (room_is is_octets g.S.Shelf.store _ c.args.self.now c.args.line c.index.result.now (record { past = c.self.invariant; same = c.self.view_is; within = c.requires; is = c.index.ensures }) c.args.service c.args.tei c.from.result c.room.result c.from.ensures c.room.ensures m s)
+returns-clause-refuses g c = inside g.S.Shelf.store c.self.view_is c.room.ensures.refuses

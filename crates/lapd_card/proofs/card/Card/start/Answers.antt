@@ -1,17 +1,14 @@
 -- Hand-written answers for `Card::start`.
-use Rattle.lapd_card.proofs.Vocabulary.{sym, ◌∙◌, fresh}
-use Rattle.lapd_card.proofs.OneLine.{is_octets}
-use Rattle.lapd_card.proofs.Begins.{fresh_stands, none_is_counted, no_fault}
+use Rattle.lapd_card.proofs.Vocabulary.{arith, ranges_of}
+use Rattle.model_ports.specs.Card.{fresh}
+use Rattle.lapd_card.proofs.OctetsBegin.{fresh_stands}
 use Rattle.lapd_card.proofs.card.Card.start.Goals as goal
 
-pub lines-requires : goal.lines-requires
-lines-requires g c = (no_fault c.args.config (g.S.Shelf.store c.args.shelf) (sym c.fault_of.ensures ∙ c.in_default.is)).0
+pub ports-requires : goal.ports-requires
+ports-requires g c = omega (arith, (ranges_of c.args.config c.in_ok-frames.ensures.fresh.reached.config).n201.most)
 
 pub invariant_of-result : goal.invariant_of-result
-invariant_of-result g c = (fresh c.args.config, fresh_stands is_octets c.args.config c.in_ok-lines.lines.items c.in_ok-lines.ensures g.S.Shelf.store c.args.shelf (sym c.fault_of.ensures ∙ c.in_default.is))
+invariant_of-result g c = (fresh c.args.config, fresh_stands g.S.Shelf.store c.args.config c.in_ok-frames.ensures.config c.in_ok-frames.ensures.fresh c.in_ok-ports.ensures)
 
 pub returns-clause-fresh : goal.returns-clause-fresh
-returns-clause-fresh g c = fresh_stands is_octets c.args.config c.in_ok-lines.lines.items c.in_ok-lines.ensures g.S.Shelf.store c.args.shelf (sym c.fault_of.ensures ∙ c.in_default.is)
-
-pub returns-clause-counters : goal.returns-clause-counters
-returns-clause-counters g c = none_is_counted is_octets c.args.config c.in_ok-lines.lines.items c.in_ok-lines.ensures
+returns-clause-fresh g c = fresh_stands g.S.Shelf.store c.args.config c.in_ok-frames.ensures.config c.in_ok-frames.ensures.fresh c.in_ok-ports.ensures

@@ -1,11 +1,6 @@
 -- Hand-written answers for `Card::state`.
-use Rattle.lapd_card.proofs.Vocabulary.{◌<◌, subst}
-use Rattle.lapd_card.proofs.OneLine.{line-there, is_octets}
-use Rattle.lapd_card.proofs.OneEvent.{state_is}
+use Rattle.lapd_card.proofs.OnePort.{inside}
 use Rattle.lapd_card.proofs.card.Card.state.Goals as goal
 
-pub index-requires : goal.index-requires
-index-requires g c = line-there is_octets g.S.Shelf.store _ c.args.self.now c.args.line _ c.self.invariant c.self.view_is (subst (λ n. c.args.line < n) c.lines.ensures c.if-line-lines.true) c.self.inside.lines.ok.0
-
-pub returns-then-line-lines : goal.returns-then-line-lines
-returns-then-line-lines g c = state_is is_octets g.S.Shelf.store _ c.args.self.now c.args.line c.index.result.now (record { past = c.self.invariant; same = c.self.view_is; within = (subst (λ n. c.args.line < n) c.lines.ensures c.if-line-lines.true); is = c.index.ensures }) c.args.service c.args.tei c.state.result (c.state.ensures _)
+pub returns : goal.returns
+returns g c = inside g.S.Shelf.store c.self.view_is c.state.ensures

@@ -1,41 +1,43 @@
 -- Hand-written answers for `Card::stored`.
-use Rattle.lapd_card.proofs.Vocabulary.{◌∙◌, arith, held_in}
-use Rattle.lapd_card.proofs.OneLine.{one_serves, one_says, is_octets}
-use Rattle.lapd_card.proofs.Amounts.{held_more, stored_is, stored_few, call_of, of_machine, few_held, all_held, fits_32, fits_64}
+use Rattle.lapd_card.proofs.Vocabulary.{◌+◌, ◌≤◌, ap, ◌∙◌, arith, port_at}
+use Rattle.model_card.specs.Stored as cards
+use Rattle.lapd_card.proofs.OnePort.{port_holds, stood, inside}
+use Rattle.lapd_card.proofs.OctetAmounts.{held_more, narrow, frames_small, call_of, of_machine, few_held, all_held}
 use Rattle.lapd_card.proofs.card.Card.stored.Goals as goal
 
-pub held-requires : goal.held-requires
-held-requires g c =
-    let (others, l, stands) = one_serves is_octets g.S.Shelf.store _ c.args.self.now c.loop-line.line-index c.line-item.result
-    (call_of is_octets g.S.Shelf.store _ c.args.self.now c.self.view_is c.self.invariant c.deref-line-items.result.now c.loop-line.line-index c.deref-line-items.ensures.value c.line-item.result c.loop-line-test.true c.line-item.is) in
-    (g.S.Shelf.store c.self.inside.shelf, others, l, stands)
+pub held-held-requires : goal.held-held-requires
+held-held-requires g c =
+    let (m, s) = c.self.invariant in
+    let call = call_of g.S.Shelf.store c.self.view_is c.self.invariant c.deref-port-items.ensures.value c.loop-port-test.true c.port-item.is in
+    (m.card.config.n201, omega (arith, ap (λ d. d.n201) s.frames.config, narrow g.S.Shelf.store c.self.view_is c.self.invariant), (port_at c.loop-port.port-index m, port_holds g.S.Shelf.store call m s))
 
 pub overflow_add-held : goal.overflow_add-held
-overflow_add-held g c = few_held is_octets g.S.Shelf.store _ c.args.self.now c.self.view_is c.self.invariant c.deref-line-items.result.now c.loop-line.line-index c.deref-line-items.ensures.value _ _ c.loop-line.invariant.small (omega (arith, c.from-held.ensures, c.held.type_inv)) c.loop-line-test.true
+overflow_add-held g c =
+    let (m, s) = c.self.invariant in
+    let call = call_of g.S.Shelf.store c.self.view_is c.self.invariant c.deref-port-items.ensures.value c.loop-port-test.true c.port-item.is in
+    let few = c.held-held.ensures.few m.card.config.n201 (port_at c.loop-port.port-index m) (port_holds g.S.Shelf.store call m s) in
+    let short : c.held-held.result ≤ 530 = omega (arith, few, ap (λ d. d.n201) s.frames.config, narrow g.S.Shelf.store c.self.view_is c.self.invariant) in
+    few_held g.S.Shelf.store c.self.view_is c.self.invariant c.deref-port-items.ensures.value c.loop-port.invariant.small short c.loop-port-test.true
 
-pub loop-line-preserved : goal.loop-line-preserved
-loop-line-preserved g c = record {
-  exact = λ m s.
-      held_more m.config m.lines c.loop-line.line-index _ _ (omega (arith, c.loop-line-test.true, of_machine is_octets g.S.Shelf.store _ c.args.self.now c.self.view_is c.self.invariant c.deref-line-items.result.now c.loop-line.line-index c.deref-line-items.ensures.value m s)) (c.loop-line.invariant.exact m s)
-      (c.from-held.ensures ∙ one_says is_octets g.S.Shelf.store _ c.args.self.now c.loop-line.line-index c.line-item.result
-      (call_of is_octets g.S.Shelf.store _ c.args.self.now c.self.view_is c.self.invariant c.deref-line-items.result.now c.loop-line.line-index c.deref-line-items.ensures.value c.line-item.result c.loop-line-test.true c.line-item.is)
-      (λ d l. held_in d l) c.held.result (c.held.ensures _) m s);
-  small = omega (arith, c.loop-line.invariant.small, c.from-held.ensures, c.held.type_inv);
+pub loop-port-init : goal.loop-port-init
+loop-port-init g c = record {
+  exact = λ m s. let is = inside g.S.Shelf.store c.self.view_is c.stored-held.ensures.octets m s in omega (arith, is);
+  small = frames_small g.S.Shelf.store c.self.view_is c.self.invariant c.stored-held.ensures.few;
 }
 
+pub loop-port-preserved : goal.loop-port-preserved
+loop-port-preserved g c =
+    let (m, s) = c.self.invariant in
+    let call = call_of g.S.Shelf.store c.self.view_is c.self.invariant c.deref-port-items.ensures.value c.loop-port-test.true c.port-item.is in
+    let few = c.held-held.ensures.few m.card.config.n201 (port_at c.loop-port.port-index m) (port_holds g.S.Shelf.store call m s) in
+    let short : c.held-held.result ≤ 530 = omega (arith, few, ap (λ d. d.n201) s.frames.config, narrow g.S.Shelf.store c.self.view_is c.self.invariant) in
+    record {
+      exact = λ m s.
+          let there = stood g.S.Shelf.store c.self.view_is m s in
+          held_more m.card.config.n201 m.ports c.loop-port.port-index (cards.stored m.card) (omega (arith, c.loop-port-test.true, of_machine g.S.Shelf.store c.self.view_is c.self.invariant c.deref-port-items.ensures.value m there)) (c.loop-port.invariant.exact m s)
+          (c.held-held.ensures.held m.card.config.n201 (port_at c.loop-port.port-index m) (port_holds g.S.Shelf.store call m there));
+      small = omega (arith, c.loop-port.invariant.small, short);
+    }
+
 pub returns : goal.returns
-returns g c = λ m s.
-    let is =
-    stored_is is_octets g.S.Shelf.store _ c.args.self.now c.self.view_is c.self.invariant c.loop-line.held c.octets.result (λ m. 0)
-    (λ m s. omega (arith, c.loop-line.invariant.exact m s ∙ all_held is_octets g.S.Shelf.store _ c.args.self.now c.self.view_is c.self.invariant c.deref-line-items.result.now c.loop-line.line-index c.deref-line-items.ensures.value (held_in m.config) m c.loop-line-test.false s)) c.octets.ensures m s in
-    omega (arith, is)
-
-pub overflow_add-result : goal.overflow_add-result
-overflow_add-result g c =
-    fits_64 _ (stored_few is_octets g.S.Shelf.store _ c.args.self.now c.self.view_is c.self.invariant c.loop-line.held c.octets.result (λ m. 0)
-    (λ m s. omega (arith, c.loop-line.invariant.exact m s ∙ all_held is_octets g.S.Shelf.store _ c.args.self.now c.self.view_is c.self.invariant c.deref-line-items.result.now c.loop-line.line-index c.deref-line-items.ensures.value (held_in m.config) m c.loop-line-test.false s)) c.octets.ensures)
-
-pub overflow_cast-result : goal.overflow_cast-result
-overflow_cast-result g c =
-    fits_32 _ (stored_few is_octets g.S.Shelf.store _ c.args.self.now c.self.view_is c.self.invariant c.loop-line.held c.octets.result (λ m. 0)
-    (λ m s. omega (arith, c.loop-line.invariant.exact m s ∙ all_held is_octets g.S.Shelf.store _ c.args.self.now c.self.view_is c.self.invariant c.deref-line-items.result.now c.loop-line.line-index c.deref-line-items.ensures.value (held_in m.config) m c.loop-line-test.false s)) c.octets.ensures)
+returns g c = λ m s. c.loop-port.invariant.exact m s ∙ ap (λ n. cards.stored m.card + n) (all_held g.S.Shelf.store c.self.view_is c.self.invariant c.deref-port-items.ensures.value c.loop-port-test.false m (stood g.S.Shelf.store c.self.view_is m s))

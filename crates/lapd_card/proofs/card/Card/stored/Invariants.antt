@@ -1,11 +1,14 @@
 -- The invariants of the loops of `Card::stored`.
-use Rattle.lapd_card.proofs.Vocabulary.{◌≡◌, ◌*◌, ◌≤◌, take, sum_by, held_in, Stands}
-use Rattle.model_card.specs.Card as machine
+use Rattle.lapd_card.proofs.Vocabulary.{◌≡◌, ◌+◌, ◌*◌, ◌≤◌, take, sum_by}
+use Rattle.model_card.specs.Stored as cards
+use Rattle.model_ports.specs.Card as machine
+use Rattle.model_ports.specs.Stored.{held_at}
+use Rattle.lapd_card.specs.Stands.{Stands}
 use Rattle.lapd_card.proofs.card.Card.stored.Given as goal
 
--- what the lines so far hold
-abbrev pub invariant-loop-line : goal.invariant-loop-line
-invariant-loop-line g l = record {
-  exact : (m : machine.Card) → Stands g.S.Shelf.store l.self m → l.held ≡ sum_by (held_in m.config) (take l.line-index m.lines);
-  small : l.held ≤ l.line-index * 4294967295;
+-- what the card of frames and the ports so far hold
+abbrev pub invariant-loop-port : goal.invariant-loop-port
+invariant-loop-port g l = record {
+  exact : (m : machine.OctetCard) → Stands g.S.Shelf.store l.self m → l.held ≡ cards.stored m.card + sum_by (held_at m.card.config.n201) (take l.port-index m.ports);
+  small : l.held ≤ 2232192 + l.port-index * 530;
 }

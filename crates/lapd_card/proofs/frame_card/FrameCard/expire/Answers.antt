@@ -1,31 +1,26 @@
 -- Hand-written answers for `FrameCard::expire`.
-use Rattle.lapd_card.proofs.Vocabulary.{[], ◌∷◌, ap, RisesByExpiry, frames_by_event, after_all, says, answer, told_in_answer}
+use Rattle.lapd_card.proofs.Vocabulary.{frames_by_event}
 use Rattle.model_line.specs.Event as line_event
-use Rattle.lapd_card.proofs.OneLine.{line-there, one_serves, events_move, is_frames}
-use Rattle.lapd_card.proofs.OneEvent.{has_room, expiry_takes, past_after, event_leads, event_told, starts_one}
+use Rattle.lapd_card.proofs.OneLine.{line-there, one_serves}
+use Rattle.lapd_card.proofs.OneEvent.{past_after, event_leads, event_told}
+use Rattle.lapd_card.proofs.Served.{expiry_takes}
 use Rattle.lapd_card.proofs.Headline.{at_line}
 use Rattle.lapd_card.proofs.frame_card.FrameCard.expire.Goals as goal
 
 pub index_mut-requires : goal.index_mut-requires
-index_mut-requires g c = line-there is_frames g.S.Shelf.store _ c.args.self.now c.args.line _ c.self.invariant c.self.view_is c.requires c.self.inside.lines.ok.0
+index_mut-requires g c = line-there g.S.Shelf.store _ c.args.self.now c.args.line _ c.self.invariant c.self.view_is c.requires c.self.inside.lines.ok.0
 
 pub expire-requires : goal.expire-requires
-expire-requires g c = one_serves is_frames g.S.Shelf.store _ c.args.self.now c.args.line c.index_mut.result.now (record { past = c.self.invariant; same = c.self.view_is; within = c.requires; is = c.index_mut.ensures.value })
+expire-requires g c = one_serves g.S.Shelf.store (record { past = c.self.invariant; same = c.self.view_is; within = c.requires; is = c.index_mut.ensures.value })
 
 pub invariant_of-self : goal.invariant_of-self
-invariant_of-self g c =
-    past_after is_frames g.S.Shelf.store _ _ _ c.args.self.now _ c.self.view_is
-    (event_leads is_frames g.S.Shelf.store _ c.args.self.now c.args.line c.index_mut.result.now (record { past = c.self.invariant; same = c.self.view_is; within = c.requires; is = c.index_mut.ensures.value }) (line_event.expiry c.args.timer) _ _ (events_move (λ d l. line_event.expiry c.args.timer ∷ []) (λ d l. told_in_answer (answer d (line_event.expiry c.args.timer) l)) _ _ _ _ c.expire.ensures.after c.expire.ensures.counted) (λ m s. has_room c.args.line (line_event.expiry c.args.timer) (expiry_takes c.args.timer) m)) c.self.invariant
+invariant_of-self g c = past_after g.S.Shelf.store c.self.view_is (event_leads g.S.Shelf.store (record { past = c.self.invariant; same = c.self.view_is; within = c.requires; is = c.index_mut.ensures.value }) (line_event.expiry c.args.timer) (expiry_takes c.args.timer) c.expire.ensures.after) c.self.invariant
 
 pub returns-clause-told : goal.returns-clause-told
-returns-clause-told g c = λ m s. ap says (event_told is_frames g.S.Shelf.store _ c.args.self.now c.args.line c.index_mut.result.now (record { past = c.self.invariant; same = c.self.view_is; within = c.requires; is = c.index_mut.ensures.value }) (line_event.expiry c.args.timer) _ c.expire.ensures.told (λ m s. has_room c.args.line (line_event.expiry c.args.timer) (expiry_takes c.args.timer) m) m s)
+returns-clause-told g c = event_told g.S.Shelf.store (record { past = c.self.invariant; same = c.self.view_is; within = c.requires; is = c.index_mut.ensures.value }) (line_event.expiry c.args.timer) (expiry_takes c.args.timer) c.expire.ensures.told
 
 pub returns-clause-after : goal.returns-clause-after
-unfolding after_all
-returns-clause-after g c = event_leads is_frames g.S.Shelf.store _ c.args.self.now c.args.line c.index_mut.result.now (record { past = c.self.invariant; same = c.self.view_is; within = c.requires; is = c.index_mut.ensures.value }) (line_event.expiry c.args.timer) _ _ (events_move (λ d l. line_event.expiry c.args.timer ∷ []) (λ d l. told_in_answer (answer d (line_event.expiry c.args.timer) l)) _ _ _ _ c.expire.ensures.after c.expire.ensures.counted) (λ m s. has_room c.args.line (line_event.expiry c.args.timer) (expiry_takes c.args.timer) m)
-
-pub returns-clause-starts : goal.returns-clause-starts
-returns-clause-starts g c = starts_one is_frames g.S.Shelf.store _ c.args.self.now c.args.line c.index_mut.result.now (record { past = c.self.invariant; same = c.self.view_is; within = c.requires; is = c.index_mut.ensures.value }) c.args.timer _ c.expire.ensures.told
+returns-clause-after g c = event_leads g.S.Shelf.store (record { past = c.self.invariant; same = c.self.view_is; within = c.requires; is = c.index_mut.ensures.value }) (line_event.expiry c.args.timer) (expiry_takes c.args.timer) c.expire.ensures.after
 
 pub returns-clause-frames : goal.returns-clause-frames
-returns-clause-frames g c = at_line g.S.Shelf.store c.args.self.now c.args.line c.requires (RisesByExpiry c.args.line c.args.timer) (λ m s w. frames_by_event.expiries m c.args.line c.args.timer s w)
+returns-clause-frames g c = at_line g.S.Shelf.store c.requires (λ m s w. frames_by_event.expiries m c.args.line c.args.timer s w)

@@ -1,27 +1,30 @@
 -- Hand-written answers for `FrameCard::frame`.
-use Rattle.lapd_card.proofs.Vocabulary.{map, refl, ap, told, says, frames_by_event, reached-sound, comes, events_of, of_heard, came, line_octets, heard_counted}
-use Rattle.model_line.specs.Event as line_event
-use Rattle.lapd_card.proofs.OneLine.{line-there, one_serves, one_says, is_frames}
-use Rattle.lapd_card.proofs.OneEvent.{past_after}
-use Rattle.lapd_card.proofs.OneHappening.{happening_leads, frame_alone, at_lines}
+use Rattle.lapd_card.proofs.Vocabulary.{◌≡◌, List, ap, subst, Owned, config_of, report_told, frames_by_event}
+use Rattle.lapd_line.specs.Stands as line
+use Rattle.model_line.specs.Came.{came}
+use Rattle.model_line.specs.Event.{told, hears}
+use Rattle.model_line.specs.Line as machine
+use Rattle.model_line.specs.Machine.{answer}
+use Rattle.lapd_card.proofs.OneLine.{line-there, one_serves, has_config}
+use Rattle.lapd_card.proofs.OneEvent.{past_after, event_leads, event_told}
+use Rattle.lapd_card.proofs.Served.{heard_takes}
+use Rattle.lapd_card.proofs.Headline.{at_line}
 use Rattle.lapd_card.proofs.frame_card.FrameCard.frame.Goals as goal
 
 pub index_mut-requires : goal.index_mut-requires
-index_mut-requires g c = line-there is_frames g.S.Shelf.store _ c.args.self.now c.args.line _ c.self.invariant c.self.view_is c.requires c.self.inside.lines.ok.0
+index_mut-requires g c = line-there g.S.Shelf.store _ c.args.self.now c.args.line _ c.self.invariant c.self.view_is c.requires c.self.inside.lines.ok.0
 
 pub frame-requires : goal.frame-requires
-frame-requires g c = one_serves is_frames g.S.Shelf.store _ c.args.self.now c.args.line c.index_mut.result.now (record { past = c.self.invariant; same = c.self.view_is; within = c.requires; is = c.index_mut.ensures.value })
+frame-requires g c = one_serves g.S.Shelf.store (record { past = c.self.invariant; same = c.self.view_is; within = c.requires; is = c.index_mut.ensures.value })
 
 pub invariant_of-self : goal.invariant_of-self
-invariant_of-self g c =
-    past_after is_frames g.S.Shelf.store _ _ _ c.args.self.now _ c.self.view_is
-    (happening_leads g.S.Shelf.store _ c.args.self.now (comes c.args.line c.args.octets.now) c.index_mut.result.now (record { past = c.self.invariant; same = c.self.view_is; within = c.requires; is = c.index_mut.ensures.value }) (λ d l. map line_event.octet (line_octets c.args.octets.now)) (frame_alone g.S.Shelf.store c.args.self.now c.args.line c.requires c.args.octets.now) (λ d l. heard_counted d (came d.n201 c.args.octets.now) l) (λ m s. refl) _ c.frame.new.shelf c.frame.ensures.after c.frame.ensures.counted) c.self.invariant
+invariant_of-self g c = past_after g.S.Shelf.store c.self.view_is (event_leads g.S.Shelf.store (record { past = c.self.invariant; same = c.self.view_is; within = c.requires; is = c.index_mut.ensures.value }) (hears (came c.args.self.now.config.n201 c.args.octets.now)) (heard_takes (came c.args.self.now.config.n201 c.args.octets.now)) (subst (λ n. line.Leads (hears (came n c.args.octets.now)) c.index_mut.result.now (g.S.Shelf.store c.self.inside.shelf) c.frame.new.self (g.S.Shelf.store c.frame.new.shelf)) (ap (λ d. d.n201) (has_config g.S.Shelf.store (record { past = c.self.invariant; same = c.self.view_is; within = c.requires; is = c.index_mut.ensures.value }))) c.frame.ensures.after)) c.self.invariant
 
 pub returns-clause-told : goal.returns-clause-told
-returns-clause-told g c = λ m s. ap (λ t. says (told t)) (one_says is_frames g.S.Shelf.store _ c.args.self.now c.args.line c.index_mut.result.now (record { past = c.self.invariant; same = c.self.view_is; within = c.requires; is = c.index_mut.ensures.value }) (λ d l. (of_heard d (came d.n201 c.args.octets.now) l).told) _ c.frame.ensures.told m s)
+returns-clause-told g c = event_told g.S.Shelf.store (record { past = c.self.invariant; same = c.self.view_is; within = c.requires; is = c.index_mut.ensures.value }) (hears (came c.args.self.now.config.n201 c.args.octets.now)) (heard_takes (came c.args.self.now.config.n201 c.args.octets.now)) (subst (λ n. (others : List Owned) (l : machine.Line) → line.Stands c.index_mut.result.now (g.S.Shelf.store c.self.inside.shelf) others l → told (report_told c.frame.result) ≡ answer (config_of c.index_mut.result.now) (hears (came n c.args.octets.now)) l) (ap (λ d. d.n201) (has_config g.S.Shelf.store (record { past = c.self.invariant; same = c.self.view_is; within = c.requires; is = c.index_mut.ensures.value }))) c.frame.ensures.told)
 
 pub returns-clause-after : goal.returns-clause-after
-returns-clause-after g c = happening_leads g.S.Shelf.store _ c.args.self.now (comes c.args.line c.args.octets.now) c.index_mut.result.now (record { past = c.self.invariant; same = c.self.view_is; within = c.requires; is = c.index_mut.ensures.value }) (λ d l. map line_event.octet (line_octets c.args.octets.now)) (frame_alone g.S.Shelf.store c.args.self.now c.args.line c.requires c.args.octets.now) (λ d l. heard_counted d (came d.n201 c.args.octets.now) l) (λ m s. refl) _ c.frame.new.shelf c.frame.ensures.after c.frame.ensures.counted
+returns-clause-after g c = event_leads g.S.Shelf.store (record { past = c.self.invariant; same = c.self.view_is; within = c.requires; is = c.index_mut.ensures.value }) (hears (came c.args.self.now.config.n201 c.args.octets.now)) (heard_takes (came c.args.self.now.config.n201 c.args.octets.now)) (subst (λ n. line.Leads (hears (came n c.args.octets.now)) c.index_mut.result.now (g.S.Shelf.store c.self.inside.shelf) c.frame.new.self (g.S.Shelf.store c.frame.new.shelf)) (ap (λ d. d.n201) (has_config g.S.Shelf.store (record { past = c.self.invariant; same = c.self.view_is; within = c.requires; is = c.index_mut.ensures.value }))) c.frame.ensures.after)
 
 pub returns-clause-frames : goal.returns-clause-frames
-returns-clause-frames g c = λ m s. frames_by_event.in_runs m (events_of m (comes c.args.line c.args.octets.now)) (reached-sound m s.reached) (at_lines g.S.Shelf.store c.args.self.now (comes c.args.line c.args.octets.now) c.requires m s)
+returns-clause-frames g c = at_line g.S.Shelf.store c.requires (λ m s w. frames_by_event.heard m c.args.line (came c.args.self.now.config.n201 c.args.octets.now) s w)

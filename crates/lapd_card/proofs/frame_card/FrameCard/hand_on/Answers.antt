@@ -1,5 +1,6 @@
 -- Hand-written answers for `FrameCard::hand_on`.
-use Rattle.lapd_card.proofs.Vocabulary.{◌≤◌, ap, subst, arith, ranges_of, room_for_frames}
+use Rattle.lapd_card.proofs.Vocabulary.{◌≤◌, ap, subst, arith, ranges_of}
+use Rattle.lapd_card.specs.FrameCard.{room_for_frames}
 use Rattle.lapd_card.proofs.frame_card.FrameCard.hand_on.Goals as goal
 
 -- there is room for the longest frame of all

@@ -1,14 +1,17 @@
 -- Hand-written answers for `Line::octet`.
-use Rattle.lapd_line.proofs.Vocabulary.{refl, ap, ◌∙◌, told, report_told, config_of}
-use Rattle.lapd_line.proofs.AnswerLaws.{drop_leaves}
+use Rattle.lapd_line.proofs.Vocabulary.{refl, latest_frame, octets_config, report_told}
+use Rattle.lapd_line.proofs.OctetSteps.{drop_leaves, lent_told}
 use Rattle.lapd_line.proofs.line.Line.octet.Goals as goal
 
 pub returns : goal.returns
 returns g c = (
-  (refl, (λ line. tt), c.step-bare.ensures.after),
+  (refl, (λ line. tt), c.hear.ensures.after),
   record {
-    told = λ others m st. ap told c.lend.ensures ∙ c.step-bare.ensures.told others m st;
-    dropped = λ others m st. drop_leaves (config_of c.args.self.now) c.args.octet m (report_told c.lend.result) (ap told c.lend.ensures ∙ c.step-bare.ensures.told others m st);
+    told = λ others l st.
+        lent_told (latest_frame c.hear.new.self.port) c.hear.result c.nothing.result c.nothing.ensures c.unwrap_or-bare.ensures c.lend.ensures (c.hear.ensures.told others l st);
+    dropped = λ others l st.
+        drop_leaves (octets_config c.args.self.now) c.args.octet l (report_told c.lend.result)
+        (lent_told (latest_frame c.hear.new.self.port) c.hear.result c.nothing.result c.nothing.ensures c.unwrap_or-bare.ensures c.lend.ensures (c.hear.ensures.told others l st));
     after = tt;
   },
 )

@@ -2,4 +2,4 @@
 use Rattle.lapd_line.proofs.line.Line.state.Goals as goal
 
 pub returns : goal.returns
-returns c = λ store others m st. c.state.ensures store others m st.layer
+returns c = λ store others l st. c.state.ensures store others l.line st.frames

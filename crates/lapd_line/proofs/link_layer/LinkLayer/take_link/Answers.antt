@@ -31,4 +31,4 @@ load-requires g c =
 pub returns : goal.returns
 returns g c =
     link_loaded c.args.self.now (g.S.Shelf.store c.args.shelf.now) (g.O.Outlet.loading c.args.out.now) (g.O.Outlet.loading c.load.new.out) c.args.number c.offer.new.self c.in-Some.offer c.address-address.result c.contents.result.now c.requires.within c.requires.awake c.in-Some.ensures
-    c.address-address.ensures c.contents.ensures c.load.ensures.room c.load.ensures.loaded
+    c.address-address.ensures c.contents.ensures c.load.ensures.room c.load.ensures.reference c.load.ensures.loaded

@@ -32,4 +32,4 @@ returns g c =
     subst (λ o. Takes (λ c' m. unit_taken c' m) c.args.self.now s (g.O.Outlet.loading c.args.out.now) (record c.args.self.now { units = c.pop.new.self }) t (g.O.Outlet.loading c.load.new.out) (Some o)) (sym c.none.ensures)
     (subst (λ r. Takes (λ c' m. unit_taken c' m) c.args.self.now s (g.O.Outlet.loading c.args.out.now) (record c.args.self.now { units = r }) t (g.O.Outlet.loading c.load.new.out) (Some [])) (sym c.pop.ensures)
     (unit_loaded c.args.self.now s t (g.O.Outlet.loading c.args.out.now) (g.O.Outlet.loading c.load.new.out) c.in_ok-unit.unit c.sapi.result c.get.result.now (sym c.in_ok-unit.ensures) c.sapi.ensures c.get.ensures.octets
-    c.release.ensures.released c.release.ensures.limits c.load.ensures.room c.load.ensures.loaded))
+    c.release.ensures.released c.release.ensures.limits c.load.ensures.room c.load.ensures.reference c.load.ensures.loaded))

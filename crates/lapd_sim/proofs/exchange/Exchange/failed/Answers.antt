@@ -1,19 +1,21 @@
 -- Hand-written answers for `Exchange::failed`.
-use Rattle.lapd_sim.proofs.Vocabulary.{◌<◌, refl, sym, subst, report_told, Config, told, orders_in, failed, answer_text, fault_at_once, Frames, scene, Holds}
-use Rattle.lapd_sim.proofs.Boards.{exchange_leads, on_frames, holds_once, told_as}
-use Rattle.lapd_sim.proofs.Exchanges.{past_by}
+use Rattle.lapd_sim.proofs.Vocabulary.{refl, report_told, at, hears, told, dropped, cause_of, Frames}
+use Rattle.lapd_sim.proofs.Boards.{frames_lead, leads_from, past_on, on_frames, frames_told, told_on}
 use Rattle.lapd_sim.proofs.exchange.Exchange.failed.Goals as goal
+use Rattle.model_line.specs.Event as line_event
 
 pub invariant_of-self-clause-past : goal.invariant_of-self-clause-past
 invariant_of-self-clause-past g c =
-    let leads = exchange_leads c.args.self.now c.in-Frames.card c.in-Frames.is (failed c.args.line c.args.fault) c.failed-report.new.self (λ m there. (there, tt)) c.requires.line c.failed-report.ensures.after in
-    past_by c.args.self.now.plan.config (failed c.args.line c.args.fault) c.args.self.now.board (Frames c.failed-report.new.self) leads c.args.self.now.past
+    let e = dropped (cause_of c.args.fault) in
+    let leads = leads_from (at c.args.line (hears e)) c.args.self.now.board (Frames c.in-Frames.card) (Frames c.failed-report.new.self) c.in-Frames.is
+    (frames_lead c.args.line (hears e) (line_event.hears e) refl c.in-Frames.card c.failed-report.new.self c.failed-report.ensures.after) in
+    past_on (at c.args.line (hears e)) c.args.self.now.board (Frames c.failed-report.new.self) leads c.args.self.now.past
 
 pub returns-clause-told : goal.returns-clause-told
 returns-clause-told g c = λ m h.
-    let a = told (report_told c.failed-report.result) in
-    let leads = exchange_leads c.args.self.now c.in-Frames.card c.in-Frames.is (failed c.args.line c.args.fault) c.failed-report.new.self (λ m there. (there, tt)) c.requires.line c.failed-report.ensures.after in
-    let on = on_frames c.args.self.now c.in-Frames.card c.in-Frames.is m.card h.card in
-    let there : c.args.line < m.card.config.lines = subst (λ (k : Config). c.args.line < k.lines) (sym h.config) c.requires.line in
-    told_as c.carry_out.result _ _ (Holds _) _ _ (fault_at_once c.args.line c.args.fault a (scene m) on.1 there (c.failed-report.ensures.told m.card on.0)) c.carry_out.ensures.written
-    (holds_once (failed c.args.line c.args.fault) (orders_in a) (answer_text c.args.line a) c.args.self.now _ m h leads refl refl c.carry_out.ensures.ordered)
+    let e = dropped (cause_of c.args.fault) in
+    let leads = leads_from (at c.args.line (hears e)) c.args.self.now.board (Frames c.in-Frames.card) (Frames c.failed-report.new.self) c.in-Frames.is
+    (frames_lead c.args.line (hears e) (line_event.hears e) refl c.in-Frames.card c.failed-report.new.self c.failed-report.ensures.after) in
+    told_on (at c.args.line (hears e)) c.args.self.now _ leads refl refl m h c.carry_out.result _ _ (told (report_told c.failed-report.result))
+    (frames_told c.args.self.now.board c.in-Frames.card c.in-Frames.is m.board h.board c.args.line (hears e) (line_event.hears e) refl (line_event.told (report_told c.failed-report.result)) (c.failed-report.ensures.told m.board.card.card (on_frames c.args.self.now.board c.in-Frames.card c.in-Frames.is m.board h.board)))
+    c.carry_out.ensures.ordered c.carry_out.ensures.written

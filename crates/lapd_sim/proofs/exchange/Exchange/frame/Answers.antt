@@ -1,19 +1,28 @@
 -- Hand-written answers for `Exchange::frame`.
-use Rattle.lapd_sim.proofs.Vocabulary.{◌<◌, refl, sym, subst, arith, are-octets, report_told, Config, told, orders_in, comes, answer_text, frame_at_once, Frames, scene, Holds}
-use Rattle.lapd_sim.proofs.Boards.{exchange_leads, on_frames, holds_once, told_as}
-use Rattle.lapd_sim.proofs.Exchanges.{past_by}
+use Rattle.lapd_sim.proofs.Vocabulary.{◌≡◌, refl, subst, report_told, Config, came, at, hears, told, Frames, as_store}
+use Rattle.lapd_card.specs.FrameStands as frames
+use Rattle.model_card.specs.Event as frame_event
+use Rattle.model_card.specs.Machine as frame_machine
+use Rattle.model_line.specs.Event as line_event
+use Rattle.lapd_sim.proofs.Boards.{frames_lead, leads_from, past_on, on_frames, frames_told, same_config, told_on}
 use Rattle.lapd_sim.proofs.exchange.Exchange.frame.Goals as goal
 
 pub invariant_of-self-clause-past : goal.invariant_of-self-clause-past
 invariant_of-self-clause-past g c =
-    let leads = exchange_leads c.args.self.now c.in-Frames.card c.in-Frames.is (comes c.args.line c.args.octets.now) c.frame-report.new.self (λ m there. (there, are-octets c.args.octets.now (λ i. omega (arith, c.type_inv.octets i)))) c.requires.line c.frame-report.ensures.after in
-    past_by c.args.self.now.plan.config (comes c.args.line c.args.octets.now) c.args.self.now.board (Frames c.frame-report.new.self) leads c.args.self.now.past
+    let e = came c.in-Frames.card.config.n201 c.args.octets.now in
+    let leads = leads_from (at c.args.line (hears e)) c.args.self.now.board (Frames c.in-Frames.card) (Frames c.frame-report.new.self) c.in-Frames.is
+    (frames_lead c.args.line (hears e) (line_event.hears e) refl c.in-Frames.card c.frame-report.new.self c.frame-report.ensures.after) in
+    past_on (at c.args.line (hears e)) c.args.self.now.board (Frames c.frame-report.new.self) leads c.args.self.now.past
 
 pub returns-clause-told : goal.returns-clause-told
 returns-clause-told g c = λ m h.
-    let a = told (report_told c.frame-report.result) in
-    let leads = exchange_leads c.args.self.now c.in-Frames.card c.in-Frames.is (comes c.args.line c.args.octets.now) c.frame-report.new.self (λ m there. (there, are-octets c.args.octets.now (λ i. omega (arith, c.type_inv.octets i)))) c.requires.line c.frame-report.ensures.after in
-    let on = on_frames c.args.self.now c.in-Frames.card c.in-Frames.is m.card h.card in
-    let there : c.args.line < m.card.config.lines = subst (λ (k : Config). c.args.line < k.lines) (sym h.config) c.requires.line in
-    told_as c.carry_out.result _ _ (Holds _) _ _ (frame_at_once c.args.line c.args.octets.now a (scene m) on.1 there (are-octets c.args.octets.now (λ i. omega (arith, c.type_inv.octets i))) (c.frame-report.ensures.told m.card on.0)) c.carry_out.ensures.written
-    (holds_once (comes c.args.line c.args.octets.now) (orders_in a) (answer_text c.args.line a) c.args.self.now _ m h leads refl refl c.carry_out.ensures.ordered)
+    let e = came c.args.self.now.plan.config.n201 c.args.octets.now in
+    let same = same_config c.args.self.now c.in-Frames.card c.in-Frames.is in
+    let after = subst (λ (k : Config). frames.Leads as_store (frame_event.at c.args.line (line_event.hears (came k.n201 c.args.octets.now))) c.in-Frames.card c.frame-report.new.self) same c.frame-report.ensures.after in
+    let says = subst (λ (k : Config). line_event.told (report_told c.frame-report.result) ≡ frame_machine.answer (frame_event.at c.args.line (line_event.hears (came k.n201 c.args.octets.now))) m.board.card.card) same
+    (c.frame-report.ensures.told m.board.card.card (on_frames c.args.self.now.board c.in-Frames.card c.in-Frames.is m.board h.board)) in
+    let leads = leads_from (at c.args.line (hears e)) c.args.self.now.board (Frames c.in-Frames.card) (Frames c.frame-report.new.self) c.in-Frames.is
+    (frames_lead c.args.line (hears e) (line_event.hears e) refl c.in-Frames.card c.frame-report.new.self after) in
+    told_on (at c.args.line (hears e)) c.args.self.now _ leads refl refl m h c.carry_out.result _ _ (told (report_told c.frame-report.result))
+    (frames_told c.args.self.now.board c.in-Frames.card c.in-Frames.is m.board h.board c.args.line (hears e) (line_event.hears e) refl (line_event.told (report_told c.frame-report.result)) says)
+    c.carry_out.ensures.ordered c.carry_out.ensures.written

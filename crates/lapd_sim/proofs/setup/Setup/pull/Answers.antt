@@ -20,7 +20,7 @@ returns g c = λ m h.
     (there_octets c.in_ok-line.ensures.0 (λ n. after_pull n c.args.count) m (h.exchange.kind ∙ c.in_ok-for_kind.ensures) (within c.args.self.now.exchange m line h.exchange c.in_ok-line.ensures.1))
     (subst (λ xs. Puts c.tell.result (output (g.T.Target.taken c.args.target.now) c.args.page.now.items) (output (g.T.Target.taken c.tell.new.target) c.tell.new.page.items) (pulled_text line (taken_at line p.setup) xs)) octets (c.tell.ensures.told (taken_at line p.setup) past))
     (when_ok c.tell.result c.tell.ensures.after (λ after. record {
-      exchange = record { kind = holds.kind; config = holds.config; card = holds.card; counters = holds.counters; clock = holds.clock; now = holds.now };
+      exchange = record { kind = holds.kind; config = holds.config; board = holds.board; counters = holds.counters; clock = holds.clock; now = holds.now };
       terminals = subst (λ ts. Each Sends c.args.self.now.terminals.items ts) (sym keep.0) h.terminals;
       listeners = each_set Hears c.args.self.now.listeners.items p.setup.taken line c.tell.new.listener (taken_at line p.setup ++ p.octets)
           (subst (λ xs. Hears c.tell.new.listener (taken_at line p.setup ++ xs)) octets (after (taken_at line p.setup) past))

@@ -14,7 +14,7 @@ returns g c = λ m h.
     let sends = subst (λ d. Sends d t) (sym c.index_mut-terminal.ensures.value)
     (each_at Sends c.args.self.now.terminals.items m.terminals line c.index_mut-terminal.result.now (record { items = []; given = 0 }) bound h.terminals) in
     let moved = with_terminal line (after_sending frame t) m in
-    let holds : Holds c.args.self.now.exchange moved = record { kind = h.exchange.kind; config = h.exchange.config; card = h.exchange.card; counters = h.exchange.counters; clock = h.exchange.clock; now = h.exchange.now } in
+    let holds : Holds c.args.self.now.exchange moved = record { kind = h.exchange.kind; config = h.exchange.config; board = h.exchange.board; counters = h.exchange.counters; clock = h.exchange.clock; now = h.exchange.now } in
     let keep = events_keep (octets_at line (octets_sent frame t)) (scene moved) in
     obeyed_sent c.send.result _ c.written.ensures _ _ (Holds c.send.new.exchange) (Stands _) _ _
     (into_is c.in_ok-line.ensures.0 Octets frame m (h.exchange.kind ∙ c.requires) (within c.args.self.now.exchange m line h.exchange c.in_ok-line.ensures.1)

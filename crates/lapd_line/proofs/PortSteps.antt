@@ -1,0 +1,165 @@
+-- What a port does.
+use Rattle.lapd_line.proofs.Vocabulary.{◌≡◌, ℕ, ◌≤◌, Bool, true, false, List, [], ◌∷◌, ◌++◌, length, take, slice_get, Option, Some, None, is_some, option_map, option_to_list, refl, sym, ap, ◌∙◌, subst, append_assoc, cond, le-ltb, same_Some, option_map_or, unwrap_or, bits, low_bits, number_of, Framing, runs_low, refilled, with_idle, Item, idle, frame, line_text, bits-push, heard_in, Head, head_shown, listed, ShortList, Order, Owned, Store, next, given_shown, answer, without_octets, Cause, in_bits, Loading, TakesNext, FrameLine, config_of, orders_taken, IsLoaded, IsSaid, PortStands, with_frame, left_is, one_item, text_of}
+use Rattle.lapd_bits.specs.declared.ended.Ended.TheVariants as ended
+use Rattle.model_bits.specs.Framer as framer
+use Rattle.model_bits.specs.Stream as stream
+use Rattle.model_line.specs.Event.{Answer, NextFrame}
+use Rattle.model_line.specs.Line as lines
+use Rattle.model_ports.specs.Codec.{IsTextOf}
+use Rattle.model_ports.specs.Port as machine
+use Rattle.model_ports.specs.Port.{gained, is_due, next_octet, with_item, given_in, frame_begun, orders_with, pull, pulled}
+use Rattle.lapd_line.specs.Stands.{Stands}
+use Rattle.lapd_line.specs.declared.port.Port.{Port}
+use Rattle.lapd_line.proofs.NextSteps.{gave_none, gave_one, given_is}
+
+-- ---- what comes
+
+-- what is heard with one octet more is what that octet brought
+last_gained : {X : Type 0} (xs : List X) (o : Option X) → slice_get (xs ++ option_to_list o) (length xs) ≡ o
+last_gained [] None = refl
+last_gained [] (Some x) = refl
+last_gained (y ∷ xs) o = last_gained xs o
+
+pub gained_is : (n201 octet : ℕ) (received : List ℕ) (o : Option stream.Event) → heard_in n201 (received ++ octet ∷ []) ≡ heard_in n201 received ++ option_to_list o → gained n201 received octet ≡ o
+gained_is n201 octet received o is = ap (λ l. slice_get l (length (heard_in n201 received))) is ∙ last_gained (heard_in n201 received) o
+
+-- an octet that ended nothing brought no event
+pub nothing_heard : (o : Option stream.Event) → ended.Nothing ≡ without_octets o → o ≡ None
+nothing_heard None e = refl
+nothing_heard (Some (stream.frame octets)) e = absurd (cc)
+nothing_heard (Some (stream.overlong head)) e = absurd (cc)
+nothing_heard (Some (stream.dropped cause)) e = absurd (cc)
+
+pub is_dropped : (o : Option stream.Event) (cause : Cause) → ended.Dropped cause ≡ without_octets o → o ≡ Some (stream.dropped cause)
+is_dropped None cause e = absurd (cc)
+is_dropped (Some (stream.frame octets)) cause e = absurd (cc)
+is_dropped (Some (stream.overlong head)) cause e = absurd (cc)
+is_dropped (Some (stream.dropped other)) cause e = cc
+
+-- ---- what goes
+
+-- an item is due exactly where the framer's bits run low
+pub due_is : {n201 : ℕ} {port : Port} {p : machine.Port} → PortStands n201 port p → is_due p ≡ runs_low port.framer.left
+due_is {port = port} {p} st = ap runs_low (left_is p port.framer.left st.sent.text)
+
+pub port_text : {n201 : ℕ} {port : Port} {p : machine.Port} → PortStands n201 port p → IsTextOf p
+port_text {port = port} {p} st = text_of p port.framer.left st.sent.text
+
+-- the framer in it
+framing_in : Loading → Framing → Framing
+framing_in (in_bits f) other = f
+framing_in other f = f
+
+same_framing : {f g : Framing} → in_bits g ≡ in_bits f → g ≡ f
+unfolding framing_in
+same_framing {f} {g} same = ap (λ l. framing_in l f) same
+
+-- the next frame is loaded into the port
+abbrev pub reframed : Port → Framing → Port
+reframed port g = record port { framer = g }
+
+module _ {old : FrameLine} {s : Store} {mid : FrameLine} {t : Store} (port : Port) {g : Framing} {given : Option (List Order)}
+    (h : TakesNext old s (in_bits port.framer) mid t (in_bits g) given) where
+  pub none_loaded : {orders : Option (List Order)} → given ≡ None → orders ≡ None → (others : List Owned) (m : lines.Line) → Stands old s others m
+      → IsLoaded (answer (config_of old) next m) orders port (reframed port g)
+  none_loaded {orders} none as_none others m st =
+      let (is, same) = gave_none h none others m st in
+      subst (λ a. IsLoaded a orders port (reframed port g)) (sym is)
+      (record { orders = as_none; stands = λ n201 p there. subst (λ f. PortStands n201 (reframed port f) p) (sym (same_framing same)) there })
+
+  pub one_loaded : {orders : List Order} → given ≡ Some orders → (others : List Owned) (m : lines.Line) → Stands old s others m
+      → IsLoaded (answer (config_of old) next m) (Some orders) port (reframed port g)
+  one_loaded {orders} some others m st =
+      let one = gave_one h some others m st in
+      subst (λ a. IsLoaded a (Some orders) port (reframed port g)) (sym one.is)
+      (record {
+        orders = ap Some one.loaded.0;
+        stands = λ n201 p there. record { received = there.received; sent = one.loaded.1.0 p.items p.given there.sent; room = h.room ∙ there.room };
+      })
+
+  -- and what is shown of it is its head
+  pub head_is : {orders : List Order} {head : Option Head} → given ≡ Some orders → head ≡ g.begun → (others : List Owned) (m : lines.Line) → Stands old s others m
+      → given_shown (config_of old) (answer (config_of old) next m) ≡ option_map_or (head_shown (config_of old).side) head []
+  head_is some is others m st =
+      let one = gave_one h some others m st in
+      given_is (config_of old) m one.frame one.frame.octets one.is refl
+      ∙ ap (λ x. option_map_or (head_shown (config_of old).side) x []) (sym (is ∙ one.loaded.1.1))
+
+-- The framer gave this octet.
+pub record Gives (f g : Framing) (octet : ℕ) : Type 0 where
+  pub value : octet ≡ number_of (take 8 (refilled f.left))
+  pub bits : low_bits 8 octet ++ g.left ≡ refilled f.left
+  pub room : g.room ≡ f.room
+  pub stands : (items : List Item) (given : List ℕ) → framer.Stands f items given → framer.Stands g (with_idle f.left items) (given ++ octet ∷ [])
+
+-- a frame that was just loaded leaves enough bits for an octet
+loaded : (p : machine.Port) (one : NextFrame) (left : List Bool) → IsTextOf p → line_text (p.items ++ frame one.octets ∷ []) ≡ bits p.given ++ left → runs_low left ≡ false
+loaded p one left text is =
+    let ready = one_item p (frame one.octets) text in
+    le-ltb (length left) 8 (subst (λ x. 8 ≤ length x) (left_is (with_frame (Some one) p) left is) ready.enough)
+
+-- where none was loaded but an item is due, an idle flag goes on
+goes_on : (p : machine.Port) (f : Framing) (said : Option Answer) → is_some said ≡ is_due p → IsTextOf p
+    → framer.Stands f (with_frame (frame_begun said) p).items p.given
+    → record (with_frame (frame_begun said) p) { items = with_idle f.left (with_frame (frame_begun said) p).items } ≡ with_item said p
+goes_on p f None due text st =
+    ap (λ low. record p { items = cond low (p.items ++ idle ∷ []) p.items }) (ap runs_low (sym (left_is p f.left st.text)) ∙ sym due)
+goes_on p f (Some a) due text st = go (given_in a) st
+  where
+    go : (o : Option NextFrame) → framer.Stands f (with_frame o p).items p.given
+        → record (with_frame o p) { items = with_idle f.left (with_frame o p).items } ≡ record p { items = p.items ++ machine.item_of o ∷ [] }
+    go None st = ap (λ low. record p { items = cond low (p.items ++ idle ∷ []) p.items }) (ap runs_low (sym (left_is p f.left st.text)) ∙ sym due)
+    go (Some one) st =
+        let items = p.items ++ frame one.octets ∷ [] in
+        ap (λ low. record p { items = cond low (items ++ idle ∷ []) items }) (loaded p one f.left text st.text)
+
+same_given : (p : machine.Port) (o : Option NextFrame) → (with_frame o p).given ≡ p.given
+same_given p None = refl
+same_given p (Some one) = refl
+
+-- the octet that a port gives next is the framer's
+next_is : (q : machine.Port) (f g : Framing) (octet : ℕ) → Gives f g octet → framer.Stands f q.items q.given
+    → next_octet (record q { items = with_idle f.left q.items }) ≡ octet
+next_is q f g octet h st =
+    let r : machine.Port = record q { items = with_idle f.left q.items } in
+    let text : line_text r.items ≡ bits r.given ++ refilled f.left =
+    (h.stands q.items q.given st).text
+    ∙ ap (λ x. x ++ g.left) (bits-push q.given octet)
+    ∙ append_assoc (bits q.given) (low_bits 8 octet) g.left
+    ∙ ap (λ x. bits q.given ++ x) h.bits in
+    ap (λ x. number_of (take 8 x)) (left_is r (refilled f.left) text) ∙ sym h.value
+
+module _ {port : Port} {g : Framing} {octet : ℕ} (gives : Gives port.framer g octet) (n201 : ℕ) (p : machine.Port) (said : Option Answer) (taken : Option (ShortList Order))
+    (is : IsSaid p said (orders_taken taken)) (st : PortStands n201 port (with_frame (frame_begun said) p)) where
+  abbrev begun : machine.Port
+  begun = with_frame (frame_begun said) p
+
+  item_is : record begun { items = with_idle port.framer.left begun.items } ≡ with_item said p
+  item_is = goes_on p port.framer said is.due is.text (subst (framer.Stands port.framer begun.items) (same_given p (frame_begun said)) st.sent)
+
+  octet_is : next_octet (with_item said p) ≡ octet
+  octet_is = ap next_octet (sym item_is) ∙ next_is begun port.framer g octet gives st.sent
+
+  -- so the port has given what the machine gives
+  pub given_on : PortStands n201 (reframed port g) (machine.after pull said p)
+  given_on =
+      subst (PortStands n201 (reframed port g))
+      (sym (ap {B = machine.Port} (λ x. record (with_item said p) { given = (with_item said p).given ++ x ∷ [] }) octet_is
+      ∙ ap {A = machine.Port} {B = machine.Port} (λ q. record q { given = q.given ++ octet ∷ [] }) (sym item_is)))
+      (record { received = st.received; sent = gives.stands begun.items begun.given st.sent; room = gives.room ∙ st.room })
+
+  -- and answers what it answers
+  pub given_told : (none told : ShortList Order) (taken_one : Bool) → taken_one ≡ is_some taken → listed none ≡ [] → told ≡ unwrap_or taken none
+      → pulled octet taken_one (listed told) ≡ machine.answer pull said p
+  given_told none told taken_one one empty told_is =
+      ap (λ x. pulled octet x (listed told)) one
+      ∙ ap (λ x. pulled octet (is_some taken) (listed x)) told_is
+      ∙ same_answer taken (frame_begun said) is.orders
+      ∙ ap (λ x. pulled x (is_some (frame_begun said)) (option_map_or orders_with (frame_begun said) [])) (sym octet_is)
+    where
+      same_answer : (r : Option (ShortList Order)) (o : Option NextFrame) → orders_taken r ≡ option_map orders_with o
+          → pulled octet (is_some r) (listed (unwrap_or r none)) ≡ pulled octet (is_some o) (option_map_or orders_with o [])
+      same_answer None None e = ap (pulled octet false) empty
+      same_answer (Some r) (Some n) e = ap (pulled octet true) (same_Some (listed r) n.orders e)
+      same_answer None (Some n) e = absurd (cc)
+      same_answer (Some r) None e = absurd (cc)

@@ -1,0 +1,35 @@
+-- Hand-written answers for `FrameLine::next_frame`.
+use Rattle.lapd_line.proofs.Vocabulary.{◌≡◌, ◌≤◌, [], length, take, drop, Some, option_map_or, head_of, head_shown, given_shown, ap, sym, ◌∙◌, orders_taken, gave_in, answer, next, config_of}
+use Rattle.lapd_line.proofs.NextSteps.{next_leads, none_leads, gave_none, octets_shown, gave_is, is_written, ended}
+use Rattle.lapd_line.proofs.frame_line.FrameLine.next_frame.Goals as goal
+
+pub returns-in_err-orders-clause-gave : goal.returns-in_err-orders-clause-gave
+returns-in_err-orders-clause-gave g c = λ others m st.
+    let none = gave_none c.take.ensures (ap orders_taken c.in_err-orders.was) others m st in
+    ap (gave_in _) c.from_residual.ensures ∙ sym none.0
+
+pub returns-in_err-orders-clause-after : goal.returns-in_err-orders-clause-after
+returns-in_err-orders-clause-after g c = none_leads c.take.ensures (ap orders_taken c.in_err-orders.was)
+
+pub returns-clause-gave : goal.returns-clause-gave
+returns-clause-gave g c = λ others m st.
+    ended (λ out. gave_in out (Some (record { length = c.take.new.out.length; orders = c.in_ok-orders.orders })) ≡ answer (config_of c.args.self.now) next m)
+    c.take.new.out.octets.now _ (gave_is c.in_ok-orders.orders c.take.ensures (ap orders_taken c.in_ok-orders.was) others m st) (c.out-2-1.given.1.1 (sym c.take.ensures.reference))
+
+pub returns-clause-fits : goal.returns-clause-fits
+returns-clause-fits g c =
+    ended (λ out. c.take.new.out.length ≤ length out) c.take.new.out.octets.now _
+    (is_written c.in_ok-orders.orders c.take.ensures (ap orders_taken c.in_ok-orders.was) c.requires.stands).fits (c.out-2-1.given.1.1 (sym c.take.ensures.reference))
+
+pub returns-clause-rest : goal.returns-clause-rest
+returns-clause-rest g c =
+    ended (λ out. drop c.take.new.out.length out ≡ drop c.take.new.out.length c.args.out.now) c.take.new.out.octets.now _
+    (is_written c.in_ok-orders.orders c.take.ensures (ap orders_taken c.in_ok-orders.was) c.requires.stands).rest (c.out-2-1.given.1.1 (sym c.take.ensures.reference))
+
+pub returns-clause-after : goal.returns-clause-after
+returns-clause-after g c =
+    next_leads c.take.ensures c.given.new.self _ c.given.ensures
+    (λ others m st.
+    ended (λ out. given_shown (config_of c.args.self.now) (answer (config_of c.args.self.now) next m)
+    ≡ option_map_or (head_shown (config_of c.args.self.now).side) (head_of (take c.take.new.out.length out)) [])
+    c.take.new.out.octets.now _ (octets_shown c.in_ok-orders.orders c.take.ensures (ap orders_taken c.in_ok-orders.was) others m st) (c.out-2-1.given.1.1 (sym c.take.ensures.reference)))

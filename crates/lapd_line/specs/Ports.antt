@@ -1,0 +1,51 @@
+-- What the port of a line stands for: its deframer for the octets received, its framer for the items that were put on the
+-- line and the octets given.
+use Rattle.std.specs.Prelude.{◌≡◌, ℕ, ◌++◌, ◌∷◌, [], List, Option, Some, None, is_some, option_map}
+use Rattle.lapd_bits.specs.Deframer as deframer
+use Rattle.model_bits.specs.Framer as framer
+use Rattle.model_bits.specs.Sent.{frame}
+use Rattle.model_bits.specs.Stream as stream
+use Rattle.lapd_frame.specs.declared.timers.Order.{Order}
+use Rattle.model_line.specs.Event.{Answer, NextFrame}
+use Rattle.model_ports.specs.Codec.{IsTextOf}
+use Rattle.model_ports.specs.Port as machine
+use Rattle.model_ports.specs.Port.{is_due, given_in, frame_begun, orders_with, after, answer, pull}
+use Rattle.lapd_line.specs.declared.port.Port.{Port}
+use Rattle.lapd_line.specs.declared.pulled.Pulled.{Pulled}
+use Rattle.lapd_line.specs.Reports.{octets_of, pulled_of}
+
+pub record PortStands (n201 : ℕ) (port : Port) (p : machine.Port) : Type 0 where
+  pub received : deframer.Stands n201 port.deframer p.received
+  pub sent : framer.Stands port.framer p.items p.given
+  pub room : port.framer.room ≡ n201
+
+-- What the latest octet has ended, if it ended anything.
+abbrev pub latest_in : Port → Option stream.Event
+latest_in port = deframer.latest_of port.deframer
+
+-- The octets of the frame that it ended; none where it ended no frame.
+abbrev pub latest_frame : Port → List ℕ
+latest_frame port = octets_of (latest_in port)
+
+-- A frame that is given, if one is, goes behind what was put on the line.
+abbrev pub with_frame : Option NextFrame → machine.Port → machine.Port
+with_frame None p = p
+with_frame (Some next) p = record p { items = p.items ++ frame next.octets ∷ [] }
+
+-- It is loaded, and these are its orders.
+pub record IsLoaded (said : Answer) (taken : Option (List Order)) (old new : Port) : Type 0 where
+  pub orders : taken ≡ option_map orders_with (given_in said)
+  pub stands : (n201 : ℕ) (p : machine.Port) → PortStands n201 old p → PortStands n201 new (with_frame (given_in said) p)
+
+-- A pull of a port whose octets given are a beginning of its text: what a line has said to it, which is something exactly where
+-- an item is due, with these orders.
+pub record IsSaid (p : machine.Port) (said : Option Answer) (taken : Option (List Order)) : Type 0 where
+  pub text : IsTextOf p
+  pub due : is_some said ≡ is_due p
+  pub orders : taken ≡ option_map orders_with (frame_begun said)
+
+-- The port, with the frame that is given for the pull, gives the next octet: this is the answer, and it stands for what comes
+-- of the pull.
+pub record Pulls (n201 : ℕ) (p : machine.Port) (said : Option Answer) (pulled : Pulled) (new : Port) : Type 0 where
+  pub told : pulled_of pulled ≡ answer pull said p
+  pub after : PortStands n201 new (after pull said p)

@@ -1,0 +1,119 @@
+//! The port of a line: what stands between its octets and its frames.
+
+ghost use Rattle.std.specs.Prelude.{◌≡◌, ℕ, ◌+◌, ◌*◌, ◌<◌, ◌≤◌, ◌∷◌, ◌++◌, [], length, IsTrue, Option, IfOk};
+ghost use Rattle.lapd_bits.specs.Ended.{without_octets};
+ghost use Rattle.model_bits.specs.Heard.{heard_of};
+ghost use Rattle.model_line.specs.Event.{Answer};
+ghost use Rattle.model_ports.specs.Begun.{head_begun};
+ghost use Rattle.model_ports.specs.Port as machine;
+ghost use Rattle.model_ports.specs.Port.{gained, is_due, fresh_port};
+ghost use Rattle.model_ports.specs.Stored.{held_at};
+ghost use Rattle.lapd_line.specs.Pulls.{orders_taken};
+ghost use Rattle.lapd_line.specs.Reports.{report_told, told_in};
+
+use crate::came::octets_of;
+use crate::fault::StartFault;
+use crate::pulled::Pulled;
+use crate::reports::{BareReport, Report};
+use lapd_bits::{Deframer, Ended, Framer};
+use lapd_frame::{Order, ShortList};
+use model_bits::{Head, Heard};
+use std::alloc::Global;
+
+/// The port of a line: it hears frames in the octets that come, and puts frames on the line, with flags, stuffed 0s and checks
+/// (Q.921 clause 2).
+///
+/// All its memory is taken by [`Port::start`]; no other call takes any. What an octet has ended is for
+/// [`FrameLine::heard`](crate::FrameLine::heard); what a pull is to begin comes from
+/// [`FrameLine::load_next`](crate::FrameLine::load_next).
+#[derive(Debug, Drop)]
+pub struct Port {
+    pub(crate) deframer: Deframer,
+    pub(crate) framer: Framer,
+}
+
+impl Port {
+    ghost use Rattle.lapd_line.specs.Ports.{PortStands, IsSaid, Pulls, latest_in, latest_frame, with_frame};
+
+    /// A port for information fields of `n201` octets at most, which is 1,024 at most. No octet has come, and none was given.
+    ///
+    /// # Errors
+    ///
+    /// `OutOfMemory` where there is no memory for the longest frame each way.
+    pub fn start(alloc: Global, n201: u16) -> Result<Port, StartFault>
+        requires { n201 ≤ 1024 }
+        ensures fresh { IfOk result (λ port. PortStands n201 port fresh_port) }
+    {
+        let deframer = Deframer::start(alloc, n201)?;
+        let framer = Framer::start(alloc, n201)?;
+        Ok(Port { deframer, framer })
+    }
+
+    /// Takes an octet that came from the line, low bit first, and tells whether it has ended anything. [`Port::latest`] lends
+    /// what.
+    #[inline(always)]
+    pub fn octet(&mut self, octet: u8) -> Ended
+        ensures gained { (n201 : ℕ) (p : machine.Port) → PortStands n201 self.old p → gained n201 p.received octet ≡ latest_in self.new }
+        ensures after { (n201 : ℕ) (p : machine.Port) → PortStands n201 self.old p
+            → PortStands n201 self.new (record p { received = p.received ++ octet ∷ [] }) }
+        ensures told { result ≡ without_octets (latest_in self.new) }
+    {
+        self.deframer.step(octet)
+    }
+
+    /// What the latest octet has ended. A frame is lent until the next octet.
+    #[inline(always)]
+    pub fn latest(&self) -> Heard<'_>
+        ensures { heard_of result ≡ latest_in self.now }
+    {
+        self.deframer.latest()
+    }
+
+    /// The report of what the latest octet led to, with the contents that it delivered lent until the next octet.
+    pub fn lend(&self, bare: &BareReport) -> Report<'_>
+        ensures { report_told result ≡ told_in (latest_frame self.now) bare.now }
+    {
+        bare.report(octets_of(self.latest()))
+    }
+
+    /// Whether fewer than eight bits are left to send, so that the next pull needs a frame to begin.
+    #[inline(always)]
+    pub fn is_due(&self) -> bool
+        ensures due { (n201 : ℕ) (p : machine.Port) → PortStands n201 self.now p → result ≡ is_due p }
+        ensures few { IsTrue result → length self.now.framer.left < 8 }
+    {
+        !self.framer.busy()
+    }
+
+    /// Gives the next octet of the line, low bit first, with the orders of the frame that was loaded for it, if one was; where
+    /// fewer than eight bits are left to send and none was, an idle flag goes on first.
+    #[inline(always)]
+    pub fn give(&mut self, taken: Option<ShortList<Order>>) -> Pulled
+        ensures { (n201 : ℕ) (p : machine.Port) (said : Option Answer) → IsSaid p said (orders_taken taken)
+            → PortStands n201 self.old (with_frame (machine.frame_begun said) p) → Pulls n201 p said result self.new }
+    {
+        Pulled {
+            octet: self.framer.octet(),
+            begun: taken.is_some(),
+            orders: taken.unwrap_or(ShortList::none()),
+        }
+    }
+
+    /// How the frame that a pull began last begins, and how long it is; none where none was begun yet. So after a pull that
+    /// has [`begun`](Pulled::begun) a frame, this is that frame, until a pull begins another.
+    pub fn begun(&self) -> Option<Head>
+        ensures is { result ≡ self.now.framer.begun }
+        ensures begun { (n201 : ℕ) (p : machine.Port) → PortStands n201 self.now p → result ≡ head_begun p }
+    {
+        self.framer.begun()
+    }
+
+    /// How many octets the port stores: of the frame that is received, and of the frame that is sent.
+    pub fn held(&self) -> u32
+        requires { (n201 : ℕ) × (n201 ≤ 1024) × ((p : machine.Port) × PortStands n201 self.now p) }
+        ensures held { (n201 : ℕ) (p : machine.Port) → PortStands n201 self.now p → result ≡ held_at n201 p }
+        ensures few { (n201 : ℕ) (p : machine.Port) → PortStands n201 self.now p → result ≤ 2 * n201 + 10 }
+    {
+        self.deframer.held() + self.framer.held()
+    }
+}

@@ -1,0 +1,171 @@
+-- An end that has nothing to send, as its octets are pulled and octets are heard there: flags go out alone.
+use Rattle.std.proofs.Common.{◌≡◌, ℕ, ◌+◌, ◌*◌, ◌≤◌, ◌⊎◌, inl, inr, Bool, true, false, cond, List, [], ◌∷◌, ◌++◌, length, Option, None, Some, option_map, refl, sym, ap, ◌∙◌, subst, arith, append-nil, length-drop}
+use Rattle.std.specs.Option.{option_map_or}
+use Rattle.std.proofs.lemmas.List.{set-get_or}
+use Rattle.model_bits.specs.Sent.{Item, idle}
+use Rattle.model_line.specs.declared.config.Config.{Config}
+use Rattle.model_line.specs.Event as line
+use Rattle.model_line.specs.Event.{gave}
+unfoldable use Rattle.model_line.specs.Machine.{after as line_after, answer as line_answer, takes_slot}
+use Rattle.model_line.specs.Taken.{Taken, taken, next_of, line_of}
+use Rattle.model_line.specs.Line.{fresh_line}
+use Rattle.model_card.specs.Card.{Card, line_at}
+use Rattle.model_card.specs.Event as frames
+use Rattle.model_card.specs.Machine as machine
+use Rattle.model_ports.specs.Card.{answer_to}
+unfoldable use Rattle.model_ports.specs.Card.{meant}
+use Rattle.model_ports.specs.Codec.{IsTextOf, frames_among}
+use Rattle.model_ports.specs.Port as port
+use Rattle.model_ports.specs.Port.{Port, given_in, is_due, item_of, left_of, gained, next_octet, with_item, with_octet}
+use Rattle.model_ports.proofs.PortGoesOn.{ready_where}
+use Rattle.model_ports.proofs.TextGoesOn.{left_with_octet}
+use Rattle.laws_wire.specs.Wire.{Station}
+use Rattle.laws_circuit.specs.Circuit.{Termination, port_of, happens}
+use Rattle.laws_circuit.proofs.AsFrames.{as_station, if_meant, heard-as, pulled-as}
+use Rattle.laws_circuit.proofs.OneWay.{frames_among-append}
+use Rattle.laws_circuit.proofs.Projected.{Fits, port-after}
+use Rattle.laws_circuit.proofs.Ran.{Ran, config, sound-port, within-ports}
+
+-- Nothing waits to be sent.
+abbrev pub next_of_card : ℕ → Card → line.Answer
+next_of_card number card = machine.answer (frames.at number line.next) card
+
+abbrev pub HasNone : Termination → Type 0
+HasNone s = next_of_card s.line s.card.card ≡ gave None
+
+-- And what was put on the line last is an idle flag.
+pub record IsDry (s : Termination) : Type 0 where
+  pub none : HasNone s
+  pub front : List Item
+  pub flag : (port_of s).items ≡ front ++ idle ∷ []
+
+-- ---- a call for the next frame that gives none changes nothing
+
+gave-none : (o : Option Taken) → gave (option_map next_of o) ≡ gave None → o ≡ None
+gave-none None e = refl
+gave-none (Some t) e = absurd (cc e)
+
+called-for-none : (number : ℕ) (card : Card) → next_of_card number card ≡ gave None → machine.after (frames.at number line.next) card ≡ card
+unfolding line_after line_answer takes_slot
+called-for-none number card none =
+    let l = line_at number card in
+    let is : taken card.config l ≡ None = gave-none (taken card.config l) none in
+    let lines = ap (λ o. machine.with_line number (option_map_or line_of o l) card.lines) is ∙ set-get_or card.lines number (fresh_line card.config) in
+    λ i. record card { lines = lines i }
+
+-- ---- a pull
+
+-- the port and the card after a pull, where an item is due or not
+abbrev said_if : Bool → Termination → Option line.Answer
+said_if due s = option_map (answer_to s.card.card) (option_map (frames.at s.line) (cond due (Some line.next) None))
+
+abbrev pulled_port : Bool → Termination → Port
+pulled_port due s = with_octet (with_item (said_if due s) (port_of s))
+
+abbrev pulled_card : Bool → Termination → Card
+pulled_card due s = (if_meant (cond due (Some line.next) None) (as_station [] s)).card
+
+card-pulled : (s : Termination) → (happens port.pull s).card.card ≡ pulled_card (is_due (port_of s)) s
+card-pulled s = ap (λ (x : Station). x.card) (pulled-as s [])
+
+module _ (n201 : ℕ) (c : Config) (fits : Fits n201 c) (s : Termination) (ran : Ran c s) where
+  abbrev after_pull : Termination
+  after_pull = happens port.pull s
+
+  port-pulled : port_of after_pull ≡ pulled_port (is_due (port_of s)) s
+  unfolding meant
+  port-pulled = port-after s port.pull (within-ports c fits.ranged s ran)
+
+  text-is : IsTextOf (port_of s)
+  text-is = (sound-port c fits.ranged s ran).text
+
+  -- where none is due, the octet is one of those that are left
+  pub pull-between : is_due (port_of s) ≡ false → (after_pull.card.card ≡ s.card.card) × ((port_of after_pull).items ≡ (port_of s).items)
+      × (length (left_of (port_of after_pull)) + 8 ≡ length (left_of (port_of s)))
+  pull-between none =
+      let ready = ready_where (port_of s) text-is none in
+      let same = port-pulled ∙ ap (λ due. pulled_port due s) none in
+      let left = ap length (left_with_octet (port_of s) ready) in
+      let fewer = length-drop 8 (left_of (port_of s)) in
+      let enough = ready.enough in
+      let less : length (left_of (with_octet (port_of s))) + 8 ≡ length (left_of (port_of s)) = omega (arith, left, fewer, enough) in (
+        card-pulled s ∙ ap (λ due. pulled_card due s) none,
+        ap (λ (p : Port). p.items) same,
+        ap (λ p. length (left_of p) + 8) same ∙ less,
+      )
+
+  -- where one is due, and none waits, it is an idle flag
+  pub pull-flag : is_due (port_of s) ≡ true → HasNone s → (after_pull.card.card ≡ s.card.card) × ((port_of after_pull).items ≡ (port_of s).items ++ idle ∷ [])
+  pull-flag due none = (
+    card-pulled s ∙ ap (λ due. pulled_card due s) due ∙ called-for-none s.line s.card.card none,
+    ap (λ (p : Port). p.items) (port-pulled ∙ ap (λ due. pulled_port due s) due) ∙ ap (λ a. (port_of s).items ++ item_of (given_in a) ∷ []) none,
+  )
+
+  -- A pull gives none where it calls for a frame.
+  abbrev pub CallsInVain : Type 0
+  CallsInVain = is_due (port_of s) ≡ true → HasNone s
+
+  none-after : after_pull.card.card ≡ s.card.card → HasNone s → HasNone after_pull
+  none-after same none = ap (next_of_card s.line) same ∙ none
+
+  pub pull-dry : CallsInVain → IsDry s → IsDry after_pull
+  pull-dry vain dry = go (is_due (port_of s)) refl
+    where
+      go : (due : Bool) → is_due (port_of s) ≡ due → IsDry after_pull
+      go false e = let x = pull-between e in record { none = none-after x.0 dry.none; front = dry.front; flag = x.1 ∙ dry.flag }
+      go true e = let x = pull-flag e dry.none in record { none = none-after x.0 dry.none; front = (port_of s).items; flag = x.1 }
+
+  -- So after so many pulls nothing is left.
+  pub pull-dries : CallsInVain → (times most : ℕ) → IsDry s ⊎ (length (left_of (port_of s)) + 8 * times ≤ most)
+      → IsDry after_pull ⊎ (length (left_of (port_of after_pull)) + 8 * (times + 1) ≤ most)
+  pull-dries vain times most (inl dry) = inl (pull-dry vain dry)
+  pull-dries vain times most (inr few) = go (is_due (port_of s)) refl
+    where
+      go : (due : Bool) → is_due (port_of s) ≡ due → IsDry after_pull ⊎ (length (left_of (port_of after_pull)) + 8 * (times + 1) ≤ most)
+      go false e = let less = (pull-between e).2 in inr (omega (arith, few, less))
+      go true e = let x = pull-flag e (vain e) in inl (record { none = none-after x.0 (vain e); front = (port_of s).items; flag = x.1 })
+
+  -- the frames among the items stay
+  pub pull-frames : CallsInVain → frames_among (port_of after_pull).items ≡ frames_among (port_of s).items
+  pull-frames vain = go (is_due (port_of s)) refl
+    where
+      go : (due : Bool) → is_due (port_of s) ≡ due → frames_among (port_of after_pull).items ≡ frames_among (port_of s).items
+      go false e = ap frames_among (pull-between e).1
+      go true e = ap frames_among (pull-flag e (vain e)).1 ∙ frames_among-append (port_of s).items (idle ∷ []) ∙ append-nil (frames_among (port_of s).items)
+
+  pub pull-received : (port_of after_pull).received ≡ (port_of s).received
+  pull-received = ap (λ (p : Port). p.received) port-pulled ∙ go (is_due (port_of s))
+    where
+      go : (due : Bool) → (pulled_port due s).received ≡ (port_of s).received
+      go false = refl
+      go true = refl
+
+  -- one octet more is given
+  pub pull-given : (value : ℕ) × ((port_of after_pull).given ≡ (port_of s).given ++ value ∷ [])
+  pull-given = go (is_due (port_of s)) port-pulled
+    where
+      go : (due : Bool) → port_of after_pull ≡ pulled_port due s → (value : ℕ) × ((port_of after_pull).given ≡ (port_of s).given ++ value ∷ [])
+      go false e = (next_octet (port_of s), ap (λ (p : Port). p.given) e)
+      go true e = (next_octet (with_item (said_if true s) (port_of s)), ap (λ (p : Port). p.given) e)
+
+-- ---- an octet that ends nothing is heard
+
+module _ (n201 : ℕ) (c : Config) (fits : Fits n201 c) (s : Termination) (ran : Ran c s) (value : ℕ) (none : gained n201 (port_of s).received value ≡ None) where
+  abbrev after_octet : Termination
+  after_octet = happens (port.octet value) s
+
+  card-heard : after_octet.card.card ≡ s.card.card
+  card-heard =
+      let size : s.card.card.config.n201 ≡ n201 = ap (λ (x : Config). x.n201) (config c fits.ranged s ran) ∙ fits.size in
+      ap (λ (x : Station). x.card)
+      (heard-as value s [] ∙ ap (λ o. if_meant (option_map line.hears o) (as_station [] s)) (ap (λ n. gained n (port_of s).received value) size ∙ none))
+
+  pub port-heard : port_of after_octet ≡ record (port_of s) { received = (port_of s).received ++ value ∷ [] }
+  port-heard = port-after s (port.octet value) (within-ports c fits.ranged s ran)
+
+  pub heard-dry : IsDry s → IsDry after_octet
+  heard-dry dry = record { none = ap (next_of_card s.line) card-heard ∙ dry.none; front = dry.front; flag = ap (λ (p : Port). p.items) port-heard ∙ dry.flag }
+
+  pub heard-dries : (times most : ℕ) → IsDry s ⊎ (length (left_of (port_of s)) + 8 * times ≤ most) → IsDry after_octet ⊎ (length (left_of (port_of after_octet)) + 8 * times ≤ most)
+  heard-dries times most (inl dry) = inl (heard-dry dry)
+  heard-dries times most (inr few) = inr (subst (λ p. length (left_of p) + 8 * times ≤ most) (sym port-heard) few)

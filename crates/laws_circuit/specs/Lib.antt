@@ -1,0 +1,6 @@
+-- Two cards for octets on one circuit, and worked values of them.
+pub mod Circuit
+pub mod Through
+pub mod Beats
+pub mod Worked
+pub mod WorkedCall

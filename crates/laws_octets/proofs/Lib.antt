@@ -1,0 +1,8 @@
+-- Lemmas.
+mod Seen
+mod AsOctets
+mod Emptied
+pub mod UnitsAreHeard
+pub mod FramesGoOut
+pub mod WaitedIsHeard
+pub mod LatestIsBegun

@@ -1,0 +1,313 @@
+-- What an event of a line is to the link of a service with a TEI that is in state 7 or 8.
+use Rattle.std.proofs.Common.{◌≡◌, ℕ, ◌==◌, ◌&&◌, ◌||◌, not, Bool, true, false, cond, IsTrue, List, [], ◌∷◌, ◌++◌, Option, Some, None, Ok, refl, sym, ap, ◌∙◌, subst, eq-eqb, true≢false, ◌⊎◌, inl, inr}
+use Rattle.std.specs.Prelude.{All, fold, is_some, option_to_list, unwrap_or}
+use Rattle.std.specs.List.{list_any}
+use Rattle.std.specs.Option.{option_or, option_map_or}
+use Rattle.std.proofs.lemmas.List.Elements.{All-head, All-tail}
+use Rattle.model_bits.specs.Stream as stream
+use Rattle.lapd_frame.specs.declared.controls.Control.TheVariants.{Ui}
+use Rattle.lapd_frame.specs.declared.notes.Note.{Note}
+use Rattle.lapd_frame.specs.declared.notes.Note.TheVariants as notes
+use Rattle.lapd_frame.specs.declared.services.Service.{Service}
+use Rattle.lapd_frame.specs.Grammar.{Parts}
+use Rattle.lapd_frame.specs.Reading.{reading}
+use Rattle.lapd_frame.specs.Services.{sapi_of}
+use Rattle.lapd_tei.specs.Messages.{information_of}
+use Rattle.model_link.specs.declared.states.State.{State}
+use Rattle.model_link.specs.declared.states.State.TheVariants.{TeiAssigned, AwaitingEstablishment, AwaitingRelease, Established, TimerRecovery}
+use Rattle.model_link.specs.declared.terms.Terms.{Terms}
+use Rattle.model_link.specs.Events as link
+use Rattle.model_link.specs.Link.{Link, fresh, is_multiple_frame, address_at}
+use Rattle.model_link.specs.Machine as links
+use Rattle.model_link.specs.Requests as requests
+use Rattle.model_line.specs.declared.config.Config.{Config}
+use Rattle.model_line.specs.Event.{Event, hears, expiry, request, next, Answer}
+use Rattle.model_line.specs.Heard.{heard_side}
+use Rattle.model_line.specs.Line.{Line, link_in, link_of, place_in, terms}
+use Rattle.model_line.specs.Machine as lines
+use Rattle.model_line.specs.Machine.{aim_of}
+use Rattle.model_line.specs.Refusal.{refusal}
+use Rattle.model_line.specs.Request.{Data}
+use Rattle.model_line.specs.Sound as line_sound
+use Rattle.laws_link.specs.Accepted.{accepted}
+use Rattle.laws_link.specs.Known.{is_up, is_up_in}
+use Rattle.laws_line.specs.Heard.{notes_of, contents_in}
+use Rattle.laws_line.specs.Knowledge.{up_by_note, link_is_up, is_up_of}
+use Rattle.laws_line.specs.Requests.{of_link}
+use Rattle.laws_line.specs.Share.{is_granted}
+use Rattle.laws_line.specs.Steady.{IsBy, timer_of}
+use Rattle.laws_line.proofs.Asked.{link-grants}
+use Rattle.laws_line.proofs.Granting.{not-refused}
+use Rattle.laws_line.proofs.Hearing.{same-sapi, sapi-is}
+use Rattle.laws_line.proofs.Knowing.{known-up}
+use Rattle.laws_trace.specs.DataGoesOut.{data_asked}
+use Rattle.laws_trace.specs.LinkFrames.{is_for}
+use Rattle.laws_trace.specs.Trace.{frame_in, is_own, seen}
+use Rattle.laws_trace.specs.Units.{is_ui}
+use Rattle.laws_trace.proofs.Begins.{unless}
+use Rattle.laws_trace.proofs.DataAsked.{granted-data, elsewhere}
+use Rattle.laws_trace.proofs.DeliveriesRun.{data-noted, no-data}
+use Rattle.laws_trace.proofs.OneLink.{frames_given, is_at_link, HasOne, IsForeign, HasNone, Goes, event-goes}
+use Rattle.laws_trace.proofs.ReadAgain.{read-again}
+use Rattle.laws_wire.specs.Wire.{frames_by}
+use Rattle.laws_order.specs.Order.{data_noted, data_granted, ends_by_note, ends_by, is_of_link, of_link_in, of_link_on}
+use Rattle.laws_order.proofs.LinkEnds.{or-true, Ended, own, Leaves, IsNoRelease, event-leaves, undefined-ends, wrong-size-ends, overlong-ends, unit-data-stays}
+use Rattle.laws_order.proofs.Shown.{fits, same-frames, noted-is, asked_in, granted-is, ends-is, request-ends}
+
+-- Where the notes of a link that was up say that it is down, one of them ends it.
+module _ (service : Service) (tei : ℕ) where
+  abbrev Falls : Bool → List Note → Type 0
+  Falls up ns = fold (up_by_note service tei) up ns ≡ false → up ≡ true → list_any (ends_by_note service tei) ns ≡ true
+
+  up-on : (own : Bool) (ns : List Note) → Falls true ns → fold (up_by_note service tei) (cond own true true) ns ≡ false → (own || list_any (ends_by_note service tei) ns) ≡ true
+  up-on true ns rest h = refl
+  up-on false ns rest h = rest h refl
+
+  down-on : (own : Bool) (ns : List Note) → Falls true ns → fold (up_by_note service tei) (cond own false true) ns ≡ false → (own || list_any (ends_by_note service tei) ns) ≡ true
+  down-on true ns rest h = refl
+  down-on false ns rest h = rest h refl
+
+  behind : (b : Bool) (ns : List Note) → list_any (ends_by_note service tei) ns ≡ true → (b || list_any (ends_by_note service tei) ns) ≡ true
+  behind b ns h = ap (λ x. b || x) h ∙ or-true b
+
+  falls : (ns : List Note) → Falls true ns
+  falls [] h up = absurd (true≢false h)
+  falls (notes.EstablishIndication of by ∷ ns) h up = up-on (is_own service tei of by) ns (falls ns) h
+  falls (notes.EstablishConfirm of by ∷ ns) h up = up-on (is_own service tei of by) ns (falls ns) h
+  falls (notes.ReleaseIndication of by ∷ ns) h up = down-on (is_own service tei of by) ns (falls ns) h
+  falls (notes.ReleaseConfirm of by ∷ ns) h up = down-on (is_own service tei of by) ns (falls ns) h
+  falls (notes.Data of by ∷ ns) h up = falls ns h refl
+  falls (notes.Unit of by ∷ ns) h up = falls ns h refl
+  falls (notes.Error of by why ∷ ns) h up = behind (ends_by_note service tei (notes.Error of by why)) ns (falls ns h refl)
+  falls (notes.Assigned by ∷ ns) h up = falls ns h refl
+  falls (notes.Removed by ∷ ns) h up = falls ns h refl
+  falls (notes.Doubled by ∷ ns) h up = falls ns h refl
+  falls (notes.Xid of by ∷ ns) h up = falls ns h refl
+
+  -- a link in state 7 or 8 is up, and one that begins is not
+  state-up : (state : State) (k : Link) → is_multiple_frame state ≡ true → is_up_in state k ≡ true
+  state-up TeiAssigned k up = absurd (true≢false (sym up))
+  state-up AwaitingEstablishment k up = absurd (true≢false (sym up))
+  state-up AwaitingRelease k up = absurd (true≢false (sym up))
+  state-up Established k up = refl
+  state-up TimerRecovery k up = refl
+
+  was-up : (l : Line) (o : Option ℕ) → is_multiple_frame (option_map_or (link_in l service) o fresh).state ≡ true → option_map_or (link_is_up service l) o false ≡ true
+  was-up l None up = absurd (true≢false (sym up))
+  was-up l (Some place) up = state-up (link_in l service place).state (link_in l service place) up
+
+  is-down : (l : Line) (o : Option ℕ) → option_map_or (link_in l service) o fresh ≡ fresh → option_map_or (link_is_up service l) o false ≡ false
+  is-down l None new = refl
+  is-down l (Some place) new = ap is_up new
+
+  pub fresh-ends : (l l' : Line) (ns : List Note) → is_multiple_frame (link_of service tei l).state ≡ true → link_of service tei l' ≡ fresh
+      → fold (up_by_note service tei) (is_up_of service tei l) ns ≡ is_up_of service tei l' → list_any (ends_by_note service tei) ns ≡ true
+  fresh-ends l l' ns up new known =
+      falls ns (ap (λ b. fold (up_by_note service tei) b ns) (sym (was-up l (place_in l tei) up)) ∙ known ∙ is-down l' (place_in l' tei) new) refl
+
+module _ (c : Config) (service : Service) (tei : ℕ) where
+  abbrev pub Own : Terms
+  Own = terms c service tei
+
+  -- Frames of other links and of TEI management, and unit data, are none of the link.
+  unit-none : (b : Bool) (f : Parts) → cond {A = List Parts} (b && false) (f ∷ []) [] ≡ []
+  unit-none true f = refl
+  unit-none false f = refl
+
+  foreign : (frame : List ℕ) → IsForeign c service tei frame → of_link_in service tei (reading c.side frame) ≡ []
+  foreign frame (inl x) =
+      ap (λ o. of_link_in service tei (reading c.side o)) x.1
+      ∙ read-again c.side (λ r. of_link_in service tei r ≡ []) (record { sapi = 63; command = true; tei = 127 }) (Ui false)
+      (λ info. unit-none (63 == sapi_of service && 127 == tei) _) (λ fault. refl) (information_of x.0)
+  foreign frame (inr (inl x)) =
+      ap (λ o. of_link_in service tei (reading c.side o)) x.1
+      ∙ read-again c.side (λ r. of_link_in service tei r ≡ []) (record { sapi = sapi_of x.0.service; command = true; tei = x.0.tei }) (Ui false)
+      (λ info. unit-none (sapi_of x.0.service == sapi_of service && x.0.tei == tei) _) (λ fault. refl) x.0.contents
+  foreign frame (inr (inr x)) =
+      let t = x.0 in
+      let g = x.1 in
+      let away : (sapi_of t.service == sapi_of service && t.tei == tei) ≡ false = ap (λ b. b && t.tei == tei) (same-sapi t.service service) ∙ x.3 in
+      ap (λ o. of_link_in service tei (reading c.side o)) x.2
+      ∙ read-again c.side (λ r. of_link_in service tei r ≡ []) (address_at t g.frame.command) g.frame.control
+      (λ info. ap (λ b. cond {A = List Parts} (b && not (is_ui g.frame.control)) (record { address = address_at t g.frame.command; control = g.frame.control; info = info } ∷ []) []) away)
+      (λ fault. refl) (unwrap_or g.contents [])
+
+  all-foreign : (frames : List (List ℕ)) → All (IsForeign c service tei) frames → of_link_on service tei c.side frames ≡ []
+  all-foreign [] h = refl
+  all-foreign (x ∷ xs) h =
+      ap (λ fs. fs ++ of_link_on service tei c.side xs) (foreign x (All-head (IsForeign c service tei) x xs h))
+      ∙ all-foreign xs (All-tail (IsForeign c service tei) x xs h)
+
+  -- Which event of the line an event of the link is.
+  abbrev pub IsKind : Event → link.Event → Type 0
+  IsKind e (link.received (link.frame f)) =
+      (octets : List ℕ) × (e ≡ hears (stream.frame octets)) × (reading (heard_side c) octets ≡ Ok f) × (is_of_link service tei f ≡ true)
+  IsKind e (link.received other) = ⊥
+  IsKind e (link.expired timer) = e ≡ expiry (timer_of service tei timer)
+  IsKind e (link.requested asked full) = e ≡ request (of_link service tei asked)
+  IsKind e link.offer = e ≡ next
+  IsKind e link.cleared = ⊥
+
+  pub record Has (k k' : Link) (e : Event) (a : Answer) : Type 0 where
+    pub event : link.Event
+    pub kind : IsKind e event
+    pub is : k' ≡ links.after Own event k
+    pub up : IsTrue (is_multiple_frame k'.state)
+    pub noted : data_noted service tei (seen e a) ≡ option_to_list (links.told Own event k).delivered
+    pub granted : data_granted service tei (seen e a) ≡ accepted Own event k
+    pub frames : frames_by a ≡ frames_given c Own event k
+
+  pub record LeavesIt (k k' : Link) (e : Event) (a : Answer) : Type 0 where
+    pub is : k' ≡ k
+    pub noted : data_noted service tei (seen e a) ≡ []
+    pub granted : data_granted service tei (seen e a) ≡ []
+    pub frames : of_link_on service tei c.side (frames_by a) ≡ []
+
+  abbrev pub Does : Link → Link → Event → Answer → Type 0
+  Does k k' e a = (list_any (ends_by service tei) (seen e a) ≡ true) ⊎ LeavesIt k k' e a ⊎ Has k k' e a
+
+  -- What event of the link it is: one that the grammar does not have, a release, unit data, or another.
+  data Comes (e : Event) (a : Answer) (ev : link.Event) : Type 0 where
+    is_malformed : (ev ≡ link.received link.undefined) ⊎ (ev ≡ link.received link.wrong_size) ⊎ (ev ≡ link.received link.overlong) → Comes e a ev
+    is_release : (full : Bool) → ev ≡ link.requested link.Release full → e ≡ request (of_link service tei link.Release) → is_granted a ≡ true → Comes e a ev
+    is_unit : (f : Parts) → ev ≡ link.received (link.frame f) → is_ui f.control ≡ true → (octets : List ℕ) → e ≡ hears (stream.frame octets) → Comes e a ev
+    is_plain : IsKind e ev → IsNoRelease Own ev → Comes e a ev
+
+  comes-as : (e : Event) (a : Answer) (ev : link.Event) → IsBy c e a service tei ev → Comes e a ev
+  comes-as e a (link.received (link.frame f)) by = go (is_ui f.control) refl
+    where
+      go : (b : Bool) → is_ui f.control ≡ b → Comes e a (link.received (link.frame f))
+      go true is = is_unit f refl is by.octets by.by
+      go false is =
+          let for-it : is_for service tei f.address ≡ true =
+          ap (λ b. b && f.address.tei == tei) (eq-eqb f.address.sapi (sapi_of service) (sapi-is f.address.sapi service by.sapi)) ∙ eq-eqb f.address.tei tei by.tei_is in
+          is_plain (by.octets, by.by, by.read, ap (λ b. b && not (is_ui f.control)) for-it ∙ ap not is) tt
+  comes-as e a (link.received link.undefined) by = is_malformed (inl refl)
+  comes-as e a (link.received link.wrong_size) by = is_malformed (inr (inl refl))
+  comes-as e a (link.received link.overlong) by = is_malformed (inr (inr refl))
+  comes-as e a (link.expired timer) by = is_plain by tt
+  comes-as e a (link.requested link.Establish full) by = is_plain by.0 tt
+  comes-as e a (link.requested link.Release full) by = is_release full refl by.0 by.1
+  comes-as e a (link.requested (link.Data contents) full) by = is_plain by.0 tt
+  comes-as e a (link.requested link.SetBusy full) by = is_plain by.0 tt
+  comes-as e a (link.requested link.ClearBusy full) by = is_plain by.0 tt
+  comes-as e a link.offer by = is_plain by tt
+  comes-as e a link.cleared by = absurd by
+
+  -- what is delivered is told
+  by-delivered : (d u o : Option (List ℕ)) → o ≡ option_or d u → cond (is_some d) (option_to_list o) [] ≡ option_to_list d
+  by-delivered None u o e = refl
+  by-delivered (Some x) u o e = ap option_to_list e
+
+  module _ (ranged : line_sound.IsInRange c) (l : Line) (s : line_sound.IsSound c l) (e : Event) (up : IsTrue (is_multiple_frame (link_of service tei l).state)) where
+    abbrev a : Answer
+    a = lines.answer c e l
+
+    abbrev k : Link
+    k = link_of service tei l
+
+    abbrev k' : Link
+    k' = link_of service tei (lines.after c e l)
+
+    -- no event of the link
+    asked-none : (e : Event) → is_at_link service tei (aim_of c e l) ≡ false → asked_in service tei e (lines.answer c e l) ≡ []
+    asked-none (hears what) away = refl
+    asked-none (expiry timer) away = refl
+    asked-none (request r) away = go (is_granted (lines.answer c (request r) l)) refl
+      where
+        go : (b : Bool) → is_granted (lines.answer c (request r) l) ≡ b → cond b (data_asked service tei r) [] ≡ []
+        go true g = elsewhere c l service tei r g away
+        go false g = refl
+    asked-none next away = refl
+
+    none-does : HasNone c service tei e l (lines.after c e l) a → Does k k' e a
+    none-does x = go x.is
+      where
+        go : (k' ≡ k) ⊎ (k' ≡ fresh) → Does k k' e a
+        go (inl same) = inr (inl (record {
+          is = same;
+          noted = noted-is service tei e a (fits c e l)
+              ∙ ap (λ b. cond b (option_to_list (contents_in a)) []) (sym (unless _ (no-data c ranged l s e service tei k.r (λ up. refl) x)));
+          granted = granted-is service tei e a ∙ asked-none e x.aims;
+          frames = ap (of_link_on service tei c.side) (same-frames a) ∙ all-foreign (frame_in a) x.begins;
+        }))
+        go (inr new) =
+            inl (ends-is service tei e a (fits c e l) (fresh-ends service tei l (lines.after c e l) (notes_of a) up new (known-up c e l service tei s)))
+
+    -- one
+    module _ (x : HasOne c service tei e l (lines.after c e l) a) where
+      noted-one : data_noted service tei (seen e a) ≡ option_to_list (links.told Own x.event k).delivered
+      noted-one =
+          noted-is service tei e a (fits c e l) ∙ ap (λ b. cond b (option_to_list (contents_in a)) []) (data-noted c ranged l s e service tei k.r (λ up. refl) x)
+          ∙ by-delivered (links.told Own x.event k).delivered (links.told Own x.event k).unit (contents_in a) x.contents
+
+      ended-one : Ended Own (links.told Own x.event k).notes → Does k k' e a
+      ended-one h = inl (ends-is service tei e a (fits c e l) (ap (list_any (ends_by_note service tei)) x.notes ∙ h))
+
+      granted-one : (ev : link.Event) → IsBy c e a service tei ev → IsKind e ev → asked_in service tei e a ≡ accepted Own ev k
+      granted-one (link.received (link.frame f)) by kind = ap (λ e'. asked_in service tei e' a) kind.1
+      granted-one (link.received link.undefined) by kind = absurd kind
+      granted-one (link.received link.wrong_size) by kind = absurd kind
+      granted-one (link.received link.overlong) by kind = absurd kind
+      granted-one (link.expired timer) by kind = ap (λ e'. asked_in service tei e' a) kind
+      granted-one link.offer by kind = ap (λ e'. asked_in service tei e' a) kind
+      granted-one link.cleared by kind = absurd kind
+      granted-one (link.requested asked full) by kind =
+          ap (λ e'. asked_in service tei e' a) kind
+          ∙ ap (λ b. cond b (data_asked service tei (of_link service tei asked)) []) by.1
+          ∙ sym (granted-data service tei Own k full asked room)
+        where
+          its : k ≡ link_in l service x.place
+          its = ap (λ o. option_map_or (link_in l service) o fresh) x.placed
+
+          room : (contents : List ℕ) → asked ≡ link.Data contents → requests.refusal Own k full (link.Data contents) ≡ None
+          room contents is =
+              let named : e ≡ request (Data service tei contents) = kind ∙ ap (λ r. request (of_link service tei r)) is in
+              let none : refusal c false (Data service tei contents) l ≡ None =
+              not-refused c (Data service tei contents) l (subst (λ e'. is_granted (lines.answer c e' l) ≡ true) named by.1) in
+              ap (λ b. requests.refusal Own k b (link.Data contents)) by.2 ∙ ap (λ y. requests.refusal Own y false (link.Data contents)) its
+              ∙ link-grants c service tei x.place contents l x.placed none
+
+      malformed-one : (x.event ≡ link.received link.undefined) ⊎ (x.event ≡ link.received link.wrong_size) ⊎ (x.event ≡ link.received link.overlong) → Does k k' e a
+      malformed-one (inl is) = ended-one (subst (λ ev. Ended Own (links.told Own ev k).notes) (sym is) (undefined-ends Own k up))
+      malformed-one (inr (inl is)) = ended-one (subst (λ ev. Ended Own (links.told Own ev k).notes) (sym is) (wrong-size-ends Own k up))
+      malformed-one (inr (inr is)) = ended-one (subst (λ ev. Ended Own (links.told Own ev k).notes) (sym is) (overlong-ends Own k up))
+
+      plain-one : IsKind e x.event → Leaves Own (links.told Own x.event k).notes (links.after Own x.event k).state → Does k k' e a
+      plain-one kind (inl h) = ended-one h
+      plain-one kind (inr still) = inr (inr (record {
+        event = x.event;
+        kind = kind;
+        is = x.is;
+        up = subst (λ (y : Link). IsTrue (is_multiple_frame y.state)) (sym x.is) still;
+        noted = noted-one;
+        granted = granted-is service tei e a ∙ granted-one x.event x.by kind;
+        frames = same-frames a ∙ x.begins;
+      }))
+
+      unit-one : (f : Parts) → x.event ≡ link.received (link.frame f) → is_ui f.control ≡ true → (octets : List ℕ) → e ≡ hears (stream.frame octets) → Does k k' e a
+      unit-one f is ui octets heard =
+          let y = unit-data-stays Own k f ui in
+          inr (inl (record {
+            is = x.is ∙ ap (λ ev. links.after Own ev k) is ∙ y.0;
+            noted = noted-one ∙ ap (λ ev. option_to_list (links.told Own ev k).delivered) is ∙ ap option_to_list y.1;
+            granted = granted-is service tei e a ∙ ap (λ e'. asked_in service tei e' a) heard;
+            frames = ap (of_link_on service tei c.side) (same-frames a ∙ x.begins ∙ ap (λ ev. frames_given c Own ev k) is);
+          }))
+
+      release-one : e ≡ request (of_link service tei link.Release) → is_granted a ≡ true → Does k k' e a
+      release-one is g =
+          inl (subst (λ e'. list_any (ends_by service tei) (seen e' a) ≡ true) (sym is) (request-ends service tei (of_link service tei link.Release) a g (own Own)))
+
+      one-does : Comes e a x.event → Does k k' e a
+      one-does (is_malformed is) = malformed-one is
+      one-does (is_release full is asked g) = release-one asked g
+      one-does (is_unit f is ui octets heard) = unit-one f is ui octets heard
+      one-does (is_plain kind may) = plain-one kind (event-leaves Own k up x.event may)
+
+    pub line-does : Does k k' e a
+    line-does = go (event-goes c e l service tei s)
+      where
+        go : Goes c service tei e l (lines.after c e l) a → Does k k' e a
+        go (inl x) = none-does x
+        go (inr x) = one-does x (comes-as e a x.event x.by)

@@ -1,0 +1,279 @@
+-- Two cards whose links face each other: where anything that happens at one of them leads.
+use Rattle.std.proofs.Common.{◌≡◌, ℕ, Bool, true, false, cond, List, [], ◌∷◌, ◌++◌, drop, get_or, Result, Ok, Err, refl, sym, ap, ◌∙◌, subst, append-nil, ◌⊎◌, inl, inr}
+use Rattle.std.proofs.lemmas.List.{get_or-set_other}
+use Rattle.model_bits.specs.Stream as stream
+use Rattle.lapd_frame.specs.declared.faults.ReadFault.{ReadFault}
+use Rattle.lapd_frame.specs.declared.services.Service.{Service}
+use Rattle.lapd_frame.specs.Grammar.{Parts, other_side}
+use Rattle.lapd_frame.specs.Reading.{reading}
+use Rattle.model_link.specs.Events as link
+use Rattle.model_link.specs.Link.{Link}
+use Rattle.model_link.specs.TwoEnds.{End}
+use Rattle.model_link.specs.TwoEnds as two
+use Rattle.model_link.proofs.Joined.{Joined, joined-turned, done-at}
+use Rattle.model_line.specs.Came.{came}
+use Rattle.model_line.specs.Event.{Event, hears, expiry, request, next}
+use Rattle.model_line.specs.Line.{fresh_line, link_of}
+use Rattle.model_line.specs.Machine as lines
+use Rattle.model_card.specs.Card.{line_at}
+use Rattle.model_card.specs.Event as card
+use Rattle.model_card.specs.Machine.{after}
+use Rattle.model_card.proofs.CardSound.{after_is_sound}
+use Rattle.model_card.proofs.Steps.{by_room}
+use Rattle.laws_trace.specs.Trace.{Seen, seen}
+use Rattle.laws_wire.specs.Wire.{Station, Wire, requests, times_out, gives, takes, loses, answered, happens, comes, with_first_lost}
+use Rattle.laws_order.specs.Happenings.{Deed, acts, disturbed, elsewhere, IsNoFrame, IsElsewhere, IsPossibleAt, elsewhere_on, befalling, seen_by}
+use Rattle.laws_order.specs.Order.{data_noted, data_granted, is_of_link, of_link_in, of_link_at, of_link_on, link_here}
+use Rattle.laws_order.proofs.Contents.{frame-same}
+use Rattle.laws_order.proofs.Does.{Has, Does, IsKind}
+use Rattle.laws_order.proofs.Pairs.{whole-is, facing, Pair, Led, Ends, happens-well, station-does, leaves-still, leaves-granted, linked, granted-by, up-by, expired-still, asked-still, offer-still}
+
+module _ (service : Service) (tei : ℕ) where
+  -- The same is seen, and the same end stands there.
+  seen-so : (w w' : Wire) (dn dm : List (List ℕ)) (t u : List Seen) → t ≡ u → Ends service tei t ⊎ Led service tei w w' dn dm t → Ends service tei u ⊎ Led service tei w w' dn dm u
+  seen-so w w' dn dm t u e h = subst (λ t. Ends service tei t ⊎ Led service tei w w' dn dm t) e h
+
+  -- An event that is no frame heard.
+  module _ (w : Wire) (dn dm : List (List ℕ)) (h : Pair service tei w dn dm) (e : Event) where
+    abbrev s : Station
+    s = w.near
+
+    abbrev w' : Wire
+    w' = record { near = happens e s; far = w.far }
+
+    abbrev t : List Seen
+    t = seen e (answered e s)
+
+    abbrev m : End
+    m = facing service tei w.far dm
+
+    led : Joined (facing service tei (happens e s) (dn ++ data_noted service tei t)) m
+        × ((link_here service tei (happens e s)).contents ≡ (link_here service tei s).contents ++ data_granted service tei t) → Led service tei w w' dn dm t
+    led x = record {
+      pair = record { near = happens-well s h.near e; far = h.far; sides = h.sides; joined = x.0 };
+      granted = x.1;
+      other = refl;
+    }
+
+    by-kind : (x : Has s.card.config service tei (link_here service tei s) (link_here service tei (happens e s)) e (answered e s))
+        → ((octets : List ℕ) → e ≡ hears (stream.frame octets) → ⊥) → (ev : link.Event) → x.event ≡ ev → IsKind s.card.config service tei e ev → Led service tei w w' dn dm t
+    by-kind x no-frame (link.received (link.frame f)) is kind = absurd (no-frame kind.0 kind.1)
+    by-kind x no-frame (link.received link.undefined) is kind = absurd kind
+    by-kind x no-frame (link.received link.wrong_size) is kind = absurd kind
+    by-kind x no-frame (link.received link.overlong) is kind = absurd kind
+    by-kind x no-frame (link.expired timer) is kind = led (expired-still service tei s h.near h.joined.near_up e x dn m h.joined timer is)
+    by-kind x no-frame (link.requested asked full) is kind = led (asked-still service tei s h.near h.joined.near_up e x dn m h.joined asked full is)
+    by-kind x no-frame link.offer is kind = led (offer-still service tei s h.near h.joined.near_up e x dn m h.joined is)
+    by-kind x no-frame link.cleared is kind = absurd kind
+
+    pub event-led : ((octets : List ℕ) → e ≡ hears (stream.frame octets) → ⊥) → Ends service tei t ⊎ Led service tei w w' dn dm t
+    event-led no-frame = go (station-does service tei s h.near h.joined.near_up e)
+      where
+        go : Does s.card.config service tei (link_here service tei s) (link_here service tei (happens e s)) e (answered e s) → Ends service tei t ⊎ Led service tei w w' dn dm t
+        go (inl ended) = inl ended
+        go (inr (inl x)) = inr (led (leaves-still service tei s h.near h.joined.near_up e dn m x h.joined, leaves-granted service tei s h.near h.joined.near_up e x))
+        go (inr (inr x)) = inr (by-kind x no-frame x.event refl x.kind)
+
+  -- What is read of octets: a frame of the link, or none.
+  data Read (r : Result Parts ReadFault) : Type 0 where
+    none_of_it : of_link_in service tei r ≡ [] → Read r
+    one_of_it : (f : Parts) → of_link_in service tei r ≡ f ∷ [] → Read r
+
+  read : (r : Result Parts ReadFault) → Read r
+  read (Ok f) = go (is_of_link service tei f) refl
+    where
+      go : (b : Bool) → is_of_link service tei f ≡ b → Read (Ok f)
+      go true is = one_of_it f (ap (λ b. cond {A = List Parts} b (f ∷ []) []) is)
+      go false is = none_of_it (ap (λ b. cond {A = List Parts} b (f ∷ []) []) is)
+  read (Err fault) = none_of_it refl
+
+  -- The first frame on the way of an end is gone.
+  module _ (n : End) (s : Station) (dm : List (List ℕ)) (octets : List ℕ) (rest : List (List ℕ)) where
+    abbrev full : Station
+    full = record s { way = octets ∷ rest }
+
+    abbrev less : Station
+    less = record s { way = rest }
+
+    abbrev its : List Parts
+    its = of_link_at service tei s.card.config.side octets
+
+    abbrev others : List Parts
+    others = of_link_on service tei s.card.config.side rest
+
+    same-rest : (way : List Parts) → way ≡ others → record (facing service tei less dm) { way = way } ≡ facing service tei less dm
+    same-rest way e = λ i. record (facing service tei less dm) { way = e i }
+
+    pub gone : Joined n (facing service tei full dm) → Joined n (facing service tei less dm)
+    gone h = go (read (reading s.card.config.side octets))
+      where
+        go : Read (reading s.card.config.side octets) → Joined n (facing service tei less dm)
+        go (none_of_it none) = subst (λ y. Joined n y) (same-rest (its ++ others) (ap (λ xs. xs ++ others) none)) h
+        go (one_of_it f one) =
+            subst (λ y. Joined n y) (same-rest (drop 1 (its ++ others)) (ap (λ xs. drop 1 (xs ++ others)) one))
+            (done-at (two.at_far two.loses) (record { near = n; far = facing service tei full dm }) (h.near_up, h.far_up) h)
+
+  -- A frame comes.
+  module _ (near far : Station) (octets : List ℕ) (rest : List (List ℕ)) (dn dm : List (List ℕ)) where
+    abbrev before : Wire
+    before = record { near = near; far = record far { way = octets ∷ rest } }
+
+    abbrev later : Wire
+    later = record { near = comes octets near; far = record far { way = rest } }
+
+    abbrev heard : Event
+    heard = hears (came near.card.config.n201 octets)
+
+    abbrev shown : List Seen
+    shown = seen heard (answered heard near)
+
+    abbrev there : End
+    there = facing service tei (record far { way = octets ∷ rest }) dm
+
+    abbrev now : End
+    now = facing service tei (record far { way = rest }) dm
+
+    module _ (h : Pair service tei before dn dm) where
+      arrives : Joined (facing service tei (comes octets near) (dn ++ data_noted service tei shown)) now
+          × ((link_here service tei (comes octets near)).contents ≡ (link_here service tei near).contents ++ data_granted service tei shown) → Led service tei before later dn dm shown
+      arrives x = record {
+        pair = record {
+          near = happens-well near h.near heard;
+          far = record { sound = h.far.sound; within = h.far.within };
+          sides = h.sides;
+          joined = x.0;
+        };
+        granted = x.1;
+        other = refl;
+      }
+
+      -- one of the link
+      taken-so : (x : Has near.card.config service tei (link_here service tei near) (link_here service tei (comes octets near)) heard (answered heard near)) (f : Parts)
+          → x.event ≡ link.received (link.frame f) → of_link_at service tei far.card.config.side octets ≡ f ∷ [] → Led service tei before later dn dm shown
+      taken-so x f is one =
+          let ev = link.received (link.frame f) in
+          let others = of_link_on service tei far.card.config.side rest in
+          let first : End = record now { way = f ∷ others } in
+          let same : there ≡ first = λ i. record now { way = (ap (λ xs. xs ++ others) one) i } in
+          let h' : Joined (facing service tei near dn) first = subst (λ y. Joined (facing service tei near dn) y) same h.joined in
+          let up' = up-by service tei near h.near h.joined.near_up heard x ev is in
+          let means = h'.there.rising in
+          arrives (
+            linked service tei near h.near h.joined.near_up heard x dn now ev is refl
+                (done-at (two.at_near two.receives) (record { near = facing service tei near dn; far = first }) (up', h'.far_up) h'),
+            granted-by service tei near h.near h.joined.near_up heard x ev is
+                (frame-same (facing service tei near dn).terms (link_here service tei near) h.joined.near_up f means.0 means.2 up'
+                ∙ sym (append-nil (link_here service tei near).contents)),
+          )
+
+      by-it : (x : Has near.card.config service tei (link_here service tei near) (link_here service tei (comes octets near)) heard (answered heard near))
+          → (ev : link.Event) → x.event ≡ ev → IsKind near.card.config service tei heard ev → Led service tei before later dn dm shown
+      by-it x (link.received (link.frame f)) is kind =
+          let whole : came near.card.config.n201 octets ≡ stream.frame kind.0 = cc kind.1 in
+          let same : kind.0 ≡ octets = whole-is near.card.config.n201 octets kind.0 whole in
+          let read-so : reading far.card.config.side octets ≡ Ok f =
+          ap (λ side. reading side octets) h.sides ∙ ap (reading (other_side near.card.config.side)) (sym same) ∙ kind.2 in
+          taken-so x f is (ap (of_link_in service tei) read-so ∙ ap (λ b. cond {A = List Parts} b (f ∷ []) []) kind.3)
+      by-it x (link.received link.undefined) is kind = absurd kind
+      by-it x (link.received link.wrong_size) is kind = absurd kind
+      by-it x (link.received link.overlong) is kind = absurd kind
+      by-it x (link.expired timer) is kind = cc kind
+      by-it x (link.requested asked full) is kind = cc kind
+      by-it x link.offer is kind = cc kind
+      by-it x link.cleared is kind = absurd kind
+
+      pub frame-led : Ends service tei shown ⊎ Led service tei before later dn dm shown
+      frame-led = go (station-does service tei near h.near h.joined.near_up heard)
+        where
+          go : Does near.card.config service tei (link_here service tei near) (link_here service tei (comes octets near)) heard (answered heard near)
+              → Ends service tei shown ⊎ Led service tei before later dn dm shown
+          go (inl ended) = inl ended
+          go (inr (inl x)) =
+              inr (arrives (
+                leaves-still service tei near h.near h.joined.near_up heard dn now x (gone (facing service tei near dn) far dm octets rest h.joined),
+                leaves-granted service tei near h.near h.joined.near_up heard x,
+              ))
+          go (inr (inr x)) = inr (by-it x x.event refl x.kind)
+
+  -- Nothing happens to the end, or a frame of its way is lost, or something happens at another line.
+  unchanged : (w : Wire) (dn dm : List (List ℕ)) → Pair service tei w dn dm → Led service tei w w dn dm []
+  unchanged w dn dm h = record {
+    pair = record { near = h.near; far = h.far; sides = h.sides; joined = subst (λ ds. Joined (facing service tei w.near ds) (facing service tei w.far dm)) (sym (append-nil dn)) h.joined };
+    granted = sym (append-nil (link_here service tei w.near).contents);
+    other = refl;
+  }
+
+  loses-led : (near far : Station) (way : List (List ℕ)) (dn dm : List (List ℕ)) → let w : Wire = record { near = record near { way = way }; far = far } in
+      Pair service tei w dn dm → Led service tei w (record w { near = with_first_lost w.near }) dn dm []
+  loses-led near far [] dn dm h = unchanged (record { near = record near { way = [] }; far = far }) dn dm h
+  loses-led near far (octets ∷ rest) dn dm h =
+      let n = facing service tei (record near { way = octets ∷ rest }) dn in
+      let m = facing service tei far dm in
+      let j = joined-turned m (facing service tei (record near { way = rest }) dn) (gone m near dn octets rest (joined-turned n m h.joined)) in
+      record {
+        pair = record {
+          near = record { sound = h.near.sound; within = h.near.within };
+          far = h.far;
+          sides = h.sides;
+          joined = subst (λ ds. Joined (facing service tei (record near { way = rest }) ds) m) (sym (append-nil dn)) j;
+        };
+        granted = sym (append-nil (link_here service tei near).contents);
+        other = refl;
+      }
+
+  takes-led : (near far : Station) (way : List (List ℕ)) (dn dm : List (List ℕ)) → let w : Wire = record { near = near; far = record far { way = way } } in
+      Pair service tei w dn dm → let t = seen_by (acts takes) w in Ends service tei t ⊎ Led service tei w (befalling (acts takes) w) dn dm t
+  takes-led near far [] dn dm h = inr (unchanged (record { near = near; far = record far { way = [] } }) dn dm h)
+  takes-led near far (octets ∷ rest) dn dm h =
+      let w : Wire = record { near = near; far = record far { way = octets ∷ rest } } in
+      let e = hears (came near.card.config.n201 octets) in
+      let t = seen e (answered e near) in
+      seen-so w (befalling (acts takes) w) dn dm t (t ++ []) (sym (append-nil t)) (frame-led near far octets rest dn dm h)
+
+  -- another line
+  other-line : (s : Station) (e : card.Event) → IsElsewhere s e → line_at s.line (after e s.card) ≡ line_at s.line s.card
+  other-line s e is =
+      by_room (λ ls a. get_or ls s.line (fresh_line s.card.config) ≡ line_at s.line s.card) e s.card (λ full. refl)
+      (λ room. get_or-set_other s.card.lines e.line s.line (lines.after s.card.config e.what (line_at e.line s.card)) (fresh_line s.card.config) (λ same. is.other (sym same)))
+
+  elsewhere-led : (w : Wire) (dn dm : List (List ℕ)) (e : card.Event) → IsElsewhere w.near e → Pair service tei w dn dm
+      → Led service tei w (record w { near = elsewhere_on e w.near }) dn dm []
+  elsewhere-led w dn dm e is h =
+      let s' = elsewhere_on e w.near in
+      let same : link_here service tei s' ≡ link_here service tei w.near = ap (link_of service tei) (other-line w.near e is) in
+      let m = facing service tei w.far dm in
+      let end : facing service tei s' (dn ++ []) ≡ facing service tei w.near dn = λ i. record (facing service tei w.near dn) { link = same i; delivered = (append-nil dn) i } in
+      record {
+        pair = record {
+          near = record { sound = after_is_sound w.near.card e h.near.sound is.within; within = h.near.within };
+          far = h.far;
+          sides = h.sides;
+          joined = subst (λ n. Joined n m) (sym end) h.joined;
+        };
+        granted = ap (λ (y : Link). y.contents) same ∙ sym (append-nil (link_here service tei w.near).contents);
+        other = refl;
+      }
+
+  -- Whatever happens at the near end.
+  not-heard : (what : stream.Event) → IsNoFrame what → (octets : List ℕ) → hears what ≡ hears (stream.frame octets) → ⊥
+  not-heard (stream.frame heard) is octets e = is
+  not-heard (stream.overlong head) is octets e = cc e
+  not-heard (stream.dropped cause) is octets e = cc e
+
+  pub near-led : (deed : Deed) (w : Wire) (dn dm : List (List ℕ)) → IsPossibleAt w.near deed → Pair service tei w dn dm
+      → let t = seen_by deed w in Ends service tei t ⊎ Led service tei w (befalling deed w) dn dm t
+  near-led (acts (requests r)) w dn dm is h =
+      let t = seen (request r) (answered (request r) w.near) in
+      seen-so w _ dn dm t (t ++ []) (sym (append-nil t)) (event-led w dn dm h (request r) (λ octets e. cc e))
+  near-led (acts (times_out timer)) w dn dm is h =
+      let t = seen (expiry timer) (answered (expiry timer) w.near) in
+      seen-so w _ dn dm t (t ++ []) (sym (append-nil t)) (event-led w dn dm h (expiry timer) (λ octets e. cc e))
+  near-led (acts gives) w dn dm is h =
+      let t = seen next (answered next w.near) in
+      seen-so w _ dn dm t (t ++ []) (sym (append-nil t)) (event-led w dn dm h next (λ octets e. cc e))
+  near-led (acts takes) w dn dm is h = takes-led w.near w.far w.far.way dn dm h
+  near-led (acts loses) w dn dm is h = inr (loses-led w.near w.far w.near.way dn dm h)
+  near-led (disturbed what) w dn dm is h =
+      let t = seen (hears what) (answered (hears what) w.near) in
+      seen-so w _ dn dm t (t ++ []) (sym (append-nil t)) (event-led w dn dm h (hears what) (not-heard what is))
+  near-led (elsewhere e) w dn dm is h = inr (elsewhere-led w dn dm e is h)

@@ -1,0 +1,256 @@
+-- An event of a link in state 7 or 8 leaves it there, or a note ends the establishment or renews it.
+use Rattle.std.proofs.Common.{◌≡◌, ℕ, ◌==◌, ◌&&◌, ◌||◌, not, Bool, true, false, cond, IsTrue, List, [], ◌∷◌, ◌++◌, length, Some, None, refl, sym, ap, ◌∙◌, subst, eq-eqb, true≢false, ◌⊎◌, inl, inr}
+use Rattle.std.specs.Prelude.{nat_lt}
+use Rattle.std.specs.List.{list_any}
+use Rattle.std.proofs.lemmas.List.Folds.{list_any-append}
+use Rattle.lapd_frame.specs.declared.controls.Control.{Control}
+use Rattle.lapd_frame.specs.declared.controls.Control.TheVariants.{Information, ReceiveReady, ReceiveNotReady, Reject, Sabme, Disc, Ui, Ua, Dm, Frmr, Xid}
+use Rattle.lapd_frame.specs.declared.notes.ErrorCode.{ErrorCode}
+use Rattle.lapd_frame.specs.declared.notes.ErrorCode.TheVariants as code
+use Rattle.lapd_frame.specs.declared.notes.Note.{Note}
+use Rattle.lapd_frame.specs.declared.notes.Note.TheVariants as notes
+use Rattle.lapd_frame.specs.Grammar.{Parts}
+use Rattle.lapd_seq.specs.declared.numbers.Seq.{Seq}
+use Rattle.model_link.specs.declared.states.State.{State}
+use Rattle.model_link.specs.declared.states.State.TheVariants.{TeiAssigned, AwaitingEstablishment, AwaitingRelease, Established, TimerRecovery}
+use Rattle.model_link.specs.declared.timers.LinkTimer.{LinkTimer}
+use Rattle.model_link.specs.declared.timers.LinkTimer.TheVariants.{T200, T203}
+use Rattle.model_link.specs.declared.terms.Terms.{Terms}
+use Rattle.model_link.specs.Link.{Link, is_multiple_frame, may_repeat}
+use Rattle.model_link.specs.Events.{Event, received, frame, undefined, wrong_size, overlong, expired, requested, offer, cleared, Request, Establish, Release, Data, SetBusy, ClearBusy}
+use Rattle.model_link.specs.Machine
+use Rattle.model_link.specs.Machine.{after, told}
+use Rattle.model_link.specs.Steps.{Course, begun}
+use Rattle.model_link.specs.Told.{runs}
+use Rattle.laws_link.specs.Flags.{takes_contents}
+use Rattle.laws_link.specs.States.{as_heard, is_overlong, is_invalid, receipt_of, by_frame, by_expiry, by_request, state_after}
+use Rattle.laws_link.specs.Steady.{is_anew}
+use Rattle.laws_link.specs.Telling.{error, establish_indication, numbered_as, final_as, told_by, told_by_frame, told_malformed, told_expired, told_cleared}
+use Rattle.laws_link.proofs.Follows.{event-follows}
+use Rattle.laws_line.proofs.Obeyed.{service-same}
+use Rattle.laws_trace.specs.Trace.{is_own}
+use Rattle.laws_trace.specs.Units.{is_ui}
+use Rattle.laws_order.specs.Order.{ends_by_note}
+
+pub or-true : (b : Bool) → (b || true) ≡ true
+or-true true = refl
+or-true false = refl
+
+module _ (t : Terms) where
+  abbrev pub Ended : List Note → Type 0
+  Ended ns = list_any (ends_by_note t.service t.tei) ns ≡ true
+
+  pub own : is_own t.service t.tei t.service t.tei ≡ true
+  own = ap (λ b. b && t.tei == t.tei) (service-same t.service) ∙ eq-eqb t.tei t.tei refl
+
+  one-ends : (n : Note) → ends_by_note t.service t.tei n ≡ true → Ended (n ∷ [])
+  one-ends n is = ap (λ b. b || false) is
+
+  error-ends : (why : ErrorCode) → is_anew why ≡ true → Ended (error t why)
+  error-ends why anew = one-ends (notes.Error t.service t.tei why) (ap (λ b. b && is_anew why) own ∙ anew)
+
+  behind : (xs ys : List Note) → Ended ys → Ended (xs ++ ys)
+  behind xs ys h =
+      list_any-append (ends_by_note t.service t.tei) xs ys ∙ ap (λ b. list_any (ends_by_note t.service t.tei) xs || b) h
+      ∙ or-true (list_any (ends_by_note t.service t.tei) xs)
+
+  before : (xs ys : List Note) → Ended xs → Ended (xs ++ ys)
+  before xs ys h = list_any-append (ends_by_note t.service t.tei) xs ys ∙ ap (λ b. b || list_any (ends_by_note t.service t.tei) ys) h
+
+  abbrev pub Leaves : List Note → State → Type 0
+  Leaves ns to = Ended ns ⊎ IsTrue (is_multiple_frame to)
+
+  -- an invalid N(R) is an error
+  numbered : (xs : List Note) (to : State) (b : Bool) → IsTrue (is_multiple_frame to)
+      → let now = cond b AwaitingEstablishment to in Leaves (xs ++ numbered_as t now) now
+  numbered xs to true up = inl (behind xs (error t code.J) (error-ends code.J refl))
+  numbered xs to false up = inr up
+
+  module _ (l : Link) (octets : List ℕ) (taken : Bool) where
+    abbrev By : State → Bool → Control → Type 0
+    By here command control =
+        let now = cond (is_multiple_frame here && is_invalid l (receipt_of control)) AwaitingEstablishment (by_frame here command control) in
+        Leaves (told_by_frame here t command octets control taken l now) now
+
+    abbrev data_told : List Note
+    data_told = cond taken (notes.Data t.service t.tei ∷ []) []
+
+    abbrev indicated : List Note
+    indicated = cond (l.s == l.a) [] (establish_indication t)
+
+    in-7 : (command : Bool) (control : Control) → By Established command control
+    in-7 command (Information ns nr p) = numbered data_told Established (is_invalid l (Some nr)) refl
+    in-7 command (ReceiveReady nr pf) = numbered (final_as t false (not command && pf)) Established (is_invalid l (Some nr)) refl
+    in-7 command (ReceiveNotReady nr pf) = numbered (final_as t false (not command && pf)) Established (is_invalid l (Some nr)) refl
+    in-7 command (Reject nr pf) = numbered (final_as t false (not command && pf)) Established (is_invalid l (Some nr)) refl
+    in-7 command (Sabme p) = inl (before (error t code.F) indicated (error-ends code.F refl))
+    in-7 command (Disc p) = inl (one-ends (notes.ReleaseIndication t.service t.tei) own)
+    in-7 command (Ui p) = inr refl
+    in-7 command (Ua f) = inr refl
+    in-7 command (Dm true) = inl (error-ends code.B refl)
+    in-7 command (Dm false) = inl (error-ends code.E refl)
+    in-7 command (Frmr f) = inl (error-ends code.K refl)
+    in-7 command (Xid pf) = inr refl
+
+    -- in state 8 a response with F=1 leads back to state 7
+    information-up : (command : Bool) (ns nr : Seq) (p : Bool) → IsTrue (is_multiple_frame (by_frame TimerRecovery command (Information ns nr p)))
+    information-up true ns nr p = refl
+    information-up false ns nr p = refl
+
+    ready-up : (command pf : Bool) (nr : Seq) → IsTrue (is_multiple_frame (by_frame TimerRecovery command (ReceiveReady nr pf)))
+    ready-up true true nr = refl
+    ready-up true false nr = refl
+    ready-up false true nr = refl
+    ready-up false false nr = refl
+
+    busy-up : (command pf : Bool) (nr : Seq) → IsTrue (is_multiple_frame (by_frame TimerRecovery command (ReceiveNotReady nr pf)))
+    busy-up true true nr = refl
+    busy-up true false nr = refl
+    busy-up false true nr = refl
+    busy-up false false nr = refl
+
+    reject-up : (command pf : Bool) (nr : Seq) → IsTrue (is_multiple_frame (by_frame TimerRecovery command (Reject nr pf)))
+    reject-up true true nr = refl
+    reject-up true false nr = refl
+    reject-up false true nr = refl
+    reject-up false false nr = refl
+
+    in-8 : (command : Bool) (control : Control) → By TimerRecovery command control
+    in-8 command (Information ns nr p) = numbered data_told (by_frame TimerRecovery command (Information ns nr p)) (is_invalid l (Some nr)) (information-up command ns nr p)
+    in-8 command (ReceiveReady nr pf) =
+        numbered (final_as t true (not command && pf)) (by_frame TimerRecovery command (ReceiveReady nr pf)) (is_invalid l (Some nr)) (ready-up command pf nr)
+    in-8 command (ReceiveNotReady nr pf) =
+        numbered (final_as t true (not command && pf)) (by_frame TimerRecovery command (ReceiveNotReady nr pf)) (is_invalid l (Some nr)) (busy-up command pf nr)
+    in-8 command (Reject nr pf) =
+        numbered (final_as t true (not command && pf)) (by_frame TimerRecovery command (Reject nr pf)) (is_invalid l (Some nr)) (reject-up command pf nr)
+    in-8 command (Sabme p) = inl (before (error t code.F) indicated (error-ends code.F refl))
+    in-8 command (Disc p) = inl (one-ends (notes.ReleaseIndication t.service t.tei) own)
+    in-8 true (Ui p) = inr refl
+    in-8 false (Ui p) = inr refl
+    in-8 true (Ua f) = inr refl
+    in-8 false (Ua f) = inr refl
+    in-8 command (Dm true) = inl (error-ends code.B refl)
+    in-8 command (Dm false) = inl (error-ends code.E refl)
+    in-8 command (Frmr f) = inl (error-ends code.K refl)
+    in-8 true (Xid pf) = inr refl
+    in-8 false (Xid pf) = inr refl
+
+    in-state : (here : State) → IsTrue (is_multiple_frame here) → (command : Bool) (control : Control) → By here command control
+    in-state TeiAssigned up command control = absurd (true≢false (sym up))
+    in-state AwaitingEstablishment up command control = absurd (true≢false (sym up))
+    in-state AwaitingRelease up command control = absurd (true≢false (sym up))
+    in-state Established up command control = in-7 command control
+    in-state TimerRecovery up command control = in-8 command control
+
+  malformed : (here : State) → IsTrue (is_multiple_frame here) → (why : ErrorCode) → is_anew why ≡ true → Ended (told_malformed here t why)
+  malformed TeiAssigned up why anew = absurd (true≢false (sym up))
+  malformed AwaitingEstablishment up why anew = absurd (true≢false (sym up))
+  malformed AwaitingRelease up why anew = absurd (true≢false (sym up))
+  malformed Established up why anew = error-ends why anew
+  malformed TimerRecovery up why anew = error-ends why anew
+
+  expires : (here : State) → IsTrue (is_multiple_frame here) → (timer : LinkTimer) (again ran : Bool)
+      → let now = cond ran (by_expiry here timer again) here in Leaves (told_expired here t now) now
+  expires TeiAssigned up timer again ran = absurd (true≢false (sym up))
+  expires AwaitingEstablishment up timer again ran = absurd (true≢false (sym up))
+  expires AwaitingRelease up timer again ran = absurd (true≢false (sym up))
+  expires Established up timer again true = inr refl
+  expires Established up timer again false = inr refl
+  expires TimerRecovery up T200 true true = inr refl
+  expires TimerRecovery up T200 false true = inl (error-ends code.I refl)
+  expires TimerRecovery up T203 true true = inr refl
+  expires TimerRecovery up T203 false true = inr refl
+  expires TimerRecovery up timer again false = inr refl
+
+  abbrev pub IsNoRelease : Event → Type 0
+  IsNoRelease (requested Release full) = ⊥
+  IsNoRelease other = Unit {0}
+
+  asked : (here : State) → IsTrue (is_multiple_frame here) → (request : Request) (full : Bool) → IsNoRelease (requested request full)
+      → IsTrue (is_multiple_frame (by_request here request))
+  asked TeiAssigned up request full other = absurd (true≢false (sym up))
+  asked AwaitingEstablishment up request full other = absurd (true≢false (sym up))
+  asked AwaitingRelease up request full other = absurd (true≢false (sym up))
+  asked Established up Establish full other = refl
+  asked Established up Release full other = absurd other
+  asked Established up (Data contents) full other = refl
+  asked Established up SetBusy full other = refl
+  asked Established up ClearBusy full other = refl
+  asked TimerRecovery up Establish full other = refl
+  asked TimerRecovery up Release full other = absurd other
+  asked TimerRecovery up (Data contents) full other = refl
+  asked TimerRecovery up SetBusy full other = refl
+  asked TimerRecovery up ClearBusy full other = refl
+
+  clears : (here : State) → IsTrue (is_multiple_frame here) → Ended (told_cleared here t)
+  clears TeiAssigned up = absurd (true≢false (sym up))
+  clears AwaitingEstablishment up = absurd (true≢false (sym up))
+  clears AwaitingRelease up = absurd (true≢false (sym up))
+  clears Established up = one-ends (notes.ReleaseIndication t.service t.tei) own
+  clears TimerRecovery up = one-ends (notes.ReleaseIndication t.service t.tei) own
+
+  module _ (l : Link) (up : IsTrue (is_multiple_frame l.state)) where
+    abbrev Goes : Event → Type 0
+    Goes e = Leaves (told_by t e l (state_after t e l)) (state_after t e l)
+
+    heard : (f : Parts) (long : Bool) → Goes (received (cond long overlong (frame f)))
+    heard f true = inl (malformed l.state up code.O refl)
+    heard f false = in-state l f.info (takes_contents (received (frame f)) l) l.state up f.address.command f.control
+
+    by-event : (e : Event) → IsNoRelease e → Goes (as_heard t e)
+    by-event (received (frame f)) may = heard f (is_overlong t f.control f.info)
+    by-event (received undefined) may = inl (malformed l.state up code.L refl)
+    by-event (received wrong_size) may = inl (malformed l.state up code.N refl)
+    by-event (received overlong) may = inl (malformed l.state up code.O refl)
+    by-event (expired timer) may = expires l.state up timer (may_repeat t l) (runs timer l.running)
+    by-event (requested request full) may = inr (asked l.state up request full may)
+    by-event offer may = inr up
+    by-event cleared may = inl (clears l.state up)
+
+    pub event-leaves : (e : Event) → IsNoRelease e → Leaves (told t e l).notes (after t e l).state
+    event-leaves e may =
+        let x = (event-follows t e l).leaves in
+        subst (λ ns. Leaves ns (after t e l).state) (sym x.tells)
+        (subst (λ to. Leaves (told_by t (as_heard t e) l to) to) (sym x.state) (by-event e may))
+
+    -- What the grammar does not have, or was too long, ends it.
+    pub undefined-ends : Ended (told t (received undefined) l).notes
+    undefined-ends = subst Ended (sym (event-follows t (received undefined) l).leaves.tells) (malformed l.state up code.L refl)
+
+    pub wrong-size-ends : Ended (told t (received wrong_size) l).notes
+    wrong-size-ends = subst Ended (sym (event-follows t (received wrong_size) l).leaves.tells) (malformed l.state up code.N refl)
+
+    pub overlong-ends : Ended (told t (received overlong) l).notes
+    overlong-ends = subst Ended (sym (event-follows t (received overlong) l).leaves.tells) (malformed l.state up code.O refl)
+
+  -- UI leaves a link as it was, and delivers no contents of an I-frame.
+  module _ (l : Link) where
+    abbrev pub Same : Course → Type 0
+    Same c = (c.link ≡ l) × (c.delivered ≡ None)
+
+    either : (b : Bool) (u v : Course) → Same u → Same v → Same (cond b u v)
+    either true u v x y = x
+    either false u v x y = y
+
+    ui-stays : (here : State) (b : Bool) (octets : List ℕ) (p : Bool) → Same (Machine.frame_in here t b octets (Ui p) (begun l))
+    ui-stays TeiAssigned b octets p = either (nat_lt t.n201 (length octets)) _ _ (refl, refl) (refl, refl)
+    ui-stays AwaitingEstablishment b octets p = either (nat_lt t.n201 (length octets)) _ _ (refl, refl) (refl, refl)
+    ui-stays AwaitingRelease b octets p = either (nat_lt t.n201 (length octets)) _ _ (refl, refl) (refl, refl)
+    ui-stays Established b octets p = either (nat_lt t.n201 (length octets)) _ _ (refl, refl) (refl, refl)
+    ui-stays TimerRecovery b octets p = either (nat_lt t.n201 (length octets)) _ _ (refl, refl) (refl, refl)
+
+    ui-only : (here : State) (b : Bool) (octets : List ℕ) (control : Control) → is_ui control ≡ true → Same (Machine.frame_in here t b octets control (begun l))
+    ui-only here b octets (Ui p) is = ui-stays here b octets p
+    ui-only here b octets (Information ns nr p) is = absurd (true≢false (sym is))
+    ui-only here b octets (ReceiveReady nr pf) is = absurd (true≢false (sym is))
+    ui-only here b octets (ReceiveNotReady nr pf) is = absurd (true≢false (sym is))
+    ui-only here b octets (Reject nr pf) is = absurd (true≢false (sym is))
+    ui-only here b octets (Sabme p) is = absurd (true≢false (sym is))
+    ui-only here b octets (Disc p) is = absurd (true≢false (sym is))
+    ui-only here b octets (Ua f) is = absurd (true≢false (sym is))
+    ui-only here b octets (Dm f) is = absurd (true≢false (sym is))
+    ui-only here b octets (Frmr f) is = absurd (true≢false (sym is))
+    ui-only here b octets (Xid pf) is = absurd (true≢false (sym is))
+
+    pub unit-data-stays : (f : Parts) → is_ui f.control ≡ true → Same (Machine.course t (received (frame f)) l)
+    unit-data-stays f is = ui-only l.state f.address.command f.info f.control is

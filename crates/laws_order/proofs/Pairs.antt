@@ -1,0 +1,230 @@
+-- Two cards whose links face each other: what each thing that happens makes of the two ends.
+use Rattle.std.proofs.Common.{◌≡◌, ℕ, ◌+◌, ◌<◌, ◌==◌, ◌&&◌, not, Bool, true, false, cond, IsTrue, List, [], ◌∷◌, ◌++◌, map, length, take, get_or, set, Option, Some, None, IfSome, refl, sym, ap, ◌∙◌, subst, arith, append-nil, eq-eqb, inl, inr}
+use Rattle.std.specs.Prelude.{All, option_to_list, unwrap_or, nat_lt}
+use Rattle.std.specs.List.{list_any}
+use Rattle.std.proofs.lemmas.List.{get_or-set_same}
+use Rattle.std.proofs.lemmas.List.Concat.{flat_map-append}
+use Rattle.std.proofs.lemmas.List.Elements.{All-nil, All-cons, All-head}
+use Rattle.model_bits.specs.Stream as stream
+use Rattle.model_bits.specs.declared.heard.Cause.TheVariants as cause
+use Rattle.lapd_frame.specs.declared.controls.Control.{Control}
+use Rattle.lapd_frame.specs.declared.controls.Control.TheVariants.{Information, ReceiveReady, ReceiveNotReady, Reject, Sabme, Disc, Ui, Ua, Dm, Frmr, Xid}
+use Rattle.lapd_frame.specs.declared.refusals.Refusal.TheVariants.{PoolFull}
+use Rattle.lapd_frame.specs.declared.services.Service.{Service}
+use Rattle.lapd_frame.specs.Grammar.{Parts, other_side}
+use Rattle.lapd_frame.specs.Services.{sapi_of}
+use Rattle.lapd_frame.proofs.Spelling.{reading-again}
+use Rattle.model_link.specs.declared.terms.Terms.{Terms}
+use Rattle.model_link.specs.declared.timers.LinkTimer.{LinkTimer}
+use Rattle.model_link.specs.Events as link
+use Rattle.model_link.specs.Link.{Link, is_multiple_frame, frame_of}
+use Rattle.model_link.specs.Machine as links
+use Rattle.model_link.specs.Sound as link_sound
+use Rattle.model_link.specs.Told.{Given}
+use Rattle.model_link.specs.TwoEnds.{End, with_link, with_sent, frame_given}
+use Rattle.model_link.specs.TwoEnds as two
+use Rattle.model_link.proofs.Direction.{frames_of}
+use Rattle.model_link.proofs.Giving.{given_is_frame}
+use Rattle.model_link.proofs.Joined.{Joined, done-at}
+use Rattle.model_link.proofs.Lines.{Means, Rising}
+use Rattle.model_line.specs.Came.{came, is_too_short}
+use Rattle.model_line.specs.declared.config.Config.{Config}
+use Rattle.model_line.specs.Event.{Event}
+use Rattle.model_line.specs.Line.{Line, fresh_line, link_of, terms}
+use Rattle.model_line.specs.Machine as lines
+use Rattle.model_line.specs.Taken as taken
+use Rattle.model_card.specs.Card.{line_at}
+use Rattle.model_card.specs.Event.{at}
+use Rattle.model_card.specs.Sound as card_sound
+use Rattle.model_card.proofs.CardSound.{after_is_sound}
+use Rattle.model_card.proofs.Steps.{has_lines, by_room, line_sound}
+use Rattle.laws_link.specs.Accepted.{accepted}
+use Rattle.laws_trace.specs.Trace.{Seen, seen}
+use Rattle.laws_trace.specs.Units.{is_ui}
+use Rattle.laws_trace.proofs.OfferTells.{offer-tells_nothing}
+use Rattle.laws_trace.proofs.OneLink.{frames_given}
+use Rattle.laws_wire.specs.Wire.{Station, Wire, answered, happens, frames_by}
+use Rattle.laws_order.specs.Order.{data_noted, data_granted, ends_by, is_of_link, of_link_in, of_link_at, of_link_on, link_here}
+use Rattle.laws_order.proofs.Contents.{request-grows, timer-same, offer-same}
+use Rattle.laws_order.proofs.Does.{Has, LeavesIt, Does, line-does}
+use Rattle.laws_order.proofs.Shown.{none-noted, none-granted}
+
+-- The frame that comes is the one that was given, where it comes whole.
+pub whole-is : (n201 : ℕ) (octets heard : List ℕ) → came n201 octets ≡ stream.frame heard → heard ≡ octets
+whole-is n201 octets heard e = go (is_too_short octets) (nat_lt (n201 + 4) (length octets)) e
+  where
+    go : (short long : Bool) → cond short (stream.dropped cause.Short) (cond long (stream.overlong (take 4 octets)) (stream.frame octets)) ≡ stream.frame heard → heard ≡ octets
+    go true long e = cc e
+    go false true e = cc e
+    go false false e = cc e
+
+-- What goes between two links that face each other is no unit data.
+abbrev IsPlain : Parts → Type 0
+IsPlain f = is_ui f.control ≡ false
+
+means-plain : (m : ℕ) (control : Control) → Means m control → is_ui control ≡ false
+means-plain m (Information ns nr p) h = refl
+means-plain m (ReceiveReady nr pf) h = refl
+means-plain m (ReceiveNotReady nr pf) h = refl
+means-plain m (Reject nr pf) h = refl
+means-plain m (Sabme p) h = absurd h
+means-plain m (Disc p) h = absurd h
+means-plain m (Ui p) h = absurd h
+means-plain m (Ua f) h = absurd h
+means-plain m (Dm f) h = absurd h
+means-plain m (Frmr f) h = absurd h
+means-plain m (Xid pf) h = absurd h
+
+amid : (xs ys zs : List Parts) (a r : ℕ) → Rising a r ((xs ++ ys) ++ zs) → All IsPlain ys
+amid [] [] zs a r h = All-nil IsPlain
+amid [] (y ∷ ys) zs a r (m, up, means, h) = All-cons IsPlain y ys (means-plain m y.control means) (amid [] ys zs m r h)
+amid (x ∷ xs) ys zs a r (m, up, means, h) = amid xs ys zs m r h
+
+pub record IsWell (s : Station) : Type 0 where
+  pub sound : card_sound.IsSound s.card
+  pub within : s.line < s.card.config.lines
+
+pub happens-well : (s : Station) → IsWell s → (e : Event) → IsWell (happens e s)
+happens-well s h e = record { sound = after_is_sound s.card (at s.line e) h.sound h.within; within = h.within }
+
+module _ (service : Service) (tei : ℕ) where
+  abbrev way_here : Station → List Parts
+  way_here s = of_link_on service tei s.card.config.side s.way
+
+  -- The end of the two links that a station is, of which this was delivered.
+  abbrev pub facing : Station → List (List ℕ) → End
+  facing s delivered = record { terms = terms s.card.config service tei; link = link_here service tei s; way = way_here s; delivered = delivered }
+
+  pub record Pair (w : Wire) (dn dm : List (List ℕ)) : Type 0 where
+    pub near : IsWell w.near
+    pub far : IsWell w.far
+    pub sides : w.far.card.config.side ≡ other_side w.near.card.config.side
+    pub joined : Joined (facing w.near dn) (facing w.far dm)
+
+  -- What something that happens at the near end makes of them, and what is seen there.
+  pub record Led (w w' : Wire) (dn dm : List (List ℕ)) (t : List Seen) : Type 0 where
+    pub pair : Pair w' (dn ++ data_noted service tei t) dm
+    pub granted : (link_here service tei w'.near).contents ≡ (link_here service tei w.near).contents ++ data_granted service tei t
+    pub other : link_here service tei w'.far ≡ link_here service tei w.far
+
+  abbrev pub Ends : List Seen → Type 0
+  Ends t = list_any (ends_by service tei) t ≡ true
+
+  -- What an event is to the link, at a station.
+  module _ (s : Station) (well : IsWell s) (up : IsTrue (is_multiple_frame (link_here service tei s).state)) (e : Event) where
+    abbrev c : Config
+    c = s.card.config
+
+    abbrev k : Link
+    k = link_here service tei s
+
+    abbrev l : Line
+    l = line_at s.line s.card
+
+    now : get_or (set s.card.lines s.line (lines.after c e l)) s.line (fresh_line c) ≡ lines.after c e l
+    now = get_or-set_same s.card.lines s.line (lines.after c e l) (fresh_line c) (omega (arith, well.sound.count, well.within))
+
+    pub station-does : Does c service tei k (link_here service tei (happens e s)) e (answered e s)
+    station-does =
+        by_room (λ ls a. Does c service tei k (link_of service tei (get_or ls s.line (fresh_line c))) e a) (at s.line e) s.card
+        (λ full. inr (inl (record { is = refl; noted = none-noted service tei e PoolFull; granted = none-granted service tei e PoolFull; frames = refl })))
+        (λ room. subst (λ x. Does c service tei k (link_of service tei x) e (lines.answer c e l)) (sym now)
+        (line-does c service tei well.sound.config l (line_sound s.card s.line (has_lines s.card well.sound) well.within) e up))
+
+    way-then : way_here (happens e s) ≡ way_here s ++ of_link_on service tei c.side (frames_by (answered e s))
+    way-then = flat_map-append (of_link_at service tei c.side) s.way (frames_by (answered e s))
+
+    abbrev t : List Seen
+    t = seen e (answered e s)
+
+    -- the new end, from its parts
+    same-end : (dn : List (List ℕ)) (x : Link) (way : List Parts) (ds : List (List ℕ)) → link_here service tei (happens e s) ≡ x → way_here (happens e s) ≡ way
+        → dn ++ data_noted service tei t ≡ ds → facing (happens e s) (dn ++ data_noted service tei t) ≡ record (facing s dn) { link = x; way = way; delivered = ds }
+    same-end dn x way ds a b d = λ i. record { terms = terms c service tei; link = a i; way = b i; delivered = d i }
+
+    abbrev Still : List (List ℕ) → End → Type 0
+    Still dn m = Joined (facing (happens e s) (dn ++ data_noted service tei t)) m
+
+    abbrev Granted : Type 0
+    Granted = (link_here service tei (happens e s)).contents ≡ k.contents ++ data_granted service tei t
+
+    -- it leaves the link
+    pub leaves-still : (dn : List (List ℕ)) (m : End) → LeavesIt c service tei k (link_here service tei (happens e s)) e (answered e s) → Joined (facing s dn) m → Still dn m
+    leaves-still dn m x h =
+        subst (λ n. Joined n m)
+        (sym (same-end dn k (way_here s) dn x.is (way-then ∙ ap (λ fs. way_here s ++ fs) x.frames ∙ append-nil (way_here s)) (ap (λ ds. dn ++ ds) x.noted ∙ append-nil dn))) h
+
+    pub leaves-granted : LeavesIt c service tei k (link_here service tei (happens e s)) e (answered e s) → Granted
+    leaves-granted x = ap (λ (y : Link). y.contents) x.is ∙ sym (ap (λ cs. k.contents ++ cs) x.granted ∙ append-nil k.contents)
+
+    abbrev Own : Terms
+    Own = terms c service tei
+
+    -- it is an event of the link
+    module _ (x : Has c service tei k (link_here service tei (happens e s)) e (answered e s)) where
+      up-then : IsTrue (is_multiple_frame (links.after Own x.event k).state)
+      up-then = subst (λ (y : Link). IsTrue (is_multiple_frame y.state)) x.is x.up
+
+      -- that gives no frame
+      pub linked : (dn : List (List ℕ)) (m : End) (ev : link.Event) → x.event ≡ ev → frames_given c Own ev k ≡ [] → Joined (with_link ev (facing s dn)) m → Still dn m
+      linked dn m ev is none h =
+          subst (λ n. Joined n m)
+          (sym (same-end dn (links.after Own ev k) (way_here s) (dn ++ option_to_list (links.told Own ev k).delivered)
+          (x.is ∙ ap (λ ev. links.after Own ev k) is)
+          (way-then ∙ ap (λ fs. way_here s ++ of_link_on service tei c.side fs) (x.frames ∙ ap (λ ev. frames_given c Own ev k) is ∙ none) ∙ append-nil (way_here s))
+          (ap (λ ds. dn ++ ds) (x.noted ∙ ap (λ ev. option_to_list (links.told Own ev k).delivered) is)))) h
+
+      pub granted-by : (ev : link.Event) → x.event ≡ ev → (links.after Own ev k).contents ≡ k.contents ++ accepted Own ev k → Granted
+      granted-by ev is h =
+          ap (λ (y : Link). y.contents) (x.is ∙ ap (λ ev. links.after Own ev k) is) ∙ h
+          ∙ sym (ap (λ cs. k.contents ++ cs) (x.granted ∙ ap (λ ev. accepted Own ev k) is))
+
+      pub up-by : (ev : link.Event) → x.event ≡ ev → IsTrue (is_multiple_frame (links.after Own ev k).state)
+      up-by ev is = subst (λ ev. IsTrue (is_multiple_frame (links.after Own ev k).state)) is up-then
+
+      pub expired-still : (dn : List (List ℕ)) (m : End) → Joined (facing s dn) m → (timer : LinkTimer) → x.event ≡ link.expired timer → Still dn m × Granted
+      expired-still dn m h timer is =
+          let ev = link.expired timer in
+          let up' = up-by ev is in (
+            linked dn m ev is refl (done-at (two.at_near (two.expires timer)) (record { near = facing s dn; far = m }) (up', h.far_up) h),
+            granted-by ev is (timer-same Own k up timer up' ∙ sym (append-nil k.contents)),
+          )
+
+      pub asked-still : (dn : List (List ℕ)) (m : End) → Joined (facing s dn) m → (asked : link.Request) (full : Bool) → x.event ≡ link.requested asked full → Still dn m × Granted
+      asked-still dn m h asked full is =
+          let ev = link.requested asked full in
+          let up' = up-by ev is in (
+            linked dn m ev is refl (done-at (two.at_near (two.asks asked full)) (record { near = facing s dn; far = m }) (up', h.far_up) h),
+            granted-by ev is (request-grows Own k up asked full up'),
+          )
+
+      -- an offer: the frame that it gives is one of the link
+      given-again : (o : Option Given) → IfSome o (λ g. link_sound.IsGiven Own g.frame g.contents) → All IsPlain (frame_given Own o)
+          → of_link_on service tei c.side (map (taken.frame_of c Own) (option_to_list o)) ≡ frame_given Own o
+      given-again None whole plain = refl
+      given-again (Some g) whole plain =
+          let f : Parts = record (frame_of Own g.frame) { info = unwrap_or g.contents [] } in
+          let not-ui = All-head IsPlain f [] plain in
+          let its : is_of_link service tei f ≡ true =
+          ap (λ b. (b && tei == tei) && not (is_ui f.control)) (eq-eqb (sapi_of service) (sapi_of service) refl)
+          ∙ ap (λ b. b && not (is_ui f.control)) (eq-eqb tei tei refl) ∙ ap not not-ui in
+          append-nil (of_link_at service tei c.side (taken.frame_of c Own g))
+          ∙ ap (of_link_in service tei) (reading-again c.side f (taken.frame_of c Own g) (record { is_frame = whole.whole; octets_are = refl }))
+          ∙ ap (λ b. cond {A = List Parts} b (f ∷ []) []) its
+
+      pub offer-still : (dn : List (List ℕ)) (m : End) → Joined (facing s dn) m → x.event ≡ link.offer → Still dn m × Granted
+      offer-still dn m h is =
+          let ev = link.offer in
+          let up' = up-by ev is in
+          let given = links.given Own k in
+          let sent : Joined (with_sent (facing s dn)) m = done-at (two.at_near two.sends) (record { near = facing s dn; far = m }) (up', h.far_up) h in
+          let plain : All IsPlain (frame_given Own given) =
+          amid (way_here s) (frame_given Own given) (frames_of Own (links.after Own ev k).waiting) m.link.a (links.after Own ev k).r sent.back.rising in
+          let again = given-again given (given_is_frame Own h.near_ranges k h.near_sound) plain in (
+            subst (λ n. Joined n m)
+                (sym (same-end dn (links.after Own ev k) (way_here s ++ frame_given Own given) dn
+                (x.is ∙ ap (λ ev. links.after Own ev k) is)
+                (way-then ∙ ap (λ fs. way_here s ++ of_link_on service tei c.side fs) (x.frames ∙ ap (λ ev. frames_given c Own ev k) is) ∙ ap (λ fs. way_here s ++ fs) again)
+                (ap (λ ds. dn ++ ds) (x.noted ∙ ap (λ ev. option_to_list (links.told Own ev k).delivered) is ∙ ap option_to_list (offer-tells_nothing Own k).1) ∙ append-nil dn))) sent,
+            granted-by ev is (offer-same Own k h.near_ranges h.near_sound ∙ sym (append-nil k.contents)),
+          )

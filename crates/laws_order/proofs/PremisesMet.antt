@@ -1,0 +1,148 @@
+-- The premises of the law are met by the worked run.
+use Rattle.std.proofs.Common.{◌≡◌, ℕ, IsTrue, List, [], ◌∷◌, ◌++◌, refl, sym, ap, ◌∙◌, arith}
+use Rattle.std.specs.Prelude.{All}
+use Rattle.std.proofs.lemmas.Bool.{leb-true}
+use Rattle.std.proofs.lemmas.List.Elements.{All-nil, All-cons}
+use Rattle.lapd_frame.specs.declared.addresses.Side.TheVariants.{User, Network}
+use Rattle.lapd_frame.specs.declared.services.Service.{Service}
+use Rattle.lapd_frame.specs.declared.services.Service.TheVariants.{Call, Packet}
+use Rattle.lapd_frame.specs.Grammar.{other_side}
+use Rattle.lapd_frame.specs.Reading.{reading, header_of, control_of, unnumbered_of, supervisory_of}
+use Rattle.lapd_seq.specs.Circle.{distance_of, named}
+use Rattle.lapd_seq.specs.Numbers.{seq}
+use Rattle.lapd_tei.specs.Events as teis
+use Rattle.model_link.specs.Link.{is_multiple_frame}
+use Rattle.model_line.specs.declared.config.Config.{Config}
+use Rattle.model_line.specs.Machine as lines
+use Rattle.model_line.specs.Request.{Assign, Establish}
+use Rattle.model_line.specs.Came.{came}
+use Rattle.model_line.specs.Event.{hears, expiry, request, next}
+use Rattle.model_card.specs.Event.{at}
+use Rattle.model_card.proofs.CardSound.{fresh_is_sound}
+use Rattle.laws_trace.specs.Trace.{IsFront}
+use Rattle.laws_wire.specs.Call.{station, assigned, calling}
+use Rattle.laws_wire.specs.Wire.{Station, Wire, Act, requests, times_out, gives, takes, loses, turned, acting, Doing, at_near, at_far, doing, doing_all, with_first_of}
+use Rattle.laws_order.specs.Happenings.{IsElsewhere, Happening, IsPossible, seen_near, seen_far}
+use Rattle.laws_order.specs.Order.{data_noted, data_granted, link_here, of_link_on, FaceAtRest, kept_by}
+use Rattle.laws_order.specs.Worked.{network, user, faces, calls_both, busy_run, call_near as near_stays, call_far as far_stays}
+use Rattle.laws_order.proofs.Ordered.{delivered-in-order}
+use Rattle.laws_order.proofs.Pairs.{IsWell, happens-well}
+
+record AreWell (w : Wire) : Type 0 where
+  near : IsWell w.near
+  far : IsWell w.far
+
+first-well : (way : List (List ℕ)) (s : Station) → IsWell s → IsWell (with_first_of way s)
+first-well [] s h = h
+first-well (octets ∷ rest) s h = happens-well s h (hears (came s.card.config.n201 octets))
+
+acted : (act : Act) (w : Wire) → AreWell w → AreWell (acting act w)
+acted (requests r) w h = record { near = happens-well w.near h.near (request r); far = h.far }
+acted (times_out timer) w h = record { near = happens-well w.near h.near (expiry timer); far = h.far }
+acted gives w h = record { near = happens-well w.near h.near next; far = h.far }
+acted takes w h = record { near = first-well w.far.way w.near h.near; far = record { sound = h.far.sound; within = h.far.within } }
+acted loses w h = record { near = record { sound = h.near.sound; within = h.near.within }; far = h.far }
+
+done : (d : Doing) (w : Wire) → AreWell w → AreWell (doing d w)
+done (at_near act) w h = acted act w h
+done (at_far act) w h = let x = acted act (turned w) (record { near = h.far; far = h.near }) in record { near = x.far; far = x.near }
+
+all-done : (ds : List Doing) (w : Wire) → AreWell w → AreWell (doing_all ds w)
+unfolding doing_all
+all-done [] w h = h
+all-done (d ∷ ds) w h = all-done ds (doing d w) (done d w h)
+
+begun : (c : Config) → c.lines ≡ 2 → Rattle.model_line.specs.Sound.IsInRange c → IsWell (station c 0)
+begun c two ranged = record { sound = fresh_is_sound c ranged; within = omega (arith, two) }
+
+called : AreWell (calling Call 0 user 0 network 0)
+called = record {
+  near = happens-well (assigned user 0 0) (happens-well (station user 0) (begun user refl refl) (request (Assign 0))) (request (Establish Call 0));
+  far = happens-well (station network 0) (begun network refl refl) (request (Assign 0));
+}
+
+well : AreWell faces
+well = all-done calls_both (calling Call 0 user 0 network 0) called
+
+-- What of a moment of rest computes.
+record Looks (service : Service) (w : Wire) : Type 0 where
+  near_up : IsTrue (is_multiple_frame (link_here service 0 w.near).state)
+  far_up : IsTrue (is_multiple_frame (link_here service 0 w.far).state)
+  near_waiting : (link_here service 0 w.near).waiting ≡ []
+  far_waiting : (link_here service 0 w.far).waiting ≡ []
+  near_way : of_link_on service 0 w.near.card.config.side w.near.way ≡ []
+  far_way : of_link_on service 0 w.far.card.config.side w.far.way ≡ []
+  near_side : w.near.card.config.side ≡ User
+  far_side : w.far.card.config.side ≡ Network
+  near_r : (link_here service 0 w.near).r ≡ 0
+  near_a : (link_here service 0 w.near).a ≡ 0
+  far_r : (link_here service 0 w.far).r ≡ 0
+  far_a : (link_here service 0 w.far).a ≡ 0
+
+rests : (service : Service) (w : Wire) → AreWell w → Looks service w → FaceAtRest service 0 w
+rests service w h x = record {
+  near = record { sound = h.near.sound; within = h.near.within; up = x.near_up; waiting = x.near_waiting; way = x.near_way };
+  far = record { sound = h.far.sound; within = h.far.within; up = x.far_up; waiting = x.far_waiting; way = x.far_way };
+  sides = x.far_side ∙ sym (ap other_side x.near_side);
+  there = x.far_r ∙ sym x.near_a;
+  back = x.near_r ∙ sym x.far_a;
+}
+
+call-looks : Looks Call faces
+unfolding lines.after lines.answer lines.takes_slot reading header_of control_of unnumbered_of supervisory_of teis.course teis.refusal seq distance_of named doing_all
+call-looks = record {
+  near_up = refl;
+  far_up = refl;
+  near_waiting = refl;
+  far_waiting = refl;
+  near_way = refl;
+  far_way = refl;
+  near_side = refl;
+  far_side = refl;
+  near_r = refl;
+  near_a = refl;
+  far_r = refl;
+  far_a = refl;
+}
+
+call-rests : FaceAtRest Call 0 faces
+call-rests = rests Call faces well call-looks
+
+packet-looks : Looks Packet faces
+unfolding lines.after lines.answer lines.takes_slot reading header_of control_of unnumbered_of supervisory_of teis.course teis.refusal seq distance_of named doing_all
+packet-looks = record {
+  near_up = refl;
+  far_up = refl;
+  near_waiting = refl;
+  far_waiting = refl;
+  near_way = refl;
+  far_way = refl;
+  near_side = refl;
+  far_side = refl;
+  near_r = refl;
+  near_a = refl;
+  far_r = refl;
+  far_a = refl;
+}
+
+packet-rests : FaceAtRest Packet 0 faces
+packet-rests = rests Packet faces well packet-looks
+
+abbrev ArePossible : List Happening → Type 0
+ArePossible [] = Unit {0}
+ArePossible (h ∷ hs) = IsPossible faces h × ArePossible hs
+
+all-of : (hs : List Happening) → ArePossible hs → All (IsPossible faces) hs
+all-of [] h = All-nil (IsPossible faces)
+all-of (x ∷ hs) h = All-cons (IsPossible faces) x hs h.0 (all-of hs h.1)
+
+at-the-other-line : IsElsewhere faces.far (at 1 (request (Assign 5)))
+unfolding lines.after lines.answer lines.takes_slot reading header_of control_of unnumbered_of supervisory_of teis.course teis.refusal seq distance_of named doing_all
+at-the-other-line = record { within = leb-true 2 2 refl; other = λ same. let e : ◌≡◌ {A = ℕ} 1 0 = same in absurd (omega (arith, e)) }
+
+possible : All (IsPossible faces) busy_run
+possible = all-of busy_run (tt, (tt, (tt, (tt, (tt, (tt, (at-the-other-line, (tt, (tt, (tt, (tt, (tt, (tt, (tt, (tt, (tt, (tt, (tt, (tt, (tt, (tt, (tt, (tt, (tt, (tt, (tt, (tt, (tt, (tt, (tt, (tt, (tt, (tt, (tt, tt))))))))))))))))))))))))))))))))))
+
+-- so the law says what the worked values show
+call-in-order : IsFront (data_noted Call 0 (seen_far busy_run faces)) (kept_by Call 0 faces.near ++ data_granted Call 0 (seen_near busy_run faces))
+call-in-order = (delivered-in-order Call 0 faces busy_run call-rests possible near_stays far_stays).1

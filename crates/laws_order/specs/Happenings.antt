@@ -1,0 +1,91 @@
+-- All that can happen to two cards on one wire, at any of their lines.
+use Rattle.std.specs.Prelude.{◌≢◌, ◌<◌, ℕ, List, [], ◌∷◌, ◌++◌, flat_map}
+use Rattle.model_bits.specs.Stream as stream
+use Rattle.model_line.specs.Came.{came}
+use Rattle.model_line.specs.Event.{Event, hears, expiry, request, next}
+use Rattle.model_card.specs.Event as card
+use Rattle.model_card.specs.Machine.{after}
+use Rattle.laws_trace.specs.Trace.{Seen, seen}
+use Rattle.laws_wire.specs.Wire.{Station, Wire, Act, requests, times_out, gives, takes, loses, answered, happens, acting, turned}
+
+-- At one end: whatever `Wire` of `laws_wire` has, so that layer 3 or management asks for anything, any timer of the line expires, and
+-- frames are given, taken or lost; on the wire no frame is heard, but a fault, or more octets than a frame has; or anything
+-- happens at another line of the card.
+pub data Deed : Type 0 where
+  acts : Act → Deed
+  disturbed : stream.Event → Deed
+  elsewhere : card.Event → Deed
+
+abbrev pub IsNoFrame : stream.Event → Type 0
+IsNoFrame (stream.frame octets) = ⊥
+IsNoFrame other = Unit {0}
+
+pub record IsElsewhere (s : Station) (e : card.Event) : Type 0 where
+  pub within : e.line < s.card.config.lines
+  pub other : e.line ≢ s.line
+
+abbrev pub IsPossibleAt : Station → Deed → Type 0
+IsPossibleAt s (acts act) = Unit {0}
+IsPossibleAt s (disturbed what) = IsNoFrame what
+IsPossibleAt s (elsewhere e) = IsElsewhere s e
+
+abbrev pub elsewhere_on : card.Event → Station → Station
+elsewhere_on e s = record s { card = after e s.card }
+
+abbrev pub befalling : Deed → Wire → Wire
+befalling (acts act) w = acting act w
+befalling (disturbed what) w = record w { near = happens (hears what) w.near }
+befalling (elsewhere e) w = record w { near = elsewhere_on e w.near }
+
+-- The same at either end, and one after the other.
+pub data Happening : Type 0 where
+  by_near : Deed → Happening
+  by_far : Deed → Happening
+
+abbrev pub IsPossible : Wire → Happening → Type 0
+IsPossible w (by_near deed) = IsPossibleAt w.near deed
+IsPossible w (by_far deed) = IsPossibleAt w.far deed
+
+abbrev pub happening : Happening → Wire → Wire
+happening (by_near deed) w = befalling deed w
+happening (by_far deed) w = turned (befalling deed (turned w))
+
+unfoldable pub happening_all : List Happening → Wire → Wire
+happening_all [] w = w
+happening_all (h ∷ hs) w = happening_all hs (happening h w)
+
+-- What is seen at an end, as `Trace` of `laws_trace` has it: the event at the line of the wire, if there is one, with its answer.
+abbrev pub first_heard : ℕ → List (List ℕ) → List Event
+first_heard n201 [] = []
+first_heard n201 (octets ∷ more) = hears (came n201 octets) ∷ []
+
+abbrev pub events_here : Deed → Wire → List Event
+events_here (acts (requests r)) w = request r ∷ []
+events_here (acts (times_out timer)) w = expiry timer ∷ []
+events_here (acts gives) w = next ∷ []
+events_here (acts takes) w = first_heard w.near.card.config.n201 w.far.way
+events_here (acts loses) w = []
+events_here (disturbed what) w = hears what ∷ []
+events_here (elsewhere e) w = []
+
+abbrev pub shown_by : Station → Event → List Seen
+shown_by s e = seen e (answered e s)
+
+abbrev pub seen_by : Deed → Wire → List Seen
+seen_by deed w = flat_map (shown_by w.near) (events_here deed w)
+
+abbrev pub seen_at_near : Happening → Wire → List Seen
+seen_at_near (by_near deed) w = seen_by deed w
+seen_at_near (by_far deed) w = []
+
+abbrev pub seen_at_far : Happening → Wire → List Seen
+seen_at_far (by_near deed) w = []
+seen_at_far (by_far deed) w = seen_by deed (turned w)
+
+unfoldable pub seen_near : List Happening → Wire → List Seen
+seen_near [] w = []
+seen_near (h ∷ hs) w = seen_at_near h w ++ seen_near hs (happening h w)
+
+unfoldable pub seen_far : List Happening → Wire → List Seen
+seen_far [] w = []
+seen_far (h ∷ hs) w = seen_at_far h w ++ seen_far hs (happening h w)

@@ -1,0 +1,5 @@
+-- Two cards on one wire at which anything happens, and the order of what is told there.
+pub mod Happenings
+pub mod Order
+pub mod Worked
+pub mod WorkedBroken

@@ -1,0 +1,109 @@
+-- What is told at each of two cards is in order, whatever else happens.
+use Rattle.std.specs.Prelude.{◌≡◌, ◌<◌, ℕ, ◌&&◌, Bool, false, not, IsTrue, List, [], ◌∷◌, ◌++◌, flat_map, All, option_to_list, Result, Ok, Err, if◌then◌else◌}
+use Rattle.std.specs.List.{list_any}
+use Rattle.lapd_frame.specs.declared.addresses.Side.{Side}
+use Rattle.lapd_frame.specs.declared.faults.ReadFault.{ReadFault}
+use Rattle.lapd_frame.specs.declared.notes.Note.{Note}
+use Rattle.lapd_frame.specs.declared.notes.Note.TheVariants.{EstablishIndication, EstablishConfirm, ReleaseIndication, ReleaseConfirm, Error}
+use Rattle.lapd_frame.specs.declared.services.Service.{Service}
+use Rattle.lapd_frame.specs.Grammar.{Parts, other_side}
+use Rattle.lapd_frame.specs.Reading.{reading}
+use Rattle.model_link.specs.Link.{Link, queue_of, is_multiple_frame}
+use Rattle.model_line.specs.Line.{link_of}
+use Rattle.model_line.specs.Request.{Request, Release}
+use Rattle.model_card.specs.Sound as card_sound
+use Rattle.laws_line.specs.Heard.{is_data_of}
+use Rattle.laws_link.specs.Steady.{is_anew}
+use Rattle.laws_trace.specs.DataGoesOut.{data_asked}
+use Rattle.laws_trace.specs.LinkFrames.{is_for}
+use Rattle.laws_trace.specs.Trace.{is_own, Seen, noted, granted, IsFront}
+use Rattle.laws_trace.specs.Units.{is_ui}
+use Rattle.laws_wire.specs.Facing.{line_of}
+use Rattle.laws_wire.specs.Wire.{Station, Wire}
+use Rattle.laws_order.specs.Happenings.{Happening, IsPossible, seen_near, seen_far}
+
+-- The contents that layer 3 of an end was granted to send by the link of a service with a TEI, and those that it was told of,
+-- in what is seen there.
+abbrev pub granted_in : Service → ℕ → Seen → List (List ℕ)
+granted_in service tei (granted r) = data_asked service tei r
+granted_in service tei other = []
+
+abbrev pub data_granted : Service → ℕ → List Seen → List (List ℕ)
+data_granted service tei t = flat_map (granted_in service tei) t
+
+abbrev pub noted_in : Service → ℕ → Seen → List (List ℕ)
+noted_in service tei (noted ns contents) = if list_any (is_data_of service tei) ns then option_to_list contents else []
+noted_in service tei other = []
+
+abbrev pub data_noted : Service → ℕ → List Seen → List (List ℕ)
+data_noted service tei t = flat_map (noted_in service tei) t
+
+-- What ends an establishment, or renews it: its release is granted; layer 3 is told of an establishment or a release; or layer
+-- management is told of an error by which the link is established anew, so not of A, C, D, G or H; of B, by which it is in state 8
+-- alone, in either state (Q.921 clauses 4.1.1.1, 4.1.1.2, 5.7.1 and 5.8.2 to 5.8.7, appendix II).
+abbrev pub ends_by_note : Service → ℕ → Note → Bool
+ends_by_note service tei (EstablishIndication of by) = is_own service tei of by
+ends_by_note service tei (EstablishConfirm of by) = is_own service tei of by
+ends_by_note service tei (ReleaseIndication of by) = is_own service tei of by
+ends_by_note service tei (ReleaseConfirm of by) = is_own service tei of by
+ends_by_note service tei (Error of by why) = is_own service tei of by && is_anew why
+ends_by_note service tei other = false
+
+abbrev pub ends_by_request : Service → ℕ → Request → Bool
+ends_by_request service tei (Release of by) = is_own service tei of by
+ends_by_request service tei other = false
+
+abbrev pub ends_by : Service → ℕ → Seen → Bool
+ends_by service tei (noted ns contents) = list_any (ends_by_note service tei) ns
+ends_by service tei (granted r) = ends_by_request service tei r
+ends_by service tei other = false
+
+abbrev pub StaysEstablished : Service → ℕ → List Seen → Type 0
+StaysEstablished service tei t = list_any (ends_by service tei) t ≡ false
+
+-- What is on its way of a link: the frames with its SAPI and TEI, but unit data (clauses 3.3.3, 3.3.4 and 5.2.2).
+abbrev pub is_of_link : Service → ℕ → Parts → Bool
+is_of_link service tei f = is_for service tei f.address && not (is_ui f.control)
+
+abbrev pub of_link_in : Service → ℕ → Result Parts ReadFault → List Parts
+of_link_in service tei (Ok f) = if is_of_link service tei f then f ∷ [] else []
+of_link_in service tei (Err fault) = []
+
+abbrev pub of_link_at : Service → ℕ → Side → List ℕ → List Parts
+of_link_at service tei side octets = of_link_in service tei (reading side octets)
+
+abbrev pub of_link_on : Service → ℕ → Side → List (List ℕ) → List Parts
+of_link_on service tei side way = flat_map (of_link_at service tei side) way
+
+abbrev pub link_here : Service → ℕ → Station → Link
+link_here service tei s = link_of service tei (line_of s)
+
+-- At a line of a sound card the link is in state 7 or 8, no control frame of it waits, and nothing of it is on its way. Two cards
+-- of the two sides face each other so, where each link has received just what the other takes for acknowledged: as an
+-- establishment leaves them, with V(S) and V(R) zero, or later, where nothing that goes is missing.
+pub record IsAtRest (service : Service) (tei : ℕ) (s : Station) : Type 0 where
+  pub sound : card_sound.IsSound s.card
+  pub within : s.line < s.card.config.lines
+  pub up : IsTrue (is_multiple_frame (link_here service tei s).state)
+  pub waiting : (link_here service tei s).waiting ≡ []
+  pub way : of_link_on service tei s.card.config.side s.way ≡ []
+
+pub record FaceAtRest (service : Service) (tei : ℕ) (w : Wire) : Type 0 where
+  pub near : IsAtRest service tei w.near
+  pub far : IsAtRest service tei w.far
+  pub sides : w.far.card.config.side ≡ other_side w.near.card.config.side
+  pub there : (link_here service tei w.far).r ≡ (link_here service tei w.near).a
+  pub back : (link_here service tei w.near).r ≡ (link_here service tei w.far).a
+
+-- The contents that the link kept then, sent or not: those that the other has not received.
+abbrev pub kept_by : Service → ℕ → Station → List (List ℕ)
+kept_by service tei s = queue_of (link_here service tei s)
+
+-- As long as the establishment neither ends nor is renewed at either end, the contents that each is told of are a beginning of
+-- those that the other kept then, and of those that it was granted to send since, in order, each once.
+abbrev pub DeliveredInOrder : Type 0
+DeliveredInOrder =
+    (service : Service) (tei : ℕ) (w : Wire) (hs : List Happening) → FaceAtRest service tei w → All (IsPossible w) hs →
+    let near = seen_near hs w in let far = seen_far hs w in StaysEstablished service tei near → StaysEstablished service tei far →
+    IsFront (data_noted service tei near) (kept_by service tei w.far ++ data_granted service tei far)
+    × IsFront (data_noted service tei far) (kept_by service tei w.near ++ data_granted service tei near)

@@ -1,0 +1,76 @@
+-- Worked values: two cards whose links of both services are established; each sends, a frame is damaged on its way, own busy begins and
+-- ends, a timer expires, and something happens at another line. Each computes.
+use Rattle.std.specs.Prelude.{◌≡◌, List, [], ◌∷◌, ◌++◌, refl}
+use Rattle.model_bits.specs.Stream.{dropped}
+use Rattle.model_bits.specs.declared.heard.Cause.TheVariants.{Fcs}
+use Rattle.lapd_frame.specs.declared.addresses.Side.TheVariants.{User, Network}
+use Rattle.lapd_frame.specs.declared.services.Service.TheVariants.{Call, Packet}
+use Rattle.lapd_frame.specs.declared.timers.Timer.TheVariants.{T203}
+use Rattle.lapd_frame.specs.Reading.{reading, header_of, control_of, unnumbered_of, supervisory_of}
+use Rattle.lapd_seq.specs.Circle.{distance_of, named}
+use Rattle.lapd_seq.specs.Numbers.{seq}
+use Rattle.lapd_tei.specs.Events as teis
+use Rattle.model_line.specs.declared.config.Config.{Config}
+use Rattle.model_line.specs.Event.{request}
+use Rattle.model_line.specs.Machine as lines
+use Rattle.model_line.specs.Request.{Data, Establish, Assign, SetBusy, ClearBusy}
+use Rattle.model_card.specs.Event.{at}
+use Rattle.laws_wire.specs.Call.{calling}
+use Rattle.laws_wire.specs.Wire.{Wire, requests, times_out, gives, takes, loses, Doing, at_near, doing_all}
+use Rattle.laws_wire.specs.Worked.{establishes}
+use Rattle.laws_order.specs.Happenings.{acts, disturbed, elsewhere, Happening, by_near, by_far, happening_all, seen_near, seen_far}
+use Rattle.laws_order.specs.Order.{data_noted, StaysEstablished}
+
+abbrev pub network : Config
+network = record { lines = 2; terminals = 1; k = 7; k16 = 3; queue = 8; unit_queue = 4; control = 4; slots = 16; n201 = 260; n200 = 3; side = Network }
+
+abbrev pub user : Config
+user = record network { side = User }
+
+abbrev pub calls_both : List Doing
+calls_both = establishes ++ at_near (requests (Establish Packet 0)) ∷ establishes
+
+abbrev pub faces : Wire
+faces = doing_all calls_both (calling Call 0 user 0 network 0)
+
+-- The first I-frame of call control is damaged, and goes again after REJ; that of packet mode comes between.
+abbrev pub both_send : List Happening
+both_send =
+    by_near (acts (requests (Data Call 0 (1 ∷ [])))) ∷ by_near (acts (requests (Data Packet 0 (2 ∷ [])))) ∷ by_near (acts (requests (Data Call 0 (3 ∷ []))))
+    ∷ by_near (acts gives) ∷ by_near (acts loses) ∷ by_far (disturbed (dropped Fcs)) ∷ by_far (elsewhere (at 1 (request (Assign 5))))
+    ∷ by_near (acts gives) ∷ by_far (acts takes) ∷ by_near (acts gives) ∷ by_far (acts takes)
+    ∷ by_far (acts (requests (Data Call 0 (4 ∷ [])))) ∷ by_far (acts gives) ∷ by_far (acts gives) ∷ by_far (acts gives)
+    ∷ by_near (acts takes) ∷ by_near (acts takes) ∷ by_near (acts takes)
+    ∷ by_near (acts gives) ∷ by_near (acts gives) ∷ by_near (acts gives) ∷ by_far (acts takes) ∷ by_far (acts takes) ∷ by_far (acts takes)
+    ∷ []
+
+-- Then the far end is busy: what comes then is dropped, and goes again once it is not.
+abbrev pub is_busy : List Happening
+is_busy =
+    by_far (acts (requests (SetBusy Call 0))) ∷ by_near (acts (requests (Data Call 0 (5 ∷ [])))) ∷ by_near (acts gives) ∷ by_far (acts takes)
+    ∷ by_far (acts gives) ∷ by_near (acts takes) ∷ by_far (acts (requests (ClearBusy Call 0))) ∷ by_far (acts gives) ∷ by_near (acts takes)
+    ∷ by_near (acts (times_out (T203 Call 0))) ∷ []
+
+abbrev pub busy_run : List Happening
+busy_run = both_send ++ is_busy
+
+both_far : data_noted Call 0 (seen_far both_send faces) ≡ (1 ∷ []) ∷ (3 ∷ []) ∷ []
+unfolding lines.after lines.answer lines.takes_slot reading header_of control_of unnumbered_of supervisory_of teis.course teis.refusal seq distance_of named doing_all happening_all seen_near seen_far
+both_far = refl
+
+packet_far : data_noted Packet 0 (seen_far both_send faces) ≡ (2 ∷ []) ∷ []
+unfolding lines.after lines.answer lines.takes_slot reading header_of control_of unnumbered_of supervisory_of teis.course teis.refusal seq distance_of named doing_all happening_all seen_near seen_far
+packet_far = refl
+
+both_near : data_noted Call 0 (seen_near both_send faces) ≡ (4 ∷ []) ∷ []
+unfolding lines.after lines.answer lines.takes_slot reading header_of control_of unnumbered_of supervisory_of teis.course teis.refusal seq distance_of named doing_all happening_all seen_near seen_far
+both_near = refl
+
+-- The establishments last.
+pub call_near : StaysEstablished Call 0 (seen_near busy_run faces)
+unfolding lines.after lines.answer lines.takes_slot reading header_of control_of unnumbered_of supervisory_of teis.course teis.refusal seq distance_of named doing_all happening_all seen_near seen_far
+call_near = refl
+
+pub call_far : StaysEstablished Call 0 (seen_far busy_run faces)
+unfolding lines.after lines.answer lines.takes_slot reading header_of control_of unnumbered_of supervisory_of teis.course teis.refusal seq distance_of named doing_all happening_all seen_near seen_far
+call_far = refl

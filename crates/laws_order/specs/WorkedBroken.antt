@@ -1,0 +1,48 @@
+-- Worked values: what would be told where a premise is left out. Each computes.
+use Rattle.std.specs.Prelude.{◌≡◌, ℕ, List, [], ◌∷◌, ◌++◌, refl}
+use Rattle.lapd_frame.specs.declared.services.Service.TheVariants.{Call}
+use Rattle.lapd_frame.specs.Reading.{reading, header_of, control_of, unnumbered_of, supervisory_of}
+use Rattle.lapd_seq.specs.Circle.{distance_of, named}
+use Rattle.lapd_seq.specs.Numbers.{seq}
+use Rattle.lapd_tei.specs.Events as teis
+use Rattle.model_line.specs.Machine as lines
+use Rattle.laws_trace.specs.Trace.{IsFront}
+use Rattle.laws_wire.specs.Wire.{Wire, takes, doing_all}
+use Rattle.laws_order.specs.Happenings.{acts, Happening, by_far, happening_all, seen_near, seen_far}
+use Rattle.laws_order.specs.Order.{data_noted, data_granted, kept_by, StaysEstablished}
+use Rattle.laws_order.specs.Worked.{faces}
+
+-- An I-frame that is on its way from an earlier establishment, with N(S) 0, is told as if it were of this one.
+abbrev old_frame : List ℕ
+old_frame = 0x00 ∷ 0x01 ∷ 0x00 ∷ 0x00 ∷ 0x99 ∷ []
+
+abbrev with_old : Wire
+with_old = record faces { near = record faces.near { way = old_frame ∷ [] } }
+
+abbrev comes_late : List Happening
+comes_late = by_far (acts takes) ∷ []
+
+told_of_old : data_noted Call 0 (seen_far comes_late with_old) ≡ (0x99 ∷ []) ∷ []
+unfolding lines.after lines.answer lines.takes_slot reading header_of control_of unnumbered_of supervisory_of teis.course teis.refusal seq distance_of named doing_all happening_all seen_near seen_far
+told_of_old = refl
+
+never_granted : kept_by Call 0 with_old.near ++ data_granted Call 0 (seen_near comes_late with_old) ≡ []
+unfolding lines.after lines.answer lines.takes_slot reading header_of control_of unnumbered_of supervisory_of teis.course teis.refusal seq distance_of named doing_all happening_all seen_near seen_far
+never_granted = refl
+
+no_end : StaysEstablished Call 0 (seen_far comes_late with_old)
+unfolding lines.after lines.answer lines.takes_slot reading header_of control_of unnumbered_of supervisory_of teis.course teis.refusal seq distance_of named doing_all happening_all seen_near seen_far
+no_end = refl
+
+abbrev nothing : List (List ℕ)
+nothing = []
+
+not_a_front : IsFront ((0x99 ∷ []) ∷ []) nothing → ⊥
+not_a_front x = cc x.whole_is
+
+-- Twice the same, another order, and what was granted but left out.
+twice : IsFront {X = List ℕ} ((1 ∷ []) ∷ (1 ∷ []) ∷ []) ((1 ∷ []) ∷ (2 ∷ []) ∷ []) → ⊥
+twice x = cc x.whole_is
+
+left_out : IsFront {X = List ℕ} ((2 ∷ []) ∷ []) ((1 ∷ []) ∷ (2 ∷ []) ∷ []) → ⊥
+left_out x = cc x.whole_is

@@ -1,0 +1,104 @@
+-- The frames sent are linear in the octets of the frames that came.
+use Rattle.std.proofs.Common.{◌≡◌, ℕ, ◌+◌, ◌*◌, ◌≤◌, Bool, true, false, ◌&&◌, ◌||◌, not, List, [], ◌∷◌, length, map, take, refl, sym, subst, cond, arith, nat_lt, nat_le, nat_eq}
+use Rattle.std.specs.Prelude.{count_by, All, slice_index, ◌%◌}
+use Rattle.std.proofs.lemmas.Bool.{ltb-false, leb-true}
+use Rattle.std.proofs.lemmas.List.Elements.{All-nil, All-cons, All-head, All-tail, All-weaker}
+use Rattle.std.proofs.lemmas.List.Sums.{sum_by-cons}
+use Rattle.std.proofs.Math.Nat.{mul-le-mul_left}
+use Rattle.model_bits.specs.Stream as stream
+use Rattle.model_bits.specs.declared.heard.Cause.TheVariants.{Short}
+use Rattle.model_line.specs.Came.{came, is_too_short}
+use Rattle.model_line.specs.Counts.{hears_frame, hears_long_frame, is_frame, is_long_frame}
+use Rattle.model_line.specs.Event as line
+use Rattle.model_card.specs.declared.events.FrameEvent as rust
+use Rattle.model_card.specs.Card.{Card}
+use Rattle.model_card.specs.Counts.{may_send, window, sent, heard, long_heard, accepted, expired, rejected}
+use Rattle.model_card.specs.Event.{Event, event_of}
+use Rattle.model_card.specs.Machine.{after, answer}
+use Rattle.model_card.specs.Run.{Moment, AreAtLines, after_all}
+unfoldable use Rattle.model_card.specs.Run.{moments}
+use Rattle.model_card.specs.Sound.{IsSound}
+use Rattle.model_card.proofs.Amortised.{frames_amortised, rejects_are_long}
+use Rattle.laws_promises.specs.Linear.{octets_taken, octets_of, octets_heard, IsLinear}
+
+-- ---- each frame takes its octets
+
+pub record TakesItsOctets (n201 : ℕ) (e : Event) : Type 0 where
+  pub six : 6 * cond (hears_frame e.what) 1 0 ≤ octets_of n201 e
+  pub seven : 7 * cond (hears_long_frame e.what) 1 0 ≤ octets_of n201 e
+
+three : (octets : List ℕ) → is_too_short octets ≡ false → 3 ≤ length octets
+three octets = go (nat_lt (length octets) 3) (nat_eq (length octets) 3 && not (nat_eq (slice_index octets 2 % 4) 3)) refl
+  where
+    go : (few odd : Bool) → nat_lt (length octets) 3 ≡ few → (few || odd) ≡ false → 3 ≤ length octets
+    go true odd e never = cc
+    go false odd e whole = ltb-false (length octets) 3 e
+
+abbrev heard_as : ℕ → List ℕ → Bool → Bool → stream.Event
+heard_as n201 octets short long = cond short (stream.dropped Short) (cond long (stream.overlong (take 4 octets)) (stream.frame octets))
+
+frame_six : (n201 : ℕ) (octets : List ℕ) → 6 * cond (is_frame (came n201 octets)) 1 0 ≤ octets_taken n201 (came n201 octets)
+frame_six n201 octets = go (is_too_short octets) (nat_lt (n201 + 4) (length octets)) refl
+  where
+    go : (short long : Bool) → is_too_short octets ≡ short → 6 * cond (is_frame (heard_as n201 octets short long)) 1 0 ≤ octets_taken n201 (heard_as n201 octets short long)
+    go true long e = omega arith
+    go false true e = omega arith
+    go false false e = let few = three octets e in omega (arith, few)
+
+frame_seven : (n201 : ℕ) (octets : List ℕ) → 7 * cond (is_long_frame (came n201 octets)) 1 0 ≤ octets_taken n201 (came n201 octets)
+frame_seven n201 octets = go (is_too_short octets) (nat_lt (n201 + 4) (length octets)) (nat_le 4 (length octets)) refl
+  where
+    four : (b : Bool) → nat_le 4 (length octets) ≡ b → 7 * cond b 1 0 ≤ length octets + 3
+    four true e = let few : 4 ≤ length octets = leb-true 4 (length octets) e in omega (arith, few)
+    four false e = omega arith
+
+    go : (short long b : Bool) → nat_le 4 (length octets) ≡ b → 7 * cond (is_long_frame (heard_as n201 octets short long)) 1 0 ≤ octets_taken n201 (heard_as n201 octets short long)
+    go true long b e = omega arith
+    go false true b e = omega arith
+    go false false b e = four (nat_le 4 (length octets)) refl
+
+takes : (n201 : ℕ) (e : rust.FrameEvent) → TakesItsOctets n201 (event_of n201 e)
+takes n201 (rust.TheVariants.Frame number octets) = record { six = frame_six n201 octets.now; seven = frame_seven n201 octets.now }
+takes n201 (rust.TheVariants.Failed number fault) = record { six = omega arith; seven = omega arith }
+takes n201 (rust.TheVariants.Next number) = record { six = omega arith; seven = omega arith }
+takes n201 (rust.TheVariants.Expire number timer) = record { six = omega arith; seven = omega arith }
+takes n201 (rust.TheVariants.Request number r) = record { six = omega arith; seven = omega arith }
+
+pub all_take : (n201 : ℕ) (events : List rust.FrameEvent) → All (TakesItsOctets n201) (map (event_of n201) events)
+all_take n201 [] = All-nil (TakesItsOctets n201)
+all_take n201 (e ∷ events) = All-cons (TakesItsOctets n201) (event_of n201 e) (map (event_of n201) events) (takes n201 e) (all_take n201 events)
+
+-- ---- over a whole list
+
+-- events that pass a test, each worth so many octets, are so many moments
+counted : (n n201 : ℕ) (p : line.Event → Bool) (m : Card) (events : List Event) → All (λ e. n * cond (p e.what) 1 0 ≤ octets_of n201 e) events
+    → n * count_by (λ (x : Moment). p x.event.what) (moments m events) ≤ octets_heard n201 events
+unfolding moments
+counted n n201 p m [] all = omega arith
+counted n n201 p m (e ∷ events) all =
+    let P = λ (x : Event). n * cond (p x.what) 1 0 ≤ octets_of n201 x in
+    let q = λ (x : Moment). p x.event.what in
+    let one : Moment = record { card = m; event = e; answer = answer e m } in
+    by_sum (cond (p e.what) 1 0) (count_by q (moments (after e m) events)) (count_by q (one ∷ moments (after e m) events))
+    (sum_by-cons (λ x. cond (q x) 1 0) one (moments (after e m) events)) (sum_by-cons (octets_of n201) e events)
+    (All-head P e events all) (counted n n201 p (after e m) events (All-tail P e events all))
+  where
+    by_sum : (first rest total : ℕ) → total ≡ first + rest → octets_heard n201 (e ∷ events) ≡ octets_of n201 e + octets_heard n201 events
+        → n * first ≤ octets_of n201 e → n * rest ≤ octets_heard n201 events → n * total ≤ octets_heard n201 (e ∷ events)
+    by_sum first rest total is sum one more = subst (λ k. n * k ≤ octets_heard n201 (e ∷ events)) (sym is) (omega (arith, sum, one, more))
+
+by_numbers : (s w f a x j k o before : ℕ) → s + w ≤ before + 2 * f + a + (k + 1) * x + k * j → 6 * f ≤ o → 7 * j ≤ o
+    → 21 * (s + w) ≤ 21 * before + (7 + 3 * k) * o + 21 * a + 21 * (k + 1) * x
+by_numbers s w f a x j k o before bound six seven =
+    let scaled = mul-le-mul_left (3 * k) seven in
+    omega (arith, bound, six, scaled)
+
+pub is_linear : (m : Card) (events : List Event) → IsSound m → AreAtLines m events → All (TakesItsOctets m.config.n201) events → IsLinear m events
+is_linear m events s within all =
+    let n201 = m.config.n201 in
+    let ms = moments m events in
+    let six = counted 6 n201 hears_frame m events (All-weaker (TakesItsOctets n201) (λ e. 6 * cond (hears_frame e.what) 1 0 ≤ octets_of n201 e) (λ e h. h.six) events all) in
+    let seven = counted 7 n201 hears_long_frame m events (All-weaker (TakesItsOctets n201) (λ e. 7 * cond (hears_long_frame e.what) 1 0 ≤ octets_of n201 e) (λ e h. h.seven) events all) in
+    let long : rejected ms ≤ long_heard ms = rejects_are_long m events in
+    by_numbers (sent ms) (may_send (after_all m events)) (heard ms) (accepted ms) (expired ms) (rejected ms) (window m.config)
+    (octets_heard n201 events) (may_send m) (frames_amortised m events s within) six (omega (arith, seven, long))

@@ -1,0 +1,78 @@
+-- Whether layer 3 asked, and whether I-frames are outstanding: a part of what an observer knows; and by it the news.
+use Rattle.std.specs.Prelude.{◌≡◌, ℕ, ◌==◌, ◌&&◌, ◌||◌, not, Bool, false, List, [], ◌∷◌, ◌++◌, fold, filter, Some, if◌then◌else◌}
+use Rattle.std.specs.List.{list_any}
+use Rattle.std.specs.Option.{unwrap_or}
+use Rattle.lapd_frame.specs.declared.notes.Note.{Note}
+use Rattle.lapd_frame.specs.declared.notes.Note.TheVariants.{EstablishIndication, EstablishConfirm, ReleaseIndication, ReleaseConfirm, Xid}
+use Rattle.lapd_frame.specs.declared.services.Service.{Service}
+use Rattle.model_line.specs.declared.config.Config.{Config}
+use Rattle.model_line.specs.Event as line_event
+use Rattle.model_line.specs.Event.{request, Answer}
+use Rattle.model_line.specs.Request.{Establish}
+use Rattle.laws_line.specs.Heard.{notes_of}
+use Rattle.laws_line.specs.Share.{is_granted}
+use Rattle.model_card.specs.Card.{fresh}
+use Rattle.model_card.specs.Event.{Event, at}
+use Rattle.model_card.specs.Machine.{answer}
+use Rattle.model_card.specs.Run.{Moment, moments, after_all}
+use Rattle.laws_trace.specs.News.{is_news, is_sabme, is_xid, releases}
+use Rattle.laws_trace.proofs.TimersWatched.{Known, nothing_yet, watch, brings}
+use Rattle.laws_trace.specs.States.{is_state, state_before, state_after, differ}
+use Rattle.laws_trace.specs.Trace.{is_own, seen_in}
+
+-- Layer 3 asks for the establishment of a link, or for its release; and the terminal begins to establish it, or sends XID.
+abbrev pub establishes : Service → ℕ → line_event.Event → Answer → Bool
+establishes service tei (request (Establish of by)) a = is_granted a && is_own service tei of by
+establishes service tei other a = false
+
+-- Whether it was layer 3 that asked for the establishment that a link in state 5 awaits, or this side began it (clauses
+-- 5.5.1.1 and 5.7.2).
+abbrev pub asked : Service → ℕ → ℕ → Bool → Moment → Bool
+asked service tei number was m =
+    let after = state_after service tei number m in
+    if m.event.line == number && is_state 5 after && differ (state_before service tei number m) after then establishes service tei m.event.what m.answer else was
+
+-- And whether an I-frame is outstanding: in state 5, as it was where the link came there.
+pub record Owing : Type 0 where
+  pub known : Known
+  pub outstanding : Bool
+
+abbrev pub none_owed : Owing
+none_owed = record { known = nothing_yet; outstanding = false }
+
+abbrev pub owing : Config → Service → ℕ → ℕ → Owing → Moment → Owing
+owing c service tei number w m =
+    let k = watch c service tei number w.known m in
+    record { known = k; outstanding = if is_state 5 (state_after service tei number m) then w.outstanding else not (k.next == k.acknowledged) }
+
+-- What is due as a link comes from one state to another, or stays in it. Where it comes to state 7 from state 4, the
+-- terminal established it, which is an indication; from state 5 a confirm, if layer 3 asked for it; and if not, or if
+-- the terminal establishes a link anew by SABME, an indication where I-frames are outstanding, or nothing (clauses
+-- 5.5.1.2 and 5.7). Where it comes to state 4 from state 6, and where layer 3 releases a link in state 4, that is a
+-- confirm, and from other states an indication (clauses 5.5.1.2, 5.5.1.3, 5.5.3.2 and 5.5.3.3). XID is told, and moves
+-- nothing (profile).
+abbrev pub due : Service → ℕ → Bool → Bool → Bool → Bool → Bool → ℕ → ℕ → List Note
+due service tei was_asked xid sabme released outstanding from to =
+    if xid then Xid service tei ∷ []
+    else if to == 7 then
+    (if from == 4 then EstablishIndication service tei ∷ [] else if from == 5 && was_asked then EstablishConfirm service tei ∷ []
+    else if (from == 5 || sabme) && outstanding then EstablishIndication service tei ∷ [] else [])
+    else if to == 4 then
+    (if from == 6 || (from == 4 && released) then ReleaseConfirm service tei ∷ [] else if from == 4 then [] else ReleaseIndication service tei ∷ [])
+    else []
+
+-- So the notes of a link, of these kinds, in the answer to an event at the line are exactly what is due, where its TEI
+-- is on the line before it. A link whose TEI leaves comes to state 4 (clause 5.3.4).
+abbrev pub NewsIsTold : Config → List Event → ℕ → Type 0
+NewsIsTold c events number =
+    (service : Service) (tei : ℕ) (before : List Event) (what : line_event.Event) (behind : List Event) →
+    events ≡ before ++ at number what ∷ behind →
+    let card = after_all (fresh c) before in
+    let m : Moment = record { card = card; event = at number what; answer = answer (at number what) card } in
+    let was_asked = fold (asked service tei number) false (moments (fresh c) before) in
+    let w = fold (owing c service tei number) none_owed (moments (fresh c) before) in
+    (from : ℕ) → state_before service tei number m ≡ Some from →
+    let now = seen_in number m in
+    filter (is_news service tei) (notes_of m.answer)
+    ≡ due service tei was_asked (list_any (brings is_xid c service tei) now) (list_any (brings is_sabme c service tei) now) (releases service tei what m.answer)
+    w.outstanding from (unwrap_or (state_after service tei number m) 4)

@@ -1,0 +1,169 @@
+-- What an observer knows of a link is what follows its parts: over runs.
+use Rattle.std.proofs.Common.{◌≡◌, ℕ, ◌+◌, ◌==◌, ◌&&◌, ◌||◌, not, Bool, true, false, cond, Option, Some, None, is_some, refl, sym, ap, ◌∙◌, subst, arith, eqb-true, eq-eqb, true≢false}
+use Rattle.std.specs.Prelude.{fold, nat_lt, IfSome}
+use Rattle.std.specs.Option.{option_map_or}
+use Rattle.lapd_frame.specs.declared.services.Service.{Service}
+use Rattle.lapd_frame.specs.declared.timers.Timer.TheVariants as timers
+use Rattle.model_link.specs.declared.states.State.{State}
+use Rattle.model_link.specs.declared.states.State.TheVariants.{TeiAssigned, AwaitingEstablishment, AwaitingRelease, Established, TimerRecovery}
+use Rattle.model_link.specs.declared.timers.LinkTimer.{LinkTimer}
+use Rattle.model_link.specs.declared.timers.LinkTimer.TheVariants.{T200, T203}
+use Rattle.model_link.specs.Link.{state_number}
+use Rattle.model_line.specs.declared.config.Config.{Config}
+use Rattle.model_line.specs.Event as line_event
+use Rattle.model_line.specs.Event.{hears, expiry, request, Answer}
+use Rattle.laws_trace.specs.Observer.{Observed, in_state, by_event}
+use Rattle.laws_trace.specs.States as states
+use Rattle.laws_trace.specs.Trace.{is_own, seen}
+use Rattle.laws_trace.proofs.TimersWatched.{Known, learned}
+use Rattle.laws_trace.specs.States.{is_state, differ}
+use Rattle.laws_trace.proofs.ObservedMoves.{When, known_of, at_state, Shape, Moved, none_more, one_more, grown, event-moves}
+use Rattle.laws_trace.proofs.MovesWatched as moves
+use Rattle.laws_trace.proofs.NewsWatched as news
+
+-- Where the TEI is on the line, in a state: the numbers, whether layer 3 asked for the establishment, whether I-frames are
+-- outstanding, and how often T200 expired.
+pub record IsObserved (s : ℕ) (k : Known) (asked owed : Bool) (n : ℕ) (o : Observed) : Type 0 where
+  pub state_is : o.state ≡ s
+  pub known_is : known_of o ≡ k
+  pub asks : When (s == 5) (o.asked ≡ asked)
+  pub owes : When (s == 5) (o.outstanding ≡ owed)
+  pub rests : When (not (s == 5)) (owed ≡ not (k.next == k.acknowledged))
+  pub counts : When (s == 5 || (s == 6 || s == 8)) (o.expiries ≡ n)
+
+-- and where it is not, in state 1.
+abbrev pub IsSeen : Option ℕ → Known → Bool → Bool → ℕ → Observed → Type 0
+IsSeen None k asked owed n o = o ≡ in_state 1
+IsSeen (Some s) k asked owed n o = IsObserved s k asked owed n o
+
+when-true : (b : Bool) (P : Type 0) → b ≡ true → When b P → P
+when-true true P e w = w
+when-true false P e w = absurd (true≢false (sym e))
+
+abbrev is_counted : ℕ → Bool
+is_counted s = s == 5 || (s == 6 || s == 8)
+
+-- One step behind what was known.
+module _ (s to : ℕ) (k l : Known) (new asked owed : Bool) (more : ℕ → ℕ) (n : ℕ) (p q : Observed) (m : Moved s to l new more p q) (h : IsObserved s k asked owed n p) where
+  asks-on : (a : Bool) → (to == 5) ≡ a → (b : Bool) → (s == 5) ≡ b → (d : Bool) → (to == s) ≡ d → When a (q.asked ≡ cond b p.asked new) → When b (p.asked ≡ asked)
+      → When a (q.asked ≡ cond (a && not d) new asked)
+  asks-on false t b u d e x y = tt
+  asks-on true t true u true e x y = x ∙ y
+  asks-on true t true u false e x y = absurd (true≢false (sym (eq-eqb to s (eqb-true to 5 t ∙ sym (eqb-true s 5 u))) ∙ e))
+  asks-on true t false u false e x y = x
+  asks-on true t false u true e x y = absurd (true≢false (sym (subst (λ z. (z == 5) ≡ true) (eqb-true to s e) t) ∙ u))
+
+  owes-on : (a b : Bool) → When a (q.outstanding ≡ cond b p.outstanding (not (p.next == p.acknowledged))) → When b (p.outstanding ≡ owed)
+      → When (not b) (owed ≡ not (k.next == k.acknowledged)) → When a (q.outstanding ≡ cond a owed (not (l.next == l.acknowledged)))
+  owes-on false b x y z = tt
+  owes-on true true x y z = x ∙ y
+  owes-on true false x y z = x ∙ ap (λ (v : Known). not (v.next == v.acknowledged)) h.known_is ∙ sym z
+
+  rests-on : (a : Bool) → When (not a) (cond a owed (not (l.next == l.acknowledged)) ≡ not (l.next == l.acknowledged))
+  rests-on true = tt
+  rests-on false = refl
+
+  counts-on : (d : Bool) → (s == to) ≡ d → (e : Bool) → (to == s) ≡ e → (a : Bool) → is_counted to ≡ a → When a (q.expiries ≡ cond d (more p.expiries) 0)
+      → When (is_counted s) (p.expiries ≡ n) → When a (q.expiries ≡ cond (not e) 0 (more n))
+  counts-on d x e y false z u v = tt
+  counts-on true x true y true z u v = u ∙ ap more (when-true (is_counted s) (p.expiries ≡ n) (subst (λ r. is_counted r ≡ true) (sym (eqb-true s to x)) z) v)
+  counts-on false x false y true z u v = u
+  counts-on true x false y true z u v = absurd (true≢false (sym (eq-eqb to s (sym (eqb-true s to x))) ∙ y))
+  counts-on false x true y true z u v = absurd (true≢false (sym (eq-eqb s to (sym (eqb-true to s y))) ∙ x))
+
+  joined : IsObserved to l (cond (to == 5 && not (to == s)) new asked) (cond (to == 5) owed (not (l.next == l.acknowledged))) (cond (not (to == s)) 0 (more n)) q
+  joined = record {
+    state_is = m.state_is;
+    known_is = m.known_is;
+    asks = asks-on (to == 5) refl (s == 5) refl (to == s) refl m.asks h.asks;
+    owes = owes-on (to == 5) (s == 5) m.owes h.owes h.rests;
+    rests = rests-on (to == 5);
+    counts = counts-on (s == to) refl (to == s) refl (is_counted to) refl m.counts h.counts;
+  }
+
+module _ (c : Config) (service : Service) (tei : ℕ) where
+  -- How often T200 expired counts in states 5, 6 and 8 alone.
+  either-4 : (a b : Bool) → cond {A = ℕ} a 4 4 ≡ cond {A = ℕ} b 4 4
+  either-4 true true = refl
+  either-4 true false = refl
+  either-4 false true = refl
+  either-4 false false = refl
+
+  count-counts : (k : Known) (x : State) (n m : ℕ) → When (is_counted (state_number x)) (m ≡ n) → (timer : Option LinkTimer) → let s = state_number x in
+      option_map_or (moves.by_expiry c.n200 k n s) timer s ≡ option_map_or (moves.by_expiry c.n200 k m s) timer s
+  count-counts k TeiAssigned n m h None = refl
+  count-counts k TeiAssigned n m h (Some T200) = either-4 (nat_lt n c.n200) (nat_lt m c.n200)
+  count-counts k TeiAssigned n m h (Some T203) = refl
+  count-counts k AwaitingEstablishment n m h timer = ap (λ n. option_map_or (moves.by_expiry c.n200 k n 5) timer 5) (sym h)
+  count-counts k AwaitingRelease n m h timer = ap (λ n. option_map_or (moves.by_expiry c.n200 k n 6) timer 6) (sym h)
+  count-counts k Established n m h None = refl
+  count-counts k Established n m h (Some T200) = refl
+  count-counts k Established n m h (Some T203) = refl
+  count-counts k TimerRecovery n m h timer = ap (λ n. option_map_or (moves.by_expiry c.n200 k n 8) timer 8) (sym h)
+
+  abbrev pub counted_by : line_event.Event → ℕ
+  counted_by what = option_map_or states.one_more (states.expired_of service tei what) 0
+
+  nothing-more : (n : ℕ) → n ≡ n + 0
+  nothing-more n = omega arith
+
+  grown-is : (what : line_event.Event) (n : ℕ) → grown c service tei what n ≡ n + counted_by what
+  grown-is (hears e) n = nothing-more n
+  grown-is (request r) n = nothing-more n
+  grown-is line_event.next n = nothing-more n
+  grown-is (expiry timers.T201) n = nothing-more n
+  grown-is (expiry (timers.T200 of by)) n = go (is_own service tei of by)
+    where
+      go : (b : Bool) → cond b one_more none_more n ≡ n + option_map_or states.one_more (cond b (Some T200) None) 0
+      go true = refl
+      go false = nothing-more n
+  grown-is (expiry (timers.T203 of by)) n = go (is_own service tei of by)
+    where
+      go : (b : Bool) → n ≡ n + option_map_or states.one_more (cond b (Some T203) None) 0
+      go true = nothing-more n
+      go false = nothing-more n
+
+  -- An event of the line, where the TEI is on it before and behind.
+  module _ (x : State) (k : Known) (shape : Shape x k) (asked owed : Bool) (n : ℕ) (o : Observed) (h : IsObserved (state_number x) k asked owed n o) (what : line_event.Event) (a : Answer) where
+    abbrev s : ℕ
+    s = state_number x
+
+    abbrev leads : ℕ → ℕ
+    leads n = moves.led c service tei k n what (seen what a) s
+
+    same : o ≡ at_state s k o
+    same = λ i. record o { state = h.state_is i; acknowledged = (h.known_is i).acknowledged; next = (h.known_is i).next; busy = (h.known_is i).busy }
+
+    leads-is : leads n ≡ leads o.expiries
+    leads-is = ap (λ m. fold (moves.by_seen c service tei k) m (seen what a)) (count-counts k x n o.expiries h.counts (states.expired_of service tei what))
+
+    abbrev Follows : ℕ → ℕ → Observed → Type 0
+    Follows to m q =
+        let l = learned c service tei (Some s) (Some to) k (seen what a) in
+        IsObserved to l (cond (to == 5 && not (to == s)) (news.establishes service tei what a) asked) (cond (to == 5) owed (not (l.next == l.acknowledged))) (cond (not (to == s)) 0 m) q
+
+    pub observed : Follows (leads n) (n + counted_by what) (by_event c service tei what a o)
+    observed =
+        let p = at_state s k o in
+        let to = leads o.expiries in
+        let l = learned c service tei (Some s) (Some to) k (seen what a) in
+        let whole = joined s to k l (news.establishes service tei what a) asked owed (grown c service tei what) n p (by_event c service tei what a p)
+        (event-moves c service tei x k shape o what a) (subst (IsObserved s k asked owed n) same h) in
+        subst (λ to. Follows to (n + counted_by what) (by_event c service tei what a o)) (sym leads-is)
+        (subst (λ m. Follows to m (by_event c service tei what a o)) (grown-is what n)
+        (subst (λ p. Follows to (grown c service tei what n) (by_event c service tei what a p)) (sym same) whole))
+
+    -- from a state to one, or off the line
+    pub goes-on : (to : Option ℕ) → IfSome to (λ state. state ≡ leads n) → let from = Some s in let l = learned c service tei from to k (seen what a) in
+        IsSeen to l (cond (is_state 5 to && differ from to) (news.establishes service tei what a) asked) (cond (is_state 5 to) owed (not (l.next == l.acknowledged)))
+        (cond (differ from to) 0 (n + counted_by what)) (cond (not (is_some to)) (in_state 1) (by_event c service tei what a o))
+    goes-on None led = refl
+    goes-on (Some to) led = subst (λ to. Follows to (n + counted_by what) (by_event c service tei what a o)) (sym led) observed
+
+  -- One that comes to the line.
+  pub comes : (to : ℕ) → to ≡ 4 → (k : Known) (new asked owed : Bool) (n : ℕ) (what : line_event.Event) (a : Answer) → let l = learned c service tei None (Some to) k (seen what a) in
+      IsObserved to l (cond (is_state 5 (Some to) && differ None (Some to)) new asked) (cond (is_state 5 (Some to)) owed (not (l.next == l.acknowledged))) n (in_state 4)
+  comes to is k new asked owed n what a =
+      subst (λ to. let l = learned c service tei None (Some to) k (seen what a) in
+      IsObserved to l (cond (is_state 5 (Some to) && differ None (Some to)) new asked) (cond (is_state 5 (Some to)) owed (not (l.next == l.acknowledged))) n (in_state 4)) (sym is)
+      (record { state_is = refl; known_is = refl; asks = tt; owes = tt; rests = refl; counts = tt })

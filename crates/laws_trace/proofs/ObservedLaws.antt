@@ -1,0 +1,311 @@
+-- What the observer knows of a link gives the laws of it, by what follows its parts.
+use Rattle.std.proofs.Common.{◌≡◌, ℕ, ◌+◌, ◌-◌, ◌%◌, ◌<◌, ◌==◌, ◌&&◌, ◌||◌, inl, inr, not, Bool, true, false, cond, List, [], ◌∷◌, ◌++◌, Option, Some, None, is_some, refl, sym, ap, ◌∙◌, subst, eqb-true, eq-eqb, true≢false}
+use Rattle.std.specs.Prelude.{fold, filter, nat_le, IfSome, All, if◌then◌else◌}
+use Rattle.std.specs.List.{list_any}
+use Rattle.std.specs.Option.{unwrap_or}
+use Rattle.std.proofs.lemmas.Option.{none-some}
+use Rattle.lapd_frame.specs.declared.notes.Note.{Note}
+use Rattle.lapd_frame.specs.declared.notes.Note.TheVariants.{EstablishIndication, EstablishConfirm, ReleaseIndication, ReleaseConfirm, Xid}
+use Rattle.lapd_frame.specs.declared.services.Service.{Service}
+use Rattle.lapd_frame.specs.Reading.{reading}
+use Rattle.model_link.specs.declared.states.State.{State}
+use Rattle.model_link.specs.declared.timers.LinkTimer.{LinkTimer}
+use Rattle.model_link.specs.Link.{state_number}
+use Rattle.model_line.specs.declared.config.Config.{Config}
+use Rattle.model_line.specs.Event as line_event
+use Rattle.model_line.specs.Event.{hears, expiry, request, next}
+use Rattle.model_line.specs.Laws.{orders_in}
+use Rattle.model_line.specs.Line.{Line, state_of, window}
+use Rattle.model_line.specs.Sound.{IsInRange}
+use Rattle.laws_link.specs.Timed.{obeyed}
+use Rattle.laws_line.specs.Heard.{notes_of}
+use Rattle.laws_line.specs.Steady.{timer_of}
+use Rattle.laws_line.specs.Timers.{left_by}
+use Rattle.laws_card.specs.Timers.{runs_at_callers}
+use Rattle.model_card.specs.Card.{fresh, line_at}
+use Rattle.model_card.specs.Event.{Event, at}
+use Rattle.model_card.specs.Machine.{after, answer}
+use Rattle.model_card.specs.Run.{Moment, moments, after_all, AreAtLines}
+use Rattle.laws_trace.specs.AllGoesAgain.{AllGoesAgain, NextGoes}
+use Rattle.laws_trace.specs.ErrorsAreNoted.{ErrorsAreNoted}
+use Rattle.laws_trace.specs.LinkFrames.{Sent, sent_in}
+use Rattle.laws_trace.specs.LinksMove.{LinksMove}
+use Rattle.laws_trace.specs.Managing.{is_on}
+use Rattle.laws_trace.specs.News.{NewsIsTold}
+use Rattle.laws_trace.specs.Observer.{Observed, View, is_outstanding, awaits, view_of, moment_of, view_behind}
+use Rattle.laws_trace.specs.TimersAreTimely.{TimersRun, TimersAreStarted}
+use Rattle.laws_trace.specs.Trace.{Seen, seen, frame_in, Always}
+use Rattle.laws_trace.proofs.MovesWatched.{repeated}
+use Rattle.laws_trace.proofs.NewsWatched.{Owing, none_owed, owing}
+use Rattle.laws_trace.proofs.Observed.{IsObserved}
+use Rattle.laws_trace.proofs.ObservedFacts.{Facts, facts, told-so, numbers-are, state-is, awaits-are, owed-is, asked-is, down-is, up-is, differs-is, brings-is}
+use Rattle.laws_trace.proofs.ObservedMoves.{known_of}
+use Rattle.laws_trace.proofs.ObservedRun.{Holds, on-is, holds-now, holds-behind}
+use Rattle.laws_trace.proofs.TimersAreTimely.{sound-now, timely-now, config-now, front-at, itself}
+use Rattle.laws_trace.proofs.TimersWatched.{Known, nothing_yet, watch}
+use Rattle.laws_trace.specs.States.{is_state, differ}
+use Rattle.laws_trace.specs.News as now_news
+use Rattle.laws_trace.specs.TimersAreTimely as timely
+use Rattle.laws_trace.proofs.AllGoesAgain as old_again
+use Rattle.laws_trace.proofs.ErrorsAreNoted as old_errors
+use Rattle.laws_trace.proofs.News as old_news
+use Rattle.laws_trace.proofs.NewsWatched as news
+use Rattle.laws_trace.proofs.TimersAreTimely as old
+use Rattle.laws_trace.proofs.TimersWatched as known
+
+-- The laws.
+module _ (c : Config) (events : List Event) (number : ℕ) (ranged : IsInRange c) (all : AreAtLines (fresh c) events) (within : number < c.lines) (service : Service) (tei : ℕ) where
+  abbrev ms : List Moment
+  ms = moments (fresh c) events
+
+  abbrev its_line : Line
+  its_line = line_at number (after_all (fresh c) events)
+
+  abbrev k : Known
+  k = fold (watch c service tei number) nothing_yet (moments (fresh c) events)
+
+  abbrev was_asked : Bool
+  was_asked = fold (news.asked service tei number) false (moments (fresh c) events)
+
+  abbrev w : Owing
+  w = fold (owing c service tei number) none_owed (moments (fresh c) events)
+
+  abbrev n : ℕ
+  n = fold (repeated service tei number) 0 (moments (fresh c) events)
+
+  abbrev v : View
+  v = view_of c service tei number events
+
+  pub holds : Holds service tei k was_asked w.outstanding n its_line v
+  holds = holds-now c events number ranged all within service tei
+
+  pub known-now : Facts (state_of service tei its_line) k was_asked w.outstanding n v.link
+  known-now = facts service tei k was_asked w.outstanding n its_line v holds
+
+  pub on-line-now : is_on tei v.teis ≡ is_some (state_of service tei its_line)
+  on-line-now = on-is service tei number k was_asked w.outstanding n its_line v holds
+
+  pub moved-so : state_of service tei its_line ≡ cond (is_on tei v.teis) (Some v.link.state) None
+  moved-so =
+      told-so (state_of service tei its_line) k was_asked w.outstanding n v.link known-now ∙ ap (λ b. cond b (Some v.link.state) None) (sym on-line-now)
+
+  pub numbers-now : known_of v.link ≡ k
+  numbers-now = numbers-are (state_of service tei its_line) k was_asked w.outstanding n v.link known-now
+
+  pub state-now : (m : ℕ) → (1 == m) ≡ false → (v.link.state == m) ≡ is_state m (state_of service tei its_line)
+  state-now m other = state-is (state_of service tei its_line) k was_asked w.outstanding n v.link m other known-now
+
+  -- behind an event
+  module _ (what : line_event.Event) where
+    abbrev m : Moment
+    m = moment_of c events number what
+
+    abbrev next_line : Line
+    next_line = line_at number (after (at number what) (after_all (fresh c) events))
+
+    abbrev l : Known
+    l = watch c service tei number k m
+
+    abbrev then_asked : Bool
+    then_asked = news.asked service tei number was_asked m
+
+    abbrev x : Owing
+    x = owing c service tei number w m
+
+    abbrev r : ℕ
+    r = repeated service tei number n m
+
+    abbrev u : View
+    u = view_behind c service tei number events what
+
+    pub known-then : Facts (state_of service tei next_line) l then_asked x.outstanding r u.link
+    known-then = facts service tei l then_asked x.outstanding r next_line u (holds-behind c events number ranged all within service tei what)
+
+    pub moves-so : not (v.link.state == u.link.state) ≡ differ (state_of service tei its_line) (state_of service tei next_line)
+    moves-so =
+        differs-is (state_of service tei its_line) (state_of service tei next_line) k l was_asked then_asked w.outstanding x.outstanding n r v.link u.link known-now known-then
+
+pub links-move-so : Always LinksMove
+links-move-so c events number ranged all within service tei = moved-so c events number ranged all within service tei
+
+pub timers-run-so : Always TimersRun
+timers-run-so c events number ranged all within service tei =
+    let is = known-now c events number ranged all within service tei in
+    let h = old.timers-run c events number ranged all within service tei in
+    let st = state_of service tei (line_at number (after_all (fresh c) events)) in
+    let o = (view_of c service tei number events).link in
+    let waits = awaits-are st (k c events number ranged all within service tei) (was_asked c events number ranged all within service tei) (w c events number ranged all within service tei).outstanding
+    (n c events number ranged all within service tei) o is in
+    let seven = state-is st (k c events number ranged all within service tei) (was_asked c events number ranged all within service tei) (w c events number ranged all within service tei).outstanding
+    (n c events number ranged all within service tei) o 7 refl is in
+    (h.0 ∙ sym waits, h.1 ∙ sym (ap (λ b. b && not (awaits o)) seven ∙ ap (λ b. is_state 7 st && not b) waits))
+
+-- Behind an event of the line.
+module _ (c : Config) (before : List Event) (number : ℕ) (ranged : IsInRange c) (all : AreAtLines (fresh c) before) (within : number < c.lines) (service : Service) (tei : ℕ) (what : line_event.Event) where
+  abbrev was : Observed
+  was = (view_of c service tei number before).link
+
+  abbrev now : Observed
+  now = (view_behind c service tei number before what).link
+
+  abbrev its_moment : Moment
+  its_moment = moment_of c before number what
+
+  abbrev from : Option ℕ
+  from = state_of service tei (line_at number (after_all (fresh c) before))
+
+  abbrev to : Option ℕ
+  to = state_of service tei (line_at number (after (at number what) (after_all (fresh c) before)))
+
+  abbrev its_numbers : Known
+  its_numbers = fold (watch c service tei number) nothing_yet (moments (fresh c) before)
+
+  abbrev its_asked : Bool
+  its_asked = fold (news.asked service tei number) false (moments (fresh c) before)
+
+  abbrev its_owed : Bool
+  its_owed = (fold (owing c service tei number) none_owed (moments (fresh c) before)).outstanding
+
+  abbrev its_count : ℕ
+  its_count = fold (repeated service tei number) 0 (moments (fresh c) before)
+
+  is-before : Facts from its_numbers its_asked its_owed its_count was
+  is-before = known-now c before number ranged all within service tei
+
+  abbrev old_anew : LinkTimer → List Seen → Bool
+  old_anew timer t = known.is_anew c service tei timer its_numbers from to t
+
+  pub anew-is : (timer : LinkTimer) → timely.is_anew c service tei timer was now what ≡ old_anew timer (seen what its_moment.answer)
+  anew-is timer =
+      ap (λ b. b || (was.state == 7 && now_news.brings (timely.renews timer was.acknowledged was.busy) c service tei what)) (moves-so c before number ranged all within service tei what)
+      ∙ ap (λ b. differ from to || (b && now_news.brings (timely.renews timer was.acknowledged was.busy) c service tei what)) (state-is from its_numbers its_asked its_owed its_count was 7 refl is-before)
+      ∙ ap (λ (z : Known). differ from to || (is_state 7 from && now_news.brings (timely.renews timer z.acknowledged z.busy) c service tei what)) (numbers-are from its_numbers its_asked its_owed its_count was is-before)
+      ∙ ap (λ b. differ from to || (is_state 7 from && b)) (sym (brings-is c service tei (known.renews timer its_numbers) what its_moment.answer))
+
+  -- what is due of news
+  abbrev Due : Bool → Bool → Bool → Bool → List Note
+  Due up down asked outstanding =
+      let xid = now_news.brings now_news.is_xid c service tei what in
+      let sabme = now_news.brings now_news.is_sabme c service tei what in
+      let released = now_news.releases service tei what its_moment.answer in
+      if xid then Xid service tei ∷ []
+      else if up then
+      (if was.state == 4 then EstablishIndication service tei ∷ [] else if asked then EstablishConfirm service tei ∷ []
+      else if (was.state == 5 || sabme) && outstanding then EstablishIndication service tei ∷ [] else [])
+      else if down then
+      (if was.state == 6 || (was.state == 4 && released) then ReleaseConfirm service tei ∷ [] else if was.state == 4 then [] else ReleaseIndication service tei ∷ [])
+      else []
+
+  abbrev old_due : List Seen → List Note
+  old_due t =
+      news.due service tei its_asked (list_any (known.brings now_news.is_xid c service tei) t) (list_any (known.brings now_news.is_sabme c service tei) t)
+      (now_news.releases service tei what its_moment.answer) its_owed was.state (unwrap_or to 4)
+
+  pub due-is : (x : State) → IsObserved (state_number x) its_numbers its_asked its_owed its_count was
+      → now_news.due service tei (now_news.brings now_news.is_xid c service tei what) (now_news.brings now_news.is_sabme c service tei what) (now_news.releases service tei what its_moment.answer) was now.state
+      ≡ old_due (seen what its_moment.answer)
+  due-is x h =
+      let z = known-then c before number ranged all within service tei what in
+      let l = watch c service tei number its_numbers its_moment in
+      let asked = news.asked service tei number its_asked its_moment in
+      let owed = (owing c service tei number (fold (owing c service tei number) none_owed (moments (fresh c) before)) its_moment).outstanding in
+      let n = repeated service tei number its_count its_moment in
+      ap (λ up. Due up (nat_le now.state 4) (was.state == 5 && was.asked) (is_outstanding was)) (up-is to l asked owed n now z)
+      ∙ ap (λ down. Due (unwrap_or to 4 == 7) down (was.state == 5 && was.asked) (is_outstanding was)) (down-is to l asked owed n now z)
+      ∙ ap (λ b. Due (unwrap_or to 4 == 7) (unwrap_or to 4 == 4) b (is_outstanding was)) (asked-is from its_numbers its_asked its_owed its_count was x h)
+      ∙ ap (λ b. Due (unwrap_or to 4 == 7) (unwrap_or to 4 == 4) (was.state == 5 && its_asked) b) (owed-is from its_numbers its_asked its_owed its_count was x h)
+      ∙ ap (λ b. news.due service tei its_asked b (now_news.brings now_news.is_sabme c service tei what) (now_news.releases service tei what its_moment.answer) its_owed was.state (unwrap_or to 4))
+      (sym (brings-is c service tei now_news.is_xid what its_moment.answer))
+      ∙ ap (λ b. news.due service tei its_asked (list_any (known.brings now_news.is_xid c service tei) (seen what its_moment.answer)) b (now_news.releases service tei what its_moment.answer) its_owed was.state (unwrap_or to 4))
+      (sym (brings-is c service tei now_news.is_sabme what its_moment.answer))
+
+pub timers-are-started-so : Always TimersAreStarted
+timers-are-started-so c events number ranged all within service tei timer before what behind is =
+    let front = front-at (fresh c) before (at number what) behind (subst (AreAtLines (fresh c)) is all) in
+    let its = timer_of service tei timer in
+    let m = moment_of c before number what in
+    let ran = left_by what its (runs_at_callers number its false (moments (fresh c) before)) in
+    old.timers-are-started c events number ranged all within service tei timer before what behind is
+    ∙ ap (λ b. obeyed its ran (orders_in m.answer) && (not ran || b))
+    (ap (λ b. old_anew c before number ranged front within service tei what timer (cond b (seen what m.answer) [])) (itself number) ∙ sym (anew-is c before number ranged front within service tei what timer))
+
+module _ (c : Config) (events : List Event) (number : ℕ) (ranged : IsInRange c) (all : AreAtLines (fresh c) events) (within : number < c.lines) (service : Service) (tei : ℕ)
+    (before : List Event) (what : line_event.Event) (behind : List Event) (is : events ≡ before ++ at number what ∷ behind) where
+  front : AreAtLines (fresh c) before
+  front = front-at (fresh c) before (at number what) behind (subst (AreAtLines (fresh c)) is all)
+
+  told-state : is_on tei (view_of c service tei number before).teis ≡ true → state_of service tei (line_at number (after_all (fresh c) before)) ≡ Some (view_of c service tei number before).link.state
+  told-state on = moved-so c before number ranged front within service tei ∙ ap (λ b. cond b (Some (view_of c service tei number before).link.state) None) on
+
+  abbrev IsTold : Type 0
+  IsTold =
+      let o = (view_of c service tei number before).link in
+      let a = (moment_of c before number what).answer in
+      filter (now_news.is_news service tei) (notes_of a)
+      ≡ now_news.due service tei (now_news.brings now_news.is_xid c service tei what) (now_news.brings now_news.is_sabme c service tei what) (now_news.releases service tei what a) o
+      (view_behind c service tei number before what).link.state
+
+  news-so : is_on tei (view_of c service tei number before).teis ≡ true → IsTold
+  news-so on = go (known-now c before number ranged front within service tei)
+    where
+      go : Facts (state_of service tei (line_at number (after_all (fresh c) before))) (fold (watch c service tei number) nothing_yet (moments (fresh c) before))
+          (fold (news.asked service tei number) false (moments (fresh c) before)) (fold (owing c service tei number) none_owed (moments (fresh c) before)).outstanding
+          (fold (repeated service tei number) 0 (moments (fresh c) before)) (view_of c service tei number before).link → IsTold
+      go (inl y) = absurd (none-some (view_of c service tei number before).link.state (sym y.0 ∙ told-state on))
+      go (inr y) =
+          old_news.news-is-told c events number ranged all within service tei before what behind is (view_of c service tei number before).link.state (told-state on)
+          ∙ ap (λ b. old_due c before number ranged front within service tei what (cond b (seen what (moment_of c before number what).answer) [])) (itself number)
+          ∙ sym (due-is c before number ranged front within service tei what y.0 y.2)
+
+pub news-is-told-so : Always NewsIsTold
+news-is-told-so c events number ranged all within service tei before what behind is on = news-so c events number ranged all within service tei before what behind is on
+
+pub errors-are-noted-so : Always ErrorsAreNoted
+errors-are-noted-so c events number ranged all within service tei before heard behind is not_5 is_5 =
+    let front = front-at (fresh c) before (at number (hears heard)) behind (subst (AreAtLines (fresh c)) is all) in
+    let what = hears heard in
+    let o = (view_of c service tei number before).link in
+    let p = (view_behind c service tei number before (hears heard)).link in
+    let from = state_of service tei (line_at number (after_all (fresh c) before)) in
+    let to = state_of service tei (line_at number (after (at number (hears heard)) (after_all (fresh c) before))) in
+    let z = known-then c before number ranged front within service tei (hears heard) in
+    let m = moment_of c before number (hears heard) in
+    let l = watch c service tei number (fold (watch c service tei number) nothing_yet (moments (fresh c) before)) m in
+    let asked = news.asked service tei number (fold (news.asked service tei number) false (moments (fresh c) before)) m in
+    let owed = (owing c service tei number (fold (owing c service tei number) none_owed (moments (fresh c) before)) m).outstanding in
+    let n = repeated service tei number (fold (repeated service tei number) 0 (moments (fresh c) before)) m in
+    let comes : is_state 5 to ≡ true = sym (state-is to l asked owed n p 5 refl z) ∙ eq-eqb p.state 5 is_5 in
+    let moves : differ from to ≡ true =
+    sym (moves-so c before number ranged front within service tei (hears heard)) ∙ ap (λ s. not (o.state == s)) is_5 ∙ ap not (unequal (o.state == 5) refl) in
+    old_errors.errors-are-noted c events number ranged all within service tei before heard behind is (ap (λ b. b && is_state 5 to) moves ∙ comes)
+  where
+    unequal : (b : Bool) → ((view_of c service tei number before).link.state == 5) ≡ b → ((view_of c service tei number before).link.state == 5) ≡ false
+    unequal false other = other
+    unequal true same = absurd (not_5 (eqb-true (view_of c service tei number before).link.state 5 same))
+
+pub next-goes-so : Always NextGoes
+next-goes-so c events number ranged all within service tei before behind is =
+    let front = front-at (fresh c) before (at number next) behind (subst (AreAtLines (fresh c)) is all) in
+    let o = (view_of c service tei number before).link in
+    let k = fold (watch c service tei number) nothing_yet (moments (fresh c) before) in
+    let same : k.next ≡ o.next = ap (λ (z : Known). z.next) (sym (numbers-now c before number ranged front within service tei)) in
+    subst (λ m. All (λ octets. IfSome (sent_in service tei (reading c.side octets)) (λ (sent : Sent). sent.ns ≡ m)) (frame_in (answer (at number next) (after_all (fresh c) before)))) same
+    (old_again.next-goes c events number ranged all within service tei before behind is)
+
+pub all-goes-again-so : Always AllGoesAgain
+all-goes-again-so c events number ranged all within service tei before calls split only enough may =
+    let o = (view_of c service tei number events).link in
+    let k = fold (watch c service tei number) nothing_yet (moments (fresh c) events) in
+    let st = state_of service tei (line_at number (after_all (fresh c) events)) in
+    let same : known_of o ≡ k = numbers-now c events number ranged all within service tei in
+    let x = old_again.all-goes-again c events number ranged all within service tei before calls split only enough
+    (record {
+      up = told-7 st (state-now c events number ranged all within service tei 7 refl) may.up;
+      free = sym (ap (λ (z : Known). z.busy) same) ∙ may.free;
+      few = subst (λ (z : Known). (z.next + 128 - z.acknowledged) % 128 < window c service) same may.few;
+    }) in
+    (x.0, x.1, x.2, ap (λ (z : Known). z.next) same ∙ x.3)
+  where
+    told-7 : (st : Option ℕ) → ((view_of c service tei number events).link.state == 7) ≡ is_state 7 st → (view_of c service tei number events).link.state ≡ 7 → st ≡ Some 7
+    told-7 None is up = absurd (true≢false (sym (eq-eqb (view_of c service tei number events).link.state 7 up) ∙ is))
+    told-7 (Some s) is up = ap (λ s. Some s) (eqb-true s 7 (sym is ∙ eq-eqb (view_of c service tei number events).link.state 7 up))

@@ -1,0 +1,395 @@
+-- How an event of a line moves what an observer knows of a link: as the parts of it that follow the state, the numbers, what
+-- layer 3 asked and how often T200 expired.
+use Rattle.std.proofs.Common.{◌≡◌, ℕ, ◌+◌, ◌==◌, ◌&&◌, ◌||◌, not, Bool, true, false, cond, length, Option, Some, None, refl, sym, subst}
+use Rattle.std.specs.Prelude.{nat_lt}
+use Rattle.std.specs.Option.{option_map_or}
+use Rattle.lapd_frame.specs.declared.controls.Control.{Control}
+use Rattle.lapd_frame.specs.declared.controls.Control.TheVariants.{Information, ReceiveReady, ReceiveNotReady, Reject, Sabme, Disc, Ui, Ua, Dm, Frmr, Xid}
+use Rattle.lapd_frame.specs.declared.services.Service.{Service}
+use Rattle.lapd_frame.specs.declared.timers.Timer.{Timer}
+use Rattle.lapd_frame.specs.declared.timers.Timer.TheVariants as timers
+use Rattle.lapd_frame.specs.Grammar.{Parts}
+use Rattle.lapd_frame.specs.Reading.{reading}
+use Rattle.lapd_seq.specs.declared.numbers.Seq.{Seq}
+use Rattle.model_link.specs.declared.states.State.{State}
+use Rattle.model_link.specs.declared.states.State.TheVariants.{TeiAssigned, AwaitingEstablishment, AwaitingRelease, Established, TimerRecovery}
+use Rattle.model_link.specs.declared.timers.LinkTimer.{LinkTimer}
+use Rattle.model_link.specs.declared.timers.LinkTimer.TheVariants.{T200, T203}
+use Rattle.model_link.specs.Link.{state_number}
+use Rattle.model_line.specs.declared.config.Config.{Config}
+use Rattle.model_line.specs.Event.{Event, hears, expiry, request, next, Answer, LineTold, told, refused, gave}
+use Rattle.model_line.specs.Request.{Request, Establish, Release, Data, Assign, Remove, Check, SetBusy, ClearBusy}
+use Rattle.laws_trace.specs.LinkFrames.{frame_of, its_frame, is_for, is_malformed, Sent, sent_in}
+use Rattle.laws_trace.specs.Observer.{Observed, in_state, awaits, anew, while_up, while_down, by_frame, by_t200, by_expiry, enquires, sends, by_event}
+use Rattle.laws_trace.specs.States as states
+use Rattle.laws_trace.specs.Trace.{is_own, is_up, seen}
+use Rattle.laws_trace.proofs.MovesWatched as moves
+use Rattle.laws_trace.proofs.TimersWatched as known
+use Rattle.laws_trace.proofs.TimersWatched.{Known, nothing_yet}
+use Rattle.laws_trace.proofs.NewsWatched as news
+
+-- What is only said where it is asked.
+abbrev pub When : Bool → Type 0 → Type 0
+When true P = P
+When false P = Unit {0}
+
+abbrev pub known_of : Observed → Known
+known_of o = record { acknowledged = o.acknowledged; next = o.next; busy = o.busy }
+
+-- What is known, in a state, with these numbers.
+abbrev pub at_state : ℕ → Known → Observed → Observed
+at_state s k o = record o { state = s; acknowledged = k.acknowledged; next = k.next; busy = k.busy }
+
+abbrev pub Shape : State → Known → Type 0
+Shape TeiAssigned k = k ≡ nothing_yet
+Shape AwaitingEstablishment k = k ≡ nothing_yet
+Shape AwaitingRelease k = k ≡ nothing_yet
+Shape Established k = Unit {0}
+Shape TimerRecovery k = Unit {0}
+
+-- From one state to another, with numbers, whether layer 3 asked for the establishment, and what an expiry adds.
+pub record Moved (s to : ℕ) (k : Known) (new : Bool) (more : ℕ → ℕ) (o p : Observed) : Type 0 where
+  pub state_is : p.state ≡ to
+  pub known_is : known_of p ≡ k
+  pub asks : When (to == 5) (p.asked ≡ cond (s == 5) o.asked new)
+  pub owes : When (to == 5) (p.outstanding ≡ cond (s == 5) o.outstanding (not (o.next == o.acknowledged)))
+  pub counts : When (to == 5 || (to == 6 || to == 8)) (p.expiries ≡ cond (s == to) (more o.expiries) 0)
+
+abbrev pub none_more : ℕ → ℕ
+none_more n = n
+
+abbrev pub one_more : ℕ → ℕ
+one_more n = n + 1
+
+-- The numbers behind a control field.
+abbrev heard_known : ℕ → ℕ → Known → Option Control → Known
+heard_known s to k o = cond (to == 7 || to == 8) (option_map_or (known.listens (s == 8 && to == 7) (to == 7) k) o k) nothing_yet
+
+abbrev Frame : State → Known → Bool → Bool → Control → Type 0
+Frame x k long command control =
+    (o : Observed) → let s = state_number x in let to = moves.by_frame k s command long control in let p = at_state s k o in
+    Moved s to (heard_known s to k (Some control)) false none_more p (cond (is_up s) (while_up long command control p) (while_down control p))
+
+-- In state 4.
+in_4 : (long command : Bool) (control : Control) → Frame TeiAssigned nothing_yet long command control
+in_4 long command (Information ns nr p) o = record { state_is = refl; known_is = refl; asks = tt; owes = tt; counts = tt }
+in_4 long command (ReceiveReady nr f) o = record { state_is = refl; known_is = refl; asks = tt; owes = tt; counts = tt }
+in_4 long command (ReceiveNotReady nr f) o = record { state_is = refl; known_is = refl; asks = tt; owes = tt; counts = tt }
+in_4 long command (Reject nr f) o = record { state_is = refl; known_is = refl; asks = tt; owes = tt; counts = tt }
+in_4 long command (Sabme p) o = record { state_is = refl; known_is = refl; asks = tt; owes = tt; counts = tt }
+in_4 long command (Disc p) o = record { state_is = refl; known_is = refl; asks = tt; owes = tt; counts = tt }
+in_4 long command (Ui p) o = record { state_is = refl; known_is = refl; asks = tt; owes = tt; counts = tt }
+in_4 long command (Xid p) o = record { state_is = refl; known_is = refl; asks = tt; owes = tt; counts = tt }
+in_4 long command (Frmr f) o = record { state_is = refl; known_is = refl; asks = tt; owes = tt; counts = tt }
+in_4 long command (Ua true) o = record { state_is = refl; known_is = refl; asks = tt; owes = tt; counts = tt }
+in_4 long command (Dm true) o = record { state_is = refl; known_is = refl; asks = tt; owes = tt; counts = tt }
+in_4 long command (Ua false) o = record { state_is = refl; known_is = refl; asks = tt; owes = tt; counts = tt }
+in_4 long command (Dm false) o = record { state_is = refl; known_is = refl; asks = tt; owes = tt; counts = tt }
+
+-- In state 5.
+in_5 : (long command : Bool) (control : Control) → Frame AwaitingEstablishment nothing_yet long command control
+in_5 long command (Information ns nr p) o = record { state_is = refl; known_is = refl; asks = refl; owes = refl; counts = refl }
+in_5 long command (ReceiveReady nr f) o = record { state_is = refl; known_is = refl; asks = refl; owes = refl; counts = refl }
+in_5 long command (ReceiveNotReady nr f) o = record { state_is = refl; known_is = refl; asks = refl; owes = refl; counts = refl }
+in_5 long command (Reject nr f) o = record { state_is = refl; known_is = refl; asks = refl; owes = refl; counts = refl }
+in_5 long command (Sabme p) o = record { state_is = refl; known_is = refl; asks = refl; owes = refl; counts = refl }
+in_5 long command (Disc p) o = record { state_is = refl; known_is = refl; asks = refl; owes = refl; counts = refl }
+in_5 long command (Ui p) o = record { state_is = refl; known_is = refl; asks = refl; owes = refl; counts = refl }
+in_5 long command (Xid p) o = record { state_is = refl; known_is = refl; asks = refl; owes = refl; counts = refl }
+in_5 long command (Frmr f) o = record { state_is = refl; known_is = refl; asks = refl; owes = refl; counts = refl }
+in_5 long command (Ua true) o = record { state_is = refl; known_is = refl; asks = tt; owes = tt; counts = tt }
+in_5 long command (Dm true) o = record { state_is = refl; known_is = refl; asks = tt; owes = tt; counts = tt }
+in_5 long command (Ua false) o = record { state_is = refl; known_is = refl; asks = refl; owes = refl; counts = refl }
+in_5 long command (Dm false) o = record { state_is = refl; known_is = refl; asks = refl; owes = refl; counts = refl }
+
+-- In state 6.
+in_6 : (long command : Bool) (control : Control) → Frame AwaitingRelease nothing_yet long command control
+in_6 long command (Information ns nr p) o = record { state_is = refl; known_is = refl; asks = tt; owes = tt; counts = refl }
+in_6 long command (ReceiveReady nr f) o = record { state_is = refl; known_is = refl; asks = tt; owes = tt; counts = refl }
+in_6 long command (ReceiveNotReady nr f) o = record { state_is = refl; known_is = refl; asks = tt; owes = tt; counts = refl }
+in_6 long command (Reject nr f) o = record { state_is = refl; known_is = refl; asks = tt; owes = tt; counts = refl }
+in_6 long command (Sabme p) o = record { state_is = refl; known_is = refl; asks = tt; owes = tt; counts = refl }
+in_6 long command (Disc p) o = record { state_is = refl; known_is = refl; asks = tt; owes = tt; counts = refl }
+in_6 long command (Ui p) o = record { state_is = refl; known_is = refl; asks = tt; owes = tt; counts = refl }
+in_6 long command (Xid p) o = record { state_is = refl; known_is = refl; asks = tt; owes = tt; counts = refl }
+in_6 long command (Frmr f) o = record { state_is = refl; known_is = refl; asks = tt; owes = tt; counts = refl }
+in_6 long command (Ua true) o = record { state_is = refl; known_is = refl; asks = tt; owes = tt; counts = tt }
+in_6 long command (Dm true) o = record { state_is = refl; known_is = refl; asks = tt; owes = tt; counts = tt }
+in_6 long command (Ua false) o = record { state_is = refl; known_is = refl; asks = tt; owes = tt; counts = refl }
+in_6 long command (Dm false) o = record { state_is = refl; known_is = refl; asks = tt; owes = tt; counts = refl }
+
+module _ (k : Known) where
+  -- An N(R) in state 7 or 8, by whether it is invalid.
+  info_7 : (ns nr : Seq) (p invalid : Bool) (o : Observed) → let to = cond {A = ℕ} invalid 5 7 in let q = at_state 7 k o in
+      Moved 7 to (heard_known 7 to k (Some (Information ns nr p))) false none_more q (cond invalid (anew q) (record q { acknowledged = nr.value }))
+  info_7 ns nr p true o = record { state_is = refl; known_is = refl; asks = refl; owes = refl; counts = refl }
+  info_7 ns nr p false o = record { state_is = refl; known_is = refl; asks = tt; owes = tt; counts = tt }
+
+  info_8 : (ns nr : Seq) (p invalid : Bool) (o : Observed) → let to = cond {A = ℕ} invalid 5 8 in let q = at_state 8 k o in
+      Moved 8 to (heard_known 8 to k (Some (Information ns nr p))) false none_more q (cond invalid (anew q) (record q { acknowledged = nr.value }))
+  info_8 ns nr p true o = record { state_is = refl; known_is = refl; asks = refl; owes = refl; counts = refl }
+  info_8 ns nr p false o = record { state_is = refl; known_is = refl; asks = tt; owes = tt; counts = refl }
+
+  receiveready_7 : (nr : Seq) (f invalid final : Bool) (o : Observed) → let to = cond {A = ℕ} invalid 5 (cond {A = ℕ} (7 == 8 && final) 7 7) in let q = at_state 7 k o in
+      Moved 7 to (heard_known 7 to k (Some (ReceiveReady nr f))) false none_more q
+      (cond invalid (anew q) (cond (7 == 8 && final) (record q { state = 7; acknowledged = nr.value; next = nr.value; busy = false })
+      (record q { acknowledged = nr.value; next = cond {A = ℕ} (false && 7 == 7) nr.value q.next; busy = false })))
+  receiveready_7 nr f true final o = record { state_is = refl; known_is = refl; asks = refl; owes = refl; counts = refl }
+  receiveready_7 nr f false final o = record { state_is = refl; known_is = refl; asks = tt; owes = tt; counts = tt }
+
+  receiveready_8 : (nr : Seq) (f invalid final : Bool) (o : Observed) → let to = cond {A = ℕ} invalid 5 (cond {A = ℕ} (8 == 8 && final) 7 8) in let q = at_state 8 k o in
+      Moved 8 to (heard_known 8 to k (Some (ReceiveReady nr f))) false none_more q
+      (cond invalid (anew q) (cond (8 == 8 && final) (record q { state = 7; acknowledged = nr.value; next = nr.value; busy = false })
+      (record q { acknowledged = nr.value; next = cond {A = ℕ} (false && 8 == 7) nr.value q.next; busy = false })))
+  receiveready_8 nr f true final o = record { state_is = refl; known_is = refl; asks = refl; owes = refl; counts = refl }
+  receiveready_8 nr f false true o = record { state_is = refl; known_is = refl; asks = tt; owes = tt; counts = tt }
+  receiveready_8 nr f false false o = record { state_is = refl; known_is = refl; asks = tt; owes = tt; counts = refl }
+
+  receivenotready_7 : (nr : Seq) (f invalid final : Bool) (o : Observed) → let to = cond {A = ℕ} invalid 5 (cond {A = ℕ} (7 == 8 && final) 7 7) in let q = at_state 7 k o in
+      Moved 7 to (heard_known 7 to k (Some (ReceiveNotReady nr f))) false none_more q
+      (cond invalid (anew q) (cond (7 == 8 && final) (record q { state = 7; acknowledged = nr.value; next = nr.value; busy = true })
+      (record q { acknowledged = nr.value; next = cond {A = ℕ} (false && 7 == 7) nr.value q.next; busy = true })))
+  receivenotready_7 nr f true final o = record { state_is = refl; known_is = refl; asks = refl; owes = refl; counts = refl }
+  receivenotready_7 nr f false final o = record { state_is = refl; known_is = refl; asks = tt; owes = tt; counts = tt }
+
+  receivenotready_8 : (nr : Seq) (f invalid final : Bool) (o : Observed) → let to = cond {A = ℕ} invalid 5 (cond {A = ℕ} (8 == 8 && final) 7 8) in let q = at_state 8 k o in
+      Moved 8 to (heard_known 8 to k (Some (ReceiveNotReady nr f))) false none_more q
+      (cond invalid (anew q) (cond (8 == 8 && final) (record q { state = 7; acknowledged = nr.value; next = nr.value; busy = true })
+      (record q { acknowledged = nr.value; next = cond {A = ℕ} (false && 8 == 7) nr.value q.next; busy = true })))
+  receivenotready_8 nr f true final o = record { state_is = refl; known_is = refl; asks = refl; owes = refl; counts = refl }
+  receivenotready_8 nr f false true o = record { state_is = refl; known_is = refl; asks = tt; owes = tt; counts = tt }
+  receivenotready_8 nr f false false o = record { state_is = refl; known_is = refl; asks = tt; owes = tt; counts = refl }
+
+  reject_7 : (nr : Seq) (f invalid final : Bool) (o : Observed) → let to = cond {A = ℕ} invalid 5 (cond {A = ℕ} (7 == 8 && final) 7 7) in let q = at_state 7 k o in
+      Moved 7 to (heard_known 7 to k (Some (Reject nr f))) false none_more q
+      (cond invalid (anew q) (cond (7 == 8 && final) (record q { state = 7; acknowledged = nr.value; next = nr.value; busy = false })
+      (record q { acknowledged = nr.value; next = cond {A = ℕ} (true && 7 == 7) nr.value q.next; busy = false })))
+  reject_7 nr f true final o = record { state_is = refl; known_is = refl; asks = refl; owes = refl; counts = refl }
+  reject_7 nr f false final o = record { state_is = refl; known_is = refl; asks = tt; owes = tt; counts = tt }
+
+  reject_8 : (nr : Seq) (f invalid final : Bool) (o : Observed) → let to = cond {A = ℕ} invalid 5 (cond {A = ℕ} (8 == 8 && final) 7 8) in let q = at_state 8 k o in
+      Moved 8 to (heard_known 8 to k (Some (Reject nr f))) false none_more q
+      (cond invalid (anew q) (cond (8 == 8 && final) (record q { state = 7; acknowledged = nr.value; next = nr.value; busy = false })
+      (record q { acknowledged = nr.value; next = cond {A = ℕ} (true && 8 == 7) nr.value q.next; busy = false })))
+  reject_8 nr f true final o = record { state_is = refl; known_is = refl; asks = refl; owes = refl; counts = refl }
+  reject_8 nr f false true o = record { state_is = refl; known_is = refl; asks = tt; owes = tt; counts = tt }
+  reject_8 nr f false false o = record { state_is = refl; known_is = refl; asks = tt; owes = tt; counts = refl }
+
+  -- In state 7.
+  in_7 : (long command : Bool) (control : Control) → Frame Established k long command control
+  in_7 true command (Information ns nr p) o = record { state_is = refl; known_is = refl; asks = refl; owes = refl; counts = refl }
+  in_7 false command (Information ns nr p) o = info_7 ns nr p (moves.is_invalid k nr) o
+  in_7 long command (ReceiveReady nr f) o = receiveready_7 nr f (moves.is_invalid k nr) (not command && f) o
+  in_7 long command (ReceiveNotReady nr f) o = receivenotready_7 nr f (moves.is_invalid k nr) (not command && f) o
+  in_7 long command (Reject nr f) o = reject_7 nr f (moves.is_invalid k nr) (not command && f) o
+  in_7 long command (Sabme p) o = record { state_is = refl; known_is = refl; asks = tt; owes = tt; counts = tt }
+  in_7 long command (Disc p) o = record { state_is = refl; known_is = refl; asks = tt; owes = tt; counts = tt }
+  in_7 long command (Ui p) o = record { state_is = refl; known_is = refl; asks = tt; owes = tt; counts = tt }
+  in_7 long command (Xid p) o = record { state_is = refl; known_is = refl; asks = tt; owes = tt; counts = tt }
+  in_7 long command (Frmr f) o = record { state_is = refl; known_is = refl; asks = refl; owes = refl; counts = refl }
+  in_7 long command (Ua true) o = record { state_is = refl; known_is = refl; asks = tt; owes = tt; counts = tt }
+  in_7 long command (Ua false) o = record { state_is = refl; known_is = refl; asks = tt; owes = tt; counts = tt }
+  in_7 long command (Dm true) o = record { state_is = refl; known_is = refl; asks = tt; owes = tt; counts = tt }
+  in_7 long command (Dm false) o = record { state_is = refl; known_is = refl; asks = refl; owes = refl; counts = refl }
+
+  -- In state 8.
+  in_8 : (long command : Bool) (control : Control) → Frame TimerRecovery k long command control
+  in_8 true command (Information ns nr p) o = record { state_is = refl; known_is = refl; asks = refl; owes = refl; counts = refl }
+  in_8 false command (Information ns nr p) o = info_8 ns nr p (moves.is_invalid k nr) o
+  in_8 long command (ReceiveReady nr f) o = receiveready_8 nr f (moves.is_invalid k nr) (not command && f) o
+  in_8 long command (ReceiveNotReady nr f) o = receivenotready_8 nr f (moves.is_invalid k nr) (not command && f) o
+  in_8 long command (Reject nr f) o = reject_8 nr f (moves.is_invalid k nr) (not command && f) o
+  in_8 long command (Sabme p) o = record { state_is = refl; known_is = refl; asks = tt; owes = tt; counts = tt }
+  in_8 long command (Disc p) o = record { state_is = refl; known_is = refl; asks = tt; owes = tt; counts = tt }
+  in_8 long command (Ui p) o = record { state_is = refl; known_is = refl; asks = tt; owes = tt; counts = refl }
+  in_8 long command (Xid p) o = record { state_is = refl; known_is = refl; asks = tt; owes = tt; counts = refl }
+  in_8 long command (Frmr f) o = record { state_is = refl; known_is = refl; asks = refl; owes = refl; counts = refl }
+  in_8 long command (Ua true) o = record { state_is = refl; known_is = refl; asks = tt; owes = tt; counts = refl }
+  in_8 long command (Ua false) o = record { state_is = refl; known_is = refl; asks = tt; owes = tt; counts = refl }
+  in_8 long command (Dm true) o = record { state_is = refl; known_is = refl; asks = refl; owes = refl; counts = refl }
+  in_8 long command (Dm false) o = record { state_is = refl; known_is = refl; asks = refl; owes = refl; counts = refl }
+
+pub frame-moves : (x : State) (k : Known) → Shape x k → (long command : Bool) (control : Control) → Frame x k long command control
+frame-moves TeiAssigned k shape long command control = subst (λ k. Frame TeiAssigned k long command control) (sym shape) (in_4 long command control)
+frame-moves AwaitingEstablishment k shape long command control = subst (λ k. Frame AwaitingEstablishment k long command control) (sym shape) (in_5 long command control)
+frame-moves AwaitingRelease k shape long command control = subst (λ k. Frame AwaitingRelease k long command control) (sym shape) (in_6 long command control)
+frame-moves Established k shape long command control = in_7 k long command control
+frame-moves TimerRecovery k shape long command control = in_8 k long command control
+
+-- Nothing moves.
+abbrev Stays : State → Known → Type 0
+Stays x k = (new : Bool) (o : Observed) → let s = state_number x in let p = at_state s k o in Moved s s (cond (s == 7 || s == 8) k nothing_yet) new none_more p p
+
+stays : (x : State) (k : Known) → Shape x k → Stays x k
+stays TeiAssigned k shape = subst (Stays TeiAssigned) (sym shape) (λ new o. record { state_is = refl; known_is = refl; asks = tt; owes = tt; counts = tt })
+stays AwaitingEstablishment k shape = subst (Stays AwaitingEstablishment) (sym shape) (λ new o. record { state_is = refl; known_is = refl; asks = refl; owes = refl; counts = refl })
+stays AwaitingRelease k shape = subst (Stays AwaitingRelease) (sym shape) (λ new o. record { state_is = refl; known_is = refl; asks = tt; owes = tt; counts = refl })
+stays Established k shape = λ new o. record { state_is = refl; known_is = refl; asks = tt; owes = tt; counts = tt }
+stays TimerRecovery k shape = λ new o. record { state_is = refl; known_is = refl; asks = tt; owes = tt; counts = refl }
+
+module _ (c : Config) (service : Service) (tei : ℕ) where
+  -- What is heard, by whether it is malformed, and as it is read.
+  abbrev Heard : State → Known → Observed → Bool → Option Parts → Type 0
+  Heard x k o m f =
+      let s = state_number x in let p = at_state s k o in
+      let to = cond {A = ℕ} (is_up s && m) 5 (moves.by_parts c service tei k s f) in
+      Moved s to (heard_known s to k (known.control_in service tei f)) false none_more p
+      (cond (is_up s && m) (anew p) (option_map_or (by_frame c p) (its_frame service tei f) p))
+
+  of-frame : (x : State) (k : Known) → Shape x k → (o : Observed) (f : Parts) (b : Bool) → let s = state_number x in let p = at_state s k o in
+      let to = cond {A = ℕ} b (moves.by_frame k s f.address.command (nat_lt c.n201 (length f.info)) f.control) s in
+      Moved s to (heard_known s to k (cond b (Some f.control) None)) false none_more p (option_map_or (by_frame c p) (cond b (Some f) None) p)
+  of-frame x k shape o f true = frame-moves x k shape (nat_lt c.n201 (length f.info)) f.address.command f.control o
+  of-frame x k shape o f false = stays x k shape false o
+
+  parts : (x : State) (k : Known) → Shape x k → (o : Observed) (f : Option Parts) → let s = state_number x in let p = at_state s k o in
+      let to = moves.by_parts c service tei k s f in
+      Moved s to (heard_known s to k (known.control_in service tei f)) false none_more p (option_map_or (by_frame c p) (its_frame service tei f) p)
+  parts x k shape o None = stays x k shape false o
+  parts x k shape o (Some f) = of-frame x k shape o f (is_for service tei f.address)
+
+  heard-moves : (x : State) (k : Known) → Shape x k → (o : Observed) (m : Bool) (f : Option Parts) → Heard x k o m f
+  heard-moves TeiAssigned k shape o m f = parts TeiAssigned k shape o f
+  heard-moves AwaitingEstablishment k shape o m f = parts AwaitingEstablishment k shape o f
+  heard-moves AwaitingRelease k shape o m f = parts AwaitingRelease k shape o f
+  heard-moves Established k shape o true f = record { state_is = refl; known_is = refl; asks = refl; owes = refl; counts = refl }
+  heard-moves Established k shape o false f = parts Established k shape o f
+  heard-moves TimerRecovery k shape o true f = record { state_is = refl; known_is = refl; asks = refl; owes = refl; counts = refl }
+  heard-moves TimerRecovery k shape o false f = parts TimerRecovery k shape o f
+
+  -- What runs out.
+  abbrev Expires : LinkTimer → State → Known → (ℕ → ℕ) → Observed → Observed → Type 0
+  Expires timer x k more p q =
+      let s = state_number x in let to = moves.by_expiry c.n200 k p.expiries s timer in Moved s to (cond (to == 7 || to == 8) k nothing_yet) false more p q
+
+  repeated : (x : State) (k : Known) → Shape x k → (o : Observed) (again : Bool) → let s = state_number x in let p = at_state s k o in
+      let to = cond {A = ℕ} again s (cond {A = ℕ} (s == 8) 5 4) in
+      When (s == 5 || (s == 6 || s == 8)) (Moved s to (cond (to == 7 || to == 8) k nothing_yet) false one_more p
+      (cond again (record p { expiries = p.expiries + 1 }) (cond (s == 8) (anew p) (in_state 4))))
+  repeated TeiAssigned k shape o again = tt
+  repeated AwaitingEstablishment k shape o true =
+      subst (λ k. let p = at_state 5 k o in Moved 5 5 (cond (5 == 7 || 5 == 8) k nothing_yet) false one_more p (record p { expiries = p.expiries + 1 })) (sym shape) (record { state_is = refl; known_is = refl; asks = refl; owes = refl; counts = refl })
+  repeated AwaitingEstablishment k shape o false =
+      subst (λ k. let p = at_state 5 k o in Moved 5 4 (cond (4 == 7 || 4 == 8) k nothing_yet) false one_more p (in_state 4)) (sym shape) (record { state_is = refl; known_is = refl; asks = tt; owes = tt; counts = tt })
+  repeated AwaitingRelease k shape o true =
+      subst (λ k. let p = at_state 6 k o in Moved 6 6 (cond (6 == 7 || 6 == 8) k nothing_yet) false one_more p (record p { expiries = p.expiries + 1 })) (sym shape) (record { state_is = refl; known_is = refl; asks = tt; owes = tt; counts = refl })
+  repeated AwaitingRelease k shape o false =
+      subst (λ k. let p = at_state 6 k o in Moved 6 4 (cond (4 == 7 || 4 == 8) k nothing_yet) false one_more p (in_state 4)) (sym shape) (record { state_is = refl; known_is = refl; asks = tt; owes = tt; counts = tt })
+  repeated Established k shape o again = tt
+  repeated TimerRecovery k shape o true = record { state_is = refl; known_is = refl; asks = tt; owes = tt; counts = refl }
+  repeated TimerRecovery k shape o false = record { state_is = refl; known_is = refl; asks = refl; owes = refl; counts = refl }
+
+  not_counted : (k : Known) → k ≡ nothing_yet → (o : Observed) (again : Bool) → let p = at_state 4 k o in let to = cond {A = ℕ} again 4 4 in
+      Moved 4 to (cond (to == 7 || to == 8) k nothing_yet) false one_more p p
+  not_counted k shape o true = subst (λ k. let p = at_state 4 k o in Moved 4 4 nothing_yet false one_more p p) (sym shape) (record { state_is = refl; known_is = refl; asks = tt; owes = tt; counts = tt })
+  not_counted k shape o false = subst (λ k. let p = at_state 4 k o in Moved 4 4 nothing_yet false one_more p p) (sym shape) (record { state_is = refl; known_is = refl; asks = tt; owes = tt; counts = tt })
+
+  enquiry : (k : Known) (o : Observed) (more : ℕ → ℕ) (b : Bool) → let p = at_state 7 k o in let to = cond {A = ℕ} b 8 7 in
+      Moved 7 to (cond (to == 7 || to == 8) k nothing_yet) false more p (cond b (enquires p) p)
+  enquiry k o more true = record { state_is = refl; known_is = refl; asks = tt; owes = tt; counts = refl }
+  enquiry k o more false = record { state_is = refl; known_is = refl; asks = tt; owes = tt; counts = tt }
+
+  t200-moves : (x : State) (k : Known) → Shape x k → (o : Observed) → let p = at_state (state_number x) k o in Expires T200 x k one_more p (by_t200 c.n200 p)
+  t200-moves TeiAssigned k shape o = not_counted k shape o (nat_lt o.expiries c.n200)
+  t200-moves AwaitingEstablishment k shape o = repeated AwaitingEstablishment k shape o (nat_lt o.expiries c.n200)
+  t200-moves AwaitingRelease k shape o = repeated AwaitingRelease k shape o (nat_lt o.expiries c.n200)
+  t200-moves Established k shape o = enquiry k o one_more (known.awaits k (Some 7))
+  t200-moves TimerRecovery k shape o = repeated TimerRecovery k shape o (nat_lt o.expiries c.n200)
+
+  t203-moves : (x : State) (k : Known) → Shape x k → (o : Observed) → let p = at_state (state_number x) k o in
+      Expires T203 x k none_more p (cond (p.state == 7 && not (awaits p)) (enquires p) p)
+  t203-moves TeiAssigned k shape o = stays TeiAssigned k shape false o
+  t203-moves AwaitingEstablishment k shape o = stays AwaitingEstablishment k shape false o
+  t203-moves AwaitingRelease k shape o = stays AwaitingRelease k shape false o
+  t203-moves Established k shape o = enquiry k o none_more (not (known.awaits k (Some 7)))
+  t203-moves TimerRecovery k shape o = stays TimerRecovery k shape false o
+
+  abbrev pub grown : Event → ℕ → ℕ
+  grown (expiry (timers.T200 of by)) = cond (is_own service tei of by) one_more none_more
+  grown other = none_more
+
+  -- An event of the line.
+  abbrev pub EventMoves : State → Known → Observed → Event → Answer → Type 0
+  EventMoves x k o what a =
+      let s = state_number x in let p = at_state s k o in
+      let to = moves.led c service tei k o.expiries what (seen what a) s in
+      Moved s to (known.learned c service tei (Some s) (Some to) k (seen what a)) (news.establishes service tei what a) (grown what) p (by_event c service tei what a p)
+
+  abbrev Timed : State → Known → (ℕ → ℕ) → Option LinkTimer → Observed → Observed → Type 0
+  Timed x k more timer p q =
+      let s = state_number x in let to = option_map_or (moves.by_expiry c.n200 k p.expiries s) timer s in Moved s to (cond (to == 7 || to == 8) k nothing_yet) false more p q
+
+  by-t200 : (x : State) (k : Known) → Shape x k → (o : Observed) (b : Bool) → let p = at_state (state_number x) k o in
+      Timed x k (cond b one_more none_more) (cond b (Some T200) None) p (cond b (by_t200 c.n200 p) p)
+  by-t200 x k shape o true = t200-moves x k shape o
+  by-t200 x k shape o false = stays x k shape false o
+
+  by-t203 : (x : State) (k : Known) → Shape x k → (o : Observed) (b : Bool) → let p = at_state (state_number x) k o in
+      Timed x k none_more (cond b (Some T203) None) p (cond (b && (p.state == 7 && not (awaits p))) (enquires p) p)
+  by-t203 x k shape o true = t203-moves x k shape o
+  by-t203 x k shape o false = stays x k shape false o
+
+  timer-moves : (x : State) (k : Known) → Shape x k → (o : Observed) (timer : Timer) → let p = at_state (state_number x) k o in
+      Timed x k (grown (expiry timer)) (states.expired_of service tei (expiry timer)) p (by_expiry c service tei timer p)
+  timer-moves x k shape o (timers.T200 of by) = by-t200 x k shape o (is_own service tei of by)
+  timer-moves x k shape o (timers.T203 of by) = by-t203 x k shape o (is_own service tei of by)
+  timer-moves x k shape o timers.T201 = stays x k shape false o
+
+  -- What is asked.
+  abbrev Asked : State → Known → Bool → ℕ → Observed → Observed → Type 0
+  Asked x k new to p q = Moved (state_number x) to (cond (to == 7 || to == 8) k nothing_yet) new none_more p q
+
+  establish : (x : State) (k : Known) → Shape x k → (o : Observed) (b : Bool) → let s = state_number x in let p = at_state s k o in
+      Asked x k b (cond {A = ℕ} (b && s == 4) 5 s) p (cond (b && p.state == 4) (record (in_state 5) { asked = true }) p)
+  establish x k shape o false = stays x k shape false o
+  establish TeiAssigned k shape o true =
+      subst (λ k. let p = at_state 4 k o in Moved 4 5 nothing_yet true none_more p (record (in_state 5) { asked = true })) (sym shape) (record { state_is = refl; known_is = refl; asks = refl; owes = refl; counts = refl })
+  establish AwaitingEstablishment k shape o true = stays AwaitingEstablishment k shape true o
+  establish AwaitingRelease k shape o true = stays AwaitingRelease k shape true o
+  establish Established k shape o true = stays Established k shape true o
+  establish TimerRecovery k shape o true = stays TimerRecovery k shape true o
+
+  release : (x : State) (k : Known) → Shape x k → (o : Observed) (b : Bool) → let s = state_number x in let p = at_state s k o in
+      Asked x k false (cond {A = ℕ} (b && is_up s) 6 s) p (cond (b && is_up p.state) (in_state 6) p)
+  release x k shape o false = stays x k shape false o
+  release TeiAssigned k shape o true = stays TeiAssigned k shape false o
+  release AwaitingEstablishment k shape o true = stays AwaitingEstablishment k shape false o
+  release AwaitingRelease k shape o true = stays AwaitingRelease k shape false o
+  release Established k shape o true = record { state_is = refl; known_is = refl; asks = tt; owes = tt; counts = refl }
+  release TimerRecovery k shape o true = record { state_is = refl; known_is = refl; asks = tt; owes = tt; counts = refl }
+
+  asked-moves : (x : State) (k : Known) → Shape x k → (o : Observed) (r : Request) (t : LineTold) → EventMoves x k o (request r) (told t)
+  asked-moves x k shape o (Establish of by) t = establish x k shape o (is_own service tei of by)
+  asked-moves x k shape o (Release of by) t = release x k shape o (is_own service tei of by)
+  asked-moves x k shape o (SetBusy of by) t = stays x k shape false o
+  asked-moves x k shape o (ClearBusy of by) t = stays x k shape false o
+  asked-moves x k shape o (Data of by contents) t = stays x k shape false o
+  asked-moves x k shape o (Request.Unit of by contents) t = stays x k shape false o
+  asked-moves x k shape o (Assign by) t = stays x k shape false o
+  asked-moves x k shape o (Remove by) t = stays x k shape false o
+  asked-moves x k shape o (Check by) t = stays x k shape false o
+
+  -- What is sent.
+  sent-moves : (x : State) (k : Known) → Shape x k → (o : Observed) (sent : Option Sent) → let s = state_number x in let p = at_state s k o in
+      Moved s s (cond (s == 7 || s == 8) (option_map_or (known.sends k) sent k) nothing_yet) false none_more p (option_map_or (sends p) sent p)
+  sent-moves x k shape o None = stays x k shape false o
+  sent-moves TeiAssigned k shape o (Some sent) = stays TeiAssigned k shape false o
+  sent-moves AwaitingEstablishment k shape o (Some sent) = stays AwaitingEstablishment k shape false o
+  sent-moves AwaitingRelease k shape o (Some sent) = stays AwaitingRelease k shape false o
+  sent-moves Established k shape o (Some sent) = record { state_is = refl; known_is = refl; asks = tt; owes = tt; counts = tt }
+  sent-moves TimerRecovery k shape o (Some sent) = record { state_is = refl; known_is = refl; asks = tt; owes = tt; counts = refl }
+
+  pub event-moves : (x : State) (k : Known) → Shape x k → (o : Observed) (what : Event) (a : Answer) → EventMoves x k o what a
+  event-moves x k shape o (hears e) (told t) = heard-moves x k shape o (is_malformed c service tei e) (frame_of c e)
+  event-moves x k shape o (hears e) (refused why) = heard-moves x k shape o (is_malformed c service tei e) (frame_of c e)
+  event-moves x k shape o (hears e) (gave given) = heard-moves x k shape o (is_malformed c service tei e) (frame_of c e)
+  event-moves x k shape o (expiry timer) (told t) = timer-moves x k shape o timer
+  event-moves x k shape o (expiry timer) (refused why) = timer-moves x k shape o timer
+  event-moves x k shape o (expiry timer) (gave given) = timer-moves x k shape o timer
+  event-moves x k shape o (request r) (told t) = asked-moves x k shape o r t
+  event-moves x k shape o (request r) (refused why) = stays x k shape (news.establishes service tei (request r) (refused why)) o
+  event-moves x k shape o (request r) (gave given) = stays x k shape (news.establishes service tei (request r) (gave given)) o
+  event-moves x k shape o next (told t) = stays x k shape false o
+  event-moves x k shape o next (refused why) = stays x k shape false o
+  event-moves x k shape o next (gave None) = stays x k shape false o
+  event-moves x k shape o next (gave (Some frame)) = sent-moves x k shape o (sent_in service tei (reading c.side frame.octets))

@@ -1,0 +1,276 @@
+-- What an observer knows of a link after a list of events.
+use Rattle.std.proofs.Common.{◌≡◌, ℕ, ◌+◌, ◌<◌, ◌==◌, ◌&&◌, ◌⊎◌, inl, inr, not, Bool, true, false, cond, List, [], ◌∷◌, Option, Some, None, is_some, refl, sym, ap, ◌∙◌, subst, eqb-true, eq-eqb, true≢false}
+use Rattle.std.specs.Prelude.{fold, IfSome}
+use Rattle.std.specs.Option.{option_map_or}
+use Rattle.std.proofs.lemmas.List.{get_or-replicate}
+use Rattle.std.proofs.lemmas.List.Elements.{All-head, All-tail}
+use Rattle.lapd_frame.specs.declared.services.Service.{Service}
+use Rattle.model_link.specs.declared.states.State.{State}
+use Rattle.model_link.specs.declared.states.State.TheVariants.{TeiAssigned, AwaitingEstablishment, AwaitingRelease, Established, TimerRecovery}
+use Rattle.model_link.specs.Link.{Link, fresh as fresh_link, state_number}
+use Rattle.model_line.specs.declared.config.Config.{Config}
+use Rattle.model_line.specs.Event as line_event
+use Rattle.model_line.specs.Line.{Line, fresh_line, link_of, place_in, state_of, has_tei}
+use Rattle.model_line.specs.Sound.{IsInRange}
+use Rattle.laws_line.proofs.Places.{is-off}
+use Rattle.laws_line.proofs.TimersFollow.{nowhere}
+use Rattle.model_card.specs.Card.{Card, fresh, line_at}
+use Rattle.model_card.specs.Event.{Event, at}
+use Rattle.model_card.specs.Machine.{after, answer}
+use Rattle.model_card.specs.Run.{Moment, moments, after_all, IsAtLine, AreAtLines}
+use Rattle.model_card.specs.Sound as card_sound
+use Rattle.model_card.proofs.CardSound.{fresh_is_sound, after_is_sound}
+use Rattle.laws_card.specs.Timers.{AllHaveTheirTimers}
+use Rattle.laws_card.proofs.TimersRun.{timely-after, begins-timely-card}
+use Rattle.laws_trace.specs.Managing.{none_on, is_on}
+use Rattle.laws_trace.specs.MessagesAreOwed.{led}
+use Rattle.laws_trace.specs.Observer.{Observed, View, at_first, in_state, by_event, views, view_of, moment_of, view_behind}
+use Rattle.laws_trace.specs.Trace.{seen}
+use Rattle.laws_trace.proofs.MovesWatched.{repeated}
+use Rattle.laws_trace.proofs.TimersWatched.{Known, nothing_yet, learned, watch}
+use Rattle.laws_trace.specs.States.{is_state, differ}
+use Rattle.laws_trace.proofs.NewsWatched.{Owing, none_owed, owing}
+use Rattle.laws_trace.proofs.CallRuns.{apart}
+use Rattle.laws_trace.proofs.LinkLed.{on-line}
+use Rattle.laws_trace.proofs.LinksMove.{IsCountOf, own-led, moment-counted}
+use Rattle.laws_trace.proofs.MovesOfLink.{Counts}
+use Rattle.laws_trace.proofs.ManagingKnown.{Knows, hearing}
+use Rattle.laws_trace.proofs.MessagesAreOwed.{moment, fresh-known}
+use Rattle.laws_trace.proofs.ObservedMoves.{When, Shape}
+use Rattle.laws_trace.proofs.Observed.{IsSeen, counted_by, goes-on, comes}
+use Rattle.laws_trace.proofs.TimerClaims.{Agrees}
+use Rattle.laws_trace.proofs.TimersAreTimely.{none-learned, moment-known, begins-true, sound-now, timely-now, config-now}
+use Rattle.laws_trace.proofs.TimersOfEvent.{IsTrueOf, state-on, off-fresh, off-state}
+use Rattle.laws_trace.proofs.MovesWatched as moves
+use Rattle.laws_trace.proofs.NewsWatched as news
+
+-- A state is told where the TEI is on the line.
+shape-of : (x : State) (k : Known) (a s : ℕ) (busy : Bool) → Agrees x k a s busy → Shape x k
+shape-of TeiAssigned k a s busy h = h
+shape-of AwaitingEstablishment k a s busy h = h
+shape-of AwaitingRelease k a s busy h = h
+shape-of Established k a s busy h = tt
+shape-of TimerRecovery k a s busy h = tt
+
+abbrev pub IsFrom : Option ℕ → Known → Type 0
+IsFrom from k = ((from ≡ None) × (k ≡ nothing_yet)) ⊎ ((x : State) × (from ≡ Some (state_number x)) × Shape x k)
+
+module _ (service : Service) (tei : ℕ) where
+  pub from-is : (l : Line) (k : Known) → IsTrueOf service tei k l → IsFrom (state_of service tei l) k
+  from-is l k h = go (place_in l tei) refl
+    where
+      go : (o : Option ℕ) → place_in l tei ≡ o → IsFrom (state_of service tei l) k
+      go None off = inl (off-state service tei l off, subst (λ (y : Link). Agrees y.state k y.a y.s y.peer_busy) (off-fresh service tei l off) h)
+      go (Some place) on = let x = link_of service tei l in inr (x.state, state-on service tei l place on, shape-of x.state k x.a x.s x.peer_busy h)
+
+  pub is-told : (l : Line) → has_tei tei l ≡ is_some (state_of service tei l)
+  is-told l = go (place_in l tei) refl
+    where
+      go : (o : Option ℕ) → place_in l tei ≡ o → has_tei tei l ≡ is_some (state_of service tei l)
+      go None off = is-off l.management.places tei off ∙ sym (ap is_some (off-state service tei l off))
+      go (Some place) on = on-line l tei place on ∙ sym (ap is_some (state-on service tei l place on))
+
+  -- One moment, by the states before and behind it.
+  module _ (c : Config) (k : Known) (asked owed : Bool) (n : ℕ) (o : Observed) where
+    abbrev Seen : Option ℕ → Option ℕ → Event → Card → Observed → Type 0
+    Seen from to e card q =
+        let l = learned c service tei from to k (seen e.what (answer e card)) in
+        IsSeen to l (cond (is_state 5 to && differ from to) (news.establishes service tei e.what (answer e card)) asked)
+        (cond (is_state 5 to) owed (not (l.next == l.acknowledged))) (cond (differ from to) 0 (n + counted_by c service tei e.what)) q
+
+    abbrev Led : Option ℕ → Option ℕ → Event → Card → Type 0
+    Led from to e card = IfSome to (λ state. state ≡ option_map_or (moves.led c service tei k n e.what (seen e.what (answer e card))) from 4)
+
+    moves-on : (from : Option ℕ) → IsFrom from k → IsSeen from k asked owed n o → (to : Option ℕ) (e : Event) (card : Card) → Led from to e card
+        → Seen from to e card (cond (not (is_some to)) (in_state 1) (cond (is_some from) (by_event c service tei e.what (answer e card) o) (in_state 4)))
+    moves-on from (inl y) h to e card led =
+        subst (λ from. Seen from to e card (cond (not (is_some to)) (in_state 1) (cond (is_some from) (by_event c service tei e.what (answer e card) o) (in_state 4)))) (sym y.0)
+        (off to (subst (λ from. Led from to e card) y.0 led))
+      where
+        off : (to : Option ℕ) → Led None to e card → Seen None to e card (cond (not (is_some to)) (in_state 1) (in_state 4))
+        off None led = refl
+        off (Some state) led = comes c service tei state led k (news.establishes service tei e.what (answer e card)) asked owed 0 e.what (answer e card)
+    moves-on from (inr y) h to e card led =
+        subst (λ from. Seen from to e card (cond (not (is_some to)) (in_state 1) (cond (is_some from) (by_event c service tei e.what (answer e card) o) (in_state 4)))) (sym y.1)
+        (goes-on c service tei y.0 k y.2 asked owed n o (subst (λ from. IsSeen from k asked owed n o) y.1 h) e.what (answer e card) to (subst (λ from. Led from to e card) y.1 led))
+
+    -- nothing at this line
+    renewed : (from : Option ℕ) → IsSeen from k asked owed n o → IsSeen from k asked (cond (is_state 5 from) owed (not (k.next == k.acknowledged))) n o
+    renewed None h = h
+    renewed (Some s) h = go (s == 5) refl
+      where
+        go : (b : Bool) → (s == 5) ≡ b → IsSeen (Some s) k asked (cond b owed (not (k.next == k.acknowledged))) n o
+        go true is = h
+        go false is =
+            record {
+              state_is = h.state_is;
+              known_is = h.known_is;
+              asks = h.asks;
+              owes = subst (λ b. When b (o.outstanding ≡ not (k.next == k.acknowledged))) (sym is) tt;
+              rests = rest (not (s == 5));
+              counts = h.counts;
+            }
+          where
+            rest : (b : Bool) → When b (not (k.next == k.acknowledged) ≡ not (k.next == k.acknowledged))
+            rest true = refl
+            rest false = tt
+
+    stays-so : (from : Option ℕ) → IsSeen from k asked owed n o → IsSeen from k asked owed n (cond (not (is_some from)) (in_state 1) (cond (is_some from) o (in_state 4)))
+    stays-so None h = refl
+    stays-so (Some s) h = h
+
+-- What is known beside it.
+pub record Holds (service : Service) (tei : ℕ) (k : Known) (asked owed : Bool) (n : ℕ) (l : Line) (v : View) : Type 0 where
+  pub true_of : IsTrueOf service tei k l
+  pub counts_of : IsCountOf service tei n l
+  pub knows : Knows v.teis l.management
+  pub quiet : v.teis ≡ hearing [] v.teis
+  pub link_is : IsSeen (state_of service tei l) k asked owed n v.link
+
+module _ (service : Service) (tei number : ℕ) where
+  pub on-is : (k : Known) (asked owed : Bool) (n : ℕ) (l : Line) (v : View) → Holds service tei k asked owed n l v → is_on tei v.teis ≡ is_some (state_of service tei l)
+  on-is k asked owed n l v h = h.knows.on tei ∙ is-told service tei l
+
+  module _ (card : Card) (s : card_sound.IsSound card) (timely : AllHaveTheirTimers card) (e : Event) (here : IsAtLine card e)
+      (k : Known) (asked : Bool) (w : Owing) (known_is : w.known ≡ k) (n : ℕ) (v : View) (h : Holds service tei k asked w.outstanding n (line_at number card) v) where
+    abbrev c : Config
+    c = card.config
+
+    abbrev m : Moment
+    m = record { card = card; event = e; answer = answer e card }
+
+    abbrev later : Line
+    later = line_at number (after e card)
+
+    abbrev from : Option ℕ
+    from = state_of service tei (line_at number card)
+
+    abbrev to : Option ℕ
+    to = state_of service tei (line_at number (after e card))
+
+    knows-then : Knows (led c number v.teis m) later.management × (led c number v.teis m ≡ hearing [] (led c number v.teis m))
+    knows-then =
+        let x = moment card e number v.teis s here (subst (λ u. Knows u (line_at number card).management) h.quiet h.knows) (e.line == number) refl in
+        subst (λ u. Knows (led c number u m) later.management × (led c number u m ≡ hearing [] (led c number u m))) (sym h.quiet) (x.knows, x.quiet_is)
+
+    on-then : is_on tei (led c number v.teis m) ≡ is_some to
+    on-then = knows-then.0.on tei ∙ is-told service tei later
+
+    on-before : is_on tei v.teis ≡ is_some from
+    on-before = on-is k asked w.outstanding n (line_at number card) v h
+
+    abbrev Next : Bool → Bool → Bool → Type 0
+    Next b is was =
+        let l = learned c service tei from to k (cond b (seen e.what (answer e card)) []) in
+        IsSeen to l (cond (b && is_state 5 to && differ from to) (news.establishes service tei e.what (answer e card)) asked)
+        (cond (is_state 5 to) w.outstanding (not (l.next == l.acknowledged)))
+        (cond (not b) n (cond (differ from to) 0 (n + counted_by c service tei e.what)))
+        (cond (not is) (in_state 1) (cond was (cond b (by_event c service tei e.what (answer e card) v.link) v.link) (in_state 4)))
+
+    abbrev its-from : ℕ → Option ℕ
+    its-from number = state_of service tei (line_at number card)
+
+    abbrev its-to : ℕ → Option ℕ
+    its-to number = state_of service tei (line_at number (after e card))
+
+    by-line : (b : Bool) → (e.line == number) ≡ b → Next b (is_some to) (is_some from)
+    by-line true is =
+        let same : number ≡ e.line = sym (eqb-true e.line number is) in
+        moves-on service tei c k asked w.outstanding n v.link from (from-is service tei (line_at number card) k h.true_of) h.link_is to e card
+        (subst (λ number. Led service tei c k asked w.outstanding n v.link (its-from number) (its-to number) e card) (sym same)
+        (own-led service tei number card s timely e here k n (subst (λ number. IsTrueOf service tei k (line_at number card)) same h.true_of)
+        (subst (λ number. IsCountOf service tei n (line_at number card)) same h.counts_of)))
+    by-line false other =
+        let same = apart card e number (λ same. true≢false (sym (eq-eqb e.line number (sym same)) ∙ other)) in
+        let none = none-learned service tei number c (line_at number card) k h.true_of in
+        subst (λ x. let to = state_of service tei x in let l = learned c service tei from to k [] in
+        IsSeen to l asked (cond (is_state 5 to) w.outstanding (not (l.next == l.acknowledged))) n
+        (cond (not (is_some to)) (in_state 1) (cond (is_some from) v.link (in_state 4)))) (sym same)
+        (subst (λ l. IsSeen from l asked (cond (is_state 5 from) w.outstanding (not (l.next == l.acknowledged))) n
+        (cond (not (is_some from)) (in_state 1) (cond (is_some from) v.link (in_state 4)))) (sym none)
+        (stays-so service tei c k asked (cond (is_state 5 from) w.outstanding (not (k.next == k.acknowledged))) n v.link from
+        (renewed service tei c k asked w.outstanding n v.link from h.link_is)))
+
+    pub holds-then : Holds service tei (watch c service tei number k m) (news.asked service tei number asked m) (owing c service tei number w m).outstanding (repeated service tei number n m) later
+        (views c service tei number v m)
+    holds-then = record {
+      true_of = moment-known service tei number card s timely e here k h.true_of;
+      counts_of = moment-counted service tei number card s timely e here k n h.true_of h.counts_of;
+      knows = knows-then.0;
+      quiet = knows-then.1;
+      link_is =
+          subst (λ (x : Known). let l = watch c service tei number x m in IsSeen to (watch c service tei number k m) (news.asked service tei number asked m)
+          (cond (is_state 5 to) w.outstanding (not (l.next == l.acknowledged))) (repeated service tei number n m) (views c service tei number v m).link) (sym known_is)
+          (subst (λ is. Next (e.line == number) is (is_on tei v.teis)) (sym on-then)
+          (subst (λ was. Next (e.line == number) (is_some to) was) (sym on-before) (by-line (e.line == number) refl)));
+    }
+
+    pub known-then : (owing c service tei number w m).known ≡ watch c service tei number k m
+    known-then = ap (λ x. watch c service tei number x m) known_is
+
+  pub run-holds : (card : Card) (events : List Event) → card_sound.IsSound card → AllHaveTheirTimers card → AreAtLines card events
+      → (k : Known) (asked : Bool) (w : Owing) → w.known ≡ k → (n : ℕ) (v : View) → Holds service tei k asked w.outstanding n (line_at number card) v
+      → let ms = moments card events in let c = card.config in
+      Holds service tei (fold (watch c service tei number) k ms) (fold (news.asked service tei number) asked ms) (fold (owing c service tei number) w ms).outstanding (fold (repeated service tei number) n ms)
+      (line_at number (after_all card events)) (fold (views c service tei number) v ms)
+  unfolding moments after_all
+  run-holds card [] s timely all k asked w is n v h = h
+  run-holds card (e ∷ events) s timely all k asked w is n v h =
+      let here = All-head (IsAtLine card) e events all in
+      let m : Moment = record { card = card; event = e; answer = answer e card } in
+      run-holds (after e card) events (after_is_sound card e s here) (timely-after card e s timely here) (All-tail (IsAtLine card) e events all)
+      (watch card.config service tei number k m) (news.asked service tei number asked m) (owing card.config service tei number w m) (known-then card s timely e here k asked w is n v h)
+      (repeated service tei number n m) (views card.config service tei number v m) (holds-then card s timely e here k asked w is n v h)
+
+-- From a fresh card on.
+module _ (c : Config) (events : List Event) (number : ℕ) (ranged : IsInRange c) (all : AreAtLines (fresh c) events) (within : number < c.lines) (service : Service) (tei : ℕ) where
+  start : line_at number (fresh c) ≡ fresh_line c
+  start = get_or-replicate c.lines number (fresh_line c) (fresh_line c) within
+
+  off : state_of service tei (line_at number (fresh c)) ≡ None
+  off = ap (state_of service tei) start ∙ off-state service tei (fresh_line c) (nowhere c tei)
+
+  off-link : link_of service tei (line_at number (fresh c)) ≡ fresh_link
+  off-link = ap (link_of service tei) start ∙ off-fresh service tei (fresh_line c) (nowhere c tei)
+
+  at-start : Holds service tei nothing_yet false false 0 (line_at number (fresh c)) at_first
+  at-start = record {
+    true_of = begins-true c events number ranged all within service tei;
+    counts_of = subst (λ (y : Link). Counts y.state 0 y.repeats) (sym off-link) tt;
+    knows = subst (λ (l : Line). Knows (hearing [] none_on) l.management) (sym start) (fresh-known c);
+    quiet = refl;
+    link_is = subst (λ o. IsSeen o nothing_yet false false 0 (in_state 1)) (sym off) refl;
+  }
+
+  pub holds-now : let ms = moments (fresh c) events in
+      Holds service tei (fold (watch c service tei number) nothing_yet ms) (fold (news.asked service tei number) false ms) (fold (owing c service tei number) none_owed ms).outstanding
+      (fold (repeated service tei number) 0 ms) (line_at number (after_all (fresh c) events)) (view_of c service tei number events)
+  holds-now = run-holds service tei number (fresh c) events (fresh_is_sound c ranged) (begins-timely-card c) all nothing_yet false none_owed refl 0 at_first at-start
+
+  abbrev numbers : Known
+  numbers = fold (watch c service tei number) nothing_yet (moments (fresh c) events)
+
+  abbrev owes_now : Owing
+  owes_now = fold (owing c service tei number) none_owed (moments (fresh c) events)
+
+  known-is : (ms : List Moment) (k : Known) (w : Owing) → w.known ≡ k → (fold (owing c service tei number) w ms).known ≡ fold (watch c service tei number) k ms
+  known-is [] k w is = is
+  known-is (m ∷ ms) k w is = known-is ms (watch c service tei number k m) (owing c service tei number w m) (ap (λ x. watch c service tei number x m) is)
+
+  -- and behind an event more
+  pub holds-behind : (what : line_event.Event) → let m = moment_of c events number what in
+      Holds service tei (watch c service tei number numbers m) (news.asked service tei number (fold (news.asked service tei number) false (moments (fresh c) events)) m)
+      (owing c service tei number owes_now m).outstanding (repeated service tei number (fold (repeated service tei number) 0 (moments (fresh c) events)) m)
+      (line_at number (after (at number what) (after_all (fresh c) events))) (view_behind c service tei number events what)
+  holds-behind what =
+      let card = after_all (fresh c) events in
+      let m = moment_of c events number what in
+      let kept = config-now c events number ranged all within service tei in
+      let here : number < card.config.lines = subst (λ (c : Config). number < c.lines) (sym kept) within in
+      let asked = fold (news.asked service tei number) false (moments (fresh c) events) in
+      let n = fold (repeated service tei number) 0 (moments (fresh c) events) in
+      let v = view_of c service tei number events in
+      subst (λ (d : Config). Holds service tei (watch d service tei number numbers m) (news.asked service tei number asked m) (owing d service tei number owes_now m).outstanding
+      (repeated service tei number n m) (line_at number (after (at number what) card)) (views d service tei number v m)) kept
+      (holds-then service tei number card (sound-now c events number ranged all within service tei) (timely-now c events number ranged all within service tei) (at number what) here
+      numbers asked owes_now (known-is (moments (fresh c) events) nothing_yet none_owed refl) n v holds-now)

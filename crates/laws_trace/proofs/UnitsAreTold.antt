@@ -1,0 +1,155 @@
+-- Unit data that is heard is told: the law.
+use Rattle.std.proofs.Common.{◌≡◌, ℕ, ◌≤◌, ◌==◌, ◌&&◌, ◌||◌, Bool, true, false, cond, List, length, Option, Some, None, refl, sym, ap, ◌∙◌, subst, eqb-true, true≢false, ◌⊎◌, inl, inr}
+use Rattle.std.specs.Prelude.{Ok, is_some}
+use Rattle.std.specs.List.{list_any}
+use Rattle.std.specs.Option.{option_or, option_map_or}
+use Rattle.std.proofs.lemmas.Bool.{le-leb}
+use Rattle.model_bits.specs.Stream as stream
+use Rattle.lapd_frame.specs.declared.addresses.Side.TheVariants.{User}
+use Rattle.lapd_frame.specs.declared.controls.Control.{Control}
+use Rattle.lapd_frame.specs.declared.controls.Control.TheVariants.{Information, ReceiveReady, ReceiveNotReady, Reject, Sabme, Disc, Ui, Ua, Dm, Frmr, Xid}
+use Rattle.lapd_frame.specs.declared.services.Service.{Service}
+use Rattle.lapd_frame.specs.declared.services.Service.TheVariants.{Call, Packet}
+use Rattle.lapd_frame.specs.Grammar.{Parts}
+use Rattle.lapd_frame.specs.Reading.{reading}
+use Rattle.lapd_frame.specs.Services.{sapi_of, service_of}
+use Rattle.lapd_tei.proofs.Tables.{place_of-is}
+use Rattle.laws_link.specs.Heard.{in_ui_frame, in_sequence, within}
+use Rattle.laws_link.proofs.Keeping.{event-unit}
+use Rattle.laws_link.proofs.Once.{data-is}
+use Rattle.model_link.specs.declared.terms.Terms.{Terms}
+use Rattle.model_link.specs.Deliveries.{eligible_of, information_of}
+use Rattle.model_link.specs.Events as link
+use Rattle.model_link.specs.Link.{Link, fresh as fresh_link}
+use Rattle.model_link.specs.Machine as links
+use Rattle.model_link.specs.Sound as link_sound
+use Rattle.model_link.proofs.OwnNotes.{notes-own}
+use Rattle.model_link.proofs.TellRows.{event-tells}
+use Rattle.model_line.specs.declared.config.Config.{Config}
+use Rattle.model_line.specs.Event.{Event as LineEvent, hears, Answer}
+use Rattle.model_line.specs.Heard.{heard_side}
+use Rattle.model_line.specs.Line.{Line, link_in, link_of, place_in, state_of, terms}
+use Rattle.model_line.specs.Machine as lines
+use Rattle.model_line.specs.Sides.{IsToGroup}
+use Rattle.model_line.specs.Sound.{IsInRange, IsSound}
+use Rattle.model_line.proofs.LinksSound.{sound_in}
+use Rattle.model_card.specs.Card.{fresh, line_at}
+use Rattle.model_card.specs.Event.{at}
+use Rattle.model_card.specs.Run.{after_all, AreAtLines}
+use Rattle.laws_line.specs.Heard.{notes_of, contents_in, is_unit_of}
+use Rattle.laws_line.proofs.Grouping.{group-read}
+use Rattle.laws_line.proofs.HandedOn.{own-all}
+use Rattle.laws_line.proofs.Obeyed.{service-same, both-true}
+use Rattle.laws_trace.specs.LinkFrames.{is_for, parts_of}
+use Rattle.laws_trace.specs.Trace.{Always}
+use Rattle.laws_trace.specs.Units.{is_ui}
+use Rattle.laws_trace.specs.UnitsAreTold.{UnitsAreTold}
+use Rattle.laws_trace.proofs.AllAreTold.{is-frame}
+use Rattle.laws_trace.proofs.AllDataGoesOut.{line-at-end}
+use Rattle.laws_trace.proofs.DeliveriesRun.{event-aims}
+use Rattle.laws_trace.proofs.OneLink.{HasOne, Goes, event-goes}
+use Rattle.laws_trace.proofs.TimersAreTimely.{front-at, config-now}
+use Rattle.laws_trace.proofs.TimersOfEvent.{off-state}
+
+-- A UI is one.
+which-ui : (control : Control) → is_ui control ≡ true → (p : Bool) × (control ≡ Ui p)
+which-ui (Ui p) is = (p, refl)
+which-ui (Information ns nr p) is = absurd (true≢false (sym is))
+which-ui (ReceiveReady nr pf) is = absurd (true≢false (sym is))
+which-ui (ReceiveNotReady nr pf) is = absurd (true≢false (sym is))
+which-ui (Reject nr pf) is = absurd (true≢false (sym is))
+which-ui (Sabme p) is = absurd (true≢false (sym is))
+which-ui (Disc p) is = absurd (true≢false (sym is))
+which-ui (Ua p) is = absurd (true≢false (sym is))
+which-ui (Dm p) is = absurd (true≢false (sym is))
+which-ui (Frmr p) is = absurd (true≢false (sym is))
+which-ui (Xid p) is = absurd (true≢false (sym is))
+
+its-service : (service : Service) → service_of (sapi_of service) ≡ Some service
+its-service Call = refl
+its-service Packet = refl
+
+abbrev Tells : Service → ℕ → List ℕ → Answer → Type 0
+Tells service tei info a = (list_any (is_unit_of service tei) (notes_of a) ≡ true) × (contents_in a ≡ Some info)
+
+module _ (c : Config) (ranged : IsInRange c) (l : Line) (s : IsSound c l) (service : Service) (tei : ℕ) (octets : List ℕ) (f : Parts)
+    (read : reading (heard_side c) octets ≡ Ok f) (for : is_for service tei f.address ≡ true) (ui : is_ui f.control ≡ true) (size : length f.info ≤ c.n201) where
+  abbrev e : LineEvent
+  e = hears (stream.frame octets)
+
+  abbrev t : Terms
+  t = terms c service tei
+
+  abbrev k : Link
+  k = link_of service tei l
+
+  whose : (f.address.sapi ≡ sapi_of service) × (f.address.tei ≡ tei)
+  whose = let x = both-true (f.address.sapi == sapi_of service) (f.address.tei == tei) for in (eqb-true f.address.sapi (sapi_of service) x.0, eqb-true f.address.tei tei x.1)
+
+  -- to the group
+  pub group : c.side ≡ User → tei ≡ 127 → Tells service tei f.info (lines.answer c e l)
+  group side all =
+      let x = which-ui f.control ui in
+      let to : IsToGroup c f service = record {
+        side = side;
+        sapi = ap service_of whose.0 ∙ its-service service;
+        group = whose.1 ∙ all;
+        poll = x.0;
+        control = x.1;
+        size = size;
+      } in
+      let is = (group-read c l f octets service s read to).answer_is in (
+        ap (λ a. list_any (is_unit_of service tei) (notes_of a)) is ∙ ap (λ b. (b && 127 == tei) || false) (service-same service)
+            ∙ ap (λ n. (127 == n) || false) all,
+        ap contents_in is,
+      )
+
+  -- to a link of a TEI on the line
+  its-unit : (links.told t (link.received (link.frame f)) k).delivered ≡ None
+  its-unit =
+      data-is t k (link.received (link.frame f))
+      ∙ ap (λ control. in_sequence k.r (eligible_of t k (information_of control f.info))) (which-ui f.control ui).1
+
+  due : within c.n201 (in_ui_frame f.control f.info) ≡ Some f.info
+  due =
+      ap (λ control. within c.n201 (in_ui_frame control f.info)) (which-ui f.control ui).1
+      ∙ ap (λ b. cond b (Some f.info) None) (le-leb (length f.info) c.n201 size)
+
+  one : (x : HasOne c service tei e l (lines.after c e l) (lines.answer c e l)) → Tells service tei f.info (lines.answer c e l)
+  one x =
+      let sound : link_sound.IsSound t k = subst (link_sound.IsSound t) (sym (ap (λ o. option_map_or (link_in l service) o fresh_link) x.placed))
+      (sound_in c ranged l s service tei x.place (place_of-is l.management.places tei x.place x.placed).1) in
+      let is = is-frame c e (lines.answer c e l) service tei f (ap parts_of read) x.event x.by in
+      let unit : (links.told t x.event k).unit ≡ Some f.info = ap (λ le. (links.told t le k).unit) is ∙ event-unit t k sound (link.received (link.frame f)) ∙ due in
+      let none : (links.told t x.event k).delivered ≡ None = ap (λ le. (links.told t le k).delivered) is ∙ its-unit in (
+        ap (list_any (is_unit_of service tei)) x.notes ∙ (own-all t (links.told t x.event k).notes (notes-own t x.event k)).1 ∙ (event-tells t x.event k).3 ∙ ap is_some unit,
+        x.contents ∙ ap (λ o. option_or o (links.told t x.event k).unit) none ∙ unit,
+      )
+
+  on-line : is_some (state_of service tei l) ≡ true → (o : Option ℕ) → place_in l tei ≡ o → (place : ℕ) × (place_in l tei ≡ Some place)
+  on-line on (Some place) is = (place, is)
+  on-line on None off = absurd (true≢false (sym on ∙ ap is_some (off-state service tei l off)))
+
+  pub terminal : is_some (state_of service tei l) ≡ true → Tells service tei f.info (lines.answer c e l)
+  terminal on = go (event-goes c e l service tei s)
+    where
+      go : Goes c service tei e l (lines.after c e l) (lines.answer c e l) → Tells service tei f.info (lines.answer c e l)
+      go (inl x) =
+          let there = on-line on (place_in l tei) refl in
+          absurd (true≢false (sym (event-aims c l service tei there.0 there.1 e f (ap parts_of read) for) ∙ x.aims))
+      go (inr x) = one x
+
+pub units-are-told : Always UnitsAreTold
+unfolding lines.takes_slot
+units-are-told c events number ranged all within service tei octets f before behind is x =
+    let e = at number (hears (stream.frame octets)) in
+    let front = front-at (fresh c) before e behind (subst (AreAtLines (fresh c)) is all) in
+    let card = after_all (fresh c) before in
+    let l = line_at number card in
+    let s = line-at-end c before number ranged front within in
+    subst (λ (d : Config). Tells service tei f.info (lines.answer d (hears (stream.frame octets)) l)) (sym (config-now c before number ranged front within service tei)) (by s x.there)
+  where
+    by : IsSound c (line_at number (after_all (fresh c) before)) → (is_some (state_of service tei (line_at number (after_all (fresh c) before))) ≡ true) ⊎ ((c.side ≡ User) × (tei ≡ 127))
+        → Tells service tei f.info (lines.answer c (hears (stream.frame octets)) (line_at number (after_all (fresh c) before)))
+    by s (inl on) = terminal c ranged (line_at number (after_all (fresh c) before)) s service tei octets f x.read x.whose x.control x.size on
+    by s (inr group_is) = group c ranged (line_at number (after_all (fresh c) before)) s service tei octets f x.read x.whose x.control x.size group_is.0 group_is.1

@@ -1,0 +1,119 @@
+-- What waited on a link begins, where a line is only called for its next frame, as often as the configuration says: the law.
+use Rattle.std.proofs.Common.{◌≡◌, ℕ, ◌<◌, ◌≤◌, cond, List, [], ◌∷◌, ◌++◌, Some, option_map, refl, sym, ap, ◌∙◌, subst, inl, arith, eq-eqb}
+use Rattle.std.specs.Prelude.{All}
+use Rattle.std.proofs.lemmas.Grind.{flat_map-append}
+use Rattle.model_link.specs.declared.frames.ControlFrame.{ControlFrame}
+use Rattle.model_line.specs.declared.config.Config.{Config}
+use Rattle.model_line.specs.Event.{next, gave}
+use Rattle.model_line.specs.Machine as lines
+use Rattle.model_line.specs.Taken.{taken, next_of}
+use Rattle.model_line.specs.Sound as line
+use Rattle.laws_line.specs.Drains.{frames_to_go, most_frames, control_text}
+use Rattle.laws_line.specs.Served.{HasNothing}
+use Rattle.laws_line.proofs.Bounds.{to-go-few}
+use Rattle.model_card.specs.Card.{Card, fresh, line_at}
+use Rattle.model_card.specs.Event.{Event, at}
+use Rattle.model_card.specs.Machine.{after, answer}
+use Rattle.model_card.specs.Run.{moments, after_all, IsAtLine, AreAtLines}
+use Rattle.model_card.specs.Sound.{IsSound}
+use Rattle.model_card.proofs.CardSound.{fresh_is_sound, always_sound}
+use Rattle.laws_card.specs.Among.{AreTakesAt, takes_at, IsTakenAmong}
+use Rattle.laws_card.specs.PromisesOfTakes.{IsWaiting}
+use Rattle.laws_card.proofs.Meanwhile.{line-sound, card-drains, card-waits}
+use Rattle.laws_card.proofs.Wherever.{all-left, all-right, config-stays}
+use Rattle.laws_trace.specs.Trace as traces
+use Rattle.laws_trace.specs.Trace.{Always, frame_in, trace, seen, frames_begun, IsAmong}
+use Rattle.laws_trace.specs.WaitedBegins.{AllThatWaitedBegins}
+use Rattle.laws_trace.proofs.Units.{given-frames}
+
+-- a run behind a run
+pub after-both : (card : Card) (front behind : List Event) → after_all card (front ++ behind) ≡ after_all (after_all card front) behind
+unfolding after_all
+after-both card [] behind = refl
+after-both card (e ∷ front) behind = after-both (after e card) front behind
+
+-- a moment of a run is seen in its trace
+moments-both : (card : Card) (front behind : List Event) → moments card (front ++ behind) ≡ moments card front ++ moments (after_all card front) behind
+unfolding moments after_all
+moments-both card [] behind = refl
+moments-both card (e ∷ front) behind = ap (λ ms. record { card = card; event = e; answer = answer e card } ∷ ms) (moments-both (after e card) front behind)
+
+frames-both : (number : ℕ) (card : Card) (front behind : List Event)
+    → frames_begun (trace number (moments card (front ++ behind))) ≡ frames_begun (trace number (moments card front)) ++ frames_begun (trace number (moments (after_all card front) behind))
+frames-both number card front behind =
+    ap (λ ms. frames_begun (trace number ms)) (moments-both card front behind)
+    ∙ ap frames_begun (flat_map-append (traces.seen_in number) (moments card front) (moments (after_all card front) behind))
+    ∙ flat_map-append traces.frame_begun (trace number (moments card front)) (trace number (moments (after_all card front) behind))
+
+begun-here : (number : ℕ) (card : Card) (back : List Event) (frame : List ℕ) → frame_in (gave (option_map next_of (taken card.config (line_at number card)))) ≡ frame ∷ []
+    → frames_begun (trace number (moments card (at number next ∷ back))) ≡ frame ∷ frames_begun (trace number (moments (after (at number next) card) back))
+unfolding moments lines.answer lines.takes_slot
+begun-here number card back frame is =
+    let rest = trace number (moments (after (at number next) card) back) in
+    let own = seen next (answer (at number next) card) in
+    ap (λ b. frames_begun (cond b own [] ++ rest)) (eq-eqb number number refl)
+    ∙ flat_map-append traces.frame_begun own rest
+    ∙ ap (λ fs. fs ++ frames_begun rest) (given-frames (option_map next_of (taken card.config (line_at number card))) ∙ is)
+
+begun-is-seen : (number : ℕ) (card : Card) (events : List Event) (frame : List ℕ) → IsTakenAmong card number events frame → IsAmong frame (frames_begun (trace number (moments card events)))
+begun-is-seen number card events frame x =
+    let there = after_all card x.front in
+    record {
+      front = frames_begun (trace number (moments card x.front));
+      back = frames_begun (trace number (moments (after (at number next) there) x.back));
+      split =
+          ap (λ es. frames_begun (trace number (moments card es))) x.split
+          ∙ frames-both number card x.front (at number next ∷ x.back)
+          ∙ ap (λ fs. frames_begun (trace number (moments card x.front)) ++ fs)
+          (begun-here number there x.back frame (ap (λ o. frame_in (gave (option_map next_of o))) (kept x.front x.taken_is) ∙ ap (λ f. f ∷ []) x.is));
+    }
+  where
+    kept : (front : List Event) → taken card.config (line_at number (after_all card front)) ≡ Some x.one → taken (after_all card front).config (line_at number (after_all card front)) ≡ Some x.one
+    kept front is = ap (λ c. taken c (line_at number (after_all card front))) (config-stays card front) ∙ is
+
+module _ (c : Config) (events : List Event) (number : ℕ) (ranged : line.IsInRange c) (all : AreAtLines (fresh c) events) (within : number < c.lines)
+    (before calls : List Event) (split : events ≡ before ++ calls) (only : AreTakesAt number calls) (enough : most_frames c ≤ takes_at number calls) where
+  abbrev card : Card
+  card = after_all (fresh c) before
+
+  these : AreAtLines (fresh c) (before ++ calls)
+  these = subst (AreAtLines (fresh c)) split all
+
+  first : AreAtLines (fresh c) before
+  first = all-left (IsAtLine (fresh c)) before calls these
+
+  pub kept : card.config ≡ c
+  kept = config-stays (fresh c) before
+
+  pub sound : IsSound card
+  sound = always_sound (fresh c) before (fresh_is_sound c ranged) first
+
+  pub few : number < card.config.lines
+  few = subst (λ (c : Config). number < c.lines) (sym kept) within
+
+  pub later : AreAtLines card calls
+  later = subst (λ (c : Config). All (λ (e : Event). e.line < c.lines) calls) (sym kept) (all-right (IsAtLine (fresh c)) before calls these)
+
+  pub short : frames_to_go card.config (line_at number card) ≤ takes_at number calls
+  short =
+      let most : frames_to_go card.config (line_at number card) ≤ most_frames card.config = to-go-few card.config (line_at number card) (line-sound card number sound few) in
+      let many : most_frames card.config ≤ takes_at number calls = subst (λ c. most_frames c ≤ takes_at number calls) (sym kept) enough in
+      omega (arith, most, many)
+
+  -- nothing that may go is left
+  pub drained : HasNothing c (line_at number (after_all (fresh c) events))
+  drained =
+      let last : after_all (fresh c) events ≡ after_all card calls = ap (after_all (fresh c)) split ∙ after-both (fresh c) before calls in
+      let nothing = card-drains card number calls sound few later only short in
+      subst (λ x. HasNothing c (line_at number x)) (sym last) (subst (λ d. HasNothing d (line_at number (after_all card calls))) kept nothing)
+
+  pub waited : (link tei : ℕ) (front : List ControlFrame) (f : ControlFrame) (behind : List ControlFrame) → IsWaiting c (line_at number card) link tei front f behind
+      → IsAmong (control_text c link tei f) (frames_begun (trace number (moments card calls)))
+  waited link tei front f behind h =
+      begun-is-seen number card calls (control_text c link tei f)
+      (subst (λ d. IsTakenAmong card number calls (control_text d link tei f)) kept
+      (card-waits card number sound few calls later only link tei front f behind (subst (λ d. IsWaiting d (line_at number card) link tei front f behind) (sym kept) h) (inl short)))
+
+pub all-that-waited-begins : Always AllThatWaitedBegins
+all-that-waited-begins c events number ranged all within before calls split only enough link tei front f behind h =
+    waited c events number ranged all within before calls split only enough link tei front f behind h

@@ -1,0 +1,6 @@
+-- Hand-written answers for `counters_count`.
+use Rattle.laws_trace.proofs.CountersCount.{counters-count}
+use Rattle.laws_trace.proofs.laws.counters_count.Goals as goal
+
+pub returns : goal.returns
+returns c = λ config events number ranged all within. counters-count config events number ranged all within

@@ -1,0 +1,68 @@
+-- The frames of a link, as an observer of its line reads them.
+use Rattle.std.specs.Prelude.{ℕ, ◌==◌, ◌&&◌, Bool, false, List, Option, Some, None, Result, Ok, Err, if◌then◌else◌}
+use Rattle.model_bits.specs.Stream as stream
+use Rattle.lapd_frame.specs.declared.addresses.Address.{Address}
+use Rattle.lapd_frame.specs.declared.controls.Control.{Control}
+use Rattle.lapd_frame.specs.declared.controls.Control.TheVariants.{Information}
+use Rattle.lapd_frame.specs.declared.faults.ReadFault.{ReadFault}
+use Rattle.lapd_frame.specs.declared.faults.ReadFault.TheVariants.{Undefined, WrongSize}
+use Rattle.lapd_frame.specs.declared.overlong.Long.{Long}
+use Rattle.lapd_frame.specs.declared.overlong.Long.TheVariants as long
+use Rattle.lapd_frame.specs.declared.services.Service.{Service}
+use Rattle.lapd_frame.specs.Grammar.{Parts}
+use Rattle.lapd_frame.specs.Reading.{reading, long_reading}
+use Rattle.lapd_frame.specs.Services.{sapi_of}
+use Rattle.model_line.specs.declared.config.Config.{Config}
+use Rattle.model_line.specs.Heard.{heard_side}
+
+-- A frame that is heard, as the grammar reads it; it is for the link of a service with a TEI by its address (Q.921
+-- clauses 3.2 and 3.3).
+abbrev pub is_for : Service → ℕ → Address → Bool
+is_for service tei address = address.sapi == sapi_of service && address.tei == tei
+
+abbrev pub parts_of : Result Parts ReadFault → Option Parts
+parts_of (Ok parts) = Some parts
+parts_of (Err fault) = None
+
+abbrev pub frame_of : Config → stream.Event → Option Parts
+frame_of c (stream.frame octets) = parts_of (reading (heard_side c) octets)
+frame_of c other = None
+
+abbrev pub its_frame : Service → ℕ → Option Parts → Option Parts
+its_frame service tei None = None
+its_frame service tei (Some f) = if is_for service tei f.address then Some f else None
+
+-- A malformed one: a frame that the grammar does not have, one of wrong size, and an I-frame that was too long to keep
+-- (clause 5.8.5).
+abbrev pub fault_is_for : Service → ℕ → ReadFault → Bool
+fault_is_for service tei (Undefined address) = is_for service tei address
+fault_is_for service tei (WrongSize address) = is_for service tei address
+fault_is_for service tei other = false
+
+abbrev pub is_faulty : Service → ℕ → Result Parts ReadFault → Bool
+is_faulty service tei (Ok frame) = false
+is_faulty service tei (Err fault) = fault_is_for service tei fault
+
+abbrev pub is_faulty_long : Service → ℕ → Result Long ReadFault → Bool
+is_faulty_long service tei (Ok (long.Information address)) = is_for service tei address
+is_faulty_long service tei (Ok (long.Unnumbered address)) = false
+is_faulty_long service tei (Err fault) = fault_is_for service tei fault
+
+abbrev pub is_malformed : Config → Service → ℕ → stream.Event → Bool
+is_malformed c service tei (stream.frame octets) = is_faulty service tei (reading (heard_side c) octets)
+is_malformed c service tei (stream.overlong head) = is_faulty_long service tei (long_reading (heard_side c) head)
+is_malformed c service tei (stream.dropped cause) = false
+
+-- An I-frame of the link that begins.
+pub record Sent : Type 0 where
+  pub ns : ℕ
+  pub nr : ℕ
+  pub contents : List ℕ
+
+abbrev pub sent_by : Control → List ℕ → Option Sent
+sent_by (Information ns nr p) info = Some (record { ns = ns.value; nr = nr.value; contents = info })
+sent_by other info = None
+
+abbrev pub sent_in : Service → ℕ → Result Parts ReadFault → Option Sent
+sent_in service tei (Ok frame) = if is_for service tei frame.address then sent_by frame.control frame.info else None
+sent_in service tei (Err fault) = None

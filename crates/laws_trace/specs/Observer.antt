@@ -1,0 +1,179 @@
+-- What an observer of a line knows of a link, by the procedures of Q.921: what the link hears, what layer 3 asks, what
+-- runs out, and what it sends.
+use Rattle.std.specs.Prelude.{ℕ, ◌+◌, ◌-◌, ◌%◌, ◌==◌, ◌&&◌, ◌||◌, not, nat_lt, Bool, true, false, List, length, fold, if◌then◌else◌}
+use Rattle.std.specs.Option.{option_map_or}
+use Rattle.model_bits.specs.Stream as stream
+use Rattle.lapd_frame.specs.declared.controls.Control.{Control}
+use Rattle.lapd_frame.specs.declared.controls.Control.TheVariants.{Information, ReceiveReady, ReceiveNotReady, Reject, Sabme, Disc, Ua, Dm, Frmr}
+use Rattle.lapd_frame.specs.declared.services.Service.{Service}
+use Rattle.lapd_frame.specs.declared.timers.Timer.{Timer}
+use Rattle.lapd_frame.specs.declared.timers.Timer.TheVariants.{T200, T203}
+use Rattle.lapd_frame.specs.Grammar.{Parts}
+use Rattle.lapd_frame.specs.Reading.{reading}
+use Rattle.lapd_seq.specs.declared.numbers.Seq.{Seq}
+use Rattle.model_line.specs.declared.config.Config.{Config}
+use Rattle.model_line.specs.Event as line_event
+use Rattle.model_line.specs.Event.{hears, expiry, request, Answer}
+use Rattle.model_line.specs.Request.{Request, Establish, Release}
+use Rattle.laws_line.specs.Share.{is_granted}
+use Rattle.model_card.specs.Card.{fresh}
+use Rattle.model_card.specs.Event.{Event, at}
+use Rattle.model_card.specs.Machine.{answer}
+use Rattle.model_card.specs.Run.{Moment, moments, after_all}
+use Rattle.laws_trace.specs.LinkFrames.{frame_of, its_frame, is_malformed, Sent, sent_in}
+use Rattle.laws_trace.specs.Managing.{Managed, none_on, is_on}
+use Rattle.laws_trace.specs.MessagesAreOwed.{led}
+use Rattle.laws_trace.specs.Trace.{is_own, is_up, frame_in}
+
+-- The state (Q.921 annex B: 1 where the TEI is not on the line); the N(R) that was heard last, to which V(A) is set; the
+-- N(S) of the I-frame that goes next, which is V(S); and whether the terminal is busy. Of state 5 whether layer 3 asked for
+-- it, and whether I-frames were outstanding as the link came there; and of states 5, 6 and 8 how often T200 expired there.
+pub record Observed : Type 0 where
+  pub state : ℕ
+  pub acknowledged : ℕ
+  pub next : ℕ
+  pub busy : Bool
+  pub asked : Bool
+  pub outstanding : Bool
+  pub expiries : ℕ
+
+abbrev pub in_state : ℕ → Observed
+in_state n =
+    record {
+      state = n;
+      acknowledged = 0;
+      next = 0;
+      busy = false;
+      asked = false;
+      outstanding = false;
+      expiries = 0;
+    }
+
+-- I-frames are outstanding that went, are not acknowledged and are not to go again (clauses 5.6.1, 5.6.4 and 5.6.7).
+abbrev pub is_outstanding : Observed → Bool
+is_outstanding o = if o.state == 5 then o.outstanding else not (o.next == o.acknowledged)
+
+-- An answer is awaited in states 5, 6 and 8, and in state 7 where I-frames are outstanding, or the terminal is busy
+-- (clauses 5.5.1.3, 5.5.3.3, 5.6.1, 5.6.5 and 5.6.7).
+abbrev pub awaits : Observed → Bool
+awaits o = o.state == 5 || o.state == 6 || o.state == 8 || (o.state == 7 && (o.busy || not (o.next == o.acknowledged)))
+
+-- A link is established anew (clause 5.7.2).
+abbrev pub anew : Observed → Observed
+anew o = record o { state = 5; acknowledged = 0; next = 0; busy = false; asked = false; outstanding = not (o.next == o.acknowledged); expiries = 0 }
+
+-- N(R) is invalid where it is none of V(A) to V(S), counted upwards from V(A) (clauses 3.5.2.3 and 5.8.2). That of an
+-- I-frame acknowledges;
+abbrev pub steps : ℕ → ℕ → ℕ
+steps from to = (128 + to - from) % 128
+
+abbrev pub is_invalid : Observed → Seq → Bool
+is_invalid o nr = nat_lt (steps o.acknowledged o.next) (steps o.acknowledged nr.value)
+
+abbrev pub numbered : Seq → Observed → Observed
+numbered nr o = if is_invalid o nr then anew o else record o { acknowledged = nr.value }
+
+-- and RR, RNR and REJ say too whether the terminal is busy. A response with F=1 ends the recovery of state 8. Behind it,
+-- and behind REJ in state 7, I-frames go again from N(R) on (clauses 5.6.3 to 5.6.5 and 5.6.7).
+abbrev pub receipt : Bool → Bool → Bool → Seq → Observed → Observed
+receipt final again busy nr o =
+    if is_invalid o nr then anew o
+    else if o.state == 8 && final then record o { state = 7; acknowledged = nr.value; next = nr.value; busy = busy }
+    else record o { acknowledged = nr.value; next = if again && o.state == 7 then nr.value else o.next; busy = busy }
+
+-- What a link hears in states 7 and 8. The first bit says that the information is longer than N201, the second that it is
+-- a command.
+abbrev pub while_up : Bool → Bool → Control → Observed → Observed
+-- clauses 5.5.1.2 and 5.7.1
+while_up long command (Sabme p) o = in_state 7
+-- clause 5.5.3.2
+while_up long command (Disc p) o = in_state 4
+-- clauses 5.7.1 and 5.8.7
+while_up long command (Dm f) o = if o.state == 8 || not f then anew o else o
+-- clause 5.8.6
+while_up long command (Frmr f) o = anew o
+-- clauses 5.6.3, 5.8.2 and 5.8.5
+while_up long command (Information ns nr p) o = if long then anew o else numbered nr o
+while_up long command (ReceiveReady nr pf) o = receipt (not command && pf) false false nr o
+while_up long command (ReceiveNotReady nr pf) o = receipt (not command && pf) false true nr o
+while_up long command (Reject nr pf) o = receipt (not command && pf) true false nr o
+while_up long command other o = o
+
+-- In states 4, 5 and 6 (clauses 5.5.1.2, 5.5.3.2, 5.5.5 and 5.8.7); in state 1 nothing.
+abbrev pub while_down : Control → Observed → Observed
+while_down (Sabme p) o = if o.state == 4 then in_state 7 else o
+while_down (Ua f) o = if f && o.state == 5 then in_state 7 else if f && o.state == 6 then in_state 4 else o
+while_down (Dm f) o = if f && (o.state == 5 || o.state == 6) then in_state 4 else o
+while_down other o = o
+
+abbrev pub by_frame : Config → Observed → Parts → Observed
+by_frame c o f =
+    if is_up o.state then while_up (nat_lt c.n201 (length f.info)) f.address.command f.control o else while_down f.control o
+
+abbrev pub by_heard : Config → Service → ℕ → stream.Event → Observed → Observed
+by_heard c service tei e o =
+    if is_up o.state && is_malformed c service tei e then anew o else option_map_or (by_frame c o) (its_frame service tei (frame_of c e)) o
+
+-- What layer 3 asks, and is granted: that the link is established, or released (clauses 5.5.1.1 and 5.5.3.1).
+abbrev pub by_request : Service → ℕ → Request → Observed → Observed
+by_request service tei (Establish of by) o = if is_own service tei of by && o.state == 4 then record (in_state 5) { asked = true } else o
+by_request service tei (Release of by) o = if is_own service tei of by && is_up o.state then in_state 6 else o
+by_request service tei other o = o
+
+-- What runs out. The timer that runs in state 7 leads to an enquiry, in state 8 (clauses 5.6.7 and 5.10.3). In states 5,
+-- 6 and 8 T200 repeats SABME, DISC or the enquiry, N200 times, and then the link is given up, or established anew
+-- (clauses 5.5.1.3, 5.5.3.3, 5.6.7 and 5.9.2).
+abbrev pub enquires : Observed → Observed
+enquires o = record o { state = 8; expiries = 0 }
+
+abbrev pub by_t200 : ℕ → Observed → Observed
+by_t200 n200 o =
+    if o.state == 7 then (if awaits o then enquires o else o)
+    else if not (awaits o) then o
+    else if nat_lt o.expiries n200 then record o { expiries = o.expiries + 1 }
+    else if o.state == 8 then anew o else in_state 4
+
+abbrev pub by_expiry : Config → Service → ℕ → Timer → Observed → Observed
+by_expiry c service tei (T200 of by) o = if is_own service tei of by then by_t200 c.n200 o else o
+by_expiry c service tei (T203 of by) o = if is_own service tei of by && (o.state == 7 && not (awaits o)) then enquires o else o
+by_expiry c service tei other o = o
+
+-- What it sends: an I-frame, behind which the next number goes (clause 5.6.1).
+abbrev pub sends : Observed → Sent → Observed
+sends o sent = if is_up o.state then record o { next = (sent.ns + 1) % 128 } else o
+
+abbrev pub by_frame_begun : Config → Service → ℕ → Observed → List ℕ → Observed
+by_frame_begun c service tei o octets = option_map_or (sends o) (sent_in service tei (reading c.side octets)) o
+
+abbrev pub by_event : Config → Service → ℕ → line_event.Event → Answer → Observed → Observed
+by_event c service tei (hears e) a o = by_heard c service tei e o
+by_event c service tei (expiry timer) a o = by_expiry c service tei timer o
+by_event c service tei (request r) a o = if is_granted a then by_request service tei r o else o
+by_event c service tei line_event.next a o = fold (by_frame_begun c service tei) o (frame_in a)
+
+-- What is known of the TEIs of the line, and of a link. The link of a TEI that comes to the line is in state 4, and that
+-- of one that is not on it in state 1 (clauses 5.3 and 5.3.4).
+pub record View : Type 0 where
+  pub teis : Managed
+  pub link : Observed
+
+abbrev pub at_first : View
+at_first = record { teis = none_on; link = in_state 1 }
+
+abbrev pub views : Config → Service → ℕ → ℕ → View → Moment → View
+views c service tei number v m =
+    let teis = led c number v.teis m in
+    let link = if m.event.line == number then by_event c service tei m.event.what m.answer v.link else v.link in
+    record { teis = teis; link = if not (is_on tei teis) then in_state 1 else if is_on tei v.teis then link else in_state 4 }
+
+-- After a list of events.
+abbrev pub view_of : Config → Service → ℕ → ℕ → List Event → View
+view_of c service tei number events = fold (views c service tei number) at_first (moments (fresh c) events)
+
+-- An event of the line behind it, as a moment; and what is known then.
+abbrev pub moment_of : Config → List Event → ℕ → line_event.Event → Moment
+moment_of c before number what =
+    let card = after_all (fresh c) before in record { card = card; event = at number what; answer = answer (at number what) card }
+
+abbrev pub view_behind : Config → Service → ℕ → ℕ → List Event → line_event.Event → View
+view_behind c service tei number before what = views c service tei number (view_of c service tei number before) (moment_of c before number what)

@@ -1,0 +1,37 @@
+-- The state of a link before and behind a moment, as `Card::state` tells it, and the timer of it that expires.
+use Rattle.std.specs.Prelude.{ℕ, ◌==◌, not, Bool, false, Option, Some, None, is_some, if◌then◌else◌}
+use Rattle.lapd_frame.specs.declared.services.Service.{Service}
+use Rattle.lapd_frame.specs.declared.timers.Timer.TheVariants as timers
+use Rattle.model_link.specs.declared.timers.LinkTimer.{LinkTimer}
+use Rattle.model_link.specs.declared.timers.LinkTimer.TheVariants.{T200, T203}
+use Rattle.model_line.specs.Event as line_event
+use Rattle.model_line.specs.Event.{expiry}
+use Rattle.model_line.specs.Line.{state_of}
+use Rattle.model_card.specs.Card.{line_at}
+use Rattle.model_card.specs.Machine.{after}
+use Rattle.model_card.specs.Run.{Moment}
+use Rattle.laws_trace.specs.Trace.{is_own}
+
+-- None where the TEI is not on the line.
+abbrev pub state_before : Service → ℕ → ℕ → Moment → Option ℕ
+state_before service tei number m = state_of service tei (line_at number m.card)
+
+abbrev pub state_after : Service → ℕ → ℕ → Moment → Option ℕ
+state_after service tei number m = state_of service tei (line_at number (after m.event m.card))
+
+abbrev pub is_state : ℕ → Option ℕ → Bool
+is_state n None = false
+is_state n (Some state) = state == n
+
+abbrev pub differ : Option ℕ → Option ℕ → Bool
+differ None after = is_some after
+differ (Some state) after = not (is_state state after)
+
+abbrev pub expired_of : Service → ℕ → line_event.Event → Option LinkTimer
+expired_of service tei (expiry (timers.T200 of by)) = if is_own service tei of by then Some T200 else None
+expired_of service tei (expiry (timers.T203 of by)) = if is_own service tei of by then Some T203 else None
+expired_of service tei other = None
+
+abbrev pub one_more : LinkTimer → ℕ
+one_more T200 = 1
+one_more T203 = 0

@@ -1,0 +1,39 @@
+-- Worked values: what is counted of a trace, and counters that count nothing, which break the law.
+use Rattle.std.specs.Prelude.{◌≡◌, ℕ, [], ◌++◌, flat_map, refl}
+use Rattle.lapd_count.specs.declared.counter.Counter.{Counter}
+use Rattle.lapd_count.specs.declared.counter.Counter.TheVariants.{Frames, Octets, EstablishIndications}
+use Rattle.lapd_count.specs.declared.counter.Way.TheVariants.{Heard, Begun}
+use Rattle.lapd_count.specs.declared.kinds.Kind.TheVariants.{Sabme, Ua}
+use Rattle.lapd_count.specs.Counters.{amount_in}
+use Rattle.lapd_frame.specs.Reading.{reading, header_of, control_of, unnumbered_of}
+use Rattle.lapd_tei.specs.Events as teis
+use Rattle.model_line.specs.Machine as lines
+use Rattle.model_card.specs.Run.{moments}
+use Rattle.laws_card.specs.Worked.{usual, up}
+use Rattle.laws_trace.specs.CountersCount.{names}
+use Rattle.laws_trace.specs.Trace.{trace_of}
+use Rattle.laws_trace.specs.WorkedUnits.{calls}
+
+-- SABME of TEI 64, and two calls for the next frame: its UA goes.
+abbrev seen_of : Counter → ℕ
+seen_of counter = amount_in counter (flat_map (names usual.side) (trace_of usual (up ++ calls 2) 0))
+
+one_sabme : seen_of (Frames Heard Sabme) ≡ 1
+unfolding moments lines.after lines.answer lines.takes_slot teis.course teis.refusal reading header_of control_of unnumbered_of
+one_sabme = refl
+
+one_ua : seen_of (Frames Begun Ua) ≡ 1
+unfolding moments lines.after lines.answer lines.takes_slot teis.course teis.refusal reading header_of control_of unnumbered_of
+one_ua = refl
+
+its_octets : seen_of (Octets Begun) ≡ 3
+unfolding moments lines.after lines.answer lines.takes_slot teis.course teis.refusal reading header_of control_of unnumbered_of
+its_octets = refl
+
+one_noted : seen_of EstablishIndications ≡ 1
+unfolding moments lines.after lines.answer lines.takes_slot teis.course teis.refusal reading header_of control_of unnumbered_of
+one_noted = refl
+
+-- Where the moments show nothing, the law is broken.
+none_shown : amount_in (Frames Heard Sabme) [] ≡ 1 → ⊥
+none_shown e = cc e

@@ -1,0 +1,50 @@
+-- Worked values: data that is granted takes a place; and a link that loses what had not gone, and tells nobody, which breaks the law.
+use Rattle.std.specs.Prelude.{◌≡◌, ◌⊎◌, ℕ, ◌+◌, true, false, [], ◌∷◌, ◌++◌, length, flat_map, None, Ok, refl}
+use Rattle.std.specs.List.{list_any}
+use Rattle.std.proofs.Common.{inl, inr}
+use Rattle.lapd_frame.specs.declared.notes.ErrorCode.TheVariants.{F}
+use Rattle.lapd_frame.specs.declared.notes.Note.TheVariants.{Error, ReleaseIndication}
+use Rattle.lapd_frame.specs.declared.services.Service.TheVariants.{Call, Packet}
+use Rattle.lapd_frame.specs.Reading.{reading, header_of, control_of, unnumbered_of, supervisory_of}
+use Rattle.lapd_seq.specs.Circle.{named, distance_of}
+use Rattle.lapd_seq.specs.Numbers.{seq}
+use Rattle.lapd_tei.specs.Events as teis
+use Rattle.model_line.specs.Machine as lines
+use Rattle.model_line.specs.Request.{Data}
+use Rattle.model_card.specs.Card.{fresh}
+use Rattle.model_card.specs.Room.{room}
+use Rattle.model_card.specs.Run.{after_all}
+use Rattle.laws_card.specs.Worked.{usual, on_0, up}
+use Rattle.laws_trace.specs.PlacesAreKept.{data_granted, shows_loss}
+use Rattle.laws_trace.specs.Trace.{noted, granted}
+
+-- SABME of TEI 64, and data: one place of eight is taken;
+one_taken : room 0 Call 64 (after_all (fresh usual) (up ++ on_0 (Data Call 64 (7 ∷ [])) ∷ [])) ≡ Ok (record { queue = 7; pool = 63; va = 0 })
+unfolding after_all lines.after lines.takes_slot teis.course teis.refusal seq distance_of named reading header_of control_of unnumbered_of supervisory_of
+one_taken = refl
+
+-- it was granted for its link, and for no other.
+for_its_link : length (flat_map (data_granted Call 64) (granted (Data Call 64 (7 ∷ [])) ∷ [])) ≡ 1
+for_its_link = refl
+
+for_no_other : flat_map (data_granted Packet 64) (granted (Data Call 64 (7 ∷ [])) ∷ []) ≡ []
+for_no_other = refl
+
+-- SABME again leaves it, as nothing is outstanding; error F says nothing of a loss, as a release indication does.
+still_taken : room 0 Call 64 (after_all (fresh usual) (up ++ on_0 (Data Call 64 (7 ∷ [])) ∷ up)) ≡ Ok (record { queue = 7; pool = 63; va = 0 })
+unfolding after_all lines.after lines.takes_slot teis.course teis.refusal seq distance_of named reading header_of control_of unnumbered_of supervisory_of
+still_taken = refl
+
+no_loss : list_any (shows_loss Call 64) (noted (Error Call 64 F ∷ []) None ∷ []) ≡ false
+no_loss = refl
+
+a_loss : list_any (shows_loss Call 64) (noted (ReleaseIndication Call 64 ∷ []) None ∷ []) ≡ true
+a_loss = refl
+
+-- Where all places were left behind it, the law would be broken.
+abbrev Same : ℕ → ℕ → Type 0
+Same m n = m ≡ n
+
+lost_silently : (Same 8 8 × (false ≡ true)) ⊎ Same (8 + 0) (7 + 0) → ⊥
+lost_silently (inl x) = cc x.1
+lost_silently (inr e) = cc e

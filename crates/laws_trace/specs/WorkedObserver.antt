@@ -1,0 +1,142 @@
+-- Worked values: what an observer knows of a link, which timers run, and when they are started; and what breaks the laws.
+use Rattle.std.specs.Prelude.{◌≡◌, ℕ, ◌*◌, ◌&&◌, ◌||◌, not, Bool, true, false, List, [], ◌∷◌, ◌++◌, refl}
+use Rattle.std.proofs.Common.{arith}
+use Rattle.model_bits.specs.Stream as stream
+use Rattle.lapd_frame.specs.declared.services.Service.TheVariants.{Call}
+use Rattle.lapd_frame.specs.declared.timers.Timer.TheVariants as timers
+use Rattle.lapd_frame.specs.Reading.{reading, header_of, control_of, unnumbered_of, supervisory_of}
+use Rattle.lapd_seq.specs.Circle.{named, distance_of}
+use Rattle.lapd_seq.specs.Numbers.{seq}
+use Rattle.lapd_tei.specs.Events as teis
+use Rattle.model_link.specs.declared.timers.LinkTimer.TheVariants.{T200, T203}
+use Rattle.laws_link.specs.Timed.{obeyed}
+use Rattle.model_line.specs.Event as line_event
+use Rattle.model_line.specs.Event.{hears, expiry}
+use Rattle.model_line.specs.Laws.{orders_in}
+use Rattle.model_line.specs.Machine as lines
+use Rattle.model_line.specs.Request.{Assign, Remove, Establish, Data}
+use Rattle.model_card.specs.Card.{fresh}
+use Rattle.model_card.specs.Event.{Event, at}
+use Rattle.model_card.specs.Machine.{answer}
+use Rattle.model_card.specs.Run.{moments, after_all}
+use Rattle.laws_card.specs.Timers.{runs_at_callers}
+use Rattle.laws_card.specs.Worked.{usual, on_0, up}
+use Rattle.laws_trace.specs.AllGoesAgain.{MayGo, goes_next}
+use Rattle.laws_trace.specs.Observer.{Observed, in_state, awaits, by_heard, by_t200, by_expiry, view_of}
+use Rattle.laws_trace.specs.TimersAreTimely.{is_anew}
+use Rattle.laws_trace.specs.WorkedUnits.{calls, comes}
+
+abbrev pub link_after : List Event → Observed
+link_after events = (view_of usual Call 64 0 events).link
+
+-- The TEI comes, SABME leads from state 4 to state 7, and the TEI leaves.
+is_assigned : link_after (on_0 (Assign 64) ∷ []) ≡ in_state 4
+unfolding moments lines.after lines.answer lines.takes_slot teis.course teis.refusal
+is_assigned = refl
+
+comes_up : link_after up ≡ in_state 7
+unfolding moments lines.after lines.answer lines.takes_slot teis.course teis.refusal seq reading header_of control_of unnumbered_of supervisory_of
+comes_up = refl
+
+has_left : link_after (up ++ on_0 (Remove 64) ∷ []) ≡ in_state 1
+unfolding moments lines.after lines.answer lines.takes_slot teis.course teis.refusal seq reading header_of control_of unnumbered_of supervisory_of
+has_left = refl
+
+-- SABME that layer 3 asks for is repeated three times, N200; with the expiry behind these the link is down.
+abbrev expires : Event
+expires = at 0 (expiry (timers.T200 Call 64))
+
+abbrev thrice : List Event
+thrice = on_0 (Assign 64) ∷ on_0 (Establish Call 64) ∷ expires ∷ expires ∷ expires ∷ []
+
+awaits_still : link_after thrice ≡ record (in_state 5) { asked = true; expiries = 3 }
+unfolding moments lines.after lines.answer lines.takes_slot teis.course teis.refusal
+awaits_still = refl
+
+goes_down : link_after (thrice ++ expires ∷ []) ≡ in_state 4
+unfolding moments lines.after lines.answer lines.takes_slot teis.course teis.refusal
+goes_down = refl
+
+-- Two I-frames go; RR with N(R) = 1 acknowledges the first; REJ takes the second back, and the next call sends it again.
+abbrev two_gone : List Event
+two_gone = up ++ on_0 (Data Call 64 (7 ∷ [])) ∷ on_0 (Data Call 64 (8 ∷ [])) ∷ calls 3
+
+abbrev rr_comes : Event
+rr_comes = comes (0x02 ∷ 0x81 ∷ 0x01 ∷ 0x02 ∷ [])
+
+abbrev rej_comes : Event
+rej_comes = comes (0x02 ∷ 0x81 ∷ 0x09 ∷ 0x02 ∷ [])
+
+two_known : link_after two_gone ≡ record (in_state 7) { next = 2 }
+unfolding moments lines.after lines.answer lines.takes_slot teis.course teis.refusal seq distance_of named reading header_of control_of unnumbered_of supervisory_of
+two_known = refl
+
+one_known : link_after (two_gone ++ rr_comes ∷ []) ≡ record (in_state 7) { acknowledged = 1; next = 2 }
+unfolding moments lines.after lines.answer lines.takes_slot teis.course teis.refusal seq distance_of named reading header_of control_of unnumbered_of supervisory_of
+one_known = refl
+
+is_to_go : link_after (two_gone ++ rej_comes ∷ []) ≡ record (in_state 7) { acknowledged = 1; next = 1 }
+unfolding moments lines.after lines.answer lines.takes_slot teis.course teis.refusal seq distance_of named reading header_of control_of unnumbered_of supervisory_of
+is_to_go = refl
+
+has_gone : link_after (two_gone ++ rej_comes ∷ calls 1) ≡ record (in_state 7) { acknowledged = 1; next = 2 }
+unfolding moments lines.after lines.answer lines.takes_slot teis.course teis.refusal seq distance_of named reading header_of control_of unnumbered_of supervisory_of
+has_gone = refl
+
+-- T200 runs where two are outstanding, and RR that acknowledges one starts it anew.
+abbrev runs_after : List Event → List Bool
+runs_after events =
+    runs_at_callers 0 (timers.T200 Call 64) false (moments (fresh usual) events) ∷ runs_at_callers 0 (timers.T203 Call 64) false (moments (fresh usual) events) ∷ []
+
+t200_runs : runs_after two_gone ≡ true ∷ false ∷ []
+unfolding moments lines.after lines.answer lines.takes_slot teis.course teis.refusal seq distance_of named reading header_of control_of unnumbered_of supervisory_of
+t200_runs = refl
+
+started_anew : obeyed (timers.T200 Call 64) false (orders_in (answer rr_comes (after_all (fresh usual) two_gone))) ≡ true
+unfolding after_all lines.after lines.answer lines.takes_slot teis.course teis.refusal seq distance_of named reading header_of control_of unnumbered_of supervisory_of
+started_anew = refl
+
+-- Where T203 takes a link down, DISC leaves it up, or SABME is given up after its second repeat, the law is broken.
+by_t203 : 4 ≡ (by_expiry usual Call 64 (timers.T203 Call 64) (in_state 7)).state → ⊥
+by_t203 e = cc e
+
+by_disc : 7 ≡ (by_heard usual Call 64 (stream.frame (0x00 ∷ 0x81 ∷ 0x53 ∷ [])) (in_state 7)).state → ⊥
+unfolding reading header_of control_of unnumbered_of supervisory_of
+by_disc e = cc e
+
+too_soon : 4 ≡ (by_t200 3 (record (in_state 5) { expiries = 2 })).state → ⊥
+too_soon e = cc e
+
+-- Where RR acknowledges a part, and T200 runs on from before, the law is broken; so it is where T203 is started anew by
+-- unit data, or T200 by RR that acknowledges nothing.
+abbrev two_out : Observed
+two_out = record (in_state 7) { next = 2 }
+
+abbrev rr : ℕ → line_event.Event
+rr number = hears (stream.frame (0x02 ∷ 0x81 ∷ 0x01 ∷ 2 * number ∷ []))
+
+abbrev unit_data : line_event.Event
+unit_data = hears (stream.frame (0x00 ∷ 0x81 ∷ 0x03 ∷ 0xAB ∷ []))
+
+forgotten : false ≡ (true && (not true || is_anew usual Call 64 T200 two_out two_out (rr 1))) → ⊥
+unfolding seq reading header_of control_of unnumbered_of supervisory_of
+forgotten e = cc e
+
+by_unit_data : true ≡ (true && (not true || is_anew usual Call 64 T203 (in_state 7) (in_state 7) unit_data)) → ⊥
+unfolding seq reading header_of control_of unnumbered_of supervisory_of
+by_unit_data e = cc e
+
+by_nothing_new : true ≡ (true && (not true || is_anew usual Call 64 T200 two_out two_out (rr 0))) → ⊥
+unfolding seq reading header_of control_of unnumbered_of supervisory_of
+by_nothing_new e = cc e
+
+-- Where no answer ordered T200, though two I-frames are not acknowledged, that the timers run is broken.
+never_started : runs_at_callers 0 (timers.T200 Call 64) false [] ≡ awaits two_out → ⊥
+never_started e = cc e
+
+-- I-frames may go while two are outstanding; where the second goes, though REJ set back to the first, the law is broken.
+may_go : MayGo usual Call two_out
+may_go = record { up = refl; free = refl; few = omega arith }
+
+passed_over : goes_next (in_state 7) (record { ns = 1; nr = 0; contents = 8 ∷ [] }) → ⊥
+passed_over e = cc e

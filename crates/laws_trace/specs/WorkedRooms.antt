@@ -1,0 +1,40 @@
+-- Worked values: what is told of the room of a link, and one that tells V(S) as V(A), which breaks the law.
+use Rattle.std.specs.Prelude.{◌≡◌, ℕ, List, [], ◌∷◌, ◌++◌, Ok, refl}
+use Rattle.lapd_frame.specs.declared.services.Service.TheVariants.{Call}
+use Rattle.lapd_frame.specs.Reading.{reading, header_of, control_of, unnumbered_of, supervisory_of}
+use Rattle.lapd_seq.specs.Circle.{named, distance_of}
+use Rattle.lapd_seq.specs.Numbers.{seq}
+use Rattle.lapd_tei.specs.Events as teis
+use Rattle.model_line.specs.Machine as lines
+use Rattle.model_line.specs.Request.{Data}
+use Rattle.model_card.specs.Card.{fresh}
+use Rattle.model_card.specs.Event.{Event}
+use Rattle.model_card.specs.Room.{room}
+use Rattle.model_card.specs.Run.{moments, after_all}
+use Rattle.laws_card.specs.Worked.{usual, on_0, up}
+use Rattle.laws_trace.specs.WorkedObserver.{link_after}
+use Rattle.laws_trace.specs.WorkedUnits.{calls, comes}
+
+-- SABME of TEI 64, two data; UA and one of them go: two places of eight are taken, and none is acknowledged;
+abbrev gone : List Event
+gone = up ++ on_0 (Data Call 64 (7 ∷ [])) ∷ on_0 (Data Call 64 (8 ∷ [])) ∷ calls 2
+
+two_kept : room 0 Call 64 (after_all (fresh usual) gone) ≡ Ok (record { queue = 6; pool = 62; va = 0 })
+unfolding after_all lines.after lines.takes_slot teis.course teis.refusal seq distance_of named reading header_of control_of unnumbered_of supervisory_of
+two_kept = refl
+
+-- behind RR 1 one place is.
+one_kept : room 0 Call 64 (after_all (fresh usual) (gone ++ comes (0x02 ∷ 0x81 ∷ 0x01 ∷ 0x02 ∷ []) ∷ [])) ≡ Ok (record { queue = 7; pool = 63; va = 1 })
+unfolding after_all lines.after lines.takes_slot teis.course teis.refusal seq distance_of named reading header_of control_of unnumbered_of supervisory_of
+one_kept = refl
+
+-- Before it nothing was acknowledged, though V(S) is 1.
+none_heard : (link_after gone).acknowledged ≡ 0
+unfolding moments lines.after lines.answer lines.takes_slot teis.course teis.refusal seq distance_of named reading header_of control_of unnumbered_of supervisory_of
+none_heard = refl
+
+abbrev Same : ℕ → ℕ → Type 0
+Same m n = m ≡ n
+
+sent_is_told : Same 1 0 → ⊥
+sent_is_told e = cc e

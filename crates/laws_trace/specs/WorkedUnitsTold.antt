@@ -1,0 +1,36 @@
+-- Worked values: unit data that is told, of the group and of a terminal; and one to another TEI, which is told of none.
+use Rattle.std.specs.Prelude.{◌≡◌, ℕ, List, [], ◌∷◌, None, Some, refl}
+use Rattle.lapd_frame.specs.declared.addresses.Side.TheVariants.{User}
+use Rattle.lapd_frame.specs.declared.notes.Note.TheVariants.{Unit}
+use Rattle.lapd_frame.specs.declared.services.Service.TheVariants.{Call}
+use Rattle.lapd_frame.specs.Reading.{reading, header_of, control_of, unnumbered_of}
+use Rattle.lapd_tei.specs.Events as teis
+use Rattle.model_line.specs.declared.config.Config.{Config}
+use Rattle.model_line.specs.Machine as lines
+use Rattle.model_line.specs.Request.{Assign}
+use Rattle.model_card.specs.Card.{fresh}
+use Rattle.model_card.specs.Machine.{answer}
+use Rattle.model_card.specs.Run.{after_all}
+use Rattle.laws_line.specs.Heard.{notes_of, contents_in}
+use Rattle.laws_card.specs.Worked.{usual, on_0}
+use Rattle.laws_trace.specs.WorkedUnits.{comes}
+
+abbrev user : Config
+user = record usual { side = User }
+
+-- The network's UI to the group, with AB, is unit data of TEI 127.
+to_group : notes_of (answer (comes (0x02 ∷ 0xFF ∷ 0x03 ∷ 0xAB ∷ [])) (fresh user)) ≡ Unit Call 127 ∷ []
+unfolding lines.answer lines.takes_slot reading header_of control_of unnumbered_of
+to_group = refl
+
+-- That of a terminal whose TEI is on the line is told, and of one whose is not is none.
+abbrev heard_from_64 : List ℕ
+heard_from_64 = 0x00 ∷ 0x81 ∷ 0x03 ∷ 0xCD ∷ []
+
+on_line : contents_in (answer (comes heard_from_64) (after_all (fresh usual) (on_0 (Assign 64) ∷ []))) ≡ Some (0xCD ∷ [])
+unfolding after_all lines.after lines.answer lines.takes_slot teis.course teis.refusal reading header_of control_of unnumbered_of
+on_line = refl
+
+off_line : contents_in (answer (comes heard_from_64) (fresh usual)) ≡ None
+unfolding lines.answer lines.takes_slot reading header_of control_of unnumbered_of
+off_line = refl

@@ -1,0 +1,60 @@
+-- What an event leaves as it was at a station.
+use Rattle.std.proofs.Common.{◌≡◌, Bool, true, false, cond, ℕ, List, [], ◌++◌, Option, None, Some, option_map, refl, ap, ◌∙◌, append-nil}
+use Rattle.lapd_frame.specs.declared.refusals.Refusal.{Refusal}
+use Rattle.lapd_frame.specs.declared.refusals.Refusal.TheVariants.{PoolFull}
+use Rattle.lapd_frame.specs.declared.timers.Timer.{Timer}
+use Rattle.model_line.specs.Came.{came}
+use Rattle.model_line.specs.Event.{Event, hears, expiry, request, next, Answer, told, refused, gave}
+use Rattle.model_line.specs.Machine as lines
+use Rattle.model_line.specs.Machine.{unless_refused_told, of_request}
+use Rattle.model_line.specs.Refusal.{refusal}
+use Rattle.model_line.specs.Request.{Request}
+use Rattle.model_line.specs.Taken.{taken, next_of}
+use Rattle.model_card.specs.Card.{line_at}
+use Rattle.model_card.specs.Event.{at}
+use Rattle.model_card.specs.Machine.{wants_room}
+use Rattle.laws_wire.specs.Wire.{Station, answered, happens, comes, frames_by, unless_refused, contents_in}
+
+-- A call for the next frame gives what is taken at the line, and tells nothing.
+pub gives-taken : (s : Station) → answered next s ≡ gave (option_map next_of (taken s.card.config (line_at s.line s.card)))
+unfolding lines.takes_slot lines.answer
+gives-taken s = refl
+
+pub gives-told : (s : Station) → (happens next s).told ≡ s.told
+unfolding lines.takes_slot lines.answer
+gives-told s = append-nil s.told
+
+-- Nothing but a call for it gives a frame.
+pub takes-way : (octets : List ℕ) (s : Station) → (comes octets s).way ≡ s.way
+unfolding lines.takes_slot lines.answer
+takes-way octets s = append-nil s.way
+
+pub expires-way : (timer : Timer) (s : Station) → (happens (expiry timer) s).way ≡ s.way
+unfolding lines.takes_slot lines.answer
+expires-way timer s = append-nil s.way
+
+pub asks-way : (r : Request) (s : Station) → (happens (request r) s).way ≡ s.way
+unfolding lines.answer
+asks-way r s = by-answer (wants_room (at s.line (request r)) s.card) (refusal s.card.config false r (line_at s.line s.card))
+  where
+    by-answer : (full : Bool) (why : Option Refusal)
+        → s.way ++ frames_by (cond full (refused PoolFull) (unless_refused_told why (of_request s.card.config r (line_at s.line s.card)))) ≡ s.way
+    by-answer true why = append-nil s.way
+    by-answer false None = append-nil s.way
+    by-answer false (Some why) = append-nil s.way
+
+-- What asks for nothing is granted nothing.
+none-granted : (a : Answer) → unless_refused a [] ≡ []
+none-granted (told t) = refl
+none-granted (refused why) = refl
+none-granted (gave o) = refl
+
+pub same-granted : (e : Event) (s : Station) → contents_in e ≡ [] → (happens e s).granted ≡ s.granted
+same-granted e s none =
+    ap (λ contents. s.granted ++ unless_refused (answered e s) contents) none ∙ ap (λ contents. s.granted ++ contents) (none-granted (answered e s)) ∙ append-nil s.granted
+
+pub gives-granted : (s : Station) → (happens next s).granted ≡ s.granted
+gives-granted s = same-granted next s refl
+
+pub takes-granted : (octets : List ℕ) (s : Station) → (comes octets s).granted ≡ s.granted
+takes-granted octets s = same-granted (hears (came s.card.config.n201 octets)) s refl

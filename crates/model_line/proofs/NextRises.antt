@@ -1,0 +1,63 @@
+-- A frame that is taken is no longer among those that may be sent.
+use Rattle.model_line.proofs.Vocabulary.{◌≡◌, ℕ, ◌+◌, ◌*◌, ◌≤◌, ◌<◌, List, ◌∷◌, length, drop, Option, Some, None, is_some, refl, ap, cond, arith, Link, Sent, Given, Terms, event-rises, offer-falls, frame_of, Message, IsAt, Config, one, may_send, Line, UnitData, link_count, service_at, place_at, terms, link_at, Taken, with_message, with_unit, with_given_frame, taken, next_of, option_map, after, answer, FallsByNext, IsInRange, IsSound}
+use Rattle.model_link.specs.Events as link
+use Rattle.model_link.specs.Machine as links
+use Rattle.model_link.specs.Rises as rises
+use Rattle.model_link.specs.Sound as link_sounds
+use Rattle.model_line.proofs.AimsRise.{may_send_of}
+use Rattle.model_line.proofs.TakenWalk.{taken_walk, next_walk}
+use Rattle.model_line.proofs.Ranges.{terms_in_range}
+use Rattle.model_line.proofs.Sums.{one_changed}
+
+-- One frame fewer may be sent, or two: a link's frame makes an acknowledgement that it owes needless.
+abbrev pub TakesOne : Config → Line → Taken → Type 0
+TakesOne c l t = (1 + may_send c t.line ≤ may_send c l) × (may_send c l ≤ may_send c t.line + 2)
+
+-- what a link gives is sent
+gives : (t : Terms) (l : Link) (g : Given) → links.given t l ≡ Some g → rises.sent t link.offer l ≡ 1
+gives t l g e = go (links.course t link.offer l).sent e
+  where
+    go : (o : Option Sent) → links.given_of t l (links.course t link.offer l) o ≡ Some g → cond {A = ℕ} (is_some o) 1 0 ≡ 1
+    go None e = cc
+    go (Some s) e = refl
+
+module _ (c : Config) (ranged : IsInRange c) (l : Line) (s : IsSound c l) where
+  message_falls : (m : Message) (ms : List Message) → l.management.waiting ≡ m ∷ ms → TakesOne c l (with_message l (frame_of c.side m))
+  message_falls m ms e =
+      let rest : length (drop 1 l.management.waiting) ≡ length ms = ap (λ (x : List Message). length (drop 1 x)) e in
+      let all : length l.management.waiting ≡ length (m ∷ ms) = ap (λ (x : List Message). length x) e in
+      (omega (arith, rest, all), omega (arith, rest, all))
+
+  unit_falls : (u : UnitData) (us : List UnitData) → l.units ≡ u ∷ us → TakesOne c l (with_unit c l u)
+  unit_falls u us e =
+      let rest : length (drop 1 l.units) ≡ length us = ap (λ (x : List UnitData). length (drop 1 x)) e in
+      let all : length l.units ≡ length (u ∷ us) = ap (λ (x : List UnitData). length x) e in
+      (omega (arith, rest, all), omega (arith, rest, all))
+
+  given_falls : (n tei : ℕ) → n < link_count c → IsAt l.management.places (place_at n) tei → link_sounds.IsSound (terms c (service_at n) tei) (link_at n l)
+      → (g : Given) → links.given (terms c (service_at n) tei) (link_at n l) ≡ Some g → TakesOne c l (with_given_frame c l n (terms c (service_at n) tei) g)
+  given_falls n tei few at sound g e =
+      let t = terms c (service_at n) tei in
+      let range = terms_in_range c ranged (service_at n) tei (s.management.table.range (place_at n) tei at) in
+      let own = event-rises t range (link_at n l) sound link.offer in
+      let least = offer-falls t range (link_at n l) sound in
+      let sums = one_changed c (may_send_of c) l.links n (links.after t link.offer (link_at n l)) s.count few in
+      let sent = gives t (link_at n l) g e in
+      (omega (arith, own, sums, sent), omega (arith, least, sums, sent))
+
+-- and so it is with a call that gives a frame; any other leaves what may be sent
+abbrev Falls : Config → Line → Option Taken → Line → Type 0
+Falls c l o m = (one (is_some o) + may_send c m ≤ may_send c l) × (may_send c l ≤ may_send c m + 2 * one (is_some o))
+
+given_same : (o : Option Taken) → one (is_some (option_map next_of o)) ≡ one (is_some o)
+given_same None = refl
+given_same (Some t) = refl
+
+pub next_falls : (c : Config) → IsInRange c → (l : Line) → IsSound c l → FallsByNext c l
+unfolding after answer
+next_falls c ranged l s =
+    let falls = next_walk c l (TakesOne c l) (Falls c l)
+    (taken_walk c l s (TakesOne c l) (message_falls c ranged l s) (unit_falls c ranged l s) (given_falls c ranged l s))
+    (omega arith, omega arith) (λ t h. (omega (arith, h.0), omega (arith, h.1))) in
+    let same = given_same (taken c l) in
+    (omega (arith, falls.0, same), omega (arith, falls.1, same))

@@ -1,0 +1,28 @@
+-- Lemmas of ports: the law of the codec, what stands in the octets, and what is promised of them.
+pub mod Vocabulary
+mod FramesIdle
+mod FramesJudged
+pub mod FramesHeard
+pub mod Gains
+pub mod HeardOctets
+pub mod TextGoesOn
+pub mod Steps
+pub mod PortGoesOn
+pub mod Fold
+pub mod Codec
+pub mod Sound
+pub mod Reaching
+pub mod Heard
+mod Octets
+pub mod Stored
+pub mod Drops
+pub mod Answered
+pub mod Linear
+pub mod Isolated
+pub mod PortRuns
+pub mod LastItem
+pub mod AsOctets
+pub mod LineHeard
+pub mod CallsPut
+pub mod GoingOut
+pub mod Pulls

@@ -1,0 +1,85 @@
+// asked.cpp: what lapd.hpp can be asked for and no script asks: states, links, rooms, begun frames, ends and second starts; and
+// that one that fails leaves its answer as it was. Status 0 where all is as it should be. For tests alone.
+#include <cstdio>
+#include <vector>
+
+#include "lapd.hpp"
+
+namespace {
+
+using lapd::service;
+using lapd::status;
+
+const lapd_config config = {2, 8, 7, 7, 8, 4, 4, 64, 260, 3, LAPD_NETWORK};
+const uint8_t sabme[] = {0x00, 0x81, 0x7F};
+bool is_good = true;
+
+void wants(bool good, const char *what) {
+    if (!good)
+        std::fprintf(stderr, "asked: %s\n", what);
+    is_good = is_good && good;
+}
+
+// Who is on line 1, where TEI 64 established its link for calls and has one of data on its way, and on line 0, where nobody is.
+void asks(lapd::any_card &card) {
+    lapd::state state = lapd::state::timer_recovery;
+    wants(card.state_of(1, service::call, 64, state) == status::ok && state == lapd::state::established, "a state");
+    wants(card.state_of(2, service::call, 64, state) == status::wrong_line && state == lapd::state::established, "no state");
+    wants(card.state_of(0, service::call, 64, state) == status::ok && state == lapd::state::none, "a TEI that is not there");
+    uint8_t place = 0;
+    lapd::link link{};
+    std::vector<lapd::link> links;
+    while (card.next_link(1, place, link) == status::ok)
+        links.push_back(link);
+    wants(links.size() == 2 && links[0].service == service::call && links[1].service == service::packet && links[1].tei == 64
+              && links[0].state == lapd::state::established && links[1].state == lapd::state::tei_assigned, "links");
+    lapd::room room{};
+    wants(card.room_of(1, service::call, 64, room) == status::ok && room.pool == 63 && room.queue == 7 && room.va == 0, "a room");
+    wants(card.room_of(1, service::call, 65, room) == status::refused_no_link && room.pool == 63, "no room");
+    uint32_t lines = 0;
+    wants(card.lines(lines) == status::ok && lines == 2, "lines");
+    wants(card.end() == status::ok && card.end() == status::no_card && card.lines(lines) == status::no_card, "an end");
+}
+
+void asks_octets(lapd::card &card, lapd::report &report) {
+    lapd_head head = {1, {0}};
+    wants(card.begun(1, head) == status::ok && head.length == 0, "no begun frame");
+    for (uint8_t octet : {0x7E, 0x00, 0x81, 0xEF, 0x50, 0xB1, 0xFD, 0xFC})
+        wants(card.octet(1, octet, report) == status::ok, "an octet");
+    uint8_t octet = 0;
+    wants(card.pull(1, octet, report) == status::ok && !report.begun() && octet == 0x7E, "a flag");
+    wants(card.pull(1, octet, report) == status::ok && report.begun() && octet == 0x00, "a pull");
+    wants(card.begun(1, head) == status::ok && head.length == 3 && head.octets[2] == 0x73, "a begun frame");
+}
+
+void asks_frames(lapd::frame_card &card, lapd::report &report) {
+    uint8_t room[LAPD_MOST_FRAME];
+    lapd::octets goes;
+    wants(card.frame(1, sabme, report) == status::ok && report.tells() && report.notes().size() == 1, "a frame");
+    wants(card.next_frame(1, {room, 3}, goes, report) == status::wrong_length && goes.empty(), "a small room");
+    wants(card.next_frame(1, room, goes, report) == status::ok && goes.data() == room && goes.size() == 3 && goes[2] == 0x73, "UA");
+    wants(card.next_frame(1, room, goes, report) == status::no_frame && goes.size() == 3, "no frame");
+}
+
+} // namespace
+
+int main() {
+    lapd::card octets;
+    lapd::frame_card frames;
+    lapd::clock clock;
+    lapd::report report;
+    uint64_t moment = 7;
+    wants(octets.start(config) == status::ok && octets.start(config) == status::second_start, "a start");
+    wants(frames.start(config) == status::ok && frames.start(config) == status::second_start, "a start for frames");
+    wants(octets.assign(1, 64, report) == status::ok && frames.assign(1, 64, report) == status::ok, "a TEI");
+    asks_frames(frames, report);
+    asks_octets(octets, report);
+    for (lapd::any_card *card : {static_cast<lapd::any_card *>(&octets), static_cast<lapd::any_card *>(&frames)}) {
+        wants(card->data(1, service::call, 64, sabme, report) == status::ok, "data");
+        asks(*card);
+    }
+    wants(octets.start(config) == status::ok, "a start after an end");
+    wants(clock.next(moment) == status::no_clock && clock.start(config) == status::ok, "a clock");
+    wants(clock.next(moment) == status::no_timer && moment == 7 && clock.end() == status::ok, "no timer");
+    return !is_good;
+}

@@ -1,0 +1,218 @@
+"""Plays scripts of docs/FORMAT.md through bindings/python/lapd.py, as `lapdsim run` does: transcript, fault line and status."""
+import re
+import sys
+from typing import Any, Dict, Iterator, List, NamedTuple, Tuple
+
+from compiled import ROOT
+
+sys.path[:0] = [f"{ROOT}/tools", f"{ROOT}/bindings/python"]
+import lapd
+from vithrynel.bits import Deframer, Frame, Terminal
+
+MOST_LINE, MOST_NUMBER, MOST_TEI, MOST_WAIT, MOST_PULLS = 4096, 65535, 255, 3_600_000, 4096
+LATEST = (1 << 63) - 1
+# What the numbers of a card line are, in order; the tenth may be left out.
+FIELDS = ("lines", "terminals", "k", "queue", "unit_queue", "control", "slots", "n201", "n200", "k16")
+OCTETS = re.compile(rb"-|(?:[0-9A-Fa-f]{2})*")
+CAUSES = {b"abort": lapd.Cause.ABORT, b"ragged": lapd.Cause.RAGGED, b"short": lapd.Cause.SHORT, b"fcs": lapd.Cause.FCS}
+# Words that are followed by octets, and by how many numbers before; and the range of the last number.
+NUMBERS: Dict[bytes, Tuple[int, int, int]] = {
+    b"rx": (1, 0, MOST_NUMBER), b"in": (1, 0, MOST_NUMBER), b"pull": (2, 1, MOST_PULLS), b"next": (1, 0, MOST_NUMBER),
+    b"wait": (1, 0, MOST_WAIT), b"stored": (0, 0, 0), b"counters": (1, 0, MOST_NUMBER),
+    **{it: (2, 0, MOST_TEI) for it in (b"assign", b"remove", b"check", b"establish", b"release", b"busy", b"ready", b"data",
+                                       b"unit", b"establish16", b"release16", b"busy16", b"ready16", b"data16", b"unit16")}}
+WITH_OCTETS = {b"rx", b"in", b"data", b"unit", b"data16", b"unit16"}
+
+
+class Faulty(Exception):
+    """What a line is faulty in."""
+
+
+class Line(NamedTuple):
+    word: str
+    numbers: List[int]
+    octets: bytes = b""
+    last: bytes = b""
+
+
+def number(word: bytes, least: int = 0, most: int = MOST_NUMBER) -> int:
+    if not word.isdigit() or not least <= int(word) <= most:
+        raise Faulty("bad number")
+    return int(word)
+
+
+def counted(words: List[bytes], *counts: int) -> List[bytes]:
+    if len(words) not in counts:
+        raise Faulty("bad number of words")
+    return words
+
+
+def read(text: bytes) -> Line:
+    """A line of a script, before a card is asked."""
+    word, *words = text.split(b" ")
+    if word in (b"card", b"frames"):
+        last = words.pop() if len(words) in (10, 11) and words[-1] == b"user" else b""
+        return Line(word.decode(), [number(it) for it in counted(words, 9, 10)], last=last)
+    if word == b"timers":
+        return Line("timers", [number(it, 1, MOST_WAIT) for it in counted(words, 3)])
+    if word == b"failed":
+        line = number(counted(words, 2)[0])
+        if words[1] not in CAUSES:
+            raise Faulty("bad cause")
+        return Line("failed", [line], last=words[1])
+    if word not in NUMBERS:
+        raise Faulty("unknown word")
+    count, least, most = NUMBERS[word]
+    counted(words, count + (word in WITH_OCTETS))
+    found = [number(it, *((least, most) if at + 1 == count else ())) for at, it in enumerate(words[:count])]
+    if word not in WITH_OCTETS:
+        return Line(word.decode(), found)
+    if not OCTETS.fullmatch(words[-1]):
+        raise Faulty("bad octets")
+    return Line(word.decode(), found, b"" if words[-1] == b"-" else bytes.fromhex(words[-1].decode()))
+
+
+def shown(octets: Any) -> str:
+    return octets.hex().upper() or "-"
+
+
+class Station:
+    """A card with its clock, and at each line a terminal that sends and a listener that hears."""
+
+    def __init__(self) -> None:
+        self.card: Any = None
+        self.clock: Any = None
+        self.now = 0
+        self.terminals: Dict[int, Terminal] = {}
+        self.listeners: Dict[int, Deframer] = {}
+
+    def start(self, line: Line) -> None:
+        if self.card:
+            raise Faulty("second card")
+        numbers = dict(zip(FIELDS, line.numbers))
+        config = lapd.Config(**{"k16": numbers["k"], **numbers}, side=lapd.Side.USER if line.last else lapd.Side.NETWORK)
+        try:
+            self.card = (lapd.FrameCard if line.word == "frames" else lapd.Card)(config)
+        except lapd.Error:
+            raise Faulty("bad card") from None
+        self.clock = lapd.Clock(config)
+
+    def told(self, line: int, report: lapd.Report) -> Iterator[str]:
+        for note in report.notes:
+            has_contents = note.kind in (lapd.NoteKind.DATA_INDICATION, lapd.NoteKind.UNIT_INDICATION)
+            more = f" {shown(report.contents)}" if has_contents else f" {note.error}" if note.error else ""
+            yield f"{line} {note} {note.tei}{more}"
+        if report.cause:
+            yield f"{line} dropped {report.cause}"
+        if report.lost:
+            yield f"{line} lost {report.lost}"
+        self.clock.apply(line, report, self.now)
+
+    def received(self, line: int, octets: bytes) -> Iterator[str]:
+        for octet in octets:
+            yield from self.told(line, self.card.octet(line, octet))
+
+    def pulled(self, line: int, count: int) -> Iterator[str]:
+        """Every other octet by a call of its own, the others by an exchange whose first step is done."""
+        octets = bytearray()
+        for at in range(count):
+            given = bytearray(1)
+            if at % 2:
+                _, report = self.card.exchange(line, b"\0", given, 1)
+            else:
+                given[0], report = self.card.pull(line)
+            octets += given
+            yield from self.told(line, report)
+        yield f"{line} tx {shown(octets)}"
+        for _, heard in self.listeners.setdefault(line, Deframer()).octets(octets):
+            if isinstance(heard, Frame):
+                yield f"{line} frame {shown(heard.octets)}"
+
+    def next_frame(self, line: int) -> Iterator[str]:
+        found = self.card.next_frame(line)
+        if found is None:
+            yield f"{line} nothing"
+            return
+        yield from self.told(line, found[1])
+        yield f"{line} frame {shown(found[0])}"
+
+    def asked(self, word: str, line: int, tei: int, contents: bytes) -> Iterator[str]:
+        request = getattr(self.card, word.rstrip("16"))
+        words = [line, tei] + ([contents] if word.startswith(("data", "unit")) else [])
+        try:
+            report = request(*words, service=lapd.Service.PACKET) if word.endswith("16") else request(*words)
+        except lapd.Refused as fault:
+            yield f"{line} refused {fault}"
+            return
+        yield from self.told(line, report)
+
+    def waited(self, ms: int) -> Iterator[str]:
+        end = self.now + ms
+        if end > LATEST:
+            raise Faulty("time over")
+        while (moment := self.clock.next()) is not None and moment <= end:
+            self.now = moment
+            due = self.clock.due(moment)
+            yield from self.told(due.line, self.card.expire(due.line, due.timer))
+        self.now = end
+
+    def counted(self, line: int) -> Iterator[str]:
+        found = {name: value for name, value in self.card.counters(line).items() if value}
+        yield from [f"{line} counter {name} {value}" for name, value in found.items()] or [f"{line} nothing"]
+
+    def obey(self, line: Line) -> Iterator[str]:
+        """What a line leads to."""
+        if line.word in ("card", "frames"):
+            self.start(line)
+        elif not self.card:
+            raise Faulty("no card")
+        elif line.word == "wait":
+            yield from self.waited(line.numbers[0])
+        elif line.word == "timers":
+            self.clock.set_lengths(*line.numbers)
+        elif line.word == "stored":
+            yield f"stored {self.card.stored()} limit {self.card.limit()}"
+        elif line.word in (("rx", "pull") if isinstance(self.card, lapd.FrameCard) else ("failed", "next")):
+            raise Faulty("wrong card")
+        elif line.numbers[0] >= self.card.lines():
+            raise Faulty("bad line")
+        else:
+            yield from self.obey_at(line.numbers[0], line)
+
+    def obey_at(self, at: int, line: Line) -> Iterator[str]:
+        """What a line leads to that is about one line of the card, which has it."""
+        is_for_frames = isinstance(self.card, lapd.FrameCard)
+        if line.word == "in" and not is_for_frames and not 3 <= len(line.octets) <= 1028:
+            raise Faulty("bad frame")
+        if line.word == "rx":
+            yield from self.received(at, line.octets)
+        elif line.word == "in" and is_for_frames:
+            yield from self.told(at, self.card.frame(at, line.octets))
+        elif line.word == "in":
+            yield from self.received(at, self.terminals.setdefault(at, Terminal()).frame(line.octets))
+        elif line.word == "failed":
+            yield from self.told(at, self.card.failed(at, CAUSES[line.last]))
+        elif line.word == "pull":
+            yield from self.pulled(at, line.numbers[1])
+        elif line.word == "next":
+            yield from self.next_frame(at)
+        elif line.word == "counters":
+            yield from self.counted(at)
+        else:
+            yield from self.asked(line.word, at, line.numbers[1], line.octets)
+
+
+def play(script: bytes) -> Tuple[bytes, bytes, int]:
+    """Transcript, fault line and status of a script."""
+    station = Station()
+    out: List[str] = []
+    lines = script.split(b"\n")
+    for at, text in enumerate(lines[:-1] if not lines[-1] else lines, 1):
+        try:
+            if len(text) > MOST_LINE:
+                raise Faulty("too long")
+            if text and not text.startswith(b"#"):
+                out += station.obey(read(text))
+        except Faulty as fault:
+            return "".join(f"{it}\n" for it in out).encode(), f"line {at}: {fault}\n".encode(), 1
+    return "".join(f"{it}\n" for it in out).encode(), b"", 0

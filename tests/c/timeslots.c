@@ -1,0 +1,151 @@
+/*
+ * timeslots.c: the loop of docs/EMBEDDING.md over the octets of a timeslot, whose first bit is bit 8, of 64 kbit/s; and one
+ * of 56 kbit/s, where the last bit of each octet is not the channel's. A terminal establishes its link and sends data over
+ * each; what the card sends is heard. The turning is tested beside a loop over bits. For tests alone.
+ */
+#include <stdio.h>
+#include <string.h>
+
+#include "hdlc.h"
+#include "lapd.h"
+
+enum { LENGTH = 40 };
+
+static const lapd_config config = {1, 8, 7, 7, 8, 4, 4, 64, 260, 3, LAPD_NETWORK};
+static lapd_card card = LAPD_CARD_NONE;
+static lapd_clock timers = LAPD_CLOCK_NONE;
+static lapd_report report;
+static const uint32_t line = 0;
+static char told[400];
+
+static uint64_t now(void) {
+    return 0;
+}
+
+static void layer_3(const lapd_report *of) {
+    for (int i = 0; i < of->note_count; i++)
+        snprintf(told + strlen(told), sizeof told - strlen(told), "%s %u %u\n", lapd_note_text(&of->notes[i]), of->notes[i].tei,
+                 of->length);
+}
+
+/* One block of the timeslot: what came is replaced by what goes. */
+static void serve(uint8_t *timeslot, size_t length) {
+    uint8_t in[LENGTH], out[LENGTH];
+    for (size_t i = 0; i < length; i++)
+        in[i] = lapd_turned(timeslot[i]);
+    for (size_t steps = 0; steps < 2 * length;) {
+        if (lapd_exchange(&card, line, in, length, out, length, &steps, &report) != LAPD_OK)
+            return;
+        lapd_clock_apply_report(&timers, line, &report, now());
+        layer_3(&report);
+    }
+    for (size_t i = 0; i < length; i++)
+        timeslot[i] = lapd_turned(out[i]);
+}
+
+/* The same of eight octets of 56 kbit/s. */
+static void serve_56(uint8_t *timeslot) {
+    uint8_t in[7], out[7];
+    uint64_t bits = 0;
+    for (size_t i = 0; i < 8; i++)
+        bits |= (uint64_t)(lapd_turned(timeslot[i]) & 0x7F) << 7 * i;
+    for (size_t i = 0; i < 7; i++)
+        in[i] = (uint8_t)(bits >> 8 * i);
+    for (size_t steps = 0; steps < 14;) {
+        if (lapd_exchange(&card, line, in, 7, out, 7, &steps, &report) != LAPD_OK)
+            return;
+        lapd_clock_apply_report(&timers, line, &report, now());
+        layer_3(&report);
+    }
+    bits = 0;
+    for (size_t i = 0; i < 7; i++)
+        bits |= (uint64_t)out[i] << 8 * i;
+    for (size_t i = 0; i < 8; i++)
+        timeslot[i] = lapd_turned((uint8_t)(bits >> 7 * i | 0x80));
+}
+
+/* ---- A line: so many bits of each octet are the channel's, the first as bit 8 ---------------------------------------- */
+
+static hdlc_sender sender;
+static hdlc_listener listener;
+static uint8_t octet, heard;
+static int left, have;
+static char frames[400];
+
+/* The next bit of the terminal, which sends flags where no frame is left. */
+static unsigned sent(void) {
+    if (left == 0) {
+        octet = hdlc_octet(&sender);
+        left = 8;
+    }
+    return octet >> (8 - left--) & 1;
+}
+
+static void hears(unsigned bit) {
+    heard = (uint8_t)(heard >> 1 | bit << 7);
+    if (++have % 8 != 0 || !hdlc_hear(&listener, heard))
+        return;
+    for (size_t i = 0; i < listener.length; i++)
+        snprintf(frames + strlen(frames), sizeof frames - strlen(frames), "%02X", listener.frame[i]);
+    strncat(frames, "\n", sizeof frames - strlen(frames) - 1);
+}
+
+static bool passes(uint8_t *timeslot, size_t length, int bits) {
+    for (size_t i = 0; i < length; i++) {
+        timeslot[i] = bits == 7 && i % 3 == 0; /* the bit that is not the channel's may have any value */
+        for (int at = 0; at < bits; at++)
+            timeslot[i] = (uint8_t)(timeslot[i] | sent() << (7 - at));
+    }
+    if (bits == 8)
+        serve(timeslot, length);
+    else
+        serve_56(timeslot);
+    bool is_good = true;
+    for (size_t i = 0; i < length; i++) {
+        for (int at = 0; at < bits; at++)
+            hears(timeslot[i] >> (7 - at) & 1);
+        is_good = is_good && (bits == 8 || (timeslot[i] & 1) == 1);
+    }
+    return is_good;
+}
+
+static const uint8_t sabme[] = {0x00, 0x81, 0x7F}, data[] = {0x00, 0x81, 0x00, 0x00, 0xAB, 0xCD, 0xEF};
+static const char all_told[] = "establish-indication 64 0\ndata 64 3\n", all_frames[] = "008173\n00810102\n";
+
+/* A terminal over so many bits of each octet, in blocks of so many. */
+static bool talks(int bits, size_t length) {
+    uint8_t timeslot[LENGTH];
+    told[0] = frames[0] = '\0';
+    left = have = 0;
+    hdlc_begin(&sender);
+    hdlc_listen(&listener);
+    bool is_good = lapd_card_start(&card, &config) == LAPD_OK && lapd_clock_start(&timers, &config) == LAPD_OK
+                   && lapd_assign(&card, line, 64, &report) == LAPD_OK;
+    hdlc_load(&sender, sabme, sizeof sabme);
+    hdlc_load(&sender, data, sizeof data);
+    for (int i = 0; i < 60; i++)
+        is_good = passes(timeslot, length, bits) && is_good;
+    lapd_card_free(&card);
+    lapd_clock_free(&timers);
+    if (strcmp(told, all_told) != 0 || strcmp(frames, all_frames) != 0)
+        fprintf(stderr, "%d bits, blocks of %u:\n%s%s", bits, (unsigned)length, told, frames);
+    return is_good && strcmp(told, all_told) == 0 && strcmp(frames, all_frames) == 0;
+}
+
+static bool turns(void) {
+    bool is_good = true;
+    for (unsigned it = 0; it < 256; it++) {
+        unsigned wanted = 0;
+        for (int at = 0; at < 8; at++)
+            wanted |= (it >> at & 1) << (7 - at);
+        is_good = is_good && lapd_turned((uint8_t)it) == wanted;
+    }
+    return is_good;
+}
+
+int main(void) {
+    bool is_turned = turns(), is_64 = talks(8, LENGTH) && talks(8, 1), is_56 = talks(7, 8);
+    if (!is_turned || !is_64 || !is_56)
+        fprintf(stderr, "timeslots: turned %d, 64 kbit/s %d, 56 kbit/s %d\n", is_turned, is_64, is_56);
+    return !is_turned || !is_64 || !is_56;
+}

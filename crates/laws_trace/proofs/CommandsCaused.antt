@@ -23,7 +23,7 @@ use Rattle.laws_link.specs.Flags.{takes_contents}
 use Rattle.laws_link.specs.States.{moves, by_frame, by_expiry, by_request, is_invalid, receipt_of, state_after}
 use Rattle.laws_link.specs.Telling.{error, told_by, told_by_frame, told_up, told_malformed, final_as}
 use Rattle.laws_link.specs.Waiting.{is_time}
-use Rattle.laws_trace.specs.ErrorsAreNoted.{is_error}
+use Rattle.laws_trace.specs.Trace.{is_own}
 
 -- The commands that await an answer, and the states that put them.
 pub data Kind : Type 0 where
@@ -34,6 +34,10 @@ abbrev pub leads : Kind → State → Bool
 leads sabme AwaitingEstablishment = true
 leads enquiry TimerRecovery = true
 leads k other = false
+
+abbrev is_error : Service → ℕ → Note → Bool
+is_error service tei (notes.Error of by code) = is_own service tei of by
+is_error service tei other = false
 
 -- Why it is put: by what happened, and the notes.
 abbrev pub is_why : Kind → Terms → Event → List Note → Bool

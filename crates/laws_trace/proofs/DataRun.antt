@@ -102,9 +102,6 @@ module _ (c : Config) (ranged : IsInRange c) (l : Line) (s : IsSound c l) (servi
     chosen-one : HasOne c service tei e l (after c e l) (answer c e l) → Chosen e
     chosen-one x = go (restarts t x.event k) refl
       where
-        sound : link_sound.IsSound t k
-        sound = own-sound x.place x.placed
-
         begins-is : anew e ≡ restarts t x.event k
         begins-is = ap (begins service tei (frame_by c e)) x.notes ∙ one-begins c e (answer c e l) service tei x.event x.by k
 
@@ -113,7 +110,7 @@ module _ (c : Config) (ranged : IsInRange c) (l : Line) (s : IsSound c l) (servi
 
         go : (b : Bool) → restarts t x.event k ≡ b → Chosen e
         go true is =
-            let y = begins-anew t k sound x.event all gone known is in
+            let y = begins-anew t k (own-sound x.place x.placed) x.event all gone known is in
             record {
               n = y.0;
               may = subst (λ ns. ((y.0 ≤ gone) × (list_any (is_indicated service tei) ns ≡ false)) ⊎ (length all ≤ y.0)) (sym x.notes) y.1;
@@ -122,7 +119,7 @@ module _ (c : Config) (ranged : IsInRange c) (l : Line) (s : IsSound c l) (servi
                   (subst (λ k. Knows k (drop y.0 all) 0) (sym x.is) y.2);
             }
         go false is =
-            let y = goes-on-so t k sound x.event all gone known is bare.1 in
+            let y = goes-on-so t k (own-sound x.place x.placed) x.event all gone known is bare.1 in
             let same : all ++ accepted t x.event k ≡ all = ap (λ xs. all ++ xs) bare.0 ∙ append-nil all in
             record {
               n = length all;

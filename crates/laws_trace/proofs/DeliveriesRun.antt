@@ -74,7 +74,7 @@ its-aim c l service tei place on (Ok g) f is for =
     (addressed-is l g.address service tei place (link.frame g) (message_of g.control g.info) (eqb-true g.address.sapi (sapi_of service) parts.0) (eqb-true g.address.tei tei parts.1) on))
     ∙ ap (λ b. b && tei == tei) (service-same service) ∙ eq-eqb tei tei refl
 
-heard-aims-at : (c : Config) (l : Line) (service : Service) (tei place : ℕ) → place_in l tei ≡ Some place → (e : stream.Event) (f : Parts)
+pub heard-aims-at : (c : Config) (l : Line) (service : Service) (tei place : ℕ) → place_in l tei ≡ Some place → (e : stream.Event) (f : Parts)
     → frame_of c e ≡ Some f → is_for service tei f.address ≡ true → is_at_link service tei (aim_of_heard c l e) ≡ true
 heard-aims-at c l service tei place on (stream.frame octets) f is for = its-aim c l service tei place on (reading (heard_side c) octets) f is for
 heard-aims-at c l service tei place on (stream.overlong head) f is for = absurd (none-some f is)

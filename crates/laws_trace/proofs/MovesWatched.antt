@@ -1,5 +1,5 @@
 -- Which state a link moves to, by its numbers and by how often T200 expired: a part of what an observer knows.
-use Rattle.std.specs.Prelude.{◌≡◌, ℕ, ◌+◌, ◌==◌, ◌&&◌, ◌||◌, not, nat_lt, Bool, List, ◌∷◌, ◌++◌, length, fold, Option, Some, None, IfSome, if◌then◌else◌}
+use Rattle.std.specs.Prelude.{◌≡◌, ℕ, ◌+◌, ◌==◌, ◌&&◌, ◌||◌, not, nat_lt, Bool, List, ◌∷◌, ◌++◌, length, fold, Option, Some, None, IfSome, is_some, if◌then◌else◌}
 use Rattle.std.specs.Option.{option_map_or}
 use Rattle.lapd_frame.specs.declared.controls.Control.{Control}
 use Rattle.lapd_frame.specs.declared.controls.Control.TheVariants.{Information, ReceiveReady, ReceiveNotReady, Reject, Sabme, Disc, Ua, Dm, Frmr}
@@ -16,7 +16,7 @@ use Rattle.model_card.specs.Card.{fresh}
 use Rattle.model_card.specs.Event.{Event, at}
 use Rattle.model_card.specs.Machine.{answer}
 use Rattle.model_card.specs.Run.{Moment, moments, after_all}
-use Rattle.laws_trace.specs.LinkFrames.{is_for, frame_of, is_malformed}
+use Rattle.laws_trace.specs.LinkFrames.{is_for, frame_of, malformed}
 use Rattle.laws_trace.proofs.TimersWatched.{Known, nothing_yet, watch, awaits}
 use Rattle.laws_trace.specs.States.{state_before, state_after, differ, expired_of, one_more}
 use Rattle.laws_trace.specs.Observer.{steps}
@@ -67,7 +67,7 @@ by_request service tei state other = state
 
 abbrev pub by_seen : Config → Service → ℕ → Known → ℕ → Seen → ℕ
 by_seen c service tei k state (heard e) =
-    if is_up state && is_malformed c service tei e then 5 else by_parts c service tei k state (frame_of c e)
+    if is_up state && is_some (malformed c service tei e) then 5 else by_parts c service tei k state (frame_of c e)
 by_seen c service tei k state (granted r) = by_request service tei state r
 by_seen c service tei k state other = state
 

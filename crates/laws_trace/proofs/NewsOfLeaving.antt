@@ -56,10 +56,10 @@ use Rattle.laws_trace.proofs.StaysOn.{next-keeps}
 
 -- What the end of a TEI tells of its link is due as the link would come to state 4.
 cleared-due : (t : Terms) (l : Link) (was outstanding : Bool)
-    → filter (is_news t.service t.tei) (links.told t link.cleared l).notes ≡ due t.service t.tei was false false false outstanding (state_number l.state) 4
+    → filter (is_news t.service t.tei) (links.told t link.cleared l).notes ≡ due t.service t.tei [] was false false false outstanding (state_number l.state) 4
 cleared-due t l was outstanding = ap (filter (is_news t.service t.tei)) (event-follows t link.cleared l).leaves.tells ∙ by-state l.state
   where
-    by-state : (here : State) → filter (is_news t.service t.tei) (told_cleared here t) ≡ due t.service t.tei was false false false outstanding (state_number here) 4
+    by-state : (here : State) → filter (is_news t.service t.tei) (told_cleared here t) ≡ due t.service t.tei [] was false false false outstanding (state_number here) 4
     by-state TeiAssigned = refl
     by-state AwaitingEstablishment = rw (own-is t.service t.tei) refl
     by-state AwaitingRelease = rw (own-is t.service t.tei) refl
@@ -214,7 +214,7 @@ leaves service tei c next l s place on off =
     absurd (true≢false (sym (next-keeps tei c l s (is_on-at l.management.places place tei (place_of-is l.management.places tei place on).1)) ∙ off))
 
 pub leaving-due : (service : Service) (tei : ℕ) (c : Config) (e : Event) (l : Line) → IsSound c l → (place : ℕ) → place_in l tei ≡ Some place → has_tei tei (after c e l) ≡ false
-    → (was outstanding : Bool) → filter (is_news service tei) (notes_of (answer c e l)) ≡ due service tei was false false false outstanding (state_number (link_of service tei l).state) 4
+    → (was outstanding : Bool) → filter (is_news service tei) (notes_of (answer c e l)) ≡ due service tei [] was false false false outstanding (state_number (link_of service tei l).state) 4
 leaving-due service tei c e l s place on off was outstanding =
     leaves service tei c e l s place on off ∙ cleared-due (terms c service tei) (link_of service tei l) was outstanding
 

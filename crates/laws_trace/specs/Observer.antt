@@ -1,6 +1,6 @@
 -- What an observer of a line knows of a link, by the procedures of Q.921: what the link hears, what layer 3 asks, what
 -- runs out, and what it sends.
-use Rattle.std.specs.Prelude.{ℕ, ◌+◌, ◌-◌, ◌%◌, ◌==◌, ◌&&◌, ◌||◌, not, nat_lt, Bool, true, false, List, length, fold, if◌then◌else◌}
+use Rattle.std.specs.Prelude.{ℕ, ◌+◌, ◌-◌, ◌%◌, ◌==◌, ◌&&◌, ◌||◌, not, nat_lt, Bool, true, false, List, length, fold, is_some, if◌then◌else◌}
 use Rattle.std.specs.Option.{option_map_or}
 use Rattle.model_bits.specs.Stream as stream
 use Rattle.lapd_frame.specs.declared.controls.Control.{Control}
@@ -20,7 +20,7 @@ use Rattle.model_card.specs.Card.{fresh}
 use Rattle.model_card.specs.Event.{Event, at}
 use Rattle.model_card.specs.Machine.{answer}
 use Rattle.model_card.specs.Run.{Moment, moments, after_all}
-use Rattle.laws_trace.specs.LinkFrames.{frame_of, its_frame, is_malformed, Sent, sent_in}
+use Rattle.laws_trace.specs.LinkFrames.{frame_of, its_frame, malformed, Sent, sent_in}
 use Rattle.laws_trace.specs.Managing.{Managed, none_on, is_on}
 use Rattle.laws_trace.specs.MessagesAreOwed.{led}
 use Rattle.laws_trace.specs.Trace.{is_own, is_up, frame_in}
@@ -112,7 +112,7 @@ by_frame c o f =
 
 abbrev pub by_heard : Config → Service → ℕ → stream.Event → Observed → Observed
 by_heard c service tei e o =
-    if is_up o.state && is_malformed c service tei e then anew o else option_map_or (by_frame c o) (its_frame service tei (frame_of c e)) o
+    if is_up o.state && is_some (malformed c service tei e) then anew o else option_map_or (by_frame c o) (its_frame service tei (frame_of c e)) o
 
 -- What layer 3 asks, and is granted: that the link is established, or released (clauses 5.5.1.1 and 5.5.3.1).
 abbrev pub by_request : Service → ℕ → Request → Observed → Observed

@@ -27,7 +27,6 @@ ghost use Rattle.laws_trace.specs.TurnsMeanwhile.{LinksTakeTurnsMeanwhile};
 ghost use Rattle.laws_trace.specs.UnitsAreSpelled.{UnitsAreSpelled};
 ghost use Rattle.laws_trace.specs.UnitsAreTold.{UnitsAreTold};
 ghost use Rattle.laws_trace.specs.UnitsGoOut.{UnitsGoOut, AllUnitsGoOut};
-ghost use Rattle.laws_trace.specs.WaitedBegins.{AllThatWaitedBegins};
 ghost use Rattle.laws_trace.specs.WindowsAreKept.{WindowsAreKept};
 
 /// Each configuration within the ranges is served: no fault is found in it, so `Card::start` starts a card with it, as
@@ -122,12 +121,10 @@ pub fn data_goes_out()
 /// except that RR with F=0, and the number told, goes by itself too in states 7 and 8, while layer 3 is not busy
 /// (`only`). And while the TEI stays on the line they all go, except the last of a moment, as many as its answer counts
 /// as lost: each has begun once the line was only called for its next frame, as often as the configuration says, in
-/// their order (`all`). So has each control frame that waited on a link before (`waited`; two alike may be one; Q.921
-/// clauses 3.5.1, 3.5.2.4 to 3.5.2.6, 5.5, 5.6, 5.7, 5.8.1 and 5.10.3).
+/// their order (`all`; Q.921 clauses 3.5.1, 3.5.2.4 to 3.5.2.6, 5.5, 5.6, 5.7, 5.8.1 and 5.10.3).
 pub fn control_frames_go()
     ensures only { Always OnlyDueGo }
     ensures all { Always AllDueGo }
-    ensures waited { Always AllThatWaitedBegins }
 {}
 
 /// All that is told is acknowledged. Of a link in state 7 or 8, once the line was only called for its next frame, as

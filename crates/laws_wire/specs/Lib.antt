@@ -7,9 +7,11 @@ pub mod Recovering
 pub mod Counted
 pub mod Facing
 pub mod Resting
+pub mod Arriving
 pub mod Worked
 pub mod WorkedLosing
 pub mod WorkedRecovering
 pub mod WorkedCounted
 pub mod WorkedResting
+pub mod WorkedArriving
 pub mod WorkedBroken

@@ -22,7 +22,7 @@ use Rattle.model_card.proofs.CardSound.{fresh_is_sound}
 use Rattle.laws_trace.specs.Trace.{IsFront}
 use Rattle.laws_wire.specs.Call.{station, assigned, calling}
 use Rattle.laws_wire.specs.Wire.{Station, Wire, Act, requests, times_out, gives, takes, loses, turned, acting, Doing, at_near, at_far, doing, doing_all, with_first_of}
-use Rattle.laws_order.specs.Happenings.{IsElsewhere, Happening, IsPossible, seen_near, seen_far}
+use Rattle.laws_order.specs.Happenings.{IsElsewhere, Happening, IsPossible, happening_all, seen_near, seen_far}
 use Rattle.laws_order.specs.Order.{data_noted, data_granted, link_here, of_link_on, HasReceivedOf, FaceAtRest, kept_by}
 use Rattle.laws_order.specs.Worked.{network, user, faces, calls_both, others_speak, both_send, is_busy, busy_run, call_near as near_stays, call_far as far_stays, owes, sends_more, more_near_stays, more_far_stays}
 use Rattle.laws_order.proofs.Ordered.{delivered-in-order}

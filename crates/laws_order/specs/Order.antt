@@ -1,5 +1,5 @@
 -- What is told at each of two cards is in order, whatever else happens.
-use Rattle.std.specs.Prelude.{◌≡◌, ◌≤◌, ◌<◌, ℕ, ◌+◌, ◌&&◌, Bool, false, IsTrue, List, [], ◌∷◌, ◌++◌, length, drop, flat_map, All, option_to_list, if◌then◌else◌}
+use Rattle.std.specs.Prelude.{◌≡◌, ◌≤◌, ◌<◌, ℕ, ◌+◌, ◌&&◌, Bool, false, IsTrue, List, [], ◌++◌, length, drop, flat_map, All, option_to_list, if◌then◌else◌}
 use Rattle.std.specs.List.{list_any}
 use Rattle.lapd_frame.specs.declared.addresses.Side.{Side}
 use Rattle.lapd_frame.specs.declared.notes.Note.{Note}

@@ -41,6 +41,8 @@ pub mod Sure
 pub mod SureHeard
 pub mod Underway
 pub mod UnderwayRun
+pub mod UaLost
+pub mod UaLostRun
 pub mod StillIsTimely
 pub mod Counting
 pub mod Again
@@ -58,3 +60,4 @@ pub mod RecoveryMet
 pub mod RecoveryMetAgain
 pub mod CountedMet
 pub mod ArrivingMet
+pub mod AnsweringMet

@@ -328,20 +328,23 @@ module _ (service : Service) (tei : ℕ) where
         (sure-runs (A ⊎ (asks ≡ true)) (B ⊎ (asks' ≡ true)) ds w' (All-tail (IsRoughTalk service tei) k ds all) (All-tail LosesNothing k ds kept) x.1 now)
 
   -- what has come at the link is told
-  module _ (c d : Config) (p q : ℕ) (past : List LineTold) (first : LineTold) (w : Wire) (n m : End) (h : BothUp service tei c d p q past (first ∷ []) w n m) (still : IsStill w) where
+  module _ (c d : Config) (p q : ℕ) (past other : List LineTold) (w : Wire) (n m : End) (h : BothUp service tei c d p q past other w n m) (still : IsStill w) where
     near-hushed : IsHushed service tei n
     near-hushed = hushed service tei c p past w.near n h.near still.near still.near_way
 
     far-hushed : IsHushed service tei m
-    far-hushed = hushed service tei d q (first ∷ []) w.far m h.far still.far still.far_way
+    far-hushed = hushed service tei d q other w.far m h.far still.far still.far_way
 
     near-quiet : HasNothingToSend n.terms n.link
     near-quiet = nothing-given n.terms n.link near-hushed.given
 
-    told-all : m.delivered ≡ n.link.contents → heard_in w.far ≡ all_told service tei first w.near
-    told-all e = h.far.heard ∙ ap (λ xs. first ∷ map (data_told service tei) xs) (e ∙ sym h.near.granted)
+    abbrev HasHeard : Type 0
+    HasHeard = heard_in w.far ≡ other ++ map (data_told service tei) w.near.granted
 
-    pub has-come : Sure n m ⊎ (runs_t200 service tei w.near ≡ false) → heard_in w.far ≡ all_told service tei first w.near
+    told-all : m.delivered ≡ n.link.contents → HasHeard
+    told-all e = h.far.heard ∙ ap (λ xs. other ++ map (data_told service tei) xs) (e ∙ sym h.near.granted)
+
+    pub has-come : Sure n m ⊎ (runs_t200 service tei w.near ≡ false) → HasHeard
     has-come (inl s) = told-all (sure-came n m h.firm near-quiet near-hushed.way (nothing-given m.terms m.link far-hushed.given) far-hushed.way s)
     has-come (inr none) =
         told-all (rests-came n m h.firm near-quiet near-hushed.way (ap (λ (l : Link). runs T200 l.running) (sym (link-is service tei c p w.near n h.near.stands)) ∙ none))

@@ -45,8 +45,8 @@ module _ (service : Service) (tei : ℕ) (c d : Config) (p q : ℕ) where
   comes A B last h still = (near, far)
     where
       near : A ⊎ (runs_t200 service tei last.near ≡ false) → heard_in last.far ≡ all_told service tei (indicated service tei) last.near
-      near (inl a) = has-come service tei c d p q (confirmed service tei ∷ []) (indicated service tei) last h.n h.m h.up still (inl (h.there (inr a)))
-      near (inr none) = has-come service tei c d p q (confirmed service tei ∷ []) (indicated service tei) last h.n h.m h.up still (inr none)
+      near (inl a) = has-come service tei c d p q first_near first_far last h.n h.m h.up still (inl (h.there (inr a)))
+      near (inr none) = has-come service tei c d p q first_near first_far last h.n h.m h.up still (inr none)
 
       up' : BothUp service tei d c q p first_far first_near (turned last) h.m h.n
       up' = turned-up service tei c d p q (confirmed service tei ∷ []) (indicated service tei ∷ []) last h.n h.m h.up
@@ -55,8 +55,8 @@ module _ (service : Service) (tei : ℕ) (c d : Config) (p q : ℕ) where
       still' = record { near = still.far; far = still.near; near_way = still.far_way; far_way = still.near_way }
 
       far : B ⊎ (runs_t200 service tei last.far ≡ false) → heard_in last.near ≡ all_told service tei (confirmed service tei) last.far
-      far (inl b) = has-come service tei d c q p (indicated service tei ∷ []) (confirmed service tei) (turned last) h.m h.n up' still' (inl (h.back (inr b)))
-      far (inr none) = has-come service tei d c q p (indicated service tei ∷ []) (confirmed service tei) (turned last) h.m h.n up' still' (inr none)
+      far (inl b) = has-come service tei d c q p first_far first_near (turned last) h.m h.n up' still' (inl (h.back (inr b)))
+      far (inr none) = has-come service tei d c q p first_far first_near (turned last) h.m h.n up' still' (inr none)
 
 pub arrives-under-traffic : ArrivesUnderTraffic
 arrives-under-traffic service c d line other tei before since can wide_c wide_d talk talk' kept = λ timely timely' told still.

@@ -8,10 +8,12 @@ pub mod Counted
 pub mod Facing
 pub mod Resting
 pub mod Arriving
+pub mod Answering
 pub mod Worked
 pub mod WorkedLosing
 pub mod WorkedRecovering
 pub mod WorkedCounted
 pub mod WorkedResting
 pub mod WorkedArriving
+pub mod WorkedAnswering
 pub mod WorkedBroken

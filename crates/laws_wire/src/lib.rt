@@ -17,10 +17,12 @@
 //! nothing; that both links are in state 7 again, and all is acknowledged, where what was lost has arrived.
 #![tactic(auto)]
 
+mod answering;
 mod arriving;
 mod laws;
 mod resting;
 
+pub use answering::a_lost_ua_is_repeated;
 pub use arriving::it_arrives_under_traffic;
 pub use laws::{
     a_call_comes_through, cards_deliver, expiries_are_counted, told_in_order, what_is_lost_arrives,

@@ -39,7 +39,7 @@ use Rattle.laws_wire.proofs.Tame.{Tame, tame-asks, tame-expires, tame-sends, tam
 
 -- ---- what is told of a frame
 
-abbrev IsQuiet : Bool → Kind → Type 0
+abbrev pub IsQuiet : Bool → Kind → Type 0
 IsQuiet b (numbered ns) = Unit {0}
 IsQuiet b enquiry = Unit {0}
 IsQuiet b (answer nr) = b ≡ true
@@ -101,7 +101,7 @@ module _ (t : Terms) where
   frame-quiet TimerRecovery is command octets control taken l to up h = up-quiet true command octets taken l to up control h
 
   -- an I-frame over N201 would lead the link out
-  no-error : (l : Link) (f : Parts) → IsTrue (is_multiple_frame l.state) → IsTrue (is_multiple_frame (after t (received (frame f)) l).state)
+  pub no-error : (l : Link) (f : Parts) → IsTrue (is_multiple_frame l.state) → IsTrue (is_multiple_frame (after t (received (frame f)) l).state)
       → IsQuiet (is_recovering l.state) (kind_of f.address.command f.control) → list_any is_error (course t (received (frame f)) l).notes ≡ false
   no-error l f is up h = go (is_overlong t f.control f.info) (event-follows t (received (frame f)) l).leaves.state (event-follows t (received (frame f)) l).leaves.tells
     where

@@ -34,6 +34,7 @@ pub mod TimelyRinging
 pub mod TimelyAnswered
 pub mod TimelyRun
 pub mod TimelyArrives
+pub mod Loose
 pub mod Dense
 pub mod Replying
 pub mod Roomy
@@ -41,6 +42,8 @@ pub mod Sure
 pub mod SureHeard
 pub mod Underway
 pub mod UnderwayRun
+pub mod UnderwayRounds
+pub mod LooseUp
 pub mod UaLost
 pub mod UaLostRun
 pub mod StillIsTimely

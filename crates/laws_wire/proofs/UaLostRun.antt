@@ -15,21 +15,22 @@ use Rattle.model_line.specs.Event.{LineTold}
 use Rattle.model_line.specs.Line.{terms}
 use Rattle.laws_wire.specs.Wire.{Wire, Act, requests, times_out, gives, takes, loses, acting, turned, Doing, at_near, at_far, doing, doing_all, is_any, IsStill}
 use Rattle.laws_wire.specs.Call.{calling, confirmed, indicated, data_told, all_told, IsBeginningOf}
-use Rattle.laws_wire.specs.Losing.{heard_in, IsRoughTalkOf, IsRoughTalk}
+use Rattle.laws_wire.specs.Losing.{heard_in}
 use Rattle.laws_wire.specs.Timely.{IsTimelyOf}
 use Rattle.laws_wire.specs.Arriving.{runs_t200}
-use Rattle.laws_wire.specs.Answering.{Waits, IsPatient, StayPatient, takes_sabme, calls, error_f, told_of_calls, ToldSo, LostAnswersAreRepeated}
+use Rattle.laws_wire.specs.Answering.{IsFullTalkOf, IsFullTalk, IsBehind, Waits, IsPatient, StayPatient, takes_sabme, calls, error_f, told_of_calls, ToldSo, LossyCallsComeThrough}
 use Rattle.laws_wire.proofs.Awaited.{link-is}
 use Rattle.laws_wire.proofs.Calling.{end, called, sabme, asked}
 use Rattle.laws_wire.proofs.Held.{Held}
-use Rattle.laws_wire.proofs.Ringing.{ringing, its_sabme}
+use Rattle.laws_wire.proofs.Loose.{as-loose}
+use Rattle.laws_wire.proofs.LooseUp.{LooseUp, loose-turned-up, loose-acts, loose-told}
+use Rattle.laws_wire.proofs.Ringing.{ringing, answered, its_sabme}
 use Rattle.laws_wire.proofs.Talking.{Face}
 use Rattle.laws_wire.proofs.TimelyPhases as phases
 use Rattle.laws_wire.proofs.TimelyRinging as first_ringing
 use Rattle.laws_wire.proofs.TimelyRun.{Setting, setting}
-use Rattle.laws_wire.proofs.TimelyUp.{AreUp, BothUp, turned-up, turned-are, up-acts}
+use Rattle.laws_wire.proofs.TimelyUp.{BothUp}
 use Rattle.laws_wire.proofs.UaLost.{called-quiet, first_near, past_far, Rings, Ringing, near-rings, not-told, far-gives, far-loses, far-takes, UaWaits, UaGoes, answers-again, waits-near, waits-far, goes-near, goes-far}
-use Rattle.laws_wire.proofs.Underway.{has-come}
 
 and-false : (b : Bool) → (b && false) ≡ false
 and-false true = refl
@@ -76,7 +77,7 @@ module _ (service : Service) (tei : ℕ) (c d : Config) (p q : ℕ) (face : Face
   abbrev Called : ℕ → Wire → Type 0
   Called j w =
       R up (its_far j) w ⊎ UaWaits service tei c d p q face back rt ru j w ⊎ UaGoes service tei c d p q face back rt ru j w
-      ⊎ AreUp service tei c d p q its_near (its_far j) w
+      ⊎ LooseUp service tei c d p q its_near (its_far j) w
 
   abbrev Goes : ℕ → Wire → Type 0
   Goes n w = ((n ≡ 0) × R down [] w) ⊎ ((j : ℕ) × (n ≡ suc j) × Called j w)
@@ -86,20 +87,22 @@ module _ (service : Service) (tei : ℕ) (c d : Config) (p q : ℕ) (face : Face
 
   -- ---- what the near end does
 
-  near-called : (j : ℕ) (w : Wire) → Called j w → (act : Act) → IsRoughTalkOf service tei act → IsTimelyOf act w → Called j (acting act w)
-  near-called j w (inl h) act is x = inl (near-rings service tei c d p q face back rt ru up (its_far j) refl w h act is x)
-  near-called j w (inr (inl h)) act is x = inr (inl (waits-near service tei c d p q face back rt ru j w h act is x))
-  near-called j w (inr (inr (inl h))) act is x = go (goes-near service tei c d p q face back rt ru j w h act is x)
+  near-called : (j : ℕ) (w : Wire) → Called j w → (act : Act) → IsFullTalkOf service tei act → IsTimelyOf act w → IsBehind act w → Called j (acting act w)
+  near-called j w (inl h) act is x y = inl (near-rings service tei c d p q face back rt ru up (its_far j) refl w h act is x y)
+  near-called j w (inr (inl h)) act is x y = inr (inl (waits-near service tei c d p q face back rt ru j w h act is x y))
+  near-called j w (inr (inr (inl h))) act is x y = go (goes-near service tei c d p q face back rt ru j w h act is x y)
     where
       go : UaGoes service tei c d p q face back rt ru j (acting act w)
-          ⊎ BothUp service tei c d p q its_near (its_far j) (acting act w) (end (terms c service tei) (Rattle.laws_wire.proofs.Ringing.answered h.repeats []) []) up → Called j (acting act w)
+          ⊎ BothUp service tei c d p q its_near (its_far j) (acting act w) (end (terms c service tei) (answered h.repeats []) []) up → Called j (acting act w)
       go (inl g) = inr (inr (inl g))
-      go (inr b) = inr (inr (inr (record { n = end (terms c service tei) (Rattle.laws_wire.proofs.Ringing.answered h.repeats []) []; m = up; up = b })))
-  near-called j w (inr (inr (inr h))) act is x = inr (inr (inr (up-acts service tei c d p q face its_near (its_far j) w h.n h.m h.up act is x)))
+      go (inr b) =
+          let n = end (terms c service tei) (answered h.repeats []) [] in
+          inr (inr (inr (record { n = n; m = up; near = b.near; far = b.far; loose = as-loose n up b.firm })))
+  near-called j w (inr (inr (inr h))) act is x y = inr (inr (inr (loose-acts service tei c d p q face its_near (its_far j) w h act is x)))
 
-  near-step : (n : ℕ) (w : Wire) → Goes n w → (act : Act) → IsRoughTalkOf service tei act → IsTimelyOf act w → Goes n (acting act w)
-  near-step n w (inl (e, h)) act is x = inl (e, near-rings service tei c d p q face back rt ru down [] refl w h act is x)
-  near-step n w (inr (j, e, h)) act is x = as-called n j (acting act w) e (near-called j w h act is x)
+  near-step : (n : ℕ) (w : Wire) → Goes n w → (act : Act) → IsFullTalkOf service tei act → IsTimelyOf act w → IsBehind act w → Goes n (acting act w)
+  near-step n w (inl (e, h)) act is x y = inl (e, near-rings service tei c d p q face back rt ru down [] refl w h act is x y)
+  near-step n w (inr (j, e, h)) act is x y = as-called n j (acting act w) e (near-called j w h act is x y)
 
   -- ---- what the far end does
 
@@ -174,8 +177,8 @@ module _ (service : Service) (tei : ℕ) (c d : Config) (p q : ℕ) (face : Face
       (inr (inl (answers-again service tei c d p q face back rt ru w j h)))
 
   -- it acts, and takes no SABME
-  far-other : (n j : ℕ) (w : Wire) → n ≡ suc j → (act : Act) → IsRoughTalkOf service tei act → IsTimelyOf act (turned w) → Waits act w
-      → UaWaits service tei c d p q face back rt ru j w ⊎ UaGoes service tei c d p q face back rt ru j w ⊎ AreUp service tei c d p q its_near (its_far j) w → Goes n (done act w)
+  far-other : (n j : ℕ) (w : Wire) → n ≡ suc j → (act : Act) → IsFullTalkOf service tei act → IsTimelyOf act (turned w) → Waits act w
+      → UaWaits service tei c d p q face back rt ru j w ⊎ UaGoes service tei c d p q face back rt ru j w ⊎ LooseUp service tei c d p q its_near (its_far j) w → Goes n (done act w)
   far-other n j w e act is x y (inl h) = go (waits-far service tei c d p q face back rt ru j w h act y)
     where
       go : UaWaits service tei c d p q face back rt ru j (done act w) ⊎ UaGoes service tei c d p q face back rt ru j (done act w) → Goes n (done act w)
@@ -187,18 +190,18 @@ module _ (service : Service) (tei : ℕ) (c d : Config) (p q : ℕ) (face : Face
       go (inl g) = as-called n j (done act w) e (inr (inr (inl g)))
       go (inr g) = as-called n j (done act w) e (inl (inl g))
   far-other n j w e act is x y (inr (inr h)) =
-      let other = turned-are service tei c d p q its_near (its_far j) w h in
+      let other = loose-turned-up service tei c d p q its_near (its_far j) w h in
       as-called n j (done act w) e (inr (inr (inr
-      (turned-are service tei d c q p (its_far j) its_near (acting act (turned w)) (up-acts service tei d c q p back (its_far j) its_near (turned w) other.n other.m other.up act is x)))))
+      (loose-turned-up service tei d c q p (its_far j) its_near (acting act (turned w)) (loose-acts service tei d c q p back (its_far j) its_near (turned w) other act is x)))))
 
-  none-taken : (j : ℕ) (w : Wire) → UaWaits service tei c d p q face back rt ru j w ⊎ UaGoes service tei c d p q face back rt ru j w ⊎ AreUp service tei c d p q its_near (its_far j) w
+  none-taken : (j : ℕ) (w : Wire) → UaWaits service tei c d p q face back rt ru j w ⊎ UaGoes service tei c d p q face back rt ru j w ⊎ LooseUp service tei c d p q its_near (its_far j) w
       → takes_sabme (at_far takes) w ≡ false
   none-taken j w (inl h) = no-way w [] (end (terms c service tei) (ringing h.repeats []) []) h.near refl
   none-taken j w (inr (inl h)) = no-way w [] (end (terms c service tei) (ringing h.repeats []) []) h.near refl
-  none-taken j w (inr (inr h)) = told-way w h.n h.up.near
+  none-taken j w (inr (inr h)) = told-way w h.n h.near
 
-  far-takes-one : (n j : ℕ) (w : Wire) → n ≡ suc j → IsRoughTalkOf service tei takes → IsTimelyOf takes (turned w)
-      → UaWaits service tei c d p q face back rt ru j w ⊎ UaGoes service tei c d p q face back rt ru j w ⊎ AreUp service tei c d p q its_near (its_far j) w
+  far-takes-one : (n j : ℕ) (w : Wire) → n ≡ suc j → IsFullTalkOf service tei takes → IsTimelyOf takes (turned w)
+      → UaWaits service tei c d p q face back rt ru j w ⊎ UaGoes service tei c d p q face back rt ru j w ⊎ LooseUp service tei c d p q its_near (its_far j) w
       → Goes (more takes w + n) (done takes w)
   far-takes-one n j w e is x h = same-goes n _ (done takes w) (same-count _ n n (none-taken j w h) refl) (far-other n j w e takes is x tt h)
 
@@ -206,37 +209,40 @@ module _ (service : Service) (tei : ℕ) (c d : Config) (p q : ℕ) (face : Face
   far-quiet : (n : ℕ) (w : Wire) (act : Act) → takes_sabme (at_far act) w ≡ false → Goes n (done act w) → Goes (more act w + n) (done act w)
   far-quiet n w act none h = same-goes n _ (done act w) (same-count _ n n none refl) h
 
-  silent-goes : (n : ℕ) (w : Wire) (act : Act) → (act ≡ takes → ⊥) → IsRoughTalkOf service tei act → IsTimelyOf act (turned w) → Waits act w → Goes n w → Goes n (done act w)
+  silent-goes : (n : ℕ) (w : Wire) (act : Act) → (act ≡ takes → ⊥) → IsFullTalkOf service tei act → IsTimelyOf act (turned w) → Waits act w → Goes n w → Goes n (done act w)
   silent-goes n w act not is x y (inl (e, h)) = inl (e, other-acts down [] refl refl w h act y not)
   silent-goes n w act not is x y (inr (j, e, inl h)) = as-called n j (done act w) e (inl (other-acts up (its_far j) refl (called-quiet (terms d service tei)) w h act y not))
   silent-goes n w act not is x y (inr (j, e, inr h)) = far-other n j w e act is x y h
 
-  takes-goes : (n : ℕ) (w : Wire) → IsRoughTalkOf service tei takes → IsTimelyOf takes (turned w) → Goes n w → Goes (more takes w + n) (done takes w)
+  takes-goes : (n : ℕ) (w : Wire) → IsFullTalkOf service tei takes → IsTimelyOf takes (turned w) → Goes n w → Goes (more takes w + n) (done takes w)
   takes-goes n w is x (inl (e, h)) = down-takes n w e h
   takes-goes n w is x (inr (j, e, inl h)) = up-takes n j w e h
   takes-goes n w is x (inr (j, e, inr h)) = far-takes-one n j w e is x h
 
-  far-step : (n : ℕ) (w : Wire) → Goes n w → (act : Act) → IsRoughTalkOf service tei act → IsTimelyOf act (turned w) → Waits act w → Goes (more act w + n) (done act w)
+  far-step : (n : ℕ) (w : Wire) → Goes n w → (act : Act) → IsFullTalkOf service tei act → IsTimelyOf act (turned w) → Waits act w → Goes (more act w + n) (done act w)
   far-step n w h (requests r) is x y = far-quiet n w (requests r) refl (silent-goes n w (requests r) (λ e. cc e) is x y h)
   far-step n w h (times_out timer) is x y = far-quiet n w (times_out timer) refl (silent-goes n w (times_out timer) (λ e. cc e) is x y h)
   far-step n w h gives is x y = far-quiet n w gives refl (silent-goes n w gives (λ e. cc e) is x y h)
   far-step n w h takes is x y = takes-goes n w is x h
   far-step n w h loses is x y = far-quiet n w loses refl (silent-goes n w loses (λ e. cc e) is x y h)
 
-  step : (n : ℕ) (k : Doing) → IsRoughTalk service tei k → (w : Wire) → IsPatient k w → Goes n w → Goes (cond {A = ℕ} (takes_sabme k w) 1 0 + n) (doing k w)
-  step n (at_near act) is w x h = near-step n w h act is x
+  nothing-more : (n : ℕ) → 0 + n ≡ n
+  nothing-more n = omega arith
+
+  step : (n : ℕ) (k : Doing) → IsFullTalk service tei k → (w : Wire) → IsPatient k w → Goes n w → Goes (cond {A = ℕ} (takes_sabme k w) 1 0 + n) (doing k w)
+  step n (at_near act) is w x h = same-goes n _ (acting act w) (nothing-more n) (near-step n w h act is x.0 x.1)
   step n (at_far act) is w x h = far-step n w h act is x.0 x.1
 
   added : (a b n : ℕ) → (a + b) + n ≡ b + (a + n)
   added a b n = omega arith
 
-  pub patient-runs : (ds : List Doing) → All (IsRoughTalk service tei) ds → (w : Wire) → StayPatient ds w → (n : ℕ) → Goes n w → Goes (calls ds w + n) (doing_all ds w)
+  pub patient-runs : (ds : List Doing) → All (IsFullTalk service tei) ds → (w : Wire) → StayPatient ds w → (n : ℕ) → Goes n w → Goes (calls ds w + n) (doing_all ds w)
   unfolding doing_all StayPatient calls
-  patient-runs [] all w x n h = h
+  patient-runs [] all w x n h = same-goes n _ w (nothing-more n) h
   patient-runs (k ∷ ds) all w x n h =
       let taken = cond {A = ℕ} (takes_sabme k w) 1 0 in
       same-goes _ _ (doing_all ds (doing k w)) (added taken (calls ds (doing k w)) n)
-      (patient-runs ds (All-tail (IsRoughTalk service tei) k ds all) (doing k w) x.1 (taken + n) (step n k (All-head (IsRoughTalk service tei) k ds all) w x.0 h))
+      (patient-runs ds (All-tail (IsFullTalk service tei) k ds all) (doing k w) x.1 (taken + n) (step n k (All-head (IsFullTalk service tei) k ds all) w x.0 h))
 
   -- ---- what was told
 
@@ -262,12 +268,12 @@ module _ (service : Service) (tei : ℕ) (c d : Config) (p q : ℕ) (face : Face
   called-so_far j w (inr (inl h)) = (nothing-yet _ (heard_in w.near) h.near.heard, none-yet service tei (its_far j) w.near.granted (heard_in w.far) h.far.heard)
   called-so_far j w (inr (inr (inl h))) = (nothing-yet _ (heard_in w.near) h.near.heard, none-yet service tei (its_far j) w.near.granted (heard_in w.far) h.far.heard)
   called-so_far j w (inr (inr (inr h))) =
-      let there = h.up.firm.joined.there.delivered in
-      let other = h.up.firm.joined.back.delivered in (
+      let there = h.loose.joined.there.delivered in
+      let other = h.loose.joined.back.delivered in (
         so-many service tei its_near h.n.link.r w.far.granted (heard_in w.near)
-            (h.up.near.heard ∙ ap (λ xs. its_near ++ map (data_told service tei) xs) (other ∙ ap (take h.n.link.r) (sym h.up.far.granted))),
+            (h.near.heard ∙ ap (λ xs. its_near ++ map (data_told service tei) xs) (other ∙ ap (take h.n.link.r) (sym h.far.granted))),
         so-many service tei (its_far j) h.m.link.r w.near.granted (heard_in w.far)
-            (h.up.far.heard ∙ ap (λ xs. its_far j ++ map (data_told service tei) xs) (there ∙ ap (take h.m.link.r) (sym h.up.near.granted))),
+            (h.far.heard ∙ ap (λ xs. its_far j ++ map (data_told service tei) xs) (there ∙ ap (take h.m.link.r) (sym h.near.granted))),
       )
 
   calls-are : (j : ℕ) → told_of_calls service tei (suc j) ≡ its_far j
@@ -310,8 +316,8 @@ module _ (service : Service) (tei : ℕ) (c d : Config) (p q : ℕ) (face : Face
   called-all j w (inr (inr (inl h))) still none none' = stops (All_ (its_far j) w) w (rings-run h.repeats [] [] w h.near) none
   called-all j w (inr (inr (inr h))) still none none' =
       let turned-still : IsStill (turned w) = record { near = still.far; far = still.near; near_way = still.far_way; far_way = still.near_way } in (
-        has-come service tei d c q p (its_far j) its_near (turned w) h.m h.n (turned-up service tei c d p q its_near (its_far j) w h.n h.m h.up) turned-still (inr none'),
-        has-come service tei c d p q its_near (its_far j) w h.n h.m h.up still (inr none),
+        loose-told service tei d c q p back (its_far j) its_near (turned w) (loose-turned-up service tei c d p q its_near (its_far j) w h) turned-still none',
+        loose-told service tei c d p q face its_near (its_far j) w h still none,
       )
 
   pub all-heard : (n : ℕ) (w : Wire) → Goes n w → IsStill w → runs_t200 service tei w.near ≡ false → runs_t200 service tei w.far ≡ false → All_ (told_of_calls service tei n) w
@@ -319,8 +325,8 @@ module _ (service : Service) (tei : ℕ) (c d : Config) (p q : ℕ) (face : Face
   all-heard n w (inr (j, e, h)) still none none' =
       subst (λ past. All_ past w) (sym (ap (told_of_calls service tei) e ∙ calls-are j)) (called-all j w h still none none')
 
-pub lost-answers-are-repeated : LostAnswersAreRepeated
-lost-answers-are-repeated service c d line other tei ds can talk = λ patient.
+pub lossy-calls-come-through : LossyCallsComeThrough
+lossy-calls-come-through service c d line other tei ds can talk = λ patient.
     let x = setting service c d line other tei can in
     let begun = calling service tei c line d other in
     let w = doing_all ds begun in

@@ -42,6 +42,7 @@ use Rattle.laws_wire.proofs.Awaited.{closed, link-is, as-here, may-there, open-t
 use Rattle.laws_wire.proofs.Dense.{Dense, Reaches, Owed}
 use Rattle.laws_wire.proofs.Firm.{Firm, firm-asks, firm-takes, not-behind}
 use Rattle.laws_wire.proofs.Held.{Held, Grants, held-asked}
+use Rattle.laws_wire.proofs.Loose.{as-loose, loose-came}
 use Rattle.laws_wire.proofs.LossyPhases.{for-data, Aims}
 use Rattle.laws_wire.proofs.Roomy.{kinds}
 use Rattle.laws_wire.proofs.Sure.{Sure, sure-begins, sure-asks, sure-expires, sure-sends, sure-hears}
@@ -100,34 +101,6 @@ module _ (n m : End) (h : Firm n m) (quiet : HasNothingToSend n.terms n.link) (w
       go (inr reaches) =
           let same : n.link.a ≡ m.link.r = subst (Reaches n.link.a m.link.r) empty reaches in
           all-received (all ∙ sent-all q.state (omega (arith, same, all)))
-
-  -- and where T200 does not run
-  pub rests-came : runs T200 n.link.running ≡ false → HasAll
-  rests-came none = go n.link.state refl h.near_sane.timed.timer
-    where
-      running : n.link.running ≡ Some T200 → ⊥
-      running e = true≢false (sym (ap (runs T200) e) ∙ none)
-
-      low : n.link.a ≤ m.link.r
-      low = rising-low n.link.a m.link.r (line_of m) h.joined.there.rising
-
-      high : m.link.r ≤ n.link.s
-      high = not-behind n m h.there
-
-      in-7 : n.link.state ≡ Established → (n.link.running ≡ Some T200) ⊎ ((n.link.running ≡ Some T203) × (n.link.s ≤ n.link.a)) → HasAll
-      in-7 e (inl runs) = absurd (running runs)
-      in-7 e (inr x) =
-          let least : n.link.a ≤ m.link.r = low in
-          let most : m.link.r ≤ n.link.s = high in
-          let same : m.link.r ≡ n.link.s = omega (arith, x.1, least, most) in
-          all-received (same ∙ sent-all e x.1)
-
-      go : (here : State) → n.link.state ≡ here → IsTimedIn n.link.state n.link → HasAll
-      go TeiAssigned e timed = absurd (true≢false (sym (subst (λ s. IsTrue (is_multiple_frame s)) e h.joined.near_up)))
-      go AwaitingEstablishment e timed = absurd (true≢false (sym (subst (λ s. IsTrue (is_multiple_frame s)) e h.joined.near_up)))
-      go AwaitingRelease e timed = absurd (true≢false (sym (subst (λ s. IsTrue (is_multiple_frame s)) e h.joined.near_up)))
-      go Established e timed = in-7 e (subst (λ s. IsTimedIn s n.link) e timed)
-      go TimerRecovery e timed = absurd (running (subst (λ s. IsTimedIn s n.link) e timed))
 
 -- ---- while turns come
 
@@ -347,4 +320,4 @@ module _ (service : Service) (tei : ℕ) where
     pub has-come : Sure n m ⊎ (runs_t200 service tei w.near ≡ false) → HasHeard
     has-come (inl s) = told-all (sure-came n m h.firm near-quiet near-hushed.way (nothing-given m.terms m.link far-hushed.given) far-hushed.way s)
     has-come (inr none) =
-        told-all (rests-came n m h.firm near-quiet near-hushed.way (ap (λ (l : Link). runs T200 l.running) (sym (link-is service tei c p w.near n h.near.stands)) ∙ none))
+        told-all (loose-came n m (as-loose n m h.firm) near-quiet (ap (λ (l : Link). runs T200 l.running) (sym (link-is service tei c p w.near n h.near.stands)) ∙ none))

@@ -1,15 +1,38 @@
--- A call in which UA may be lost, and SABME goes again: what is told then.
+-- A call in which frames are lost, UA too, and either end may be busy: what is told then.
 use Rattle.std.specs.Prelude.{◌≡◌, ◌≢◌, ℕ, zero, suc, ◌+◌, ◌==◌, Bool, false, ◌&&◌, List, [], ◌∷◌, ◌++◌, length, map, replicate, All, if◌then◌else◌}
 use Rattle.lapd_frame.specs.declared.notes.ErrorCode.TheVariants.{F}
 use Rattle.lapd_frame.specs.declared.notes.Note.TheVariants.{Error}
 use Rattle.lapd_frame.specs.declared.services.Service.{Service}
 use Rattle.model_line.specs.declared.config.Config.{Config}
 use Rattle.model_line.specs.Event.{LineTold, nothing}
+use Rattle.model_line.specs.Request.{Request, Data, SetBusy, ClearBusy}
 use Rattle.laws_wire.specs.Wire.{Station, Wire, Act, requests, times_out, takes, turned, Doing, at_near, at_far, doing, doing_all, is_any, IsStill}
 use Rattle.laws_wire.specs.Call.{calling, CanCall, confirmed, indicated, data_told, all_told, IsBeginningOf}
-use Rattle.laws_wire.specs.Losing.{IsRoughTalk, heard_in}
+use Rattle.laws_wire.specs.Losing.{IsOfLink, heard_in}
 use Rattle.laws_wire.specs.Timely.{IsTimelyOf}
 use Rattle.laws_wire.specs.Arriving.{runs_t200}
+
+-- What is done: as in `Losing`, and layer 3 also says that its end is busy, or ready again (Q.921 clause 5.6.6).
+abbrev pub IsAsked : Service → ℕ → Request → Type 0
+IsAsked service tei (Data s t contents) = (s ≡ service) × (t ≡ tei)
+IsAsked service tei (SetBusy s t) = (s ≡ service) × (t ≡ tei)
+IsAsked service tei (ClearBusy s t) = (s ≡ service) × (t ≡ tei)
+IsAsked service tei other = ⊥
+
+abbrev pub IsFullTalkOf : Service → ℕ → Act → Type 0
+IsFullTalkOf service tei (requests r) = IsAsked service tei r
+IsFullTalkOf service tei (times_out timer) = IsOfLink service tei timer
+IsFullTalkOf service tei other = Unit {0}
+
+abbrev pub IsFullTalk : Service → ℕ → Doing → Type 0
+IsFullTalk service tei (at_near act) = IsFullTalkOf service tei act
+IsFullTalk service tei (at_far act) = IsFullTalkOf service tei act
+
+-- The end that calls is busy only behind the establishment.
+abbrev pub IsBehind : Act → Wire → Type 0
+IsBehind (requests (SetBusy s t)) w = heard_in w.near ≢ []
+IsBehind (requests (ClearBusy s t)) w = heard_in w.near ≢ []
+IsBehind other w = Unit {0}
 
 -- The end that was called waits: before the other was told anything, its layer 3 asks for nothing, and none of its timers expires.
 -- Any of its frames may be lost.
@@ -20,7 +43,7 @@ Waits other w = Unit {0}
 
 -- T200 is long enough at both ends, and N200 is not used up.
 abbrev pub IsPatient : Doing → Wire → Type 0
-IsPatient (at_near act) w = IsTimelyOf act w
+IsPatient (at_near act) w = IsTimelyOf act w × IsBehind act w
 IsPatient (at_far act) w = IsTimelyOf act (turned w) × Waits act w
 
 unfoldable pub StayPatient : List Doing → Wire → Type 0
@@ -54,7 +77,7 @@ pub record ToldSo (service : Service) (tei : ℕ) (taken : ℕ) (w : Wire) : Typ
   pub far : IsStill w → runs_t200 service tei w.near ≡ false → runs_t200 service tei w.far ≡ false →
       heard_in w.far ≡ told_of_calls service tei taken ++ map (data_told service tei) w.near.granted
 
-abbrev pub LostAnswersAreRepeated : Type 0
-LostAnswersAreRepeated =
-    (service : Service) (c d : Config) (line other tei : ℕ) (ds : List Doing) → CanCall c line d other tei → All (IsRoughTalk service tei) ds →
+abbrev pub LossyCallsComeThrough : Type 0
+LossyCallsComeThrough =
+    (service : Service) (c d : Config) (line other tei : ℕ) (ds : List Doing) → CanCall c line d other tei → All (IsFullTalk service tei) ds →
     let begun = calling service tei c line d other in StayPatient ds begun → ToldSo service tei (calls ds begun) (doing_all ds begun)

@@ -1,14 +1,17 @@
 -- What arrives under traffic: of an end whose T200 has expired since a frame was lost last, all that it was granted to send.
-use Rattle.std.specs.Prelude.{◌≡◌, ◌≢◌, ◌≤◌, ℕ, Bool, true, false, ◌&&◌, ◌||◌, List, [], ◌∷◌, All, ◌⊎◌}
+use Rattle.std.specs.Prelude.{◌≡◌, ◌≢◌, ◌≤◌, ℕ, ◌*◌, Bool, true, false, ◌&&◌, ◌||◌, List, [], ◌∷◌, ◌++◌, All, ◌⊎◌}
 use Rattle.lapd_frame.specs.declared.services.Service.{Service}
 use Rattle.lapd_frame.specs.declared.timers.Timer.TheVariants.{T200}
 use Rattle.model_link.specs.declared.timers.LinkTimer.TheVariants as link
 use Rattle.model_link.specs.Machine.{is_running}
 use Rattle.model_line.specs.declared.config.Config.{Config}
+use Rattle.model_line.specs.Line.{terms}
 use Rattle.laws_wire.specs.Wire.{Station, Wire, Act, times_out, loses, Doing, at_near, at_far, doing, doing_all, IsStill}
 use Rattle.laws_wire.specs.Call.{calling, CanCall, confirmed, indicated, all_told}
 use Rattle.laws_wire.specs.Losing.{IsRoughTalk, heard_in}
-use Rattle.laws_wire.specs.Facing.{end_of}
+use Rattle.laws_wire.specs.Facing.{end_of, granted_of}
+use Rattle.laws_wire.specs.Recovering.{rounds}
+use Rattle.laws_wire.specs.Resting.{expiries, most_frames}
 use Rattle.laws_wire.specs.Timely.{StayTimely}
 
 -- No frame is lost.
@@ -53,3 +56,13 @@ ArrivesUnderTraffic =
     3 ≤ c.control → 3 ≤ d.control → All (IsRoughTalk service tei) before → All (IsRoughTalk service tei) since → All LosesNothing since →
     let begun = calling service tei c line d other in let w = doing_all before begun in let last = doing_all since w in
     StayTimely before begun → StayTimely since w → heard_in w.near ≢ [] → IsStill last → HasCome service tei since w last
+
+-- And there is such a time within so many rounds in which nothing more is asked for, nothing is lost, and no timer expires.
+abbrev pub ArrivesInRounds : Type 0
+ArrivesInRounds =
+    (service : Service) (c d : Config) (line other tei k : ℕ) (before since : List Doing) → CanCall c line d other tei →
+    3 ≤ c.control → 3 ≤ d.control → (terms c service tei).k ≤ k → (terms d service tei).k ≤ k →
+    All (IsRoughTalk service tei) before → All (IsRoughTalk service tei) since → All LosesNothing since →
+    let begun = calling service tei c line d other in let w = doing_all before begun in let last = doing_all since w in
+    StayTimely before begun → StayTimely since w → heard_in w.near ≢ [] →
+    (n : ℕ) × (n ≤ 2 * most_frames k (expiries (before ++ since)) (granted_of last)) × IsStill (rounds n last) × HasCome service tei since w (rounds n last)

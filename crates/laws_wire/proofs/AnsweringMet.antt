@@ -17,7 +17,6 @@ use Rattle.laws_wire.specs.Wire.{Wire, requests, times_out, gives, takes, loses,
 use Rattle.laws_wire.specs.Call.{confirmed, data_told, all_told}
 use Rattle.laws_wire.specs.Losing.{heard_in}
 use Rattle.laws_wire.specs.Facing.{end_of}
-use Rattle.laws_wire.specs.Recovering.{round}
 use Rattle.laws_wire.specs.Timely.{is_poll, is_final, IsNoneOpen, MayRepeat}
 use Rattle.laws_wire.specs.Answering.{IsFullTalk, StayPatient, calls, ToldSo}
 use Rattle.laws_wire.specs.Worked.{user, network, begins}

@@ -1,7 +1,6 @@
 -- I-frames of which none is missing between V(R) of the one end and V(S) of the other, and N(R) of which the last is V(R).
 use Rattle.std.proofs.Common.{◌≡◌, ℕ, ◌+◌, ◌%◌, ◌<◌, ◌≤◌, Bool, true, List, [], ◌∷◌, ◌++◌, refl, sym, ap, subst, ◌∙◌, ◌⊎◌, inl, inr, arith}
 use Rattle.lapd_frame.specs.Grammar.{Parts}
-use Rattle.lapd_seq.specs.declared.numbers.Seq.{Seq}
 use Rattle.lapd_seq.specs.Numbers.{seq}
 use Rattle.lapd_seq.proofs.Callers.{seq-value}
 use Rattle.model_link.proofs.Lines.{Means, Rising, rising-low}

@@ -23,7 +23,7 @@ use Rattle.laws_link.specs.Flags.{busy_asked, flag_left, takes_contents}
 use Rattle.laws_link.specs.States.{as_heard, is_overlong, state_after}
 use Rattle.laws_link.specs.Telling.{numbered_as, final_as, told_up, told_by_frame, told_expired, told_by}
 use Rattle.laws_link.proofs.Follows.{event-follows}
-use Rattle.laws_two_links.specs.Ahead.{IsAhead, CanRepeat, IsMildAct}
+use Rattle.laws_two_links.specs.Ahead.{CanRepeat, IsMildAct}
 use Rattle.laws_two_links.specs.Timely.{IsTimely, IsTimelyAct}
 use Rattle.laws_two_links.proofs.Effects.{is_recovering}
 use Rattle.laws_two_links.proofs.Flow.{Flow, flow-low}

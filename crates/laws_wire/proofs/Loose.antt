@@ -1,29 +1,27 @@
 -- Two ends that are up, either of which may be busy, and whose T200 is timely: they stay up, and no frame that one takes makes it tell an
 -- error.
-use Rattle.std.proofs.Common.{◌≡◌, ℕ, ◌-◌, ◌<◌, ◌≤◌, Bool, true, false, not, ◌&&◌, IsTrue, List, [], ◌∷◌, ◌++◌, length, Some, refl, sym, ap, subst, ◌∙◌, ◌⊎◌, inl, inr, true≢false, arith}
+use Rattle.std.proofs.Common.{◌≡◌, ◌-◌, ◌≤◌, Bool, true, false, not, ◌&&◌, IsTrue, List, ◌∷◌, ◌++◌, length, Some, refl, sym, ap, subst, ◌∙◌, ◌⊎◌, inl, inr, true≢false, arith}
 use Rattle.std.specs.Prelude.{nat_lt}
-use Rattle.std.specs.List.{list_any}
 use Rattle.std.proofs.lemmas.Bool.{lt-ltb, ltb-false}
 use Rattle.std.proofs.lemmas.List.{take_all}
 use Rattle.lapd_frame.specs.Grammar.{Parts}
 use Rattle.model_link.specs.declared.states.State.{State}
 use Rattle.model_link.specs.declared.states.State.TheVariants.{TeiAssigned, AwaitingEstablishment, AwaitingRelease, Established, TimerRecovery}
-use Rattle.model_link.specs.declared.timers.LinkTimer.{LinkTimer}
 use Rattle.model_link.specs.declared.timers.LinkTimer.TheVariants.{T200, T203}
-use Rattle.model_link.specs.Events.{Request, frame, received, expired, requested, offer, Data}
-use Rattle.model_link.specs.Link.{Link, is_multiple_frame}
+use Rattle.model_link.specs.Events.{frame, received}
+use Rattle.model_link.specs.Link.{is_multiple_frame}
 use Rattle.model_link.specs.Machine.{course, after}
 use Rattle.model_link.specs.Offers.{is_established}
 use Rattle.model_link.specs.Told.{runs}
-use Rattle.model_link.specs.TwoEnds.{End, Ends, Act, asks, expires, sends, receives, loses, at_near, with_link, with_sent, with_first_of, with_first_lost, acting, IsUp}
+use Rattle.model_link.specs.TwoEnds.{End, Ends, Act, asks, expires, sends, receives, loses, at_near, with_link, with_first_of, acting, IsUp}
 use Rattle.model_link.proofs.Direction.{frames_of, line_of}
 use Rattle.model_link.proofs.Joined.{Joined, joined-turned, done-at}
 use Rattle.model_link.proofs.Lines.{Rising, rising-low}
 use Rattle.model_link.proofs.Taking.{frame-taken}
 use Rattle.laws_link.specs.Timed.{IsTimedIn}
-use Rattle.laws_two_links.specs.Ahead.{IsAhead, IsMildRequest, CanRepeat, IsMildAct}
+use Rattle.laws_two_links.specs.Ahead.{IsMildAct}
 use Rattle.laws_two_links.specs.Heeds.{HeedsIn}
-use Rattle.laws_two_links.specs.Timely.{IsTimely, IsTimelyAct}
+use Rattle.laws_two_links.specs.Timely.{IsTimelyAct}
 use Rattle.laws_two_links.specs.Waits.{HasNothingToSend}
 use Rattle.laws_two_links.proofs.Effects.{is_recovering}
 use Rattle.laws_two_links.proofs.Flow.{Flow}
@@ -33,7 +31,6 @@ use Rattle.laws_two_links.proofs.Reached.{Sane, sane-doing}
 use Rattle.laws_two_links.proofs.StayingUp.{Flows, acted-flows}
 use Rattle.laws_two_links.proofs.Together.{done-up, same-after}
 use Rattle.laws_two_links.proofs.Trains.{Kind, numbered, enquiry, answer, report, rejection, alien, kind_of}
-use Rattle.laws_wire.specs.Losing.{is_error}
 use Rattle.laws_wire.proofs.Fair.{HasError, Fine, frame-fair}
 use Rattle.laws_wire.proofs.Firm.{Firm, IsQuiet, no-error, not-behind}
 
@@ -162,8 +159,11 @@ module _ (n m : End) (h : Loose n m) where
             let most : n.link.s ≤ length n.link.contents = h.joined.near_sound.accepted in
             omega (arith, high, most)
 
-    abbrev HasAll : Type 0
-    HasAll = m.delivered ≡ n.link.contents
+    -- It is in state 7, all that it has is acknowledged, and has come.
+    pub record HasAll : Type 0 where
+      pub state : n.link.state ≡ Established
+      pub acknowledged : n.link.a ≡ length n.link.contents
+      pub delivered : m.delivered ≡ n.link.contents
 
     low-r : n.link.a ≤ m.link.r
     low-r = rising-low n.link.a m.link.r (line_of m) h.joined.there.rising
@@ -176,9 +176,13 @@ module _ (n m : End) (h : Loose n m) where
     in-7 e (inr x) =
         let least : n.link.a ≤ m.link.r = low-r in
         let most : m.link.r ≤ n.link.s = high-r in
-        let same : m.link.r ≡ n.link.s = omega (arith, x.1, least, most) in
-        let all : m.link.r ≡ length n.link.contents = same ∙ sent-all e x.1 in
-        h.joined.there.delivered ∙ take_all m.link.r n.link.contents (omega (arith, all))
+        let sent : n.link.s ≡ length n.link.contents = sent-all e x.1 in
+        let all : m.link.r ≡ length n.link.contents = omega (arith, x.1, least, most, sent) in
+        record {
+          state = e;
+          acknowledged = omega (arith, x.1, least, most, sent);
+          delivered = h.joined.there.delivered ∙ take_all m.link.r n.link.contents (omega (arith, all));
+        }
 
     by-state : (here : State) → n.link.state ≡ here → IsTimedIn n.link.state n.link → HasAll
     by-state TeiAssigned e timed = absurd (true≢false (sym (subst (λ s. IsTrue (is_multiple_frame s)) e h.joined.near_up)))

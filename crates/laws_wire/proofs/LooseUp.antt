@@ -1,5 +1,5 @@
 -- Two stations that are up, either of which may be busy, where each timer is timely: both stay up, whatever is lost.
-use Rattle.std.proofs.Common.{◌≡◌, ℕ, Bool, true, false, cond, IsTrue, List, [], ◌∷◌, ◌++◌, map, Option, None, Some, refl, sym, ap, subst, ◌∙◌, ◌⊎◌, inl, inr, append-nil}
+use Rattle.std.proofs.Common.{◌≡◌, ℕ, Bool, true, false, cond, List, [], ◌∷◌, ◌++◌, length, drop, map, Option, None, Some, refl, sym, ap, subst, ◌∙◌, ◌⊎◌, inl, inr, append-nil}
 use Rattle.std.specs.Prelude.{All}
 use Rattle.std.proofs.lemmas.List.Elements.{All-head}
 use Rattle.lapd_frame.specs.declared.refusals.Refusal.{Refusal}
@@ -12,7 +12,7 @@ use Rattle.model_link.specs.declared.terms.Terms.{Terms}
 use Rattle.model_link.specs.declared.timers.LinkTimer.{LinkTimer}
 use Rattle.model_link.specs.declared.timers.LinkTimer.TheVariants.{T200, T203}
 use Rattle.model_link.specs.Events as link
-use Rattle.model_link.specs.Link.{Link}
+use Rattle.model_link.specs.Link.{Link, state_number, queue_of}
 use Rattle.model_link.specs.Machine.{course}
 use Rattle.model_link.specs.Requests as requests
 use Rattle.model_link.specs.Steps.{Course, begun}
@@ -34,17 +34,18 @@ use Rattle.model_link.specs.Told.{runs}
 use Rattle.laws_wire.specs.Wire.{Station, Wire, happens, with_first_of, Act, requests, times_out, gives, takes, loses, acting, turned, IsStill, contents_of}
 use Rattle.laws_wire.specs.Call.{data_told}
 use Rattle.laws_wire.specs.Losing.{heard_in}
+use Rattle.laws_wire.specs.Facing.{end_of}
 use Rattle.laws_wire.specs.Timely.{IsTimelyOf}
 use Rattle.laws_wire.specs.Arriving.{runs_t200}
-use Rattle.laws_wire.specs.Answering.{IsAsked, IsFullTalkOf}
+use Rattle.laws_wire.specs.Answering.{IsAsked, IsFullTalkOf, Rests}
 use Rattle.laws_wire.proofs.Asking.{with_more, asked-form}
 use Rattle.laws_wire.proofs.Awaited.{closed, link-is, as-here, may-there, open-there}
 use Rattle.laws_wire.proofs.Held.{TellsIt, Held, heard-then, held-given, held-lost, held-taken, Grants, held-asked}
-use Rattle.laws_wire.proofs.Loose.{Loose, loose-turned, loose-after, loose-fine, loose-kept, loose-came}
+use Rattle.laws_wire.proofs.Loose.{Loose, loose-turned, loose-after, loose-fine, loose-kept, HasAll, loose-came}
 use Rattle.laws_wire.proofs.LossyPhases.{Aims}
 use Rattle.laws_wire.proofs.Standing.{IsCarried, Stands, Granted, asks-stands}
 use Rattle.laws_wire.proofs.Talking.{Face}
-use Rattle.laws_wire.proofs.TimelyUp.{each-timer, IsHushed, hushed, timer-held, never}
+use Rattle.laws_wire.proofs.TimelyUp.{each-timer, hushed, timer-held, never}
 
 -- what own busy asks for is told nobody, and leaves the contents
 record Mute (l : Link) (c : Course) : Type 0 where
@@ -52,6 +53,10 @@ record Mute (l : Link) (c : Course) : Type 0 where
   notes : c.notes ≡ []
   delivered : c.delivered ≡ None
   unit : c.unit ≡ None
+
+drop-all : (xs : List (List ℕ)) → drop (length xs) xs ≡ []
+drop-all [] = refl
+drop-all (x ∷ xs) = drop-all xs
 
 module _ (t : Terms) (l : Link) where
   either : (b : Bool) (u v : Course) → Mute l u → Mute l v → Mute l (cond b u v)
@@ -234,9 +239,25 @@ module _ (service : Service) (tei : ℕ) where
     loose-acts takes is x = loose-takes
     loose-acts loses is x = loose-loses
 
-    -- where no turn is left and T200 does not run, all that it was granted was told at the other
-    pub loose-told : IsStill w → runs_t200 service tei w.near ≡ false → heard_in w.far ≡ other ++ map (data_told service tei) w.near.granted
-    loose-told still none =
-        let quiet : HasNothingToSend n.terms n.link = nothing-given n.terms n.link (hushed service tei c p past w.near n h.near still.near still.near_way).given in
-        let stopped : runs T200 n.link.running ≡ false = ap (λ (l : Link). runs T200 l.running) (sym (link-is service tei c p w.near n h.near.stands)) ∙ none in
-        h.far.heard ∙ ap (λ xs. other ++ map (data_told service tei) xs) (loose-came n m h.loose quiet stopped ∙ sym h.near.granted)
+    -- where no turn is left and T200 does not run, all that it was granted was told at the other, and it rests
+    module _ (still : IsStill w) (none : runs_t200 service tei w.near ≡ false) where
+      its-link : (end_of service tei w.near).link ≡ n.link
+      its-link = link-is service tei c p w.near n h.near.stands
+
+      quiet : HasNothingToSend n.terms n.link
+      quiet = nothing-given n.terms n.link (hushed service tei c p past w.near n h.near still.near still.near_way).given
+
+      stopped : runs T200 n.link.running ≡ false
+      stopped = ap (λ (l : Link). runs T200 l.running) (sym its-link) ∙ none
+
+      has-all : HasAll n m h.loose quiet stopped
+      has-all = loose-came n m h.loose quiet stopped
+
+      pub loose-told : heard_in w.far ≡ other ++ map (data_told service tei) w.near.granted
+      loose-told = h.far.heard ∙ ap (λ xs. other ++ map (data_told service tei) xs) (has-all.delivered ∙ sym h.near.granted)
+
+      pub loose-rests : Rests service tei w.near
+      loose-rests = (
+        ap (λ (l : Link). state_number l.state) its-link ∙ ap state_number has-all.state,
+        ap queue_of its-link ∙ ap (λ a. drop a n.link.contents) has-all.acknowledged ∙ drop-all n.link.contents,
+      )

@@ -1,6 +1,6 @@
 -- What an end sends arrives for sure once it has asked, where nothing more is lost: it awaits the answer, or nothing that it sent is
 -- missing. What it does itself leaves that so.
-use Rattle.std.proofs.Common.{◌≡◌, ℕ, ◌+◌, ◌<◌, ◌≤◌, Bool, true, false, IsTrue, List, [], ◌∷◌, ◌++◌, Some, refl, sym, ap, subst, ◌∙◌, ◌⊎◌, inl, inr, true≢false, arith}
+use Rattle.std.proofs.Common.{◌≡◌, ℕ, ◌+◌, ◌≤◌, Bool, true, false, IsTrue, List, [], ◌∷◌, ◌++◌, Some, refl, sym, ap, subst, ◌∙◌, ◌⊎◌, inl, inr, true≢false, arith}
 use Rattle.lapd_frame.specs.declared.controls.Control.{Control}
 use Rattle.lapd_frame.specs.declared.controls.Control.TheVariants.{Information, ReceiveReady, ReceiveNotReady, Reject, Sabme, Disc, Ui, Ua, Dm, Frmr, Xid}
 use Rattle.lapd_frame.specs.Grammar.{Parts}
@@ -26,7 +26,7 @@ use Rattle.laws_two_links.specs.Timely.{IsTimely}
 use Rattle.laws_two_links.proofs.Effects.{is_recovering, Takes, Heard}
 use Rattle.laws_two_links.proofs.Flow.{Flow, most}
 use Rattle.laws_two_links.proofs.Flowing.{answer-says, no-answer}
-use Rattle.laws_two_links.proofs.Going.{expires-goes, offer-goes, Gives}
+use Rattle.laws_two_links.proofs.Going.{offer-goes, Gives}
 use Rattle.laws_two_links.proofs.Halves.{named-number}
 use Rattle.laws_two_links.proofs.HeardRows.{heard}
 use Rattle.laws_two_links.proofs.Meeting.{line, Longer, line-longer, NoAlien, is-no-alien}

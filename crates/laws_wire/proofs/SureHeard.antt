@@ -1,23 +1,21 @@
 -- What the other end does leaves what an end sends as sure as it was, where nothing more is lost.
-use Rattle.std.proofs.Common.{◌≡◌, ℕ, ◌+◌, ◌≤◌, ◌==◌, Bool, true, false, cond, ◌&&◌, IsTrue, List, [], ◌∷◌, ◌++◌, refl, sym, ap, subst, ◌∙◌, ◌⊎◌, inl, inr, true≢false, eq-eqb, arith}
+use Rattle.std.proofs.Common.{◌≡◌, ℕ, ◌+◌, ◌≤◌, ◌==◌, Bool, true, false, cond, IsTrue, List, [], ◌∷◌, ◌++◌, refl, sym, ap, subst, ◌∙◌, ◌⊎◌, inl, inr, true≢false, eq-eqb, arith}
 use Rattle.lapd_frame.specs.declared.controls.Control.{Control}
 use Rattle.lapd_frame.specs.declared.controls.Control.TheVariants.{Information, ReceiveReady, ReceiveNotReady, Reject, Sabme, Disc, Ui, Ua, Dm, Frmr, Xid}
 use Rattle.lapd_frame.specs.Grammar.{Parts}
 use Rattle.lapd_seq.specs.declared.numbers.Seq.{Seq}
 use Rattle.lapd_seq.specs.Numbers.{seq}
-use Rattle.model_link.specs.declared.states.State.TheVariants.{Established}
 use Rattle.model_link.specs.declared.timers.LinkTimer.{LinkTimer}
 use Rattle.model_link.specs.declared.terms.Terms.{Terms}
-use Rattle.model_link.specs.Events.{frame, received, expired, offer}
+use Rattle.model_link.specs.Events.{frame, received, expired}
 use Rattle.model_link.specs.Link.{Link, is_multiple_frame, frame_of}
-use Rattle.model_link.specs.Machine.{after, course, is_running, frame_step}
+use Rattle.model_link.specs.Machine.{after, frame_step}
 use Rattle.model_link.specs.MultipleFrame.{is_next}
 use Rattle.model_link.specs.Steps.{begun}
 use Rattle.model_link.specs.TwoEnds.{End, with_link, with_sent}
 use Rattle.model_link.specs.Words.{has_room, ready_to_receive, response}
 use Rattle.model_link.proofs.Direction.{line_of, frames_of}
-use Rattle.model_link.proofs.Lines.{Means, Rising}
-use Rattle.laws_link.specs.Flags.{busy_by}
+use Rattle.model_link.proofs.Lines.{Rising}
 use Rattle.laws_two_links.specs.Timely.{IsTimely}
 use Rattle.laws_two_links.proofs.Effects.{is_recovering, Takes, Heard}
 use Rattle.laws_two_links.proofs.Flow.{Flow, most}
@@ -27,8 +25,8 @@ use Rattle.laws_two_links.proofs.Meeting.{line, Longer, line-longer, NoAlien, is
 use Rattle.laws_two_links.proofs.Trains.{Kind, numbered, enquiry, answer, report, rejection, alien, kind_of, kinds_of, kinds-append, tally, tally-push, one_enquiry, one_answer}
 use Rattle.laws_wire.proofs.Asking.{with_more}
 use Rattle.laws_wire.proofs.Dense.{Dense, Owed, Replies, owed-after}
-use Rattle.laws_wire.proofs.Firm.{Firm, firm-turned}
-use Rattle.laws_wire.proofs.Replying.{Enquired, line-push, expires-so, offer-says, Same, ready-same, reject-same, Answers, answer-means, enquiry-answered, Next, next-taken}
+use Rattle.laws_wire.proofs.Firm.{Firm}
+use Rattle.laws_wire.proofs.Replying.{Enquired, line-push, expires-so, offer-says, Same, ready-same, reject-same, Answers, enquiry-answered, Next, next-taken}
 use Rattle.laws_wire.proofs.Roomy.{kinds, roomy}
 use Rattle.laws_wire.proofs.Sure.{Asking, Steady, Sure, one-at-most, longer-tally, room-for, none-open}
 use Rattle.laws_wire.proofs.Tame.{IsFree}

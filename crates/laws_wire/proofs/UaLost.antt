@@ -1,36 +1,31 @@
 -- The phases of a call in which UA may be lost: one end rings, and the other is down, or up as its UA left it, or is about to send UA again.
-use Rattle.std.proofs.Common.{◌≡◌, ℕ, zero, suc, ◌+◌, ◌<◌, ◌==◌, Bool, true, false, cond, ◌&&◌, List, [], ◌∷◌, ◌++◌, length, map, None, Some, refl, sym, ap, subst, ◌∙◌, ◌⊎◌, inl, inr, append-nil, true≢false, arith}
-use Rattle.std.specs.Prelude.{All, ◌≢◌, nat_lt, replicate, flat_map, option_to_list}
+use Rattle.std.proofs.Common.{◌≡◌, ℕ, zero, suc, ◌+◌, ◌<◌, Bool, true, false, cond, ◌&&◌, List, [], ◌∷◌, ◌++◌, map, None, refl, sym, ap, subst, ◌∙◌, ◌⊎◌, inl, inr, append-nil, arith}
+use Rattle.std.specs.Prelude.{nat_lt, replicate, flat_map, option_to_list}
 use Rattle.std.proofs.lemmas.Bool.{lt-ltb}
 use Rattle.std.proofs.lemmas.List.Concat.{flat_map-append}
 use Rattle.lapd_frame.specs.declared.notes.ErrorCode.TheVariants.{F}
 use Rattle.lapd_frame.specs.declared.notes.Note.TheVariants as notes
 use Rattle.lapd_frame.specs.declared.services.Service.{Service}
-use Rattle.lapd_frame.specs.declared.timers.Timer.{Timer}
 use Rattle.lapd_frame.specs.declared.timers.Timer.TheVariants as timers
 use Rattle.lapd_frame.specs.Grammar.{Parts, spelling}
 use Rattle.model_link.specs.declared.frames.ControlFrame.{ControlFrame}
 use Rattle.model_link.specs.declared.terms.Terms.{Terms}
-use Rattle.model_link.specs.declared.timers.LinkTimer.{LinkTimer}
-use Rattle.model_link.specs.declared.timers.LinkTimer.TheVariants.{T200, T203}
+use Rattle.model_link.specs.declared.timers.LinkTimer.TheVariants.{T200}
 use Rattle.model_link.specs.Events as link
-use Rattle.model_link.specs.Link.{Link, fresh}
+use Rattle.model_link.specs.Link.{fresh}
 use Rattle.model_link.specs.Machine.{course, after, given}
-use Rattle.model_link.specs.Requests.{refusal}
 use Rattle.model_link.specs.Sound.{IsInRange}
 use Rattle.model_link.specs.Steps.{Course, begun}
-use Rattle.model_link.specs.TwoEnds.{End, with_link, with_sent}
-use Rattle.model_link.specs.TwoEnds as two_ends
+use Rattle.model_link.specs.TwoEnds.{End, with_link}
 use Rattle.model_line.specs.declared.config.Config.{Config}
-use Rattle.model_line.specs.Event.{LineTold, expiry, request, next}
+use Rattle.model_line.specs.Event.{LineTold, expiry}
 use Rattle.model_line.specs.Line.{terms}
 use Rattle.model_line.specs.Request.{Request, Data}
 use Rattle.model_line.specs.Request as ask
 use Rattle.laws_two_links.proofs.Waiting.{nothing-to_send}
-use Rattle.laws_wire.specs.Wire.{Station, Wire, happens, comes, with_first_of, Act, requests, times_out, gives, takes, loses, acting, turned, is_any}
-use Rattle.laws_wire.specs.Call.{confirmed, indicated, data_told}
+use Rattle.laws_wire.specs.Wire.{Station, Wire, happens, comes, with_first_of, Act, requests, times_out, gives, takes, loses, acting, turned}
+use Rattle.laws_wire.specs.Call.{confirmed, indicated}
 use Rattle.laws_wire.specs.Losing.{for_layer_3, heard_in}
-use Rattle.laws_wire.specs.Facing.{end_of}
 use Rattle.laws_wire.specs.Timely.{is_poll, is_final, IsTimelyOf}
 use Rattle.laws_wire.specs.Answering.{IsAsked, IsFullTalkOf, IsBehind, Waits, error_f}
 use Rattle.laws_wire.proofs.Answered.{takes-granted}

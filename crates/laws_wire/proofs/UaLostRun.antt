@@ -18,19 +18,19 @@ use Rattle.laws_wire.specs.Call.{calling, confirmed, indicated, data_told, all_t
 use Rattle.laws_wire.specs.Losing.{heard_in}
 use Rattle.laws_wire.specs.Timely.{IsTimelyOf}
 use Rattle.laws_wire.specs.Arriving.{runs_t200}
-use Rattle.laws_wire.specs.Answering.{IsFullTalkOf, IsFullTalk, IsBehind, Waits, IsPatient, StayPatient, takes_sabme, calls, error_f, told_of_calls, ToldSo, LossyCallsComeThrough}
+use Rattle.laws_wire.specs.Answering.{IsFullTalkOf, IsFullTalk, IsBehind, Waits, Rests, IsPatient, StayPatient, takes_sabme, calls, error_f, told_of_calls, LossyCallsComeThrough}
 use Rattle.laws_wire.proofs.Awaited.{link-is}
-use Rattle.laws_wire.proofs.Calling.{end, called, sabme, asked}
+use Rattle.laws_wire.proofs.Calling.{end, called, sabme}
 use Rattle.laws_wire.proofs.Held.{Held}
 use Rattle.laws_wire.proofs.Loose.{as-loose}
-use Rattle.laws_wire.proofs.LooseUp.{LooseUp, loose-turned-up, loose-acts, loose-told}
+use Rattle.laws_wire.proofs.LooseUp.{LooseUp, loose-turned-up, loose-acts, loose-told, loose-rests}
 use Rattle.laws_wire.proofs.Ringing.{ringing, answered, its_sabme}
 use Rattle.laws_wire.proofs.Talking.{Face}
 use Rattle.laws_wire.proofs.TimelyPhases as phases
 use Rattle.laws_wire.proofs.TimelyRinging as first_ringing
-use Rattle.laws_wire.proofs.TimelyRun.{Setting, setting}
+use Rattle.laws_wire.proofs.TimelyRun.{setting}
 use Rattle.laws_wire.proofs.TimelyUp.{BothUp}
-use Rattle.laws_wire.proofs.UaLost.{called-quiet, first_near, past_far, Rings, Ringing, near-rings, not-told, far-gives, far-loses, far-takes, UaWaits, UaGoes, answers-again, waits-near, waits-far, goes-near, goes-far}
+use Rattle.laws_wire.proofs.UaLost.{called-quiet, Rings, Ringing, near-rings, not-told, far-gives, far-loses, far-takes, UaWaits, UaGoes, answers-again, waits-near, waits-far, goes-near, goes-far}
 
 and-false : (b : Bool) → (b && false) ≡ false
 and-false true = refl
@@ -308,16 +308,21 @@ module _ (service : Service) (tei : ℕ) (c d : Config) (p q : ℕ) (face : Face
   ringing-stops A m past w (inr (inr h)) none = stops A w (rings-run h.repeats [] (sabme (terms c service tei) ∷ []) w h.near) none
 
   abbrev All_ : List LineTold → Wire → Type 0
-  All_ past w = (heard_in w.near ≡ all_told service tei (confirmed service tei) w.far) × (heard_in w.far ≡ past ++ map (data_told service tei) w.near.granted)
+  All_ past w =
+      (heard_in w.near ≡ all_told service tei (confirmed service tei) w.far) × (heard_in w.far ≡ past ++ map (data_told service tei) w.near.granted)
+      × Rests service tei w.near × Rests service tei w.far
 
   called-all : (j : ℕ) (w : Wire) → Called j w → IsStill w → runs_t200 service tei w.near ≡ false → runs_t200 service tei w.far ≡ false → All_ (its_far j) w
   called-all j w (inl h) still none none' = ringing-stops (All_ (its_far j) w) up (its_far j) w h none
   called-all j w (inr (inl h)) still none none' = stops (All_ (its_far j) w) w (rings-run h.repeats [] [] w h.near) none
   called-all j w (inr (inr (inl h))) still none none' = stops (All_ (its_far j) w) w (rings-run h.repeats [] [] w h.near) none
   called-all j w (inr (inr (inr h))) still none none' =
+      let other = loose-turned-up service tei c d p q its_near (its_far j) w h in
       let turned-still : IsStill (turned w) = record { near = still.far; far = still.near; near_way = still.far_way; far_way = still.near_way } in (
-        loose-told service tei d c q p back (its_far j) its_near (turned w) (loose-turned-up service tei c d p q its_near (its_far j) w h) turned-still none',
+        loose-told service tei d c q p back (its_far j) its_near (turned w) other turned-still none',
         loose-told service tei c d p q face its_near (its_far j) w h still none,
+        loose-rests service tei c d p q face its_near (its_far j) w h still none,
+        loose-rests service tei d c q p back (its_far j) its_near (turned w) other turned-still none',
       )
 
   pub all-heard : (n : ℕ) (w : Wire) → Goes n w → IsStill w → runs_t200 service tei w.near ≡ false → runs_t200 service tei w.far ≡ false → All_ (told_of_calls service tei n) w
@@ -341,6 +346,7 @@ lossy-calls-come-through service c d line other tei ds can talk = λ patient.
       far_so_far = far_.1;
       near = λ still none none'. (all-heard service tei c d 0 0 x.face x.back x.near x.far n w h' still none none').0;
       far = λ still none none'. (all-heard service tei c d 0 0 x.face x.back x.near x.far n w h' still none none').1;
+      rest = λ still none none'. let all = all-heard service tei c d 0 0 x.face x.back x.near x.far n w h' still none none' in (all.2, all.3);
     }
   where
     plain : (n : ℕ) → n + 0 ≡ n

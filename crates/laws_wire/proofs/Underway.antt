@@ -1,5 +1,5 @@
 -- Two stations that are up, nothing is lost, and T200 expires at either: what is then sure to arrive, and that it has, where no turn is left.
-use Rattle.std.proofs.Common.{◌≡◌, ℕ, ◌+◌, ◌-◌, ◌<◌, ◌≤◌, Bool, true, false, not, ◌&&◌, ◌||◌, IsTrue, List, [], ◌∷◌, ◌++◌, length, map, take, drop, Some, refl, sym, ap, subst, ◌∙◌, ◌⊎◌, inl, inr, true≢false, arith}
+use Rattle.std.proofs.Common.{◌≡◌, ℕ, ◌-◌, ◌≤◌, Bool, true, false, not, ◌&&◌, ◌||◌, IsTrue, List, [], ◌∷◌, ◌++◌, length, map, drop, refl, sym, ap, subst, ◌∙◌, ◌⊎◌, inl, inr, true≢false, arith}
 use Rattle.std.specs.Prelude.{All, nat_lt}
 use Rattle.std.proofs.lemmas.Bool.{lt-ltb, ltb-false}
 use Rattle.std.proofs.lemmas.List.{take_all}
@@ -8,8 +8,7 @@ use Rattle.lapd_frame.specs.declared.services.Service.{Service}
 use Rattle.lapd_frame.specs.declared.timers.Timer.{Timer}
 use Rattle.lapd_frame.specs.declared.timers.Timer.TheVariants as timers
 use Rattle.lapd_frame.specs.Grammar.{Parts}
-use Rattle.model_link.specs.declared.states.State.{State}
-use Rattle.model_link.specs.declared.states.State.TheVariants.{TeiAssigned, AwaitingEstablishment, AwaitingRelease, Established, TimerRecovery}
+use Rattle.model_link.specs.declared.states.State.TheVariants.{Established, TimerRecovery}
 use Rattle.model_link.specs.declared.timers.LinkTimer.{LinkTimer}
 use Rattle.model_link.specs.declared.timers.LinkTimer.TheVariants.{T200, T203}
 use Rattle.model_link.specs.Events as link
@@ -20,12 +19,10 @@ use Rattle.model_link.specs.Told.{runs}
 use Rattle.model_link.specs.TwoEnds.{End, with_link, with_sent}
 use Rattle.model_link.specs.TwoEnds as two_ends
 use Rattle.model_link.proofs.Direction.{line_of, frames_of}
-use Rattle.model_link.proofs.Lines.{rising-low}
 use Rattle.model_line.specs.declared.config.Config.{Config}
 use Rattle.model_line.specs.Event.{LineTold, request}
 use Rattle.model_line.specs.Request.{Data}
 use Rattle.laws_link.specs.Flags.{awaits_answer}
-use Rattle.laws_link.specs.Timed.{IsTimedIn}
 use Rattle.laws_two_links.specs.Timely as two_links
 use Rattle.laws_two_links.specs.Ahead.{CanRepeat}
 use Rattle.laws_two_links.specs.Waits.{HasNothingToSend}
@@ -33,14 +30,14 @@ use Rattle.laws_two_links.proofs.Meeting.{line}
 use Rattle.laws_two_links.proofs.Trains.{tally, one_enquiry, one_answer}
 use Rattle.laws_two_links.proofs.Waiting.{nothing-given}
 use Rattle.laws_wire.specs.Wire.{Station, Wire, happens, Act, requests, times_out, gives, takes, loses, acting, turned, Doing, at_near, at_far, doing, doing_all, IsStill}
-use Rattle.laws_wire.specs.Call.{confirmed, indicated, data_told, all_told}
+use Rattle.laws_wire.specs.Call.{confirmed, indicated, data_told}
 use Rattle.laws_wire.specs.Losing.{heard_in, IsRoughTalkOf, IsRoughTalk}
 use Rattle.laws_wire.specs.Timely.{IsTimelyOf, IsTimely, StayTimely}
 use Rattle.laws_wire.specs.Arriving.{LosesNothing, runs_t200, is_t200, near_asks, far_asks, ever}
 use Rattle.laws_wire.proofs.Asking.{with_more, asked-form}
 use Rattle.laws_wire.proofs.Awaited.{closed, link-is, as-here, may-there, open-there}
 use Rattle.laws_wire.proofs.Dense.{Dense, Reaches, Owed}
-use Rattle.laws_wire.proofs.Firm.{Firm, firm-asks, firm-takes, not-behind}
+use Rattle.laws_wire.proofs.Firm.{Firm, firm-asks, firm-takes}
 use Rattle.laws_wire.proofs.Held.{Held, Grants, held-asked}
 use Rattle.laws_wire.proofs.Loose.{as-loose, loose-came}
 use Rattle.laws_wire.proofs.LossyPhases.{for-data, Aims}
@@ -320,4 +317,4 @@ module _ (service : Service) (tei : ℕ) where
     pub has-come : Sure n m ⊎ (runs_t200 service tei w.near ≡ false) → HasHeard
     has-come (inl s) = told-all (sure-came n m h.firm near-quiet near-hushed.way (nothing-given m.terms m.link far-hushed.given) far-hushed.way s)
     has-come (inr none) =
-        told-all (loose-came n m (as-loose n m h.firm) near-quiet (ap (λ (l : Link). runs T200 l.running) (sym (link-is service tei c p w.near n h.near.stands)) ∙ none))
+        told-all (loose-came n m (as-loose n m h.firm) near-quiet (ap (λ (l : Link). runs T200 l.running) (sym (link-is service tei c p w.near n h.near.stands)) ∙ none)).delivered

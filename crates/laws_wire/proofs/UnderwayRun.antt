@@ -1,5 +1,5 @@
 -- A call from nothing, in which nothing is lost any more from some time on.
-use Rattle.std.proofs.Common.{◌≡◌, ℕ, ◌≤◌, true, false, List, [], ◌∷◌, ◌⊎◌, inl, inr}
+use Rattle.std.proofs.Common.{◌≡◌, ℕ, true, false, List, [], ◌∷◌, ◌⊎◌, inl, inr}
 use Rattle.std.specs.Prelude.{◌≢◌}
 use Rattle.lapd_frame.specs.declared.services.Service.{Service}
 use Rattle.model_line.specs.declared.config.Config.{Config}
@@ -7,10 +7,9 @@ use Rattle.model_line.specs.Event.{LineTold}
 use Rattle.laws_wire.specs.Wire.{Wire, turned, doing_all, IsStill}
 use Rattle.laws_wire.specs.Call.{calling, confirmed, indicated, all_told}
 use Rattle.laws_wire.specs.Losing.{heard_in}
-use Rattle.laws_wire.specs.Arriving.{runs_t200, near_asks, far_asks, ever, HasCome, ArrivesUnderTraffic}
-use Rattle.laws_wire.proofs.Talking.{Face}
+use Rattle.laws_wire.specs.Arriving.{runs_t200, near_asks, far_asks, ever, ArrivesUnderTraffic}
 use Rattle.laws_wire.proofs.TimelyPhases.{Goes}
-use Rattle.laws_wire.proofs.TimelyRun.{Setting, setting, runs}
+use Rattle.laws_wire.proofs.TimelyRun.{setting, runs}
 use Rattle.laws_wire.proofs.TimelyUp.{AreUp, BothUp, turned-up}
 use Rattle.laws_wire.proofs.Underway.{SureUp, sure-runs, has-come}
 

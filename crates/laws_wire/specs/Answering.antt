@@ -3,12 +3,14 @@ use Rattle.std.specs.Prelude.{◌≡◌, ◌≢◌, ℕ, zero, suc, ◌+◌, ◌
 use Rattle.lapd_frame.specs.declared.notes.ErrorCode.TheVariants.{F}
 use Rattle.lapd_frame.specs.declared.notes.Note.TheVariants.{Error}
 use Rattle.lapd_frame.specs.declared.services.Service.{Service}
+use Rattle.model_link.specs.Link.{state_number, queue_of}
 use Rattle.model_line.specs.declared.config.Config.{Config}
 use Rattle.model_line.specs.Event.{LineTold, nothing}
 use Rattle.model_line.specs.Request.{Request, Data, SetBusy, ClearBusy}
 use Rattle.laws_wire.specs.Wire.{Station, Wire, Act, requests, times_out, takes, turned, Doing, at_near, at_far, doing, doing_all, is_any, IsStill}
 use Rattle.laws_wire.specs.Call.{calling, CanCall, confirmed, indicated, data_told, all_told, IsBeginningOf}
 use Rattle.laws_wire.specs.Losing.{IsOfLink, heard_in}
+use Rattle.laws_wire.specs.Facing.{end_of}
 use Rattle.laws_wire.specs.Timely.{IsTimelyOf}
 use Rattle.laws_wire.specs.Arriving.{runs_t200}
 
@@ -67,8 +69,12 @@ unfoldable pub told_of_calls : Service → ℕ → ℕ → List LineTold
 told_of_calls service tei zero = []
 told_of_calls service tei (suc again) = indicated service tei ∷ replicate again (error_f service tei)
 
+-- A link is in state 7, and keeps nothing, as all was acknowledged.
+abbrev pub Rests : Service → ℕ → Station → Type 0
+Rests service tei s = (state_number (end_of service tei s).link.state ≡ 7) × (queue_of (end_of service tei s).link ≡ [])
+
 -- Behind that each is told the data of the other, in order, each once, and nothing else: all of it where no turn is left and T200
--- runs at neither end.
+-- runs at neither end; and then both rest.
 pub record ToldSo (service : Service) (tei : ℕ) (taken : ℕ) (w : Wire) : Type 0 where
   pub near_so_far : IsBeginningOf (all_told service tei (confirmed service tei) w.far) (heard_in w.near)
   pub far_so_far : IsBeginningOf (told_of_calls service tei taken ++ map (data_told service tei) w.near.granted) (heard_in w.far)
@@ -76,6 +82,7 @@ pub record ToldSo (service : Service) (tei : ℕ) (taken : ℕ) (w : Wire) : Typ
       heard_in w.near ≡ all_told service tei (confirmed service tei) w.far
   pub far : IsStill w → runs_t200 service tei w.near ≡ false → runs_t200 service tei w.far ≡ false →
       heard_in w.far ≡ told_of_calls service tei taken ++ map (data_told service tei) w.near.granted
+  pub rest : IsStill w → runs_t200 service tei w.near ≡ false → runs_t200 service tei w.far ≡ false → Rests service tei w.near × Rests service tei w.far
 
 abbrev pub LossyCallsComeThrough : Type 0
 LossyCallsComeThrough =

@@ -10,7 +10,8 @@ ghost use Rattle.laws_wire.specs.Answering.{LossyCallsComeThrough};
 /// SABME that the other end takes is told: the first as an establishment, and each further one, which comes where its UA was
 /// lost, as error F (Q.921 clauses 5.5.1.2, 5.5.1.3 and 5.7). Then each is told the data that the other was granted to send, in
 /// order, each once, and nothing else, so no other error: at any time a beginning of that, and all of it wherever no turn is
-/// left and T200 runs at neither end, as it does while the other end is busy, or something that was sent is missing.
+/// left and T200 runs at neither end, as it does while the other end is busy, or something that was sent is missing. And there
+/// both links are in state 7 again, and all that they kept is acknowledged.
 pub fn a_call_with_losses_comes_through()
     ensures { LossyCallsComeThrough }
 {}

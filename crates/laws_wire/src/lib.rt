@@ -14,8 +14,7 @@
 //! What is told after an error, but error F of a lost UA, and whether turns come to an end then; a lost UA where the end that
 //! was called was granted data before; a timer of the called end that expires while its UA waits to go; that a given T200 is
 //! long enough; losses in a call whose layer 3 asks for anything but data and own busy, where other links or
-//! lines are at work, or which begin elsewhere than from nothing; that both links are in state 7 again, and all is
-//! acknowledged, where what was lost has arrived.
+//! lines are at work, or which begin elsewhere than from nothing.
 #![tactic(auto)]
 
 mod answering;

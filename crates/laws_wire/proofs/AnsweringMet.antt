@@ -41,8 +41,67 @@ full =
     let busy : IsFullTalk Call 0 (at_far (requests (SetBusy Call 0))) = (refl, refl) in
     let ready : IsFullTalk Call 0 (at_far (requests (ClearBusy Call 0))) = (refl, refl) in
     let expires : IsFullTalk Call 0 (at_near (times_out (T200 Call 0))) = (refl, refl) in
-    all-full (loses_ua ++ is_busy) (tt, (tt, (tt, (tt, (expires, (tt, (tt, (tt, (tt, (busy, (near, (tt, (tt, (tt, (tt, (far, (tt, (tt, (ready, (expires,
-    (tt, (tt, (tt, (tt, (tt, (tt, (tt, (tt, (tt, (tt, (tt, (tt, tt))))))))))))))))))))))))))))))))
+    all-full (loses_ua ++ is_busy) (
+      tt,
+      (
+        tt,
+        (
+          tt,
+          (
+            tt,
+            (
+              expires,
+              (
+                tt,
+                (
+                  tt,
+                  (
+                    tt,
+                    (
+                      tt,
+                      (
+                        busy,
+                        (
+                          near,
+                          (
+                            tt,
+                            (
+                              tt,
+                              (
+                                tt,
+                                (
+                                  tt,
+                                  (
+                                    far,
+                                    (
+                                      tt,
+                                      (
+                                        tt,
+                                        (
+                                          ready,
+                                          (
+                                            expires,
+                                            (tt, (tt, (tt, (tt, (tt, (tt, (tt, (tt, (tt, (tt, (tt, (tt, tt)))))))))))),
+                                          ),
+                                        ),
+                                      ),
+                                    ),
+                                  ),
+                                ),
+                              ),
+                            ),
+                          ),
+                        ),
+                      ),
+                    ),
+                  ),
+                ),
+              ),
+            ),
+          ),
+        ),
+      ),
+    )
 
 -- UA was lost
 ua-lost : Wire
@@ -111,16 +170,37 @@ patient-then : StayPatient is_busy then
 unfolding doing_all StayPatient then drops comes-back expires
 patient-then = (
   (tt, some (heard_in then.near) [] (confirmed Call 0) is-told),
-  ((tt, tt), ((tt, tt), ((tt, tt), ((tt, tt), ((tt, tt), (
-    (tt, some (heard_in drops.near) [] (confirmed Call 0) drops-told),
-    ((tt, tt), ((tt, tt), (
-      (tt, some (heard_in comes-back.near) _ (confirmed Call 0) back-told),
+  (
+    (tt, tt),
+    (
+      (tt, tt),
       (
-        ((λ awaits. absurd (true≢false (sym awaits ∙ ap awaits_answer in-7)), free (end_of Call 0 expires.near) in-7), tt),
-        ((tt, tt), ((tt, tt), ((tt, tt), ((tt, tt), ((tt, tt), ((tt, tt), ((tt, tt), ((tt, tt), ((tt, tt), ((tt, tt), ((tt, tt), ((tt, tt), tt)))))))))))),
+        (tt, tt),
+        (
+          (tt, tt),
+          (
+            (tt, tt),
+            (
+              (tt, some (heard_in drops.near) [] (confirmed Call 0) drops-told),
+              (
+                (tt, tt),
+                (
+                  (tt, tt),
+                  (
+                    (tt, some (heard_in comes-back.near) _ (confirmed Call 0) back-told),
+                    (
+                      ((λ awaits. absurd (true≢false (sym awaits ∙ ap awaits_answer in-7)), free (end_of Call 0 expires.near) in-7), tt),
+                      ((tt, tt), ((tt, tt), ((tt, tt), ((tt, tt), ((tt, tt), ((tt, tt), ((tt, tt), ((tt, tt), ((tt, tt), ((tt, tt), ((tt, tt), ((tt, tt), tt)))))))))))),
+                    ),
+                  ),
+                ),
+              ),
+            ),
+          ),
+        ),
       ),
-    ))),
-  )))))),
+    ),
+  ),
 )
 
 both-patient : (ds es : List Doing) (w : Wire) → StayPatient ds w → StayPatient es (doing_all ds w) → StayPatient (ds ++ es) w

@@ -40,8 +40,16 @@ rough = all-rough loses_two (tt, (tt, (tt, (tt, (data-near (1 ∷ []), (tt, (tt,
 
 rough-on : All (IsRoughTalk Call 0) goes_on
 rough-on =
-    all-rough goes_on (tt, (expires, (data-far (4 ∷ []),
-    (tt, (tt, (tt, (tt, (tt, (tt, (tt, (tt, (tt, (tt, (tt, (tt, (tt, (tt, (tt, (tt, (tt, (tt, (tt, (tt, tt)))))))))))))))))))))))
+    all-rough goes_on (
+      tt,
+      (
+        expires,
+        (
+          data-far (4 ∷ []),
+          (tt, (tt, (tt, (tt, (tt, (tt, (tt, (tt, (tt, (tt, (tt, (tt, (tt, (tt, (tt, (tt, (tt, (tt, (tt, (tt, tt)))))))))))))))))))),
+        ),
+      ),
+    )
 
 abbrev AreKept : List Doing → Type 0
 AreKept [] = Unit {0}
@@ -84,8 +92,10 @@ timely-on = (
   tt,
   (
     (λ awaits. absurd (true≢false (sym awaits ∙ ap awaits_answer in-7)), free (end_of Call 0 as-it-expires.near) in-7),
-    ((tt, tt),
-    (tt, ((tt, tt), ((tt, tt), (tt, (tt, ((tt, tt), ((tt, tt), (tt, (tt, ((tt, tt), ((tt, tt), (tt, (tt, ((tt, tt), ((tt, tt), (tt, (tt, ((tt, tt), ((tt, tt), (tt, tt))))))))))))))))))))),
+    (
+      (tt, tt),
+      (tt, ((tt, tt), ((tt, tt), (tt, (tt, ((tt, tt), ((tt, tt), (tt, (tt, ((tt, tt), ((tt, tt), (tt, (tt, ((tt, tt), ((tt, tt), (tt, (tt, ((tt, tt), ((tt, tt), (tt, tt)))))))))))))))))))),
+    ),
   ),
 )
 

@@ -155,8 +155,10 @@ module _ (service : Service) (tei : ℕ) (c d : Config) (p q : ℕ) (face : Face
   down-takes n w e (inl h) =
       inl (same-count _ n 0 (no-way w [] (end (terms c service tei) (ringing h.repeats []) []) h.near refl) e, inl (far-takes service tei c d p q face back rt ru down [] refl [] [] w h refl))
   down-takes n w e (inr (inl h)) =
-      inl (same-count _ n 0 (no-way w [] (end (terms c service tei) (ringing h.repeats (its_sabme ∷ [])) []) h.near refl) e,
-      inr (inl (far-takes service tei c d p q face back rt ru down [] refl (its_sabme ∷ []) [] w h refl)))
+      inl (
+        same-count _ n 0 (no-way w [] (end (terms c service tei) (ringing h.repeats (its_sabme ∷ [])) []) h.near refl) e,
+        inr (inl (far-takes service tei c d p q face back rt ru down [] refl (its_sabme ∷ []) [] w h refl)),
+      )
   down-takes n w e (inr (inr h)) =
       let was : phases.Rings service tei c d p q [] (sabme (terms c service tei) ∷ []) w = record { repeats = h.repeats; near = h.near; far = h.far } in
       let now = first_ringing.answers service tei c d p q face back rt ru w was in

@@ -50,7 +50,8 @@ use Rattle.laws_trace.proofs.DeliveriesRun.{data-noted, no-data}
 use Rattle.laws_trace.proofs.OneLink.{frames_given, is_at_link, HasOne, IsForeign, HasNone, Goes, event-goes}
 use Rattle.laws_trace.proofs.ReadAgain.{read-again}
 use Rattle.laws_wire.specs.Wire.{frames_by}
-use Rattle.laws_order.specs.Order.{data_noted, data_granted, ends_by_note, ends_by, is_of_link, of_link_in, of_link_on}
+use Rattle.laws_order.specs.Happenings.{is_of_link, of_link_in}
+use Rattle.laws_order.specs.Order.{data_noted, data_granted, ends_by_note, ends_by, of_link_on}
 use Rattle.laws_order.proofs.LinkEnds.{or-true, Ended, own, Leaves, IsNoRelease, event-leaves, undefined-ends, wrong-size-ends, overlong-ends, unit-data-stays}
 use Rattle.laws_order.proofs.Shown.{fits, same-frames, noted-is, asked_in, granted-is, ends-is, request-ends}
 

@@ -24,6 +24,7 @@ pub mod LossyRinging
 pub mod LossyHalf
 pub mod LossyUp
 pub mod LossyRun
+pub mod Tame
 pub mod Firm
 pub mod Awaited
 pub mod TimelyFirst
@@ -33,6 +34,18 @@ pub mod TimelyRinging
 pub mod TimelyAnswered
 pub mod TimelyRun
 pub mod TimelyArrives
+pub mod Loose
+pub mod Dense
+pub mod Replying
+pub mod Roomy
+pub mod Sure
+pub mod SureHeard
+pub mod Underway
+pub mod UnderwayRun
+pub mod UnderwayRounds
+pub mod LooseUp
+pub mod UaLost
+pub mod UaLostRun
 pub mod StillIsTimely
 pub mod Counting
 pub mod Again
@@ -49,3 +62,5 @@ pub mod PremisesMet
 pub mod RecoveryMet
 pub mod RecoveryMetAgain
 pub mod CountedMet
+pub mod ArrivingMet
+pub mod AnsweringMet

@@ -7,9 +7,13 @@ pub mod Recovering
 pub mod Counted
 pub mod Facing
 pub mod Resting
+pub mod Arriving
+pub mod Answering
 pub mod Worked
 pub mod WorkedLosing
 pub mod WorkedRecovering
 pub mod WorkedCounted
 pub mod WorkedResting
+pub mod WorkedArriving
+pub mod WorkedAnswering
 pub mod WorkedBroken

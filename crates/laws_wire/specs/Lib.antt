@@ -8,6 +8,7 @@ pub mod Counted
 pub mod Facing
 pub mod Resting
 pub mod Worked
+pub mod BothWorked
 pub mod WorkedLosing
 pub mod WorkedRecovering
 pub mod WorkedCounted

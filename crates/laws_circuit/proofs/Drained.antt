@@ -99,7 +99,7 @@ module _ (n201 way : ℕ) where
   }
 
   -- the parts that count
-  come-on : (first received heard : ℕ) → (first + heard ≤ received + way) ⊎ (first ≤ received) → (first + (heard + 1) ≤ (received + 1) + way) ⊎ (first ≤ received + 1)
+  pub come-on : (first received heard : ℕ) → (first + heard ≤ received + way) ⊎ (first ≤ received) → (first + (heard + 1) ≤ (received + 1) + way) ⊎ (first ≤ received + 1)
   come-on first received heard (inl few) = inl (omega (arith, few))
   come-on first received heard (inr all) = inr (omega (arith, all))
 
@@ -185,11 +185,11 @@ module _ (n201 way : ℕ) where
 
 -- ---- so nothing is left
 
-record IsFront (short long : List ℕ) : Type 0 where
-  rest : List ℕ
-  is : long ≡ short ++ rest
+pub record IsFront (short long : List ℕ) : Type 0 where
+  pub rest : List ℕ
+  pub is : long ≡ short ++ rest
 
-front-of : (short u long v : List ℕ) → short ++ u ≡ long ++ v → length short ≤ length long → IsFront short long
+pub front-of : (short u long v : List ℕ) → short ++ u ≡ long ++ v → length short ≤ length long → IsFront short long
 front-of [] u long v e few = record { rest = long; is = refl }
 front-of (x ∷ short) u [] v e few = absurd (omega (arith, few))
 front-of (x ∷ short) u (y ∷ long) v e few =
@@ -207,7 +207,7 @@ none-framed [] e = refl
 none-framed (f ∷ fs) e = absurd (cc e)
 
 module _ (n201 way : ℕ) where
-  all-come : (first received heard : ℕ) → way ≤ heard → (first + heard ≤ received + way) ⊎ (first ≤ received) → first ≤ received
+  pub all-come : (first received heard : ℕ) → way ≤ heard → (first + heard ≤ received + way) ⊎ (first ≤ received) → first ≤ received
   all-come first received heard enough (inl few) = omega (arith, few, enough)
   all-come first received heard enough (inr all) = all
 

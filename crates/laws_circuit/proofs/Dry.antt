@@ -45,7 +45,7 @@ gave-none : (o : Option Taken) → gave (option_map next_of o) ≡ gave None →
 gave-none None e = refl
 gave-none (Some t) e = absurd (cc e)
 
-called-for-none : (number : ℕ) (card : Card) → next_of_card number card ≡ gave None → machine.after (frames.at number line.next) card ≡ card
+pub called-for-none : (number : ℕ) (card : Card) → next_of_card number card ≡ gave None → machine.after (frames.at number line.next) card ≡ card
 unfolding line_after line_answer takes_slot
 called-for-none number card none =
     let l = line_at number card in
@@ -101,6 +101,10 @@ module _ (n201 : ℕ) (c : Config) (fits : Fits n201 c) (s : Termination) (ran :
     ap (λ (p : Port). p.items) (port-pulled ∙ ap (λ due. pulled_port due s) due) ∙ ap (λ a. (port_of s).items ++ item_of (given_in a) ∷ []) none,
   )
 
+  -- where one is due, something is put behind what was there: the frame that waits, or a flag
+  pub pull-put : is_due (port_of s) ≡ true → (port_of after_pull).items ≡ (port_of s).items ++ item_of (given_in (next_of_card s.line s.card.card)) ∷ []
+  pull-put due = ap (λ (p : Port). p.items) (port-pulled ∙ ap (λ due. pulled_port due s) due)
+
   -- A pull gives none where it calls for a frame.
   abbrev pub CallsInVain : Type 0
   CallsInVain = is_due (port_of s) ≡ true → HasNone s
@@ -154,7 +158,7 @@ module _ (n201 : ℕ) (c : Config) (fits : Fits n201 c) (s : Termination) (ran :
   abbrev after_octet : Termination
   after_octet = happens (port.octet value) s
 
-  card-heard : after_octet.card.card ≡ s.card.card
+  pub card-heard : after_octet.card.card ≡ s.card.card
   card-heard =
       let size : s.card.card.config.n201 ≡ n201 = ap (λ (x : Config). x.n201) (config c fits.ranged s ran) ∙ fits.size in
       ap (λ (x : Station). x.card)

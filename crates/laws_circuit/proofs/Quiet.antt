@@ -54,7 +54,7 @@ unfolding turns
 quiet-far None f e = tt
 quiet-far (Some act) f e = no-bit (wire.is_turn_of act (wire.turned f)) e
 
-none-given : (s : Station) → is_any (frames_by (wire.answered line.next s)) ≡ false → wire.answered line.next s ≡ gave None
+pub none-given : (s : Station) → is_any (frames_by (wire.answered line.next s)) ≡ false → wire.answered line.next s ≡ gave None
 none-given s e =
     gives-taken s ∙ go (option_map next_of (taken s.card.config (line_at s.line s.card))) (sym (ap (λ a. is_any (frames_by a)) (gives-taken s)) ∙ e)
   where

@@ -4,3 +4,5 @@ pub mod Through
 pub mod Beats
 pub mod Worked
 pub mod WorkedCall
+pub mod Damaged
+pub mod WorkedDamaged

@@ -12,7 +12,10 @@ pub mod Standing
 pub mod Talking
 pub mod Up
 pub mod Quiet
-pub mod Phases
+pub mod BothAsking
+pub mod BothHalf
+pub mod BothCrossing
+pub mod BothPhases
 pub mod Beginning
 pub mod SoFar
 pub mod Run
@@ -59,6 +62,7 @@ pub mod RestedRun
 pub mod RestedRounds
 pub mod RestedTimely
 pub mod PremisesMet
+pub mod BothMet
 pub mod RecoveryMet
 pub mod RecoveryMetAgain
 pub mod CountedMet

@@ -10,6 +10,7 @@ pub mod Resting
 pub mod Arriving
 pub mod Answering
 pub mod Worked
+pub mod BothWorked
 pub mod WorkedLosing
 pub mod WorkedRecovering
 pub mod WorkedCounted

@@ -420,6 +420,12 @@ typedef struct lapd_head {
  * another. The length is 0 where no pull has begun one yet. LAPD_WRONG_CARD on a card for frames, which has no pulls. */
 LAPD_STATUS lapd_begun(lapd_card *card, uint32_t line, lapd_head *head);
 
+/* Which frame was heard last at the line, also where it was dropped afterwards, as for a TEI that is not on the line: it stays
+ * until the next is. Of one that is too long to be kept the length is n201 and five, whatever it was. The length is 0 where
+ * none was heard yet. How many were heard so far, lapd_counters tells: the sum of LAPD_HEARD_I to LAPD_HEARD_UNDEFINED, and
+ * LAPD_HEARD_OVERLONG. LAPD_WRONG_CARD on a card for frames, whose caller has each frame that it hands over. */
+LAPD_STATUS lapd_heard(lapd_card *card, uint32_t line, lapd_head *head);
+
 /*
  * What is counted of a line: the place of each number in lapd_counters.
  */

@@ -330,6 +330,7 @@ public:
         return of(lapd_exchange(&card_, line, at(in), in.size(), at(out), out.size(), &steps, to.raw()));
     }
     status begun(uint32_t line, lapd_head &to) { return of(lapd_begun(&card_, line, &to)); }
+    status heard(uint32_t line, lapd_head &to) { return of(lapd_heard(&card_, line, &to)); }
 };
 
 /// A card for frames.

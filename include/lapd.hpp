@@ -278,6 +278,9 @@ public:
     status ready(uint32_t line, service by, uint8_t tei, report &to) {
         return of(lapd_ready(&card_, line, number(by), tei, to.raw()));
     }
+    status deactivate(uint32_t line, service by, uint8_t tei, report &to) {
+        return of(lapd_deactivate(&card_, line, number(by), tei, to.raw()));
+    }
 
     status state_of(uint32_t line, service by, uint8_t tei, state &to) {
         uint8_t raw = 0;

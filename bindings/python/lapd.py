@@ -143,6 +143,7 @@ class Request(enum.IntEnum):
     CHECK = 7
     BUSY = 8
     READY = 9
+    DEACTIVATE = 10
 
 
 class State(enum.IntEnum):
@@ -502,6 +503,9 @@ class AnyCard(_Owner):
 
     def ready(self, line: int, tei: int, service: Service = Service.CALL) -> Report:
         return self._ask(line, Request.READY, service, tei)
+
+    def deactivate(self, line: int, tei: int, service: Service = Service.CALL) -> Report:
+        return self._ask(line, Request.DEACTIVATE, service, tei)
 
     def expire(self, line: int, timer: Timer) -> Report:
         return self._event("lapd_expire", line, ctypes.byref(_raw_timer(timer)))

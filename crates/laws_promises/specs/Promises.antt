@@ -31,8 +31,8 @@ pub record Promises (m : Card) (events : List Event) : Type 0 where
   pub gives_what_waits : (count : ℕ) → GivesWhatWaits m (take count events)
   -- A control frame that waits is taken by one of the calls for the next frame of its line, once they are more than the frames
   -- before it. This holds wherever in the list it waits, of a link of a TEI on the line, and whatever other events come between
-  -- the calls, as long as the TEI stays: then each message of TEI management and each unit data that comes meanwhile counts as
-  -- well.
+  -- the calls, as long as the TEI stays and the link is not deactivated: then each message of TEI management and each unit data
+  -- that comes meanwhile counts as well.
   pub waiting_is_taken : (count : ℕ) → Wherever WaitingIsTakenMeanwhile m (take count events)
   -- So after a poll with a valid N(R), for a link in state 7 or 8 where one control frame more finds room, one of so many calls
   -- as the configuration gives takes the answer, RR, RNR or REJ with F=1 and N(R) = V(R) (clauses 5.6.2 to 5.6.7 and 5.8.1); and

@@ -31,7 +31,7 @@ use Rattle.laws_trace.specs.Managing.{is_on}
 use Rattle.laws_trace.specs.Observer.{view_of}
 use Rattle.laws_trace.specs.Trace.{is_up, Always}
 use Rattle.laws_trace.proofs.Deliveries.{unit-tells, unit-own, none-noted, group-notes}
-use Rattle.laws_trace.proofs.DeliveriesRun.{data-noted, no-data}
+use Rattle.laws_trace.proofs.DeliveriesRun.{data-noted, no-data, ended-notes}
 use Rattle.laws_trace.proofs.LinkLed.{on-line}
 use Rattle.laws_trace.proofs.OneLink.{HasOne, Goes, event-goes}
 use Rattle.laws_trace.proofs.SeenAs.{up-number, seen-before, tei-seen}
@@ -77,7 +77,9 @@ module _ (c : Config) (ranged : IsInRange c) (l : Line) (s : IsSound c l) (servi
     where
       go : Goes c service tei e l (lines.after c e l) a → IsThere service tei l
       go (inl x) = absurd (no-data c ranged l s e service tei k.r (λ up. refl) x some)
-      go (inr x) = one-data x some
+      go (inr (inl x)) = one-data x some
+      go (inr (inr x)) =
+          absurd (true≢false (sym some ∙ ended-notes c ranged l s e service tei k.r (λ up. refl) (is_data_of service tei) (λ s n. refl) (λ s n. refl) x))
 
   pub of-unit : list_any (is_unit_of service tei) (notes_of a) ≡ true → IsForOne c tei l
   of-unit some = go (event-goes c e l service tei s)
@@ -87,7 +89,8 @@ module _ (c : Config) (ranged : IsInRange c) (l : Line) (s : IsSound c l) (servi
       only false is = is
 
       go : Goes c service tei e l (lines.after c e l) a → IsForOne c tei l
-      go (inr x) = inl (on-line l tei x.place x.placed)
+      go (inr (inl x)) = inl (on-line l tei x.place x.placed)
+      go (inr (inr x)) = inl (on-line l tei x.place x.placed)
       go (inl x) =
           let y = none-noted c ranged l s e service tei (is_unit_of service tei) (unit-tells service tei) (unit-own service tei) x.aims some in
           let its : (same_service (y.2).service service && group_tei == tei) ≡ true =

@@ -41,6 +41,8 @@ pub mod DataGoesOut
 pub mod DataAsked
 pub mod DataRun
 pub mod AllDataGoesOut
+pub mod ClearedTells
+pub mod FramesGiven
 pub mod CommandsCaused
 pub mod ReceiptsNumbered
 pub mod StandingOfLink

@@ -30,13 +30,13 @@ use Rattle.model_line.specs.Line.{Line, has_tei, place_in, terms}
 use Rattle.model_line.specs.Machine.{aim_of, answer, unless_refused, unless_refused_told, of_request}
 use Rattle.model_line.specs.Heard.{heard_side, addressed, aim_of_heard, aim_of_reading, aim_of_long, drop_for, message_of}
 use Rattle.model_line.specs.Refusal.{refusal}
-use Rattle.model_line.specs.Request.{Request, Establish, Release, Data, Assign, Remove, Check, SetBusy, ClearBusy}
-use Rattle.model_line.specs.Requested.{aim_of_request, at_requested}
+use Rattle.model_line.specs.Request.{Request, Establish, Release, Data, Assign, Remove, Check, SetBusy, ClearBusy, Deactivate}
+use Rattle.model_line.specs.Requested.{aim_of_request, at_requested, at_deactivated}
 use Rattle.model_line.specs.Sides.{at_side}
 use Rattle.laws_line.specs.Requests as requests
 use Rattle.laws_line.specs.Heard.{IsMalformed, IsTooLong}
 use Rattle.laws_line.specs.Share.{is_granted}
-use Rattle.laws_line.specs.Steady.{IsBy, BringsMalformed, timer_of}
+use Rattle.laws_line.specs.Steady.{IsBy, BringsMalformed, timer_of, IsDeactivated}
 use Rattle.laws_line.proofs.Hearing.{addressed-is, sapi-is}
 use Rattle.laws_line.proofs.Obeyed.{service-same, both-true}
 use Rattle.laws_trace.specs.LinkFrames.{parts_of, is_for, faulty, faulty_long}
@@ -187,6 +187,8 @@ module _ (c : Config) (service : Service) (tei : ℕ) (k : Known) where
     none-asked x (Check by) aims = refl
     none-asked x (SetBusy its by) aims = refl
     none-asked x (ClearBusy its by) aims = refl
+    none-asked x (Deactivate its by) aims =
+        ap (λ b. cond b 4 x) (elsewhere its by link.cleared (at_deactivated its by) (λ p. refl) aims)
 
     pub none-ticks : (e : Event) → is_at_link service tei (aim_of c e l) ≡ false → expired_of service tei e ≡ None
     none-ticks (hears what) aims = refl
@@ -210,6 +212,11 @@ module _ (c : Config) (service : Service) (tei : ℕ) (k : Known) where
 
   -- One event of the link.
   module _ (a : Answer) where
+    -- its deactivation
+    pub ended-leads : (n x : ℕ) (e : Event) → IsDeactivated e a service tei → led c service tei k n e (seen e a) x ≡ 4
+    ended-leads n x e by =
+        ap (λ e. led c service tei k n e (seen e a) x) by.0 ∙ granted-leads x (Deactivate service tei) a by.1 ∙ ap (λ b. cond b 4 x) (own-is service tei)
+
     pub own-address : (address : Address) → service_of address.sapi ≡ Some service → address.tei ≡ tei → is_for service tei address ≡ true
     own-address address sapi is =
         ap (λ b. b && address.tei == tei) (eq-eqb address.sapi (sapi_of service) (sapi-is address.sapi service sapi)) ∙ eq-eqb address.tei tei is

@@ -11,7 +11,7 @@ use Rattle.model_link.specs.declared.timers.LinkTimer.TheVariants.{T200, T203}
 use Rattle.model_line.specs.declared.config.Config.{Config}
 use Rattle.model_line.specs.Event as line_event
 use Rattle.model_line.specs.Event.{expiry}
-use Rattle.model_line.specs.Request.{Request, Establish, Release}
+use Rattle.model_line.specs.Request.{Request, Establish, Release, Deactivate}
 use Rattle.model_card.specs.Card.{fresh}
 use Rattle.model_card.specs.Event.{Event, at}
 use Rattle.model_card.specs.Machine.{answer}
@@ -59,10 +59,11 @@ by_parts c service tei k state (Some f) =
     if is_for service tei f.address then by_frame k state f.address.command (nat_lt c.n201 (length f.info)) f.control else state
 
 -- Layer 3 asks for the establishment of a link that is down, or for the release of one that is up (clauses 5.5.1.1 and
--- 5.5.3.2).
+-- 5.5.3.2); or the link is deactivated (annex B).
 abbrev pub by_request : Service → ℕ → ℕ → Request → ℕ
 by_request service tei state (Establish of by) = if is_own service tei of by && state == 4 then 5 else state
 by_request service tei state (Release of by) = if is_own service tei of by && is_up state then 6 else state
+by_request service tei state (Deactivate of by) = if is_own service tei of by then 4 else state
 by_request service tei state other = state
 
 abbrev pub by_seen : Config → Service → ℕ → Known → ℕ → Seen → ℕ

@@ -15,7 +15,7 @@ use Rattle.model_line.specs.Event.{hears, expiry, request, next, Answer, refused
 use Rattle.model_line.specs.Line.{Line, fresh_line, link_of, link_in, state_of}
 use Rattle.model_line.specs.Machine as lines
 use Rattle.model_line.specs.Sound.{IsInRange}
-use Rattle.model_line.specs.Request.{Request, Establish, Release, Data, Assign, Remove, Check, SetBusy, ClearBusy}
+use Rattle.model_line.specs.Request.{Request, Establish, Release, Data, Assign, Remove, Check, SetBusy, ClearBusy, Deactivate}
 use Rattle.model_card.specs.Card.{Card, fresh, line_at, is_full}
 use Rattle.model_card.specs.Event.{Event, at}
 use Rattle.model_card.specs.Machine.{after, answer}
@@ -97,6 +97,7 @@ module _ (service : Service) (tei number : ℕ) where
         no-release (Check by) = refl
         no-release (SetBusy its by) = refl
         no-release (ClearBusy its by) = refl
+        no-release (Deactivate its by) = refl
 
         nothing-due : (n : ℕ) → due service tei [] was false false false outstanding n n ≡ []
         nothing-due n = go (n == 7) refl (n == 4) refl

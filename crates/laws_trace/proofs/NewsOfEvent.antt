@@ -2,7 +2,7 @@
 use Rattle.std.proofs.Common.{◌≡◌, ℕ, ◌==◌, ◌&&◌, Bool, true, false, cond, List, [], Option, Some, None, refl, sym, ap, ◌∙◌, subst, true≢false, ◌⊎◌, inl, inr}
 use Rattle.std.specs.Prelude.{filter}
 use Rattle.std.specs.List.{list_any}
-use Rattle.std.specs.Option.{unwrap_or}
+use Rattle.std.specs.Option.{option_map_or, unwrap_or}
 use Rattle.std.proofs.lemmas.Option.{none-some}
 use Rattle.lapd_frame.specs.declared.controls.Control.{Control}
 use Rattle.lapd_frame.specs.declared.notes.ErrorCode.{ErrorCode}
@@ -24,21 +24,23 @@ use Rattle.laws_line.proofs.Places.{is-off}
 use Rattle.laws_link.specs.States.{moves}
 use Rattle.laws_trace.specs.News.{is_news, is_sabme, is_xid, releases, wrong}
 use Rattle.laws_trace.proofs.NewsWatched.{establishes, due}
-use Rattle.laws_trace.proofs.TimersWatched.{brings}
+use Rattle.laws_trace.proofs.TimersWatched.{brings, control_in}
 use Rattle.laws_trace.specs.States.{is_state, differ}
 use Rattle.laws_trace.specs.Trace.{seen}
 use Rattle.laws_trace.proofs.ErrorsSeen.{none-wrong, one-wrong}
 use Rattle.laws_trace.proofs.LinkLed.{on-line}
 use Rattle.laws_trace.proofs.LinksMove.{differs, no-event}
-use Rattle.laws_trace.proofs.NewsOfLeaving.{leaving-due, none-released, one-stays}
+use Rattle.laws_trace.proofs.NewsOfLeaving.{leaving-due, none-released, one-stays, cleared-due}
 use Rattle.laws_trace.proofs.NewsOfOthers.{none-filtered, others-silent}
 use Rattle.laws_trace.proofs.NewsRows.{errors_of, sabme_of, xid_of, released_of}
 use Rattle.laws_trace.proofs.NewsOfLink.{event-news, Asks, event-asking}
 use Rattle.laws_trace.proofs.OwedOfEvent.{IsOwed}
-use Rattle.laws_trace.proofs.OneLink.{HasOne, HasNone, Goes, event-goes}
+use Rattle.laws_trace.proofs.OneLink.{HasOne, HasNone, Goes, event-goes, IsGivenUp}
 use Rattle.laws_trace.proofs.TimerClaims.{told_state}
 use Rattle.laws_trace.proofs.TimersOfEvent.{state-on, off-fresh, off-state}
 use Rattle.laws_trace.proofs.NewsSeen.{one-begins, one-releases, one-establishes, none-begins, none-releases}
+use Rattle.laws_trace.proofs.TimersOfLine.{seen-brings}
+use Rattle.laws_trace.proofs.Deliveries.{frame_by}
 
 abbrev pub IsAskedOf : Service → ℕ → Bool → Line → Type 0
 IsAskedOf service tei was l = let x = link_of service tei l in Asks x.state was x.asked
@@ -81,6 +83,11 @@ module _ (c : Config) (l : Line) (s : IsSound c l) (service : Service) (tei : �
 
   abbrev heard : (Control → Bool) → Bool
   heard which = list_any (brings which c service tei) (seen e a)
+
+  -- a deactivation brings no frame
+  ended-heard : (which : Control → Bool) → IsGivenUp c service tei e l (lines.after c e l) a → heard which ≡ false
+  ended-heard which x =
+      seen-brings c service tei which e a ∙ ap (λ e. option_map_or which (control_in service tei (frame_by c e)) false) x.by.0
 
   abbrev Errors : ℕ → ℕ → List ErrorCode
   Errors from seen = wrong c service tei e from seen
@@ -159,19 +166,31 @@ module _ (c : Config) (l : Line) (s : IsSound c l) (service : Service) (tei : �
           (sym (asked-in own.state y.state ∙ ap (λ b. cond ((state_number y.state == 5) && moves own.state y.state) b was) (one-establishes c service tei is_sabme e a x.event x.by)))
           (event-asking t own was x.event some asks))
 
+    -- its deactivation
+    ended-due : IsGivenUp c service tei e l (lines.after c e l) a → Due (state_number own.state) (state_number next.state) (state_number next.state)
+    ended-due x =
+        ap (filter (is_news service tei)) x.notes ∙ cleared-due t own was outstanding
+        ∙ sym (ap (λ (y : Link). due service tei (Errors (state_number own.state) (state_number y.state)) was (heard is_xid) (heard is_sabme) (releases service tei e a) outstanding (state_number own.state) (state_number y.state)) x.is
+        ∙ ap (λ e. due service tei (wrong c service tei e (state_number own.state) 4) was (heard is_xid) (heard is_sabme) (releases service tei e a) outstanding (state_number own.state) 4) x.by.0
+        ∙ ap (λ b. due service tei [] was b (heard is_sabme) (releases service tei e a) outstanding (state_number own.state) 4) (ended-heard is_xid x)
+        ∙ ap (λ b. due service tei [] was false b (releases service tei e a) outstanding (state_number own.state) 4) (ended-heard is_sabme x)
+        ∙ ap (λ e. due service tei [] was false false (releases service tei e a) outstanding (state_number own.state) 4) x.by.0)
+
     stays-due : Due (state_number own.state) (state_number next.state) (state_number next.state)
     stays-due = go (event-goes c e l service tei s)
       where
         go : Goes c service tei e l (lines.after c e l) a → Due (state_number own.state) (state_number next.state) (state_number next.state)
         go (inl x) = none-due x
-        go (inr x) = one-due x
+        go (inr (inl x)) = one-due x
+        go (inr (inr x)) = ended-due x
 
     stays-asked : Asks next.state (then_asked (told_state own.state) (told_state next.state)) next.asked
     stays-asked = go (event-goes c e l service tei s)
       where
         go : Goes c service tei e l (lines.after c e l) a → Asks next.state (then_asked (told_state own.state) (told_state next.state)) next.asked
         go (inl x) = none-asked x
-        go (inr x) = one-asked x
+        go (inr (inl x)) = one-asked x
+        go (inr (inr x)) = subst (λ (y : Link). Asks y.state (then_asked (told_state own.state) (told_state next.state)) y.asked) (sym x.is) tt
 
   begins-asked : (b : Bool) → next ≡ fresh_link → Asks next.state b next.asked
   begins-asked b is = subst (λ (y : Link). Asks y.state b y.asked) (sym is) tt
@@ -180,7 +199,8 @@ module _ (c : Config) (l : Line) (s : IsSound c l) (service : Service) (tei : �
   comes off = go (event-goes c e l service tei s)
     where
       go : Goes c service tei e l (lines.after c e l) a → next ≡ fresh_link
-      go (inr x) = absurd (none-some x.place (sym off ∙ x.placed))
+      go (inr (inl x)) = absurd (none-some x.place (sym off ∙ x.placed))
+      go (inr (inr x)) = x.is
       go (inl x) = either x.is
         where
           either : (next ≡ own) ⊎ (next ≡ fresh_link) → next ≡ fresh_link
@@ -227,11 +247,13 @@ module _ (c : Config) (l : Line) (s : IsSound c l) (service : Service) (tei : �
     where
       none-brought : has_tei tei (lines.after c e l) ≡ false → Goes c service tei e l (lines.after c e l) a → heard is_xid ≡ false
       none-brought off (inl x) = none-begins c service tei is_xid l place on e x.aims a
-      none-brought off (inr x) = absurd (true≢false (sym (one-stays service tei c e l s (on-line l tei place on) x.place x.event x.aimed) ∙ off))
+      none-brought off (inr (inr x)) = ended-heard is_xid x
+      none-brought off (inr (inl x)) = absurd (true≢false (sym (one-stays service tei c e l s (on-line l tei place on) x.place x.event x.aimed) ∙ off))
 
       no-error : has_tei tei (lines.after c e l) ≡ false → Goes c service tei e l (lines.after c e l) a → Errors (state_number own.state) 1 ≡ []
       no-error off (inl x) = none-wrong c service tei l place on e x.aims (state_number own.state) 1 (inr refl)
-      no-error off (inr x) = absurd (true≢false (sym (one-stays service tei c e l s (on-line l tei place on) x.place x.event x.aimed) ∙ off))
+      no-error off (inr (inr x)) = ap (λ e. wrong c service tei e (state_number own.state) 1) x.by.0
+      no-error off (inr (inl x)) = absurd (true≢false (sym (one-stays service tei c e l s (on-line l tei place on) x.place x.event x.aimed) ∙ off))
 
   pub event-due : (from : ℕ) → state_of service tei l ≡ Some from → Due from (unwrap_or (state_of service tei (lines.after c e l)) 4) (unwrap_or (state_of service tei (lines.after c e l)) 1)
   event-due from was-in = go (state_of service tei (lines.after c e l)) refl

@@ -35,8 +35,8 @@ use Rattle.model_line.specs.Line.{Line, has_tei, link_in, place_in, terms}
 use Rattle.model_line.specs.Machine.{aim_of, after, answer, unless_refused, unless_refused_told}
 use Rattle.model_line.specs.Heard.{aim_of_heard, group_tei}
 use Rattle.model_line.specs.Refusal.{refusal}
-use Rattle.model_line.specs.Request.{Request, Establish, Release, Data, Assign, Remove, Check, SetBusy, ClearBusy}
-use Rattle.model_line.specs.Requested.{at_requested, aim_of_request}
+use Rattle.model_line.specs.Request.{Request, Establish, Release, Data, Assign, Remove, Check, SetBusy, ClearBusy, Deactivate}
+use Rattle.model_line.specs.Requested.{at_requested, at_deactivated, aim_of_request}
 use Rattle.model_line.specs.Sound.{IsSound}
 use Rattle.model_line.proofs.AimsSound.{IsProper}
 use Rattle.model_line.proofs.ProperAims.{heard_aims, request_proper}
@@ -159,6 +159,10 @@ module _ (service : Service) (tei : ℕ) where
     asked-silent its by what None aims there = All-nil No
     asked-silent its by what (Some place) aims there = of-link its by place (link.requested what false) aims there
 
+    deactivated-silent : (its : Service) (by : ℕ) (o : Option ℕ) → Silent (at_deactivated its by o)
+    deactivated-silent its by None aims there = All-nil No
+    deactivated-silent its by (Some place) aims there = of-link its by place link.cleared aims there
+
     pub heard-silent : (e : stream.Event) → Silent (aim_of_heard c l e)
     heard-silent e =
         heard_aims c l Silent (λ cause aims there. All-nil No) (λ its by place what on. of-link its by place (link.received what)) (λ info. managed (teis.message info) tt)
@@ -179,6 +183,7 @@ module _ (service : Service) (tei : ℕ) where
     request-silent (Check by) proper = managed (teis.check by) proper
     request-silent (SetBusy its by) proper = asked-silent its by link.SetBusy (place_in l by)
     request-silent (ClearBusy its by) proper = asked-silent its by link.ClearBusy (place_in l by)
+    request-silent (Deactivate its by) proper = deactivated-silent its by (place_in l by)
 
   -- Any event of a line.
   pub others-silent : (c : Config) (e : Event) (l : Line) → IsSound c l → is_at_link service tei (aim_of c e l) ≡ false → (has_tei tei l ≡ false) ⊎ (has_tei tei (after c e l) ≡ true) → All No (notes_of (answer c e l))

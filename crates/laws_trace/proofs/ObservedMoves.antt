@@ -18,7 +18,7 @@ use Rattle.model_link.specs.declared.timers.LinkTimer.TheVariants.{T200, T203}
 use Rattle.model_link.specs.Link.{state_number}
 use Rattle.model_line.specs.declared.config.Config.{Config}
 use Rattle.model_line.specs.Event.{Event, hears, expiry, request, next, Answer, LineTold, told, refused, gave}
-use Rattle.model_line.specs.Request.{Request, Establish, Release, Data, Assign, Remove, Check, SetBusy, ClearBusy}
+use Rattle.model_line.specs.Request.{Request, Establish, Release, Data, Assign, Remove, Check, SetBusy, ClearBusy, Deactivate}
 use Rattle.laws_trace.specs.LinkFrames.{frame_of, its_frame, is_for, malformed, Sent, sent_in}
 use Rattle.laws_trace.specs.Observer.{Observed, in_state, awaits, anew, while_up, while_down, by_frame, by_t200, by_expiry, enquires, sends, by_event}
 use Rattle.laws_trace.specs.States as states
@@ -358,9 +358,15 @@ module _ (c : Config) (service : Service) (tei : ℕ) where
   release Established k shape o true = record { state_is = refl; known_is = refl; asks = tt; owes = tt; counts = refl }
   release TimerRecovery k shape o true = record { state_is = refl; known_is = refl; asks = tt; owes = tt; counts = refl }
 
+  deactivate : (x : State) (k : Known) → Shape x k → (o : Observed) (b : Bool) → let s = state_number x in let p = at_state s k o in
+      Asked x k false (cond {A = ℕ} b 4 s) p (cond b (in_state 4) p)
+  deactivate x k shape o false = stays x k shape false o
+  deactivate x k shape o true = record { state_is = refl; known_is = refl; asks = tt; owes = tt; counts = tt }
+
   asked-moves : (x : State) (k : Known) → Shape x k → (o : Observed) (r : Request) (t : LineTold) → EventMoves x k o (request r) (told t)
   asked-moves x k shape o (Establish of by) t = establish x k shape o (is_own service tei of by)
   asked-moves x k shape o (Release of by) t = release x k shape o (is_own service tei of by)
+  asked-moves x k shape o (Deactivate of by) t = deactivate x k shape o (is_own service tei of by)
   asked-moves x k shape o (SetBusy of by) t = stays x k shape false o
   asked-moves x k shape o (ClearBusy of by) t = stays x k shape false o
   asked-moves x k shape o (Data of by contents) t = stays x k shape false o

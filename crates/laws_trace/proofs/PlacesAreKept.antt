@@ -58,7 +58,7 @@ use Rattle.laws_trace.proofs.NewsSeen.{one-begins}
 use Rattle.laws_trace.proofs.ObservedFacts.{brings-is}
 use Rattle.laws_trace.proofs.OfferTells.{offer-tells_nothing}
 use Rattle.laws_trace.proofs.OneLink.{HasOne, HasNone, Goes, event-goes}
-use Rattle.laws_trace.proofs.PlacesSeen.{granted_in, lost_in, told-grants, begun-grants, asked-grants, from-notes, own-release}
+use Rattle.laws_trace.proofs.PlacesSeen.{granted_in, lost_in, told-grants, begun-grants, asked-grants, from-notes, own-release, own-deactivation}
 use Rattle.laws_trace.proofs.RoomsAreTold.{its-room, on-place}
 use Rattle.laws_trace.proofs.Runs.{nothing-seen}
 use Rattle.laws_trace.proofs.SeenAs.{up-number, IsSeenAs, seen-before, seen-behind}
@@ -245,7 +245,11 @@ module _ (c : Config) (ranged : IsInRange c) (l : Line) (s : IsSound c l) (servi
     where
       go : Goes c service tei e l new a → Left k' anew
       go (inl x) = none-left-so x p q on there
-      go (inr x) = one-left x
+      go (inr (inl x)) = one-left x
+      go (inr (inr x)) = inl (
+        ap (λ (y : Link). length (queue_of y)) x.is,
+        subst (λ e. lost_in service tei (seen e a) ≡ true) (sym x.by.0) (own-deactivation service tei a x.by.1),
+      )
 
 module _ (card : Card) (number : ℕ) (what : line_event.Event) (s : card_sound.IsSound card) (here : number < card.config.lines) (service : Service) (tei : ℕ) where
   abbrev e : Event

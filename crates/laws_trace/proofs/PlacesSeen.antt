@@ -6,7 +6,7 @@ use Rattle.lapd_frame.specs.declared.services.Service.{Service}
 use Rattle.model_link.specs.Events as link
 use Rattle.model_line.specs.Event as line_event
 use Rattle.model_line.specs.Event.{Answer, hears, expiry, request, next, told, refused, gave}
-use Rattle.model_line.specs.Request.{Request}
+use Rattle.model_line.specs.Request.{Request, Deactivate}
 use Rattle.laws_line.specs.Heard.{notes_of}
 use Rattle.laws_line.specs.Loss.{is_loss_of}
 use Rattle.laws_line.specs.Requests.{of_link}
@@ -60,3 +60,10 @@ module _ (service : Service) (tei : ℕ) where
       (ap (λ b. b && tei == tei) (service-same service) ∙ eq-eqb tei tei refl)
   own-release (refused why) is = absurd (true≢false (sym is))
   own-release (gave frame) is = absurd (true≢false (sym is))
+
+  pub own-deactivation : (a : Answer) → is_granted a ≡ true → lost_in (seen (request (Deactivate service tei)) a) ≡ true
+  own-deactivation (told t) is =
+      ap (λ b. b || (list_any (is_loss_of service tei) t.notes || (false || false)))
+      (ap (λ b. b && tei == tei) (service-same service) ∙ eq-eqb tei tei refl)
+  own-deactivation (refused why) is = absurd (true≢false (sym is))
+  own-deactivation (gave frame) is = absurd (true≢false (sym is))

@@ -5,7 +5,7 @@ use Rattle.lapd_frame.specs.declared.services.Service.{Service}
 use Rattle.model_link.specs.declared.rooms.Room.{Room}
 use Rattle.model_line.specs.declared.config.Config.{Config}
 use Rattle.model_line.specs.Event as line_event
-use Rattle.model_line.specs.Request.{Request, Release}
+use Rattle.model_line.specs.Request.{Request, Release, Deactivate}
 use Rattle.model_card.specs.Card.{fresh}
 use Rattle.model_card.specs.Event.{Event, at}
 use Rattle.model_card.specs.Machine.{after}
@@ -22,10 +22,11 @@ abbrev pub data_granted : Service → ℕ → Seen → List (List ℕ)
 data_granted service tei (granted r) = data_asked service tei r
 data_granted service tei other = []
 
--- Layer 3 learns that a link keeps nothing, by a release of it that is granted, or by a note: an indication of its establishment,
--- or an indication or a confirm of its release (Q.921 clauses 5.5.3.2 and 5.7).
+-- Layer 3 learns that a link keeps nothing, by a release or a deactivation of it that is granted, or by a note: an
+-- indication of its establishment, or an indication or a confirm of its release (Q.921 clauses 5.5.3.2 and 5.7).
 abbrev pub is_release_of : Service → ℕ → Request → Bool
 is_release_of service tei (Release of by) = is_own service tei of by
+is_release_of service tei (Deactivate of by) = is_own service tei of by
 is_release_of service tei other = false
 
 abbrev pub shows_loss : Service → ℕ → Seen → Bool

@@ -13,7 +13,7 @@ use Rattle.lapd_tei.specs.Events as teis
 use Rattle.laws_line.specs.Heard.{notes_of}
 use Rattle.model_line.specs.Event.{Event, hears, expiry, request}
 use Rattle.model_line.specs.Machine as lines
-use Rattle.model_line.specs.Request.{Assign, Remove, Establish, Release, Data}
+use Rattle.model_line.specs.Request.{Assign, Remove, Establish, Release, Data, Deactivate}
 use Rattle.model_card.specs.Event as card
 use Rattle.model_card.specs.Event.{at}
 use Rattle.model_card.specs.Run.{moments, after_all}
@@ -65,6 +65,11 @@ xid_due = refl
 is_due_then : said up (request (Remove 64)) ≡ ReleaseIndication Call 64 ∷ []
 unfolding moments after_all lines.after lines.answer lines.takes_slot teis.course teis.refusal seq reading header_of control_of unnumbered_of supervisory_of
 is_due_then = refl
+
+-- So it is where its line is down.
+is_due_where_down : said up (request (Deactivate Call 64)) ≡ ReleaseIndication Call 64 ∷ []
+unfolding moments after_all lines.after lines.answer lines.takes_slot teis.course teis.refusal seq reading header_of control_of unnumbered_of supervisory_of
+is_due_where_down = refl
 
 -- SABME comes again while an I-frame is outstanding: error F, and an indication.
 abbrev one_gone : List card.Event

@@ -119,9 +119,10 @@ pub fn data_goes_out()
 /// and REJ have the number of contents told of the link since its numbers began, modulo 128, as it was when the frame
 /// was due. From whenever the TEI is not on the line, those that begin are among these, in their order, and none twice;
 /// except that RR with F=0, and the number told, goes by itself too in states 7 and 8, while layer 3 is not busy
-/// (`only`). And while the TEI stays on the line they all go, except the last of a moment, as many as its answer counts
-/// as lost: each has begun once the line was only called for its next frame, as often as the configuration says, in
-/// their order (`all`; Q.921 clauses 3.5.1, 3.5.2.4 to 3.5.2.6, 5.5, 5.6, 5.7, 5.8.1 and 5.10.3).
+/// (`only`). And while the TEI stays on the line, and the link is not deactivated, they all go, except the last of a
+/// moment, as many as its answer counts as lost: each has begun once the line was only called for its next frame, as
+/// often as the configuration says, in their order (`all`; Q.921 clauses 3.5.1, 3.5.2.4 to 3.5.2.6, 5.5, 5.6, 5.7, 5.8.1
+/// and 5.10.3).
 pub fn control_frames_go()
     ensures only { Always OnlyDueGo }
     ensures all { Always AllDueGo }
@@ -189,13 +190,13 @@ pub fn timers_are_timely()
 /// Links move as the procedures lead them. After every list of events `Card::state` tells of a link the state in which
 /// whoever watches the line has it (`Observer` of specs/), and none where its TEI is not on the line. As the TEI comes,
 /// that is 4; and then 7 by SABME in states 4, 7 and 8, by UA with F=1 in state 5, and, in state 8, by RR, RNR or REJ as
-/// a response with F=1 whose N(R) is valid; 4 by DISC in states 7 and 8, by DM with F=1 in states 5 and 6, and by UA
-/// with F=1 in state 6; 5 by a request to establish it in state 4, by DM with F=0 in state 7, and in states 7 and 8 by
-/// FRMR, an invalid N(R), a malformed frame, and an I-frame that is too long, and by any DM in state 8; 6 by a request
-/// to release it in states 7 and 8; 8 by the expiry of the timer that runs in state 7. As T200 expires in states 5, 6
-/// and 8, the link leaves them, for 4, 4 and 5, where it has expired N200 times before since the link came there.
-/// Nothing else moves a link. So a link awaits an answer through N200 expiries, and no more (Q.921 clauses 3.5.2.3, 5.3,
-/// 5.5.1 to 5.5.5, 5.6.7, 5.7, 5.8, 5.9.2 and 5.10.3).
+/// a response with F=1 whose N(R) is valid; 4 by DISC in states 7 and 8, by DM with F=1 in states 5 and 6, by UA with F=1
+/// in state 6, and by a deactivation in any state; 5 by a request to establish it in state 4, by DM with F=0 in state 7,
+/// and in states 7 and 8 by FRMR, an invalid N(R), a malformed frame, and an I-frame that is too long, and by any DM in
+/// state 8; 6 by a request to release it in states 7 and 8; 8 by the expiry of the timer that runs in state 7. As T200
+/// expires in states 5, 6 and 8, the link leaves them, for 4, 4 and 5, where it has expired N200 times before since the
+/// link came there. Nothing else moves a link. So a link awaits an answer through N200 expiries, and no more (Q.921
+/// clauses 3.5.2.3, 5.3, 5.5.1 to 5.5.5, 5.6.7, 5.7, 5.8, 5.9.2 and 5.10.3, and annex B).
 pub fn links_move()
     ensures { Always LinksMove }
 {}
@@ -235,9 +236,9 @@ pub fn rooms_are_told()
 /// What a link keeps takes places of its queue, and none is lost silently. In a moment, before and after which the TEI of the link
 /// is on the line, the places that are left are those that were, with one for each of the contents that V(A) goes on by, as
 /// whoever watches the link has it (`Observer` of specs/), and without one for data that is granted for it; or all are left, and
-/// layer 3 learns it: by a release that is granted, an indication of an establishment, or an indication or a confirm of a release.
-/// V(A) goes on in states 7 and 8 alone, by the N(R) that is heard, and not where SABME begins the numbers anew (Q.921 clauses
-/// 3.5.2.3, 5.5.1.2, 5.5.3.2 and 5.7).
+/// layer 3 learns it: by a release or a deactivation that is granted, an indication of an establishment, or an indication or a
+/// confirm of a release. V(A) goes on in states 7 and 8 alone, by the N(R) that is heard, and not where SABME begins the numbers
+/// anew (Q.921 clauses 3.5.2.3, 5.5.1.2, 5.5.3.2 and 5.7).
 pub fn places_are_kept()
     ensures { Always PlacesAreKept }
 {}

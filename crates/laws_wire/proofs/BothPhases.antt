@@ -52,6 +52,7 @@ module _ (service : Service) (tei : ℕ) where
   asks-so P establish contents (asked_for.Check x) is = absurd is
   asks-so P establish contents (asked_for.SetBusy s x) is = absurd is
   asks-so P establish contents (asked_for.ClearBusy s x) is = absurd is
+  asks-so P establish contents (asked_for.Deactivate s x) is = absurd is
 
   kind : (k : Doing) → IsCall service tei k → Kind k
   kind (at_near (requests r)) is = asks-so (λ r. Kind (at_near (requests r))) (near_calls refl) (λ s x octets same. talks same) r is
@@ -76,6 +77,7 @@ module _ (service : Service) (tei : ℕ) where
   data-calls_not (asked_for.Check x) is w = absurd is
   data-calls_not (asked_for.SetBusy s x) is w = absurd is
   data-calls_not (asked_for.ClearBusy s x) is w = absurd is
+  data-calls_not (asked_for.Deactivate s x) is w = absurd is
 
   talk-calls_not : (k : Doing) → IsTalk service tei k → (w : Wire) → calls_back k w ≡ false
   talk-calls_not (at_near act) is w = refl

@@ -70,6 +70,7 @@ for-told service tei P w none own (ask.ClearBusy s t) is y = absurd (y none)
 for-told service tei P w none own (ask.Establish s t) is y = absurd is
 for-told service tei P w none own (ask.Release s t) is y = absurd is
 for-told service tei P w none own (ask.Unit s t octets) is y = absurd is
+for-told service tei P w none own (ask.Deactivate s t) is y = absurd is
 for-told service tei P w none own (ask.Assign t) is y = absurd is
 for-told service tei P w none own (ask.Remove t) is y = absurd is
 for-told service tei P w none own (ask.Check t) is y = absurd is

@@ -49,6 +49,9 @@ pub mod UnderwayRounds
 pub mod LooseUp
 pub mod UaLost
 pub mod UaLostRun
+pub mod Leaving
+pub mod Ended
+pub mod EndedRun
 pub mod StillIsTimely
 pub mod Counting
 pub mod Again

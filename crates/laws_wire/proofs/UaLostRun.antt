@@ -14,7 +14,7 @@ use Rattle.model_line.specs.declared.config.Config.{Config}
 use Rattle.model_line.specs.Event.{LineTold}
 use Rattle.model_line.specs.Line.{terms}
 use Rattle.laws_wire.specs.Wire.{Wire, Act, requests, times_out, gives, takes, loses, acting, turned, Doing, at_near, at_far, doing, doing_all, is_any, IsStill}
-use Rattle.laws_wire.specs.Call.{calling, confirmed, indicated, data_told, all_told, IsBeginningOf}
+use Rattle.laws_wire.specs.Call.{CanCall, calling, confirmed, indicated, data_told, all_told, IsBeginningOf}
 use Rattle.laws_wire.specs.Losing.{heard_in}
 use Rattle.laws_wire.specs.Timely.{IsTimelyOf}
 use Rattle.laws_wire.specs.Arriving.{runs_t200}
@@ -79,7 +79,7 @@ module _ (service : Service) (tei : ℕ) (c d : Config) (p q : ℕ) (face : Face
       R up (its_far j) w ⊎ UaWaits service tei c d p q face back rt ru j w ⊎ UaGoes service tei c d p q face back rt ru j w
       ⊎ LooseUp service tei c d p q its_near (its_far j) w
 
-  abbrev Goes : ℕ → Wire → Type 0
+  abbrev pub Goes : ℕ → Wire → Type 0
   Goes n w = ((n ≡ 0) × R down [] w) ⊎ ((j : ℕ) × (n ≡ suc j) × Called j w)
 
   as-called : (n j : ℕ) (w : Wire) → n ≡ suc j → Called j w → Goes n w
@@ -332,24 +332,40 @@ module _ (service : Service) (tei : ℕ) (c d : Config) (p q : ℕ) (face : Face
   all-heard n w (inr (j, e, h)) still none none' =
       subst (λ past. All_ past w) (sym (ap (told_of_calls service tei) e ∙ calls-are j)) (called-all j w h still none none')
 
+  -- both are up there
+  pub up-where : (n : ℕ) (w : Wire) → Goes n w → runs_t200 service tei w.near ≡ false → (j : ℕ) × LooseUp service tei c d p q its_near (its_far j) w
+  up-where n w (inl (e, h)) none = ringing-stops _ down [] w h none
+  up-where n w (inr (j, e, inl h)) none = ringing-stops _ up (its_far j) w h none
+  up-where n w (inr (j, e, inr (inl h))) none = stops _ w (rings-run h.repeats [] [] w h.near) none
+  up-where n w (inr (j, e, inr (inr (inl h)))) none = stops _ w (rings-run h.repeats [] [] w h.near) none
+  up-where n w (inr (j, e, inr (inr (inr h)))) none = (j, h)
+
+nothing-added : (n : ℕ) → n + 0 ≡ n
+nothing-added n = omega arith
+
+pub patient-goes : (service : Service) (c d : Config) (line other tei : ℕ) (ds : List Doing) (can : CanCall c line d other tei) → All (IsFullTalk service tei) ds
+    → let x = setting service c d line other tei can in let begun = calling service tei c line d other in StayPatient ds begun
+    → Rattle.laws_wire.proofs.UaLostRun.Goes service tei c d 0 0 x.face x.back x.near x.far (calls ds begun) (doing_all ds begun)
+patient-goes service c d line other tei ds can talk patient =
+    let x = setting service c d line other tei can in
+    let begun = calling service tei c line d other in
+    let first : Ringing service tei c d 0 0 x.face x.back x.near x.far (end (terms d service tei) fresh []) [] begun =
+    inr (inl (record { repeats = 0; near = x.near_held; far = x.far_held })) in
+    let h = patient-runs service tei c d 0 0 x.face x.back x.near x.far ds talk begun patient 0 (inl (refl, first)) in
+    subst (λ k. Rattle.laws_wire.proofs.UaLostRun.Goes service tei c d 0 0 x.face x.back x.near x.far k (doing_all ds begun)) (nothing-added (calls ds begun)) h
+
 pub lossy-calls-come-through : LossyCallsComeThrough
 lossy-calls-come-through service c d line other tei ds can talk = λ patient.
     let x = setting service c d line other tei can in
     let begun = calling service tei c line d other in
     let w = doing_all ds begun in
-    let first : Ringing service tei c d 0 0 x.face x.back x.near x.far (end (terms d service tei) fresh []) [] begun =
-    inr (inl (record { repeats = 0; near = x.near_held; far = x.far_held })) in
-    let h = patient-runs service tei c d 0 0 x.face x.back x.near x.far ds talk begun patient 0 (inl (refl, first)) in
     let n = calls ds begun in
-    let h' = subst (λ k. Rattle.laws_wire.proofs.UaLostRun.Goes service tei c d 0 0 x.face x.back x.near x.far k w) (plain n) h in
-    let far_ = so-far service tei c d 0 0 x.face x.back x.near x.far n w h' in
+    let h = patient-goes service c d line other tei ds can talk patient in
+    let so = so-far service tei c d 0 0 x.face x.back x.near x.far n w h in
     record {
-      near_so_far = far_.0;
-      far_so_far = far_.1;
-      near = λ still none none'. (all-heard service tei c d 0 0 x.face x.back x.near x.far n w h' still none none').0;
-      far = λ still none none'. (all-heard service tei c d 0 0 x.face x.back x.near x.far n w h' still none none').1;
-      rest = λ still none none'. let all = all-heard service tei c d 0 0 x.face x.back x.near x.far n w h' still none none' in (all.2, all.3);
+      near_so_far = so.0;
+      far_so_far = so.1;
+      near = λ still none none'. (all-heard service tei c d 0 0 x.face x.back x.near x.far n w h still none none').0;
+      far = λ still none none'. (all-heard service tei c d 0 0 x.face x.back x.near x.far n w h still none none').1;
+      rest = λ still none none'. let all = all-heard service tei c d 0 0 x.face x.back x.near x.far n w h still none none' in (all.2, all.3);
     }
-  where
-    plain : (n : ℕ) → n + 0 ≡ n
-    plain n = omega arith

@@ -9,6 +9,7 @@ pub mod Facing
 pub mod Resting
 pub mod Arriving
 pub mod Answering
+pub mod Ending
 pub mod Worked
 pub mod BothWorked
 pub mod WorkedLosing

@@ -22,7 +22,7 @@ mod arriving;
 mod laws;
 mod resting;
 
-pub use answering::a_call_with_losses_comes_through;
+pub use answering::{a_call_ends, a_call_with_losses_comes_through};
 pub use arriving::it_arrives_under_traffic;
 pub use laws::{
     a_call_comes_through, cards_deliver, expiries_are_counted, told_in_order, what_is_lost_arrives,

@@ -1,9 +1,8 @@
 -- Two stations of which one releases the link where both rest: what each thing that is done makes of them.
-use Rattle.std.proofs.Common.{◌≡◌, ℕ, zero, suc, ◌+◌, ◌<◌, Bool, true, false, IsTrue, List, [], ◌∷◌, ◌++◌, map, drop, cond, None, Some, refl, sym, ap, subst, ◌∙◌, ◌⊎◌, inl, inr, append-nil, true≢false, arith}
+use Rattle.std.proofs.Common.{◌≡◌, ℕ, ◌+◌, ◌<◌, Bool, true, false, List, [], ◌∷◌, ◌++◌, cond, refl, sym, ap, subst, ◌∙◌, ◌⊎◌, inl, inr, append-nil, arith}
 use Rattle.std.specs.Prelude.{All, nat_lt, flat_map}
 use Rattle.std.proofs.lemmas.Bool.{lt-ltb}
-use Rattle.std.proofs.lemmas.List.Concat.{flat_map-append}
-use Rattle.std.proofs.lemmas.List.Elements.{All-nil, All-head, All-tail}
+use Rattle.std.proofs.lemmas.List.Elements.{All-head, All-tail}
 use Rattle.lapd_frame.specs.declared.services.Service.{Service}
 use Rattle.lapd_frame.specs.declared.timers.Timer.{Timer}
 use Rattle.lapd_frame.specs.declared.timers.Timer.TheVariants as timers
@@ -15,9 +14,8 @@ use Rattle.model_link.specs.declared.timers.LinkTimer.{LinkTimer}
 use Rattle.model_link.specs.declared.timers.LinkTimer.TheVariants.{T200, T203}
 use Rattle.model_link.specs.Events as link
 use Rattle.model_link.specs.Link.{Link, frame_of}
-use Rattle.model_link.specs.Machine.{course, after, given}
-use Rattle.model_link.specs.TwoEnds.{End, with_link, with_sent}
-use Rattle.model_link.specs.TwoEnds as two_ends
+use Rattle.model_link.specs.Machine.{course}
+use Rattle.model_link.specs.TwoEnds.{End, with_link}
 use Rattle.model_link.specs.Words.{response}
 use Rattle.lapd_frame.specs.declared.controls.Control.TheVariants.{Ua, Dm}
 use Rattle.model_link.specs.Sound.{IsInRange}
@@ -26,110 +24,24 @@ use Rattle.model_line.specs.declared.config.Config.{Config}
 use Rattle.model_line.specs.Event.{LineTold, expiry, next}
 use Rattle.model_line.specs.Line.{terms}
 use Rattle.laws_two_links.specs.Waits.{HasNothingToSend}
-use Rattle.laws_two_links.proofs.Waiting.{nothing-to_send}
-use Rattle.laws_wire.specs.Wire.{Station, Wire, happens, comes, with_first_of, with_first_lost, Act, requests, times_out, gives, takes, loses, acting, turned, Doing, at_near, at_far, doing, doing_all}
+use Rattle.laws_wire.specs.Wire.{Station, Wire, happens, comes, with_first_of, Act, requests, times_out, gives, takes, loses, acting, turned, Doing, at_near, at_far, doing, doing_all}
 use Rattle.laws_wire.specs.Facing.{end_of}
 use Rattle.laws_wire.specs.Timely.{is_poll, is_final, IsNoneOpen, IsTimelyOf}
 use Rattle.laws_link.specs.Flags.{awaits_answer}
-use Rattle.laws_wire.specs.Losing.{for_layer_3, heard_in}
+use Rattle.laws_wire.specs.Losing.{for_layer_3}
 use Rattle.laws_wire.specs.Ending.{IsLeaving, IsTimelyThere, StayTimelyThere, release_confirmed, release_indicated}
-use Rattle.laws_wire.proofs.Answered.{gives-told}
 use Rattle.laws_wire.proofs.Awaited.{as-here, may-there, open-there, waits-first, goes-first}
-use Rattle.laws_wire.proofs.Leaving.{its_disc, disc, its_dm, leaving, left, gone, hears-disc, told-disc, repeats-disc, repeats-untold, hears-again, told-again}
+use Rattle.laws_wire.proofs.Leaving.{its_disc, disc, leaving, left, gone, hears-disc, told-disc, repeats-disc, repeats-untold, hears-again, told-again}
 use Rattle.laws_wire.proofs.LossyPhases.{for-timer, Aims}
 use Rattle.laws_wire.proofs.Speaking.{said_by}
-use Rattle.laws_wire.proofs.Standing.{IsCarried, Stands, gives-stands, expires-stands, expires-said}
-use Rattle.laws_wire.proofs.Talking.{Face, unheard, takes as takes_frame}
+use Rattle.laws_wire.proofs.Talking.{Face}
+use Rattle.laws_wire.proofs.Tells.{Tells, as-end, t-given, t-taken, t-expired, t-lost, first-carried, none-carried, t-silent}
 use Rattle.laws_wire.proofs.TimelyFirst.{takes-none, loses-none}
 use Rattle.laws_wire.proofs.TimelyUp.{each-timer}
-use Rattle.laws_wire.proofs.Up.{stays}
-
--- A station stands for an end, whose layer 3 heard this.
-pub record Tells (service : Service) (tei : ℕ) (k : Config) (place : ℕ) (heard : List LineTold) (s : Station) (n : End) : Type 0 where
-  pub stands : Stands k service tei place s n
-  pub told : heard_in s ≡ heard
 
 module _ (service : Service) (tei : ℕ) where
   abbrev T : Config → ℕ → List LineTold → Station → End → Type 0
   T k place heard s n = Tells service tei k place heard s n
-
-  -- what it delivered is no part of it
-  pub as-end : (k : Config) (place : ℕ) (hs hs' : List LineTold) (s : Station) (n n' : End) → T k place hs s n → record n { delivered = n'.delivered } ≡ n' → hs ≡ hs' → T k place hs' s n'
-  as-end k place hs hs' s n n' h e same = record {
-    stands = subst (Stands k service tei place s) e (record {
-      config = h.stands.config;
-      sound = h.stands.sound;
-      within = h.stands.within;
-      speaks = h.stands.speaks;
-      terms = h.stands.terms;
-      way = h.stands.way;
-      carried = h.stands.carried;
-    });
-    told = h.told ∙ same;
-  }
-
-  own : (k : Config) (place : ℕ) (hs : List LineTold) (s : Station) (n : End) → T k place hs s n → Stands s.card.config service tei place s n
-  own k place hs s n h = subst (λ k. Stands k service tei place s n) (sym h.stands.config) h.stands
-
-  module _ (k : Config) (place : ℕ) (hs : List LineTold) (s : Station) (n : End) (h : T k place hs s n) where
-    t-given : T k place hs (happens next s) (with_sent n)
-    t-given = record {
-      stands = subst (λ k. Stands k service tei place (happens next s) (with_sent n)) h.stands.config (gives-stands service tei place s n (own k place hs s n h));
-      told = ap (flat_map for_layer_3) (gives-told s) ∙ h.told;
-    }
-
-    abbrev After : Parts → End
-    After f = with_link (link.received (link.frame f)) n
-
-    abbrev more-by : Parts → List LineTold
-    more-by f = flat_map for_layer_3 (said_by (course n.terms (link.received (link.frame f)) n.link))
-
-    t-taken : (d : Config) → Face k d → (f : Parts) → IsCarried d service tei f → T k place (hs ++ more-by f) (comes (spelling d.side f) s) (After f)
-    t-taken d face f from =
-        let x = takes_frame service tei place unheard k d face s n f h.stands from in
-        record {
-          stands = x.stands;
-          told = ap (flat_map for_layer_3) x.told ∙ flat_map-append for_layer_3 s.told (said_by (course n.terms (link.received (link.frame f)) n.link)) ∙ ap (λ ts. ts ++ more-by f) h.told;
-        }
-
-    t-expired : (timer : Timer) (its : LinkTimer) → Aims service tei timer its
-        → T k place (hs ++ flat_map for_layer_3 (said_by (course n.terms (link.expired its) n.link))) (happens (expiry timer) s) (with_link (link.expired its) n)
-    t-expired timer its aims = record {
-      stands =
-          subst (λ k. Stands k service tei place (happens (expiry timer) s) (with_link (link.expired its) n)) h.stands.config
-          (expires-stands service tei place s n (own k place hs s n h) timer its aims);
-      told =
-          ap (flat_map for_layer_3) (expires-said service tei place s n (own k place hs s n h) timer its aims)
-          ∙ flat_map-append for_layer_3 s.told (said_by (course n.terms (link.expired its) n.link))
-          ∙ ap (λ ts. ts ++ flat_map for_layer_3 (said_by (course n.terms (link.expired its) n.link))) h.told;
-    }
-
-  -- its only frame is lost, or taken
-  t-lost : (k : Config) (place : ℕ) (hs : List LineTold) (s : Station) (n : End) (f : Parts) → n.way ≡ f ∷ [] → T k place hs s n → T k place hs (with_first_lost s) (record n { way = [] })
-  t-lost k place hs s n f one h = record {
-    stands = record {
-      config = h.stands.config;
-      sound = h.stands.sound;
-      within = h.stands.within;
-      speaks = h.stands.speaks;
-      terms = h.stands.terms;
-      way = ap (drop 1) (h.stands.way ∙ ap (map (spelling k.side)) one);
-      carried = All-nil (IsCarried k service tei);
-    };
-    told = h.told;
-  }
-
-  first-carried : (k : Config) (place : ℕ) (hs : List LineTold) (s : Station) (n : End) (f : Parts) → n.way ≡ f ∷ [] → T k place hs s n
-      → (s.way ≡ spelling k.side f ∷ []) × IsCarried k service tei f
-  first-carried k place hs s n f one h =
-      (h.stands.way ∙ ap (map (spelling k.side)) one, All-head (IsCarried k service tei) f [] (subst (All (IsCarried k service tei)) one h.stands.carried))
-
-  none-carried : (k : Config) (place : ℕ) (hs : List LineTold) (s : Station) (n : End) → n.way ≡ [] → T k place hs s n → s.way ≡ []
-  none-carried k place hs s n none h = h.stands.way ∙ ap (map (spelling k.side)) none
-
-  -- it has nothing to give
-  t-silent : (k : Config) (place : ℕ) (hs : List LineTold) (s : Station) (n : End) → HasNothingToSend n.terms n.link → T k place hs s n → T k place hs (happens next s) n
-  t-silent k place hs s n quiet h = as-end k place hs hs (happens next s) (with_sent n) n (t-given k place hs s n h) (stays n (nothing-to_send n.terms n.link quiet)) refl
 
   -- ---- the phases
 
@@ -200,27 +112,27 @@ module _ (service : Service) (tei : ℕ) where
 
     module _ (n m : End) (a b : List LineTold) (w : Wire) (h : Are n m a b w) where
       near-silent : HasNothingToSend n.terms n.link → Are n m a b (acting gives w)
-      near-silent none = record { near = t-silent c p a w.near n none h.near; far = h.far }
+      near-silent none = record { near = t-silent service tei c p a w.near n none h.near; far = h.far }
 
       far-silent : HasNothingToSend m.terms m.link → Are n m a b (turned (acting gives (turned w)))
-      far-silent none = record { near = h.near; far = t-silent d q b w.far m none h.far }
+      far-silent none = record { near = h.near; far = t-silent service tei d q b w.far m none h.far }
 
       near-takes-none : m.way ≡ [] → Are n m a b (acting takes w)
-      near-takes-none none = subst (Are n m a b) (sym (takes-none w (none-carried d q b w.far m none h.far))) h
+      near-takes-none none = subst (Are n m a b) (sym (takes-none w (none-carried service tei d q b w.far m none h.far))) h
 
       far-takes-none : n.way ≡ [] → Are n m a b (turned (acting takes (turned w)))
-      far-takes-none none = subst (λ v. Are n m a b (turned v)) (sym (takes-none (turned w) (none-carried c p a w.near n none h.near))) h
+      far-takes-none none = subst (λ v. Are n m a b (turned v)) (sym (takes-none (turned w) (none-carried service tei c p a w.near n none h.near))) h
 
       near-loses-none : n.way ≡ [] → Are n m a b (acting loses w)
-      near-loses-none none = subst (Are n m a b) (sym (loses-none w (none-carried c p a w.near n none h.near))) h
+      near-loses-none none = subst (Are n m a b) (sym (loses-none w (none-carried service tei c p a w.near n none h.near))) h
 
       far-loses-none : m.way ≡ [] → Are n m a b (turned (acting loses (turned w)))
-      far-loses-none none = subst (λ v. Are n m a b (turned v)) (sym (loses-none (turned w) (none-carried d q b w.far m none h.far))) h
+      far-loses-none none = subst (λ v. Are n m a b (turned v)) (sym (loses-none (turned w) (none-carried service tei d q b w.far m none h.far))) h
 
       -- a timer that does not run
       near-unmoved : (timer : Timer) (its : LinkTimer) → Aims service tei timer its → course n.terms (link.expired its) n.link ≡ begun n.link → Are n m a b (acting (times_out timer) w)
       near-unmoved timer its aims same = record {
-        near = as-end c p _ a (happens (expiry timer) w.near) (with_link (link.expired its) n) n (t-expired c p a w.near n h.near timer its aims)
+        near = as-end service tei c p _ a (happens (expiry timer) w.near) (with_link (link.expired its) n) n (t-expired service tei c p a w.near n h.near timer its aims)
             (λ i. record n { link = (same i).link })
             (ap (λ x. a ++ flat_map for_layer_3 (said_by x)) same ∙ append-nil a);
         far = h.far;
@@ -231,16 +143,16 @@ module _ (service : Service) (tei : ℕ) where
     -- DISC goes, or is lost
     module _ (k : ℕ) (m : End) (b : List LineTold) (w : Wire) where
       gives-disc : Are (N k (its_disc ∷ []) []) m hn b w → Are (N k [] (disc t ∷ [])) m hn b (acting gives w)
-      gives-disc h = record { near = as-end c p hn hn (happens next w.near) _ (N k [] (disc t ∷ [])) (t-given c p hn w.near (N k (its_disc ∷ []) []) h.near) refl refl; far = h.far }
+      gives-disc h = record { near = as-end service tei c p hn hn (happens next w.near) _ (N k [] (disc t ∷ [])) (t-given service tei c p hn w.near (N k (its_disc ∷ []) []) h.near) refl refl; far = h.far }
 
       loses-disc : Are (N k [] (disc t ∷ [])) m hn b w → Are (N k [] []) m hn b (acting loses w)
-      loses-disc h = record { near = t-lost c p hn w.near (N k [] (disc t ∷ [])) (disc t) refl h.near; far = h.far }
+      loses-disc h = record { near = t-lost service tei c p hn w.near (N k [] (disc t ∷ [])) (disc t) refl h.near; far = h.far }
 
       -- and goes again
       asks-again : k < t.n200 → Are (N k [] []) m hn b w → Are (N (k + 1) (its_disc ∷ []) []) m hn b (acting (times_out (timers.T200 service tei)) w)
       asks-again few h = record {
-        near = as-end c p _ hn (happens (expiry (timers.T200 service tei)) w.near) (with_link (link.expired T200) (N k [] [])) (N (k + 1) (its_disc ∷ []) [])
-            (t-expired c p hn w.near (N k [] []) h.near (timers.T200 service tei) T200 (λ l. refl))
+        near = as-end service tei c p _ hn (happens (expiry (timers.T200 service tei)) w.near) (with_link (link.expired T200) (N k [] [])) (N (k + 1) (its_disc ∷ []) [])
+            (t-expired service tei c p hn w.near (N k [] []) h.near (timers.T200 service tei) T200 (λ l. refl))
             (λ i. record (N k [] []) { link = repeats-disc t room ln k few i })
             (ap (λ ts. hn ++ flat_map for_layer_3 ts) (repeats-untold t room ln k few) ∙ append-nil hn);
         far = h.far;
@@ -250,24 +162,24 @@ module _ (service : Service) (tei : ℕ) where
     module _ (k : ℕ) (w : Wire) where
       takes-disc : Are (N k [] (disc t ∷ [])) M hn hm w → Are (N k [] []) (G (reply true ∷ []) []) hn indicated_then (turned (acting takes (turned w)))
       takes-disc h =
-          let way = first-carried c p hn w.near (N k [] (disc t ∷ [])) (disc t) refl h.near in
-          let far = t-taken d q hm w.far M h.far c back (disc t) way.1 in
+          let way = first-carried service tei c p hn w.near (N k [] (disc t ∷ [])) (disc t) refl h.near in
+          let far = t-taken service tei d q hm w.far M h.far c back (disc t) way.1 in
           record {
-            near = t-lost c p hn w.near (N k [] (disc t ∷ [])) (disc t) refl h.near;
+            near = t-lost service tei c p hn w.near (N k [] (disc t ∷ [])) (disc t) refl h.near;
             far = subst (λ ways. T d q indicated_then (with_first_of ways w.far) (G (reply true ∷ []) [])) (sym way.0)
-                (as-end d q _ indicated_then (comes (spelling c.side (disc t)) w.far) (with_link (link.received (link.frame (disc t))) M) (G (reply true ∷ []) []) far
+                (as-end service tei d q _ indicated_then (comes (spelling c.side (disc t)) w.far) (with_link (link.received (link.frame (disc t))) M) (G (reply true ∷ []) []) far
                 (λ i. record M { link = hears-disc u room' lm state quiet.waiting t i })
                 (ap (λ ts. hm ++ flat_map for_layer_3 ts) (told-disc u room' lm state quiet.waiting t)));
           }
 
       takes-again : Are (N k [] (disc t ∷ [])) (G [] []) hn indicated_then w → Are (N k [] []) (G (reply false ∷ []) []) hn indicated_then (turned (acting takes (turned w)))
       takes-again h =
-          let way = first-carried c p hn w.near (N k [] (disc t ∷ [])) (disc t) refl h.near in
-          let far = t-taken d q indicated_then w.far (G [] []) h.far c back (disc t) way.1 in
+          let way = first-carried service tei c p hn w.near (N k [] (disc t ∷ [])) (disc t) refl h.near in
+          let far = t-taken service tei d q indicated_then w.far (G [] []) h.far c back (disc t) way.1 in
           record {
-            near = t-lost c p hn w.near (N k [] (disc t ∷ [])) (disc t) refl h.near;
+            near = t-lost service tei c p hn w.near (N k [] (disc t ∷ [])) (disc t) refl h.near;
             far = subst (λ ways. T d q indicated_then (with_first_of ways w.far) (G (reply false ∷ []) [])) (sym way.0)
-                (as-end d q _ indicated_then (comes (spelling c.side (disc t)) w.far) (with_link (link.received (link.frame (disc t))) (G [] [])) (G (reply false ∷ []) []) far
+                (as-end service tei d q _ indicated_then (comes (spelling c.side (disc t)) w.far) (with_link (link.received (link.frame (disc t))) (G [] [])) (G (reply false ∷ []) []) far
                 (λ i. record (G [] []) { link = hears-again u room' lm t i })
                 (ap (λ ts. indicated_then ++ flat_map for_layer_3 ts) (told-again u room' lm t) ∙ append-nil indicated_then));
           }
@@ -277,21 +189,21 @@ module _ (service : Service) (tei : ℕ) where
       gives-reply : (b : Bool) → Are (N k [] []) (G (reply b ∷ []) []) hn indicated_then w → Are (N k [] []) (G [] (frame_of u (reply b) ∷ [])) hn indicated_then (turned (acting gives (turned w)))
       gives-reply b h = record {
         near = h.near;
-        far = as-end d q indicated_then indicated_then (happens next w.far) _ (G [] (frame_of u (reply b) ∷ [])) (t-given d q indicated_then w.far (G (reply b ∷ []) []) h.far) refl refl;
+        far = as-end service tei d q indicated_then indicated_then (happens next w.far) _ (G [] (frame_of u (reply b) ∷ [])) (t-given service tei d q indicated_then w.far (G (reply b ∷ []) []) h.far) refl refl;
       }
 
       loses-reply : (b : Bool) → Are (N k [] []) (G [] (frame_of u (reply b) ∷ [])) hn indicated_then w → Are (N k [] []) (G [] []) hn indicated_then (turned (acting loses (turned w)))
-      loses-reply b h = record { near = h.near; far = t-lost d q indicated_then w.far (G [] (frame_of u (reply b) ∷ [])) (frame_of u (reply b)) refl h.far }
+      loses-reply b h = record { near = h.near; far = t-lost service tei d q indicated_then w.far (G [] (frame_of u (reply b) ∷ [])) (frame_of u (reply b)) refl h.far }
 
       takes-reply : (b : Bool) → Are (N k [] []) (G [] (frame_of u (reply b) ∷ [])) hn indicated_then w → Are (N4 k) (G [] []) confirmed_then indicated_then (acting takes w)
       takes-reply b h =
           let f = frame_of u (reply b) in
-          let way = first-carried d q indicated_then w.far (G [] (f ∷ [])) f refl h.far in
-          let near = t-taken c p hn w.near (N k [] []) h.near d face f way.1 in
+          let way = first-carried service tei d q indicated_then w.far (G [] (f ∷ [])) f refl h.far in
+          let near = t-taken service tei c p hn w.near (N k [] []) h.near d face f way.1 in
           record {
             near = subst (λ ways. T c p confirmed_then (with_first_of ways w.near) (N4 k)) (sym way.0)
-                (as-end c p _ confirmed_then (comes (spelling d.side f) w.near) (with_link (link.received (link.frame f)) (N k [] [])) (N4 k) near (is b) (told b));
-            far = t-lost d q indicated_then w.far (G [] (f ∷ [])) f refl h.far;
+                (as-end service tei c p _ confirmed_then (comes (spelling d.side f) w.near) (with_link (link.received (link.frame f)) (N k [] [])) (N4 k) near (is b) (told b));
+            far = t-lost service tei d q indicated_then w.far (G [] (f ∷ [])) f refl h.far;
           }
         where
           is : (b : Bool) → record (with_link (link.received (link.frame (frame_of u (reply b)))) (N k [] [])) { delivered = [] } ≡ N4 k

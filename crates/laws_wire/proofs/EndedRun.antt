@@ -13,7 +13,7 @@ use Rattle.model_link.specs.declared.terms.Terms.{Terms}
 use Rattle.model_link.specs.declared.timers.LinkTimer.TheVariants.{T200}
 use Rattle.model_link.specs.Events as link
 use Rattle.model_link.specs.Link.{Link, fresh}
-use Rattle.model_link.specs.Machine.{after, course}
+use Rattle.model_link.specs.Machine.{course}
 use Rattle.model_link.specs.Requests.{serves}
 use Rattle.model_link.specs.Sound.{IsInRange}
 use Rattle.model_link.specs.Told.{runs}
@@ -36,14 +36,15 @@ use Rattle.laws_wire.specs.Arriving.{runs_t200}
 use Rattle.laws_wire.specs.Answering.{calls, error_f}
 use Rattle.laws_wire.specs.Ending.{IsLeaving, StayTimelyThere, release_confirmed, release_indicated, EndsSo, CallsEnd}
 use Rattle.laws_wire.proofs.Awaited.{link-is}
-use Rattle.laws_wire.proofs.Ended.{Tells, as-end, Are, Phase, ends}
-use Rattle.laws_wire.proofs.Leaving.{its_disc, disc, leaving, left, releases, releases-untold}
-use Rattle.laws_wire.proofs.Loose.{loose-turned, HasAll, loose-came}
+use Rattle.laws_wire.proofs.Ended.{Phase, ends}
+use Rattle.laws_wire.proofs.Leaving.{its_disc, disc, leaving, releases, releases-untold}
+use Rattle.laws_wire.proofs.Loose.{loose-turned, loose-came}
 use Rattle.laws_wire.proofs.LooseUp.{LooseUp, loose-turned-up}
 use Rattle.laws_wire.proofs.Speaking.{said_by}
 use Rattle.laws_wire.proofs.Standing.{Stands, Granted, asks-granted}
 use Rattle.laws_wire.proofs.Talking.{Face}
-use Rattle.laws_wire.proofs.TimelyRun.{Setting, setting}
+use Rattle.laws_wire.proofs.Tells.{Tells, as-end}
+use Rattle.laws_wire.proofs.TimelyRun.{setting}
 use Rattle.laws_wire.proofs.TimelyUp.{IsHushed, hushed}
 use Rattle.laws_wire.proofs.UaLostRun.{up-where, patient-goes}
 

@@ -1,12 +1,12 @@
 -- A link that is released, and the one that is told of it: what each event makes of them.
-use Rattle.std.proofs.Common.{◌≡◌, ℕ, ◌+◌, ◌<◌, Bool, true, false, cond, IsTrue, List, [], ◌∷◌, ◌++◌, take, None, Some, refl, sym, ap, subst, ◌∙◌}
+use Rattle.std.proofs.Common.{◌≡◌, ℕ, ◌+◌, ◌<◌, Bool, true, false, cond, List, [], ◌∷◌, ◌++◌, take, None, Some, refl, sym, ap, ◌∙◌}
 use Rattle.std.specs.Prelude.{nat_lt}
 use Rattle.std.proofs.lemmas.Bool.{lt-ltb}
 use Rattle.lapd_frame.specs.declared.controls.Control.TheVariants.{Disc, Ua, Dm}
 use Rattle.lapd_frame.specs.declared.notes.ErrorCode.TheVariants as code
 use Rattle.lapd_frame.specs.Grammar.{Parts}
 use Rattle.model_link.specs.declared.states.State.TheVariants.{TeiAssigned, AwaitingRelease, Established}
-use Rattle.model_link.specs.declared.timers.LinkTimer.TheVariants.{T200, T203}
+use Rattle.model_link.specs.declared.timers.LinkTimer.TheVariants.{T200}
 use Rattle.model_link.specs.declared.frames.ControlFrame.{ControlFrame}
 use Rattle.model_link.specs.declared.terms.Terms.{Terms}
 use Rattle.model_link.specs.Events.{frame, received, expired, requested, Release}
@@ -15,7 +15,7 @@ use Rattle.model_link.specs.Machine.{after, course}
 use Rattle.model_link.specs.Steps.{Course, begun, ◌then◌}
 use Rattle.model_link.specs.Words
 use Rattle.model_link.specs.Words.{command, response}
-use Rattle.laws_wire.specs.Ending.{release_confirmed, release_indicated}
+use Rattle.laws_wire.specs.Ending.{release_indicated}
 use Rattle.laws_wire.proofs.Speaking.{said_by}
 
 abbrev pub its_disc : ControlFrame

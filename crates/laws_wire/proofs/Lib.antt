@@ -50,6 +50,7 @@ pub mod LooseUp
 pub mod UaLost
 pub mod UaLostRun
 pub mod Leaving
+pub mod Tells
 pub mod Ended
 pub mod EndedRun
 pub mod StillIsTimely
@@ -71,3 +72,4 @@ pub mod RecoveryMetAgain
 pub mod CountedMet
 pub mod ArrivingMet
 pub mod AnsweringMet
+pub mod EndingMet

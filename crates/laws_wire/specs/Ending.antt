@@ -1,11 +1,11 @@
 -- A call that ends: where both ends rest, layer 3 of one of them releases the link.
-use Rattle.std.specs.Prelude.{◌≡◌, ℕ, Bool, false, List, [], ◌∷◌, ◌++◌, All, ◌⊎◌}
+use Rattle.std.specs.Prelude.{◌≡◌, ℕ, false, List, [], ◌∷◌, ◌++◌, All, ◌⊎◌}
 use Rattle.lapd_frame.specs.declared.notes.Note.TheVariants.{ReleaseConfirm, ReleaseIndication}
 use Rattle.lapd_frame.specs.declared.services.Service.{Service}
 use Rattle.model_line.specs.declared.config.Config.{Config}
 use Rattle.model_line.specs.Event.{LineTold, nothing}
 use Rattle.model_line.specs.Request.{Release}
-use Rattle.laws_wire.specs.Wire.{Wire, Act, requests, times_out, acting, turned, Doing, at_near, at_far, doing, doing_all, IsStill}
+use Rattle.laws_wire.specs.Wire.{Wire, requests, times_out, acting, turned, Doing, at_near, at_far, doing, doing_all, IsStill}
 use Rattle.laws_wire.specs.Call.{calling, CanCall}
 use Rattle.laws_wire.specs.Losing.{IsOfLink, heard_in}
 use Rattle.laws_wire.specs.Timely.{IsTimelyOf}

@@ -18,4 +18,5 @@ pub mod WorkedCounted
 pub mod WorkedResting
 pub mod WorkedArriving
 pub mod WorkedAnswering
+pub mod WorkedEnding
 pub mod WorkedBroken

@@ -120,17 +120,20 @@ module _ (service : Service) (tei : ℕ) (few : tei ≤ 126) (c d : Config) (p q
   Phase_ w' = Phase service tei c d p q face back rt ru n.link m.link far-state far-quiet (heard_in w.near) (heard_in w.far) w'
 
   leaves : Phase_ released
-  leaves = inl (0, inl (record {
-    near = as-end service tei c p _ (heard_in w.near) s' (with_link (link.requested link.Release false) n) (record { terms = t; link = leaving n.link 0 (its_disc ∷ []); way = []; delivered = [] })
-        (record {
-          stands = subst (λ k. Stands k service tei p s' (with_link (link.requested link.Release false) n)) h.near.stands.config granted.stands;
-          told = ap (flat_map for_layer_3) granted.told ∙ flat_map-append for_layer_3 w.near.told (said_by (course n.terms (link.requested link.Release false) n.link));
-        })
-        (λ i. record { terms = h.near.stands.terms i; link = releases n.terms room n.link near-state near-quiet.waiting i; way = near-hushed.way i; delivered = [] })
-        (ap (λ ts. heard_in w.near ++ flat_map for_layer_3 ts) (releases-untold n.terms room n.link near-state near-quiet.waiting) ∙ append-nil (heard_in w.near));
-    far = as-end service tei d q (heard_in w.far) (heard_in w.far) w.far m (record { terms = u; link = m.link; way = []; delivered = [] })
-        (record { stands = h.far.stands; told = refl }) (λ i. record { terms = h.far.stands.terms i; link = m.link; way = far-hushed.way i; delivered = [] }) refl;
-  }))
+  leaves = inl (
+    0,
+    inl (record {
+      near = as-end service tei c p _ (heard_in w.near) s' (with_link (link.requested link.Release false) n) (record { terms = t; link = leaving n.link 0 (its_disc ∷ []); way = []; delivered = [] })
+          (record {
+            stands = subst (λ k. Stands k service tei p s' (with_link (link.requested link.Release false) n)) h.near.stands.config granted.stands;
+            told = ap (flat_map for_layer_3) granted.told ∙ flat_map-append for_layer_3 w.near.told (said_by (course n.terms (link.requested link.Release false) n.link));
+          })
+          (λ i. record { terms = h.near.stands.terms i; link = releases n.terms room n.link near-state near-quiet.waiting i; way = near-hushed.way i; delivered = [] })
+          (ap (λ ts. heard_in w.near ++ flat_map for_layer_3 ts) (releases-untold n.terms room n.link near-state near-quiet.waiting) ∙ append-nil (heard_in w.near));
+      far = as-end service tei d q (heard_in w.far) (heard_in w.far) w.far m (record { terms = u; link = m.link; way = []; delivered = [] })
+          (record { stands = h.far.stands; told = refl }) (λ i. record { terms = h.far.stands.terms i; link = m.link; way = far-hushed.way i; delivered = [] }) refl;
+    }),
+  )
 
   -- what is told then
   module _ (last : Wire) where

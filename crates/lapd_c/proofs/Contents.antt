@@ -8,6 +8,8 @@ use Rattle.model_link.specs.declared.timers.LinkTimer.TheVariants as link_timer
 use Rattle.model_link.specs.Events as link
 use Rattle.model_link.specs.Machine as links
 use Rattle.model_link.specs.Requests
+use Rattle.model_link.specs.Steps.{◌then◌}
+use Rattle.model_link.specs.Words.{begin_anew}
 use Rattle.lapd_tei.specs.Events as teis
 use Rattle.lapd_tei.specs.Machine as tei
 use Rattle.model_line.specs.Event.{Event}
@@ -88,6 +90,16 @@ module _ (t : Terms) where
       go None = none_small t.n201 _ (two l (granted_tells t r))
       go (Some why) = omega arith
 
+  cleared-small : (l : Link) → IsSmall t.n201 (links.told t link.cleared l).unit
+  cleared-small l = go l.state
+    where
+      go : (here : State) → IsSmall t.n201 ((links.told_of_clearing here t then begin_anew) (begun l)).unit
+      go TeiAssigned = omega arith
+      go AwaitingEstablishment = omega arith
+      go AwaitingRelease = omega arith
+      go Established = omega arith
+      go TimerRecovery = omega arith
+
 either_small : (most : ℕ) (d u : Option (List ℕ)) → IsSmall most d → IsSmall most u → IsSmall most (option_or d u)
 either_small most None u x y = y
 either_small most (Some contents) u x y = x
@@ -129,7 +141,7 @@ module _ (c : Config) where
 
   deactivated-small : (l : Line) (service : Service) (n : ℕ) (o : Option ℕ) → IsSmall c.n201 (of_aim c (at_deactivated service n o) l).told.contents
   deactivated-small l service n None = omega arith
-  deactivated-small l service n (Some place) = omega arith
+  deactivated-small l service n (Some place) = link-small service n place link.cleared l (cleared-small (terms c service n) (link_in l service place))
 
   request-small : (l : Line) (r : Request) → IsSmall c.n201 (of_aim c (aim_of_request r l) l).told.contents
   request-small l (Establish service n) = asked-small l service n link.Establish (place_in l n)

@@ -171,7 +171,7 @@ module _ (c : Config) (l : Line) (s : IsSound c l) (service : Service) (tei : �
     ended-due x =
         ap (filter (is_news service tei)) x.notes ∙ cleared-due t own was outstanding
         ∙ sym (ap (λ (y : Link). due service tei (Errors (state_number own.state) (state_number y.state)) was (heard is_xid) (heard is_sabme) (releases service tei e a) outstanding (state_number own.state) (state_number y.state)) x.is
-        ∙ ap (λ e. due service tei (wrong c service tei e (state_number own.state) 4) was (heard is_xid) (heard is_sabme) (releases service tei e a) outstanding (state_number own.state) 4) x.by.0
+        ∙ ap (λ asked. due service tei (wrong c service tei asked (state_number own.state) 4) was (heard is_xid) (heard is_sabme) (releases service tei e a) outstanding (state_number own.state) 4) x.by.0
         ∙ ap (λ b. due service tei [] was b (heard is_sabme) (releases service tei e a) outstanding (state_number own.state) 4) (ended-heard is_xid x)
         ∙ ap (λ b. due service tei [] was false b (releases service tei e a) outstanding (state_number own.state) 4) (ended-heard is_sabme x)
         ∙ ap (λ e. due service tei [] was false false (releases service tei e a) outstanding (state_number own.state) 4) x.by.0)
@@ -285,4 +285,5 @@ module _ (c : Config) (l : Line) (s : IsSound c l) (service : Service) (tei : �
         where
           by-part : Goes c service tei e l (lines.after c e l) a → filter (is_news service tei) (notes_of a) ≡ []
           by-part (inl x) = none-filtered service tei (notes_of a) (others-silent service tei c e l s x.aims (inl (is-off l.management.places tei off)))
-          by-part (inr x) = absurd (none-some x.place (sym off ∙ x.placed))
+          by-part (inr (inl x)) = absurd (none-some x.place (sym off ∙ x.placed))
+          by-part (inr (inr x)) = absurd (none-some x.place (sym off ∙ x.placed))

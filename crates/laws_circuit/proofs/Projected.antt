@@ -1,5 +1,5 @@
 -- What is done on a circuit of octets is, at the cards of frames inside, done on a wire of frames.
-use Rattle.std.proofs.Common.{◌≡◌, ℕ, ◌<◌, Bool, true, false, ◌||◌, cond, List, [], ◌∷◌, ◌++◌, length, drop, Option, None, Some, is_some, option_map, option_to_list, refl, sym, ap, ◌∙◌, subst, append-nil}
+use Rattle.std.proofs.Common.{◌≡◌, ℕ, ◌<◌, Bool, true, false, cond, List, [], ◌∷◌, ◌++◌, length, drop, Option, None, Some, is_some, option_map, option_to_list, refl, sym, ap, ◌∙◌, subst, append-nil}
 use Rattle.std.specs.Prelude.{All}
 use Rattle.std.specs.Option.{option_map_or}
 use Rattle.std.proofs.lemmas.List.{get_or-set_same}
@@ -24,19 +24,16 @@ use Rattle.model_ports.specs.Event.{at}
 use Rattle.model_ports.specs.Port as port
 use Rattle.model_ports.specs.Port.{Port, fresh_port, answer_of, gained, given_in, is_due, item_of, next_octet, with_item, with_octet}
 use Rattle.model_ports.specs.Sound.{IsSoundPort}
-use Rattle.laws_line.specs.Share as share
 use Rattle.laws_trace.specs.FramesAreRead.{contents_given}
 use Rattle.laws_wire.specs.Call as call
-unfoldable use Rattle.laws_wire.specs.Call.{both_call as frames_both}
 use Rattle.laws_wire.specs.Wire as wire
 use Rattle.laws_wire.specs.Wire.{Station, Wire}
 unfoldable use Rattle.laws_wire.specs.Wire.{doing_all as frames_done}
 use Rattle.laws_wire.proofs.RestedRounds.{doing-append}
-use Rattle.laws_circuit.specs.Circuit.{Termination, port_of, happens, answered, with_first_of, Circuit, OctetAct, asks, pulls, hears, OctetDoing, at_near, at_far, acting, turned, doing}
+use Rattle.laws_circuit.specs.Circuit.{Termination, port_of, happens, with_first_of, Circuit, OctetAct, asks, pulls, hears, OctetDoing, at_near, at_far, acting, turned, doing}
 unfoldable use Rattle.laws_circuit.specs.Circuit.{doing_all}
-use Rattle.laws_circuit.specs.Through.{IsTalkOf, IsTalk, IsAsked, is_granted, calls_back}
-unfoldable use Rattle.laws_circuit.specs.Through.{both_call}
-use Rattle.laws_circuit.proofs.AsFrames.{as_station, meaning, if_meant, heard-as, asked-as, granted-as, pulled-as}
+use Rattle.laws_circuit.specs.Through.{IsTalkOf, IsTalk, IsAsked}
+use Rattle.laws_circuit.proofs.AsFrames.{as_station, meaning, if_meant, heard-as, asked-as, pulled-as}
 use Rattle.laws_circuit.proofs.OneWay.{Carries, one-given, one-put, none-heard, one-heard}
 use Rattle.laws_circuit.proofs.Ran.{Ran, goes-on, on-way, config, within-ports, sound-port, on-line, gives-octets}
 
@@ -358,59 +355,6 @@ module _ (n201 : ℕ) where
       pub same : wire.doing_all ds (as_wire there back w) ≡ as_wire there' back' w'
       pub talk : All (call.IsCall service tei) ds
 
-    -- who calls, there and here
-    or-none : (b : Bool) → (b || false) ≡ b
-    or-none true = refl
-    or-none false = refl
-
-    none-far : (r : Request) (w : Circuit) (f : Wire) → is_granted (answered (port.request r) w.far) ≡ share.is_granted (wire.answered (line.request r) f.far) → call.calls_back (wire.at_far (wire.requests r)) f ≡ calls_back (at_far (asks r)) w
-    none-far (asked.Establish s t) w f same = sym same
-    none-far (asked.Data s t contents) w f same = refl
-    none-far (asked.Release s t) w f same = refl
-    none-far (asked.Unit s t contents) w f same = refl
-    none-far (asked.Assign t) w f same = refl
-    none-far (asked.Remove t) w f same = refl
-    none-far (asked.Check t) w f same = refl
-    none-far (asked.SetBusy s t) w f same = refl
-    none-far (asked.ClearBusy s t) w f same = refl
-
-    one-near : (o : Option wire.Act) (f : Wire) → call.both_call (option_to_list (option_map wire.at_near o)) f ≡ false
-    unfolding frames_both
-    one-near None f = refl
-    one-near (Some act) f = refl
-
-    pulls-far : (due : Bool) (f : Wire) → call.both_call (option_to_list (option_map wire.at_far (cond due (Some wire.gives) None))) f ≡ false
-    unfolding frames_both
-    pulls-far true f = refl
-    pulls-far false f = refl
-
-    ends-far : (ends : Bool) (f : Wire) → call.both_call (option_to_list (option_map wire.at_far (cond ends (Some wire.takes) None))) f ≡ false
-    unfolding frames_both
-    ends-far true f = refl
-    ends-far false f = refl
-
-    hears-far : (way : List ℕ) (s : Termination) (f : Wire) → call.both_call (option_to_list (option_map wire.at_far (hearing_means way s))) f ≡ false
-    unfolding frames_both
-    hears-far [] s f = refl
-    hears-far (value ∷ more) s f = ends-far (is_some (gained s.card.card.config.n201 (port_of s).received value)) f
-
-    one-calls : (x : OctetDoing) (w : Circuit) (there back : List (List ℕ)) → call.both_call (option_to_list (doing_meant x w)) (as_wire there back w) ≡ calls_back x w
-    unfolding frames_both
-    one-calls (at_near act) w there back = one-near (act_meant act w) (as_wire there back w)
-    one-calls (at_far (asks r)) w there back = or-none (call.calls_back (wire.at_far (wire.requests r)) (as_wire there back w)) ∙ none-far r w (as_wire there back w) (granted-as r w.far back)
-    one-calls (at_far pulls) w there back = pulls-far (is_due (port_of w.far)) (as_wire there back w)
-    one-calls (at_far hears) w there back = hears-far w.near.way w.far (as_wire there back w)
-
-    or-both : (a b c : Bool) → ((a || b) || c) ≡ (a || (b || c))
-    or-both true b c = refl
-    or-both false b c = refl
-
-    both-append : (ds es : List wire.Doing) (f : Wire) → call.both_call (ds ++ es) f ≡ (call.both_call ds f || call.both_call es (wire.doing_all ds f))
-    unfolding frames_both frames_done
-    both-append [] es f = refl
-    both-append (x ∷ ds) es f =
-        ap (λ b. call.calls_back x f || b) (both-append ds es (wire.doing x f)) ∙ sym (or-both (call.calls_back x f) (call.both_call ds (wire.doing x f)) (call.both_call es (wire.doing_all ds (wire.doing x f))))
-
     by-near : (o : Option wire.Act) (f : Wire) → wire.doing_all (option_to_list (option_map wire.at_near o)) f ≡ if_acted o f
     unfolding frames_done
     by-near None f = refl
@@ -450,14 +394,3 @@ module _ (n201 : ℕ) where
           same = doing-append first others (as_wire there back w) ∙ ap (wire.doing_all others) one.same ∙ rest.same;
           talk = All-append (call.IsCall service tei) first others one.talk rest.talk;
         }
-
-    -- the same ends call
-    pub same-calls : (ds : List OctetDoing) → All (IsTalk service tei) ds → (w : Circuit) (there back : List (List ℕ)) → Follows c d w there back → call.both_call (doings_meant ds w) (as_wire there back w) ≡ both_call ds w
-    unfolding doings_meant both_call frames_both
-    same-calls [] all w there back h = refl
-    same-calls (x ∷ ds) all w there back h =
-        let one = one-done x (All-head (IsTalk service tei) x ds all) w there back h in
-        let first = option_to_list (doing_meant x w) in
-        let others = doings_meant ds (doing x w) in
-        both-append first others (as_wire there back w) ∙ ap (λ b. b || call.both_call others (wire.doing_all first (as_wire there back w))) (one-calls x w there back)
-        ∙ ap (λ f. calls_back x w || call.both_call others f) one.same ∙ ap (λ b. calls_back x w || b) (same-calls ds (All-tail (IsTalk service tei) x ds all) (doing x w) one.there' one.back' one.follows)

@@ -30,7 +30,8 @@ use Rattle.laws_circuit.specs.Circuit.{Termination, port_of, happens, Circuit, O
 use Rattle.laws_circuit.specs.Through.{termination, assigned, calling, IsTalk, both_call, HasGone, HasAllGone, ComesThrough, CallsComeThroughInOctets}
 use Rattle.laws_circuit.proofs.AsFrames.{asked-as}
 use Rattle.laws_circuit.proofs.OneWay.{Carries, all-given, framed}
-use Rattle.laws_circuit.proofs.Projected.{as_wire, doings_meant, port-after, asked-way, Fits, Follows, Done, all-done, same-calls}
+use Rattle.laws_circuit.proofs.Projected.{as_wire, doings_meant, port-after, asked-way, Fits, Follows, Done, all-done}
+use Rattle.laws_circuit.proofs.WhoCalls.{same-calls}
 use Rattle.laws_circuit.proofs.Ran.{Ran, goes-on, within-ports, sound-port, on-line}
 
 -- ---- as it begins
@@ -147,7 +148,7 @@ module _ (service : Service) (c d : Config) (line other tei : ℕ) (ds : List Oc
       (subst (call.ComesThrough service tei (wire.turns (doings_meant ds begun) wire_begun) (call.both_call (doings_meant ds begun) wire_begun)) led
       (calls-come-through service c d line other tei (doings_meant ds begun) can done.talk))
 
-  still : HasAllGone last → IsStill (as_wire done.there' done.back' last)
+  pub still : HasAllGone last → IsStill (as_wire done.there' done.back' last)
   still gone =
       let f = done.follows in
       record {

@@ -21,11 +21,12 @@ abbrev pub longest : ℕ → ℕ
 longest n201 = longest_text n201 / 8 + 1
 
 -- So many beats are enough behind the last request, where at most so many octets are on their way at a time, one end calls or
--- both, and so much data was granted: for each turn, of which there are four for each end that calls and four for each request,
--- the longest frame and the way.
+-- both, and so much data was granted: for each frame that is given and heard, of which there are two for each end that calls and
+-- two for each request, the longest frame before it, the frame itself, and the way.
 abbrev pub enough_beats : ℕ → ℕ → Bool → ℕ → ℕ
-enough_beats n201 way both granted = ((if both then 8 else 4) + 4 * granted) * (longest n201 + way)
+enough_beats n201 way both granted = ((if both then 4 else 2) + 2 * granted) * (longest n201 + (longest n201 + way))
 
+-- What was granted in the whole call.
 abbrev pub granted_of : Circuit → ℕ
 granted_of w = length w.near.granted + length w.far.granted
 

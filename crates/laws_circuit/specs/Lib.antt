@@ -5,4 +5,5 @@ pub mod Beats
 pub mod Worked
 pub mod WorkedCall
 pub mod Damaged
+pub mod Resting
 pub mod WorkedDamaged

@@ -12,6 +12,9 @@ establishes = refl
 one_more : enough_beats 260 0 false 1 ≡ 2568
 one_more = refl
 
--- Where both ends call, 1284 more.
+-- Where both ends call, 1284 more. On a long way, of 1000 octets, each frame takes 1642.
 both_establish : enough_beats 260 0 true 0 ≡ 2568
 both_establish = refl
+
+far_apart : enough_beats 260 1000 false 0 ≡ 3284
+far_apart = refl

@@ -13,17 +13,15 @@ use Rattle.model_ports.specs.Card as ports
 use Rattle.model_ports.specs.Port as port
 use Rattle.model_ports.specs.Port.{octet, pull}
 use Rattle.laws_order.specs.Order.{data_noted, data_granted, kept_by, StaysEstablished}
-use Rattle.laws_circuit.specs.Circuit.{Termination, doing_all}
-use Rattle.laws_circuit.specs.Damaged.{Socket, Noisy, happens, completes, loses, Happening, by_near, by_far, as_station, happening_all, ArePossible, seen_near, seen_far}
+use Rattle.laws_circuit.specs.Circuit.{doing_all}
+use Rattle.laws_circuit.specs.Damaged.{Noisy, happens, completes, loses, Happening, by_near, by_far, as_station, happening_all, ArePossible, seen_near, seen_far}
+use Rattle.laws_circuit.specs.Resting.{from_then_on}
 use Rattle.laws_circuit.specs.WorkedCall as call
 use Rattle.laws_circuit.specs.WorkedCall.{establishes}
 
 -- Where the call of `WorkedCall` is established, each octet was heard.
-abbrev as_socket : Termination → Socket
-as_socket s = record { card = s.card; line = s.line; way = [] }
-
 abbrev pub begins : Noisy
-begins = record { near = as_socket (doing_all establishes call.begins).near; far = as_socket (doing_all establishes call.begins).far }
+begins = from_then_on (doing_all establishes call.begins)
 
 abbrev near_asks : ℕ → Happening
 near_asks value = by_near (happens (port.request (Data Call 0 (value ∷ []))))

@@ -2,6 +2,7 @@
 
 ghost use Rattle.laws_circuit.specs.Beats.{AllIsToldInBeats};
 ghost use Rattle.laws_circuit.specs.Damaged.{DeliveredThoughDamaged};
+ghost use Rattle.laws_circuit.specs.Resting.{CallsComeToRest};
 ghost use Rattle.laws_circuit.specs.Through.{CallsComeThroughInOctets};
 
 /// A call comes through, octet by octet. Two cards for octets have just begun, one of each side, with configurations in
@@ -20,8 +21,8 @@ pub fn a_call_comes_through_in_octets()
 /// So many octets are enough. In such a call, once nothing more is asked for, let the lines of both ends run at the same
 /// rate: in a beat each end's next octet is pulled, and then the first octet on the way to each end is heard. L octets are
 /// those of the longest frame with its check, a 0 stuffed after every fifth bit, a flag, and octets cut at both ends; at
-/// most D octets are on their way to either end. After 4 (L + D) beats, or 8 (L + D) where both ends call, and 4 (L + D) more
-/// for each request for data that was granted in the whole call, layer 3 of each was told all.
+/// most D octets are on their way to either end. After 2 (2 L + D) beats, or 4 (2 L + D) where both ends call, and 2 (2 L + D)
+/// more for each request for data that was granted in the whole call, layer 3 of each was told all.
 pub fn all_is_told_in_beats()
     ensures { AllIsToldInBeats }
 {}
@@ -38,4 +39,10 @@ pub fn all_is_told_in_beats()
 /// was granted to send since: in order, each once, and nothing else.
 pub fn delivered_though_damaged()
     ensures { DeliveredThoughDamaged }
+{}
+
+/// A call comes to rest. Where all has gone in a call, as [`a_call_comes_through_in_octets`] has it, whether one end called or
+/// both, the two links are at rest. So what [`delivered_though_damaged`] says holds of all that happens from there on.
+pub fn a_call_comes_to_rest()
+    ensures { CallsComeToRest }
 {}

@@ -5,9 +5,10 @@
 //! `specs/` has the circuit and what can happen at its ends (`Circuit`), a call between two cards that have just begun
 //! (`Through`), how many octets it takes (`Beats`), and worked values that compute (`Worked`, `WorkedCall`). `Damaged` has
 //! two cards between which octets are changed, lost or added, and at which anything happens; `WorkedDamaged` a run that
-//! meets its premise, and one that breaks what it says without. What a card for octets does at an event is the machine of
-//! `model_ports`. That a run of octets is, at the cards inside, a run of frames as `laws_wire` or `laws_order` has them, is
-//! shown in `proofs/Projected` and `proofs/Damaged`.
+//! meets its premise, and one that breaks what it says without. Where all has gone in a call, `Damaged` holds from there on
+//! (`Resting`). What a card for octets does at an event is the machine of `model_ports`. That a run of octets is, at the
+//! cards inside, a run of frames as `laws_wire` or `laws_order` has them, is shown in `proofs/Projected` and
+//! `proofs/Damaged`; that frames come in so many beats, in `proofs/Comes`.
 //!
 //! # Open
 //!
@@ -16,4 +17,7 @@
 
 mod laws;
 
-pub use laws::{a_call_comes_through_in_octets, all_is_told_in_beats, delivered_though_damaged};
+pub use laws::{
+    a_call_comes_through_in_octets, a_call_comes_to_rest, all_is_told_in_beats,
+    delivered_though_damaged,
+};

@@ -1,5 +1,6 @@
--- Layer 3 asks for the establishment of the link: in state 4 it is granted, and in any other state it is refused, which changes nothing.
-use Rattle.std.proofs.Common.{◌≡◌, ℕ, ◌+◌, ◌≤◌, Bool, true, false, true≢false, not, cond, List, [], ◌∷◌, ◌++◌, length, Option, None, Some, refl, sym, ap, subst, ◌∙◌, ◌⊎◌, inl, inr, append-nil}
+-- What is done in a call. Layer 3 asks for the establishment of the link: in state 4 it is granted, and in any other state it is
+-- refused, which changes nothing.
+use Rattle.std.proofs.Common.{◌≡◌, ℕ, ◌+◌, ◌≤◌, Bool, true, false, true≢false, not, cond, List, [], ◌∷◌, ◌++◌, Option, None, Some, refl, sym, ap, subst, ◌∙◌, ◌⊎◌, inl, inr, append-nil}
 use Rattle.std.specs.Prelude.{nat_lt}
 use Rattle.std.specs.Option.{option_map_or}
 use Rattle.std.proofs.lemmas.Bool.{le-ltb}
@@ -18,16 +19,73 @@ use Rattle.model_line.specs.Line.{Line, link_in, link_of, has_tei, terms}
 use Rattle.model_line.specs.Machine as lines
 use Rattle.model_line.specs.Machine.{unless_refused_told, of_request}
 use Rattle.model_line.specs.Refusal.{refusal, bad_tei, no_link, wrong_state}
-use Rattle.model_line.specs.Request.{Establish}
+use Rattle.model_line.specs.Request as asked_for
+use Rattle.model_line.specs.Request.{Request, Establish, Data}
 use Rattle.model_card.specs.Card.{line_at}
 use Rattle.model_card.specs.Event.{at as event_at}
 use Rattle.model_card.specs.Machine.{wants_room}
 use Rattle.laws_line.specs.Share.{is_granted}
 use Rattle.laws_line.proofs.Asked.{passed}
-use Rattle.laws_wire.specs.Wire.{Station, happens, answered}
+use Rattle.laws_wire.specs.Wire.{Station, Wire, happens, answered, requests, times_out, gives, takes, loses, Doing, at_near, at_far}
+use Rattle.laws_wire.specs.Call.{IsTalkOf, IsTalk, IsCall, IsCallOf, calls_back}
 use Rattle.laws_wire.proofs.Calling.{asked, asks-establish, told-of-establish, end}
 use Rattle.laws_wire.proofs.Standing.{Stands, Granted, asks-granted, asks-stands, link-ranges}
 use Rattle.laws_wire.proofs.Talking.{Past, Holds}
+
+module _ (service : Service) (tei : ℕ) where
+  -- ---- what is done: the link is asked for at one of the ends, or it is talk
+
+  pub data Kind (k : Doing) : Type 0 where
+    talks : IsTalk service tei k → Kind k
+    near_calls : k ≡ at_near (requests (Establish service tei)) → Kind k
+    far_calls : k ≡ at_far (requests (Establish service tei)) → Kind k
+
+  asks-so : (P : Request → Type 0) → P (Establish service tei) → ((s : Service) (x : ℕ) (octets : List ℕ) → (s ≡ service) × (x ≡ tei) → P (Data s x octets)) → (r : Request) → IsCallOf service tei (requests r) → P r
+  asks-so P establish contents (Establish s x) is = subst (λ s'. P (Establish s' x)) (sym is.0) (subst (λ x'. P (Establish service x')) (sym is.1) establish)
+  asks-so P establish contents (Data s x octets) is = contents s x octets is
+  asks-so P establish contents (asked_for.Release s x) is = absurd is
+  asks-so P establish contents (asked_for.Unit s x octets) is = absurd is
+  asks-so P establish contents (asked_for.Assign x) is = absurd is
+  asks-so P establish contents (asked_for.Remove x) is = absurd is
+  asks-so P establish contents (asked_for.Check x) is = absurd is
+  asks-so P establish contents (asked_for.SetBusy s x) is = absurd is
+  asks-so P establish contents (asked_for.ClearBusy s x) is = absurd is
+  asks-so P establish contents (asked_for.Deactivate s x) is = absurd is
+
+  pub kind : (k : Doing) → IsCall service tei k → Kind k
+  kind (at_near (requests r)) is = asks-so (λ r. Kind (at_near (requests r))) (near_calls refl) (λ s x octets same. talks same) r is
+  kind (at_near gives) is = talks tt
+  kind (at_near takes) is = talks tt
+  kind (at_near (times_out timer)) is = absurd is
+  kind (at_near loses) is = absurd is
+  kind (at_far (requests r)) is = asks-so (λ r. Kind (at_far (requests r))) (far_calls refl) (λ s x octets same. talks same) r is
+  kind (at_far gives) is = talks tt
+  kind (at_far takes) is = talks tt
+  kind (at_far (times_out timer)) is = absurd is
+  kind (at_far loses) is = absurd is
+
+  -- talk calls nobody
+  data-calls_not : (r : Request) → IsTalkOf service tei (requests r) → (w : Wire) → calls_back (at_far (requests r)) w ≡ false
+  data-calls_not (Data s x octets) is w = refl
+  data-calls_not (Establish s x) is w = absurd is
+  data-calls_not (asked_for.Release s x) is w = absurd is
+  data-calls_not (asked_for.Unit s x octets) is w = absurd is
+  data-calls_not (asked_for.Assign x) is w = absurd is
+  data-calls_not (asked_for.Remove x) is w = absurd is
+  data-calls_not (asked_for.Check x) is w = absurd is
+  data-calls_not (asked_for.SetBusy s x) is w = absurd is
+  data-calls_not (asked_for.ClearBusy s x) is w = absurd is
+  data-calls_not (asked_for.Deactivate s x) is w = absurd is
+
+  pub talk-calls_not : (k : Doing) → IsTalk service tei k → (w : Wire) → calls_back k w ≡ false
+  talk-calls_not (at_near act) is w = refl
+  talk-calls_not (at_far (requests r)) is w = data-calls_not r is w
+  talk-calls_not (at_far gives) is w = refl
+  talk-calls_not (at_far takes) is w = refl
+  talk-calls_not (at_far (times_out timer)) is w = refl
+  talk-calls_not (at_far loses) is w = refl
+
+-- ---- the link is asked for
 
 three-pass : (a b d : Bool) (x y z : Refusal) → a ≡ false → b ≡ false → d ≡ false → cond a (Some x) (cond b (Some y) (cond d (Some z) None)) ≡ None
 three-pass a b d x y z e e' e'' = rw (e, e', e'') refl

@@ -1,5 +1,5 @@
 -- Both ends call, and SABMEs cross: how far each call has come, and what each step does.
-use Rattle.std.proofs.Common.{◌≡◌, ℕ, ◌+◌, ◌*◌, ◌<◌, ◌≤◌, Bool, true, false, cond, List, [], ◌∷◌, ◌++◌, length, map, None, refl, sym, ap, subst, ◌∙◌, ◌⊎◌, inl, inr, append-nil, arith}
+use Rattle.std.proofs.Common.{◌≡◌, ℕ, ◌+◌, ◌*◌, ◌<◌, ◌≤◌, true, false, cond, List, [], ◌∷◌, ◌++◌, length, map, None, refl, sym, ap, subst, ◌∙◌, ◌⊎◌, inl, inr, append-nil, arith}
 use Rattle.std.specs.Prelude.{nat_lt, if◌then◌else◌}
 use Rattle.std.proofs.lemmas.Bool.{lt-ltb}
 use Rattle.std.proofs.lemmas.List.Elements.{All-nil}
@@ -18,15 +18,14 @@ use Rattle.model_link.specs.TwoEnds as two_ends
 use Rattle.model_line.specs.declared.config.Config.{Config}
 use Rattle.model_line.specs.Line.{terms}
 use Rattle.model_line.specs.Request.{Request}
-use Rattle.model_line.specs.Event.{request, next}
-use Rattle.laws_two_links.specs.AnyOrder.{weight_at}
+use Rattle.model_line.specs.Event.{next}
 use Rattle.laws_two_links.proofs.AnyOrderRuns.{Pair}
 use Rattle.laws_wire.specs.Wire.{Station, Wire, happens, frames_by, with_first_of, with_first_lost, Act, requests, times_out, gives, takes, loses, acting, turned, is_turn_of, answered, comes}
 use Rattle.laws_wire.specs.Call.{IsTalkOf, confirmed}
-use Rattle.laws_wire.proofs.Answered.{gives-granted, takes-granted}
+use Rattle.laws_wire.proofs.Answered.{takes-granted}
 use Rattle.laws_wire.proofs.BothHalf as half
 use Rattle.laws_wire.proofs.BothHalf.{lower}
-use Rattle.laws_wire.proofs.Calling.{sabme, ua, its_ua, awaiting, caller, told-of-ua, end, sound-caller, with_ua_waiting, with_ua_first}
+use Rattle.laws_wire.proofs.Calling.{sabme, ua, its_ua, awaiting, caller, end, sound-caller, with_ua_waiting, with_ua_first}
 use Rattle.laws_wire.proofs.Ringing.{ringing, its_sabme}
 use Rattle.laws_wire.proofs.Speaking.{said_by}
 use Rattle.laws_wire.proofs.Standing.{IsCarried, Stands}

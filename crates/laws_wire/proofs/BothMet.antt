@@ -1,7 +1,6 @@
 -- The premises of the law are met by the worked call in which SABMEs cross: so each was told all, and the two face each other.
-use Rattle.std.proofs.Common.{◌≡◌, List, [], ◌∷◌, refl}
+use Rattle.std.proofs.Common.{[], ◌∷◌, refl}
 use Rattle.std.specs.Prelude.{All}
-use Rattle.std.proofs.lemmas.List.Elements.{All-nil, All-cons}
 use Rattle.lapd_frame.specs.declared.services.Service.TheVariants.{Call}
 use Rattle.lapd_frame.specs.Reading.{reading, header_of, control_of, unnumbered_of, supervisory_of}
 use Rattle.lapd_seq.specs.Circle.{distance_of, named}
@@ -9,7 +8,7 @@ use Rattle.lapd_seq.specs.Numbers.{seq}
 use Rattle.lapd_tei.specs.Events as teis
 use Rattle.model_line.specs.Machine as lines
 use Rattle.model_line.specs.Request.{Data}
-use Rattle.laws_wire.specs.Wire.{requests, Doing, at_near, at_far, doing_all, turns, IsStill}
+use Rattle.laws_wire.specs.Wire.{requests, at_near, at_far, doing_all, turns, IsStill}
 use Rattle.laws_wire.specs.Call.{IsCall, both_call, ComesThrough}
 use Rattle.laws_wire.specs.Facing.{Face}
 use Rattle.laws_wire.specs.Worked.{user, network, begins}

@@ -1,5 +1,5 @@
 -- A call from its beginning: the near end calls, and the far one may call back before SABME comes; each step of it.
-use Rattle.std.proofs.Common.{◌≡◌, ℕ, ◌+◌, ◌*◌, ◌≤◌, Bool, true, false, cond, ◌||◌, List, [], ◌∷◌, ◌++◌, length, None, refl, sym, ap, subst, ◌∙◌, ◌⊎◌, inl, inr, arith}
+use Rattle.std.proofs.Common.{◌≡◌, ℕ, ◌+◌, ◌*◌, ◌≤◌, Bool, true, false, cond, ◌||◌, [], ◌∷◌, ◌++◌, length, refl, sym, ap, subst, ◌∙◌, ◌⊎◌, inl, inr, arith}
 use Rattle.std.specs.Prelude.{if◌then◌else◌}
 use Rattle.lapd_frame.specs.declared.services.Service.{Service}
 use Rattle.lapd_frame.specs.Grammar.{spelling}
@@ -7,19 +7,16 @@ use Rattle.model_link.specs.declared.terms.Terms.{Terms}
 use Rattle.model_link.specs.Events as link
 use Rattle.model_link.specs.Link.{fresh}
 use Rattle.model_link.specs.Machine.{course}
-use Rattle.model_link.specs.Requests.{is_down}
 use Rattle.model_link.specs.Sound.{IsInRange}
-use Rattle.model_link.specs.TwoEnds.{End, with_link}
+use Rattle.model_link.specs.TwoEnds.{with_link}
 use Rattle.model_line.specs.declared.config.Config.{Config}
 use Rattle.model_line.specs.Line.{terms}
-use Rattle.model_line.specs.Request as asked_for
-use Rattle.model_line.specs.Request.{Request, Establish, Data}
-use Rattle.model_line.specs.Event.{LineTold, request, next}
-use Rattle.laws_two_links.specs.AnyOrder.{weight_at}
-use Rattle.laws_wire.specs.Wire.{Station, Wire, happens, frames_by, with_first_of, Act, requests, times_out, gives, takes, loses, Doing, at_near, at_far, acting, turned, doing, is_turn_of, is_turn, answered, comes}
-use Rattle.laws_wire.specs.Call.{IsTalkOf, IsTalk, IsCall, IsCallOf, calls_back, confirmed, indicated, told_first}
+use Rattle.model_line.specs.Request.{Establish}
+use Rattle.model_line.specs.Event.{next}
+use Rattle.laws_wire.specs.Wire.{Station, Wire, frames_by, with_first_of, Act, requests, times_out, gives, takes, loses, Doing, at_near, at_far, acting, turned, doing, is_turn_of, is_turn, answered, comes}
+use Rattle.laws_wire.specs.Call.{IsTalkOf, IsTalk, IsCall, calls_back, confirmed, indicated, told_first}
 use Rattle.laws_wire.proofs.Answered.{takes-granted}
-use Rattle.laws_wire.proofs.BothAsking.{Refuses, refuses, Calls, calls}
+use Rattle.laws_wire.proofs.BothAsking.{Kind, talks, near_calls, far_calls, kind, talk-calls_not, Refuses, refuses, calls}
 use Rattle.laws_wire.proofs.BothHalf as half
 use Rattle.laws_wire.proofs.BothHalf.{lower, turned-count}
 use Rattle.laws_wire.proofs.BothCrossing as crossed
@@ -27,7 +24,7 @@ use Rattle.laws_wire.proofs.BothCrossing.{waits, under_way, turned-order}
 use Rattle.laws_wire.proofs.Calling.{sabme, asked, awaiting, called, takes-sabme, told-of-sabme, end, none-granted-asked, none-granted-awaiting, none-granted-fresh, first-pair, with_ua_waiting}
 use Rattle.laws_wire.proofs.Speaking.{said_by}
 use Rattle.laws_wire.proofs.Standing.{Stands}
-use Rattle.laws_wire.proofs.Talking.{Face, Past, unheard, after_note, Holds, none-told, holds-given, holds-lost, takes as takes_frame, Took}
+use Rattle.laws_wire.proofs.Talking.{Face, unheard, after_note, Holds, none-told, holds-given, holds-lost, takes as takes_frame, Took}
 use Rattle.laws_wire.proofs.Quiet.{one-at-most, Both, turned-both, first-way, same-count, quiet-gives, quiet-takes, quiet-requests}
 use Rattle.laws_wire.proofs.Up.{turn_of, granted_of}
 
@@ -35,58 +32,6 @@ abbrev pub cost : Bool → ℕ
 cost both = cond both 4 0
 
 module _ (service : Service) (tei : ℕ) where
-  -- ---- what is done: the link is asked for at one of the ends, or it is talk
-
-  data Kind (k : Doing) : Type 0 where
-    talks : IsTalk service tei k → Kind k
-    near_calls : k ≡ at_near (requests (Establish service tei)) → Kind k
-    far_calls : k ≡ at_far (requests (Establish service tei)) → Kind k
-
-  asks-so : (P : Request → Type 0) → P (Establish service tei) → ((s : Service) (x : ℕ) (octets : List ℕ) → (s ≡ service) × (x ≡ tei) → P (Data s x octets)) → (r : Request) → IsCallOf service tei (requests r) → P r
-  asks-so P establish contents (Establish s x) is = subst (λ s'. P (Establish s' x)) (sym is.0) (subst (λ x'. P (Establish service x')) (sym is.1) establish)
-  asks-so P establish contents (Data s x octets) is = contents s x octets is
-  asks-so P establish contents (asked_for.Release s x) is = absurd is
-  asks-so P establish contents (asked_for.Unit s x octets) is = absurd is
-  asks-so P establish contents (asked_for.Assign x) is = absurd is
-  asks-so P establish contents (asked_for.Remove x) is = absurd is
-  asks-so P establish contents (asked_for.Check x) is = absurd is
-  asks-so P establish contents (asked_for.SetBusy s x) is = absurd is
-  asks-so P establish contents (asked_for.ClearBusy s x) is = absurd is
-  asks-so P establish contents (asked_for.Deactivate s x) is = absurd is
-
-  kind : (k : Doing) → IsCall service tei k → Kind k
-  kind (at_near (requests r)) is = asks-so (λ r. Kind (at_near (requests r))) (near_calls refl) (λ s x octets same. talks same) r is
-  kind (at_near gives) is = talks tt
-  kind (at_near takes) is = talks tt
-  kind (at_near (times_out timer)) is = absurd is
-  kind (at_near loses) is = absurd is
-  kind (at_far (requests r)) is = asks-so (λ r. Kind (at_far (requests r))) (far_calls refl) (λ s x octets same. talks same) r is
-  kind (at_far gives) is = talks tt
-  kind (at_far takes) is = talks tt
-  kind (at_far (times_out timer)) is = absurd is
-  kind (at_far loses) is = absurd is
-
-  -- talk calls nobody
-  data-calls_not : (r : Request) → IsTalkOf service tei (requests r) → (w : Wire) → calls_back (at_far (requests r)) w ≡ false
-  data-calls_not (Data s x octets) is w = refl
-  data-calls_not (Establish s x) is w = absurd is
-  data-calls_not (asked_for.Release s x) is w = absurd is
-  data-calls_not (asked_for.Unit s x octets) is w = absurd is
-  data-calls_not (asked_for.Assign x) is w = absurd is
-  data-calls_not (asked_for.Remove x) is w = absurd is
-  data-calls_not (asked_for.Check x) is w = absurd is
-  data-calls_not (asked_for.SetBusy s x) is w = absurd is
-  data-calls_not (asked_for.ClearBusy s x) is w = absurd is
-  data-calls_not (asked_for.Deactivate s x) is w = absurd is
-
-  talk-calls_not : (k : Doing) → IsTalk service tei k → (w : Wire) → calls_back k w ≡ false
-  talk-calls_not (at_near act) is w = refl
-  talk-calls_not (at_far (requests r)) is w = data-calls_not r is w
-  talk-calls_not (at_far gives) is w = refl
-  talk-calls_not (at_far takes) is w = refl
-  talk-calls_not (at_far (times_out timer)) is w = refl
-  talk-calls_not (at_far loses) is w = refl
-
   -- ---- the phases
 
   module _ (few : tei ≤ 126) (c d : Config) (p q : ℕ) (face : Face c d) (back : Face d c) (rt : IsInRange (terms c service tei)) (ru : IsInRange (terms d service tei)) where
@@ -397,11 +342,11 @@ module _ (service : Service) (tei : ℕ) where
     far-asks true w weight (inr (inl h)) = far-refused true w weight (inr (inl h)) (half.far-refuses service tei (confirmed service tei) c d p q face back rt w weight h)
     far-asks true w weight (inr (inr h)) = far-refused true w weight (inr (inr h)) (half.near-refuses service tei (confirmed service tei) d c q p back face ru (turned w) weight h)
 
-    by-kind : (both : Bool) (k : Doing) → Kind k → (w : Wire) (weight : ℕ) → Goes both w weight → Stepped both k w weight (if is_turn k w then 1 else 0)
-    by-kind both k (talks is) w weight h = none-called both k w weight _ (talk-calls_not k is w) (talk-step both k is w weight h)
+    by-kind : (both : Bool) (k : Doing) → Kind service tei k → (w : Wire) (weight : ℕ) → Goes both w weight → Stepped both k w weight (if is_turn k w then 1 else 0)
+    by-kind both k (talks is) w weight h = none-called both k w weight _ (talk-calls_not service tei k is w) (talk-step both k is w weight h)
     by-kind both k (near_calls is) w weight h = subst (λ k. Stepped both k w weight (if is_turn k w then 1 else 0)) (sym is) (near-asks both w weight h)
     by-kind both k (far_calls is) w weight h = subst (λ k. Stepped both k w weight (if is_turn k w then 1 else 0)) (sym is) (far-asks both w weight h)
 
     -- so each thing that is done is a step of the call
     pub step : (both : Bool) (k : Doing) → IsCall service tei k → (w : Wire) (weight : ℕ) → Goes both w weight → Stepped both k w weight (if is_turn k w then 1 else 0)
-    step both k is w weight h = by-kind both k (kind k is) w weight h
+    step both k is w weight h = by-kind both k (kind service tei k is) w weight h

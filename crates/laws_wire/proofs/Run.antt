@@ -23,7 +23,7 @@ use Rattle.laws_wire.proofs.Beginning.{calls, answers}
 use Rattle.laws_wire.proofs.BothCrossing as crossed
 use Rattle.laws_wire.proofs.BothCrossing.{waits, under_way, answered_there, returns}
 use Rattle.laws_wire.proofs.BothHalf as half
-use Rattle.laws_wire.proofs.BothPhases.{cost, Goes, Stepped, step}
+use Rattle.laws_wire.proofs.BothPhases.{cost, Goes, step}
 use Rattle.laws_wire.proofs.Calling.{asked, caller, end, with_ua_waiting, with_ua_first}
 use Rattle.laws_wire.proofs.Spelled.{twice-other}
 use Rattle.laws_wire.proofs.SoFar.{at-first, then-data}

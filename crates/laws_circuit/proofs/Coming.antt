@@ -16,7 +16,6 @@ use Rattle.model_ports.specs.Sound.{IsSoundPort}
 use Rattle.model_ports.proofs.Gains.{heard_with}
 use Rattle.laws_wire.specs.Wire as wire
 use Rattle.laws_wire.specs.Wire.{Wire, is_any}
-unfoldable use Rattle.laws_wire.specs.Wire.{doing_all as frames_done}
 use Rattle.laws_circuit.specs.Circuit.{Termination, port_of, happens, with_first_of, Circuit, OctetAct, asks, pulls, hears, OctetDoing, at_near, at_far, acting, turned, doing}
 unfoldable use Rattle.laws_circuit.specs.Circuit.{doing_all}
 use Rattle.laws_circuit.proofs.AtPort.{next_of_card, pull-between, pull-put, pull-given, pull-received, card-heard, port-heard}

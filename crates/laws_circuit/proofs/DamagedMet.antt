@@ -23,7 +23,7 @@ use Rattle.laws_order.specs.Happenings.{of_link_at}
 use Rattle.laws_order.specs.Order.{data_noted, data_granted, link_here, HasReceivedOf, FaceAtRest, kept_by}
 use Rattle.laws_circuit.specs.Circuit.{Circuit, doing_all}
 use Rattle.laws_circuit.specs.Damaged.{Noisy, Deed, happens, completes, elsewhere, loses, meaning, IsOther, IsFirst, IsPossibleAt, turned, Happening, by_near, by_far, happening, as_station, as_wire, seen_near, seen_far}
-unfoldable use Rattle.laws_circuit.specs.Damaged.{ArePossible, happening_all}
+unfoldable use Rattle.laws_circuit.specs.Damaged.{ArePossible}
 use Rattle.laws_circuit.specs.WorkedCall as call
 use Rattle.laws_circuit.specs.WorkedCall.{establishes}
 use Rattle.laws_circuit.specs.WorkedDamaged.{begins, goes_again, near_stays, far_stays}

@@ -9,7 +9,7 @@
 //! # Open
 //!
 //! That what was granted is told in the end; an establishment whose called end sends before the other has taken its UA;
-//! what is told behind a release that was granted; octets that are damaged on their way between two cards for octets.
+//! what is told behind a release that was granted.
 #![tactic(auto)]
 
 mod laws;

@@ -56,12 +56,11 @@ pub mod ControlsAtLine
 pub mod StaysOn
 pub mod ControlFrames
 pub mod ManagingTables
-pub mod ManagingKnown
-pub mod ManagingTeis
-pub mod ManagingChecks
 pub mod ManagingNotes
-pub mod ManagingLine
-pub mod MessagesAreOwed
+pub mod Follows
+pub mod FollowsLine
+pub mod FollowsRequests
+pub mod TeisAreManaged
 pub mod TimerActs
 pub mod TimerClaims
 pub mod TimerRows
@@ -72,7 +71,7 @@ pub mod TimersOfEvent
 pub mod TimersStarted
 pub mod TimersAreTimely
 pub mod OrdersHaveReasons
-pub mod ChecksAreTimely
+pub mod OrdersInRuns
 pub mod AllGoesAgain
 pub mod MovesOfLink
 pub mod LinkLed
@@ -90,9 +89,7 @@ pub mod OtherSide
 pub mod AcknowledgedOfLink
 pub mod AcknowledgedOfEvent
 pub mod AllAreAcknowledged
-pub mod TeisAreGiven
 pub mod LossesOfParts
-pub mod Crowded
 pub mod NoLossInVain
 pub mod WindowsAreKept
 pub mod RoomsAreTold

@@ -1,16 +1,16 @@
--- Tables of TEIs and of assignments: what is on a line after a TEI came or left, and which assignment is found.
-use Rattle.std.proofs.Common.{◌≡◌, ℕ, zero, suc, ◌+◌, ◌-◌, ◌<◌, ◌≤◌, ◌==◌, ◌&&◌, ◌||◌, Bool, true, false, cond, not, List, [], ◌∷◌, ◌++◌, length, drop, set, get_or, Option, Some, None, refl, sym, ap, ◌∙◌, subst, arith, eqb-true, eq-eqb, true≢false, length-append}
-use Rattle.std.specs.Prelude.{filter}
-use Rattle.std.specs.List.{list_any, find}
+-- The table of TEIs, and the list of those on a line that an observer has: what is on it after a TEI came or left, and how
+-- many are.
+use Rattle.std.proofs.Common.{◌≡◌, ℕ, zero, suc, ◌+◌, ◌<◌, ◌≤◌, ◌==◌, ◌&&◌, ◌||◌, Bool, true, false, cond, not, List, [], ◌∷◌, length, replicate, set, get_or, Option, Some, None, refl, sym, ap, ◌∙◌, subst, arith, eqb-true, eq-eqb, true≢false}
+use Rattle.std.specs.Prelude.{filter, nat_lt}
+use Rattle.std.specs.List.{list_any, prefix_len}
+use Rattle.std.proofs.lemmas.Bool.{ltb-false}
 use Rattle.std.proofs.lemmas.Map.Views.{any-filter_same}
 use Rattle.std.proofs.lemmas.Option.{none-some}
-use Rattle.lapd_tei.specs.declared.remembered.Remembered.{Remembered}
 use Rattle.lapd_tei.specs.Sound.{IsAt, IsSoundTable}
-use Rattle.lapd_tei.specs.Table.{Places, has, is_on, place_of, free_place}
+use Rattle.lapd_tei.specs.Table.{Places, is_free, has, is_on, place_of, free_place}
 use Rattle.lapd_tei.specs.Words.{freed}
-use Rattle.lapd_tei.proofs.Tables.{place_of-is, free_place-is}
+use Rattle.lapd_tei.proofs.Tables.{place_of-is, is_on-at, free_place-is}
 use Rattle.laws_line.proofs.Places.{is-off}
-use Rattle.laws_trace.specs.Managing.{is_for, latest}
 
 -- A TEI that comes.
 swap : (a b c : Bool) → (a || (b || c)) ≡ (b || (a || c))
@@ -84,28 +84,156 @@ on-leaving places tei x sound = by-place (place_of tei places) refl (x == tei) r
 pub on-filtered : (on : List ℕ) (tei x : ℕ) → list_any (λ y. y == x) (filter (λ y. not (y == tei)) on) ≡ (not (x == tei) && list_any (λ y. y == x) on)
 on-filtered on tei x = any-filter_same (λ y. y == x) (λ y. not (y == tei)) (not (x == tei)) (λ y same. ap (λ n. not (n == tei)) (eqb-true y x same)) on
 
--- The latest assignment is found.
-passed : (ri : ℕ) (r : Remembered) (rs : List Remembered) → find (is_for ri) (r ∷ rs) ≡ None → (is_for ri r ≡ false) × (find (is_for ri) rs ≡ None)
-passed ri r rs none = go (is_for ri r) refl none
+-- How many places are taken.
+abbrev pub taken : Places → ℕ
+taken [] = 0
+taken (None ∷ places) = taken places
+taken (Some tei ∷ places) = taken places + 1
+
+one-taken : (o : Option ℕ) (ps qs : Places) (n : ℕ) → taken ps ≡ taken qs + n → taken (o ∷ ps) ≡ taken (o ∷ qs) + n
+one-taken None ps qs n e = e
+one-taken (Some tei) ps qs n e = omega (arith, e)
+
+taken-coming : (places : Places) (place tei : ℕ) → place < length places → get_or places place None ≡ None → taken (set places place (Some tei)) ≡ taken places + 1
+taken-coming [] place tei within free = absurd (omega (arith, within))
+taken-coming (o ∷ places) zero tei within free = ap (λ o. taken (o ∷ places) + 1) (sym free)
+taken-coming (o ∷ places) (suc i) tei within free = one-taken o (set places i (Some tei)) places 1 (taken-coming places i tei (omega (arith, within)) free)
+
+taken-leaving : (places : Places) (place tei : ℕ) → place < length places → get_or places place None ≡ Some tei → taken places ≡ taken (set places place None) + 1
+taken-leaving [] place tei within at = absurd (omega (arith, within))
+taken-leaving (o ∷ places) zero tei within at = ap (λ o. taken (o ∷ places)) at
+taken-leaving (o ∷ places) (suc i) tei within at = one-taken o places (set places i None) 1 (taken-leaving places i tei (omega (arith, within)) at)
+
+taken-most : (places : Places) → taken places ≤ length places
+taken-most [] = omega arith
+taken-most (None ∷ places) = let most = taken-most places in omega (arith, most)
+taken-most (Some tei ∷ places) = let most = taken-most places in omega (arith, most)
+
+taken-fewer : (places : Places) (place : ℕ) → place < length places → get_or places place None ≡ None → taken places < length places
+taken-fewer [] place within free = absurd (omega (arith, within))
+taken-fewer (o ∷ places) zero within free = subst (λ o. taken (o ∷ places) < length (o ∷ places)) (sym free) (let most = taken-most places in omega (arith, most))
+taken-fewer (None ∷ places) (suc i) within free = let fewer = taken-fewer places i (omega (arith, within)) free in omega (arith, fewer)
+taken-fewer (Some tei ∷ places) (suc i) within free = let fewer = taken-fewer places i (omega (arith, within)) free in omega (arith, fewer)
+
+-- So a place is free exactly where fewer are taken than there are.
+pub free-fewer : (places : Places) (place : ℕ) → free_place places ≡ Some place → taken places < length places
+free-fewer places place free = let at = free_place-is places place free in taken-fewer places place at.0 at.1
+
+all-taken : (places : Places) → length places ≤ prefix_len (λ o. not (is_free o)) places → taken places ≡ length places
+all-taken [] e = refl
+all-taken (None ∷ places) e = absurd (omega (arith, e))
+all-taken (Some tei ∷ places) e = let rest = all-taken places (omega (arith, e)) in omega (arith, rest)
+
+pub none-free : (places : Places) → free_place places ≡ None → taken places ≡ length places
+none-free places = go (nat_lt (prefix_len (λ o. not (is_free o)) places) (length places)) refl
   where
-    go : (b : Bool) → is_for ri r ≡ b → cond b (Some r) (find (is_for ri) rs) ≡ None → (is_for ri r ≡ false) × (find (is_for ri) rs ≡ None)
-    go true is none = absurd (none-some r (sym none))
-    go false is none = (is, none)
+    go : (b : Bool) → nat_lt (prefix_len (λ o. not (is_free o)) places) (length places) ≡ b
+        → cond b (Some (prefix_len (λ o. not (is_free o)) places)) None ≡ None → taken places ≡ length places
+    go true e h = absurd (none-some _ (sym h))
+    go false e h = all-taken places (ltb-false _ _ e)
 
-found-last : (ri tei : ℕ) (rs : List Remembered) → find (is_for ri) rs ≡ None → find (is_for ri) (rs ++ record { ri = ri; tei = tei } ∷ []) ≡ Some (record { ri = ri; tei = tei })
-found-last ri tei [] none = ap (λ b. cond b (Some (record { ri = ri; tei = tei })) None) (eq-eqb ri ri refl)
-found-last ri tei (r ∷ rs) none =
-    let x = passed ri r rs none in
-    ap (λ b. cond b (Some r) (find (is_for ri) (rs ++ record { ri = ri; tei = tei } ∷ []))) x.0 ∙ found-last ri tei rs x.1
+-- How often a list has a TEI.
+abbrev pub times : ℕ → List ℕ → ℕ
+times x [] = 0
+times x (y ∷ ys) = cond (y == x) (times x ys + 1) (times x ys)
 
-found-behind : (ri tei k : ℕ) (rs : List Remembered) → k ≤ length rs → find (is_for ri) rs ≡ None
-    → find (is_for ri) (drop k (rs ++ record { ri = ri; tei = tei } ∷ [])) ≡ Some (record { ri = ri; tei = tei })
-found-behind ri tei zero rs few none = found-last ri tei rs none
-found-behind ri tei (suc k) [] few none = absurd (omega (arith, few))
-found-behind ri tei (suc k) (r ∷ rs) few none = found-behind ri tei k rs (omega (arith, few)) (passed ri r rs none).1
+abbrev among : ℕ → List ℕ → Bool
+among x ys = list_any (λ y. y == x) ys
 
-pub found-latest : (ri tei : ℕ) (rs : List Remembered) → length rs ≤ 4 → find (is_for ri) rs ≡ None
-    → find (is_for ri) (latest (rs ++ record { ri = ri; tei = tei } ∷ [])) ≡ Some (record { ri = ri; tei = tei })
-found-latest ri tei rs few none =
-    let size : length (rs ++ record { ri = ri; tei = tei } ∷ []) ≡ length rs + 1 = length-append rs (record { ri = ri; tei = tei } ∷ []) in
-    found-behind ri tei (length (rs ++ record { ri = ri; tei = tei } ∷ []) - 4) rs (omega (arith, size, few)) none
+abbrev others : ℕ → List ℕ → List ℕ
+others x ys = filter (λ y. not (y == x)) ys
+
+others-length : (x : ℕ) (ys : List ℕ) → length ys ≡ length (others x ys) + times x ys
+others-length x [] = refl
+others-length x (y ∷ ys) = go (y == x) (others-length x ys)
+  where
+    go : (b : Bool) → length ys ≡ length (others x ys) + times x ys → length (y ∷ ys) ≡ length (cond (not b) (y ∷ others x ys) (others x ys)) + cond b (times x ys + 1) (times x ys)
+    go true e = omega (arith, e)
+    go false e = omega (arith, e)
+
+none-times : (x : ℕ) (ys : List ℕ) → among x ys ≡ false → times x ys ≡ 0
+none-times x [] off = refl
+none-times x (y ∷ ys) off = go (y == x) off (λ off. none-times x ys off)
+  where
+    go : (b : Bool) → (b || among x ys) ≡ false → (among x ys ≡ false → times x ys ≡ 0) → cond b (times x ys + 1) (times x ys) ≡ 0
+    go true off rest = absurd (true≢false off)
+    go false off rest = rest off
+
+some-times : (x : ℕ) (ys : List ℕ) → among x ys ≡ true → 1 ≤ times x ys
+some-times x [] on = absurd (true≢false (sym on))
+some-times x (y ∷ ys) on = go (y == x) on (λ on. some-times x ys on)
+  where
+    go : (b : Bool) → (b || among x ys) ≡ true → (among x ys ≡ true → 1 ≤ times x ys) → 1 ≤ cond b (times x ys + 1) (times x ys)
+    go true on rest = omega arith
+    go false on rest = rest on
+
+fewer-times : (x tei : ℕ) (ys : List ℕ) → times x (others tei ys) ≤ times x ys
+fewer-times x tei [] = omega arith
+fewer-times x tei (y ∷ ys) = go (y == tei) (fewer-times x tei ys)
+  where
+    more : (b : Bool) → times x (others tei ys) ≤ times x ys → cond b (times x (others tei ys) + 1) (times x (others tei ys)) ≤ cond b (times x ys + 1) (times x ys)
+    more true e = omega (arith, e)
+    more false e = e
+
+    less : (b : Bool) → times x (others tei ys) ≤ times x ys → times x (others tei ys) ≤ cond b (times x ys + 1) (times x ys)
+    less true e = omega (arith, e)
+    less false e = e
+
+    go : (a : Bool) → times x (others tei ys) ≤ times x ys → times x (cond (not a) (y ∷ others tei ys) (others tei ys)) ≤ cond (y == x) (times x ys + 1) (times x ys)
+    go true e = less (y == x) e
+    go false e = more (y == x) e
+
+-- The TEIs on a line, as an observer has them: each once, and as many as places are taken.
+pub record AreOn (on : List ℕ) (places : Places) : Type 0 where
+  pub same : (x : ℕ) → among x on ≡ is_on x places
+  pub size : length on ≡ taken places
+  pub once : (x : ℕ) → times x on ≤ 1
+
+pub none-on : (n : ℕ) → AreOn [] (replicate n None)
+none-on n = record { same = λ x. sym (nowhere x n); size = sym (empty n); once = λ x. omega arith }
+  where
+    nowhere : (x n : ℕ) → is_on x (replicate n None) ≡ false
+    nowhere x zero = refl
+    nowhere x (suc n) = nowhere x n
+
+    empty : (n : ℕ) → taken (replicate n None) ≡ 0
+    empty zero = refl
+    empty (suc n) = empty n
+
+module _ (on : List ℕ) (places : Places) (h : AreOn on places) where
+  pub comes-on : (place tei : ℕ) → free_place places ≡ Some place → is_on tei places ≡ false → AreOn (tei ∷ on) (set places place (Some tei))
+  comes-on place tei free off = record {
+    same = λ x. ap (λ b. (tei == x) || b) (h.same x) ∙ sym (on-coming places place tei x free);
+    size =
+        let at = free_place-is places place free in
+        let more = taken-coming places place tei at.0 at.1 in
+        let size = h.size in
+        omega (arith, more, size);
+    once = λ x. go x (tei == x) refl;
+  }
+    where
+      go : (x : ℕ) (b : Bool) → (tei == x) ≡ b → cond b (times x on + 1) (times x on) ≤ 1
+      go x true is = let none : times x on ≡ 0 = none-times x on (subst (λ n. among n on ≡ false) (eqb-true tei x is) (h.same tei ∙ off)) in omega (arith, none)
+      go x false is = h.once x
+
+  size-leaving : (tei : ℕ) (o : Option ℕ) → place_of tei places ≡ o → length (others tei on) ≡ taken (freed places o)
+  size-leaving tei None is =
+      let none : times tei on ≡ 0 = none-times tei on (h.same tei ∙ is-off places tei is) in
+      let all = others-length tei on in
+      let size = h.size in
+      omega (arith, none, all, size)
+  size-leaving tei (Some place) is =
+      let at = place_of-is places tei place is in
+      let some : 1 ≤ times tei on = some-times tei on (h.same tei ∙ is_on-at places place tei at.1) in
+      let most = h.once tei in
+      let all = others-length tei on in
+      let less = taken-leaving places place tei at.0 at.1 in
+      let size = h.size in
+      omega (arith, some, most, all, less, size)
+
+  pub leaves-on : (tei : ℕ) → IsSoundTable places → AreOn (others tei on) (freed places (place_of tei places))
+  leaves-on tei sound = record {
+    same = λ x. on-filtered on tei x ∙ ap (λ b. not (x == tei) && b) (h.same x) ∙ sym (on-leaving places tei x sound);
+    size = size-leaving tei (place_of tei places) refl;
+    once = λ x. let fewer = fewer-times x tei on in let most = h.once x in omega (arith, fewer, most);
+  }

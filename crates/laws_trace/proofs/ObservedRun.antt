@@ -22,8 +22,7 @@ use Rattle.model_card.specs.Sound as card_sound
 use Rattle.model_card.proofs.CardSound.{fresh_is_sound, after_is_sound}
 use Rattle.laws_card.specs.Timers.{AllHaveTheirTimers}
 use Rattle.laws_card.proofs.TimersRun.{timely-after, begins-timely-card}
-use Rattle.laws_trace.specs.Managing.{none_on, is_on}
-use Rattle.laws_trace.specs.MessagesAreOwed.{led}
+use Rattle.laws_trace.specs.Managing.{is_on, led}
 use Rattle.laws_trace.specs.Observer.{Observed, View, at_first, in_state, by_event, views, view_of, moment_of, view_behind}
 use Rattle.laws_trace.specs.Trace.{seen}
 use Rattle.laws_trace.proofs.MovesWatched.{repeated}
@@ -34,8 +33,8 @@ use Rattle.laws_trace.proofs.CallRuns.{apart}
 use Rattle.laws_trace.proofs.LinkLed.{on-line}
 use Rattle.laws_trace.proofs.LinksMove.{IsCountOf, own-led, moment-counted}
 use Rattle.laws_trace.proofs.MovesOfLink.{Counts}
-use Rattle.laws_trace.proofs.ManagingKnown.{Knows, hearing}
-use Rattle.laws_trace.proofs.MessagesAreOwed.{moment, fresh-known}
+use Rattle.laws_trace.proofs.Follows.{Follows}
+use Rattle.laws_trace.proofs.TeisAreManaged.{moment-follows, fresh-follows}
 use Rattle.laws_trace.proofs.ObservedMoves.{When, Shape}
 use Rattle.laws_trace.proofs.Observed.{IsSeen, counted_by, goes-on, comes}
 use Rattle.laws_trace.proofs.TimerClaims.{Agrees}
@@ -123,13 +122,12 @@ module _ (service : Service) (tei : ℕ) where
 pub record Holds (service : Service) (tei : ℕ) (k : Known) (asked owed : Bool) (n : ℕ) (l : Line) (v : View) : Type 0 where
   pub true_of : IsTrueOf service tei k l
   pub counts_of : IsCountOf service tei n l
-  pub knows : Knows v.teis l.management
-  pub quiet : v.teis ≡ hearing [] v.teis
+  pub follows : Follows v.teis l.management
   pub link_is : IsSeen (state_of service tei l) k asked owed n v.link
 
 module _ (service : Service) (tei number : ℕ) where
   pub on-is : (k : Known) (asked owed : Bool) (n : ℕ) (l : Line) (v : View) → Holds service tei k asked owed n l v → is_on tei v.teis ≡ is_some (state_of service tei l)
-  on-is k asked owed n l v h = h.knows.on tei ∙ is-told service tei l
+  on-is k asked owed n l v h = h.follows.on.same tei ∙ is-told service tei l
 
   module _ (card : Card) (s : card_sound.IsSound card) (timely : AllHaveTheirTimers card) (e : Event) (here : IsAtLine card e)
       (k : Known) (asked : Bool) (w : Owing) (known_is : w.known ≡ k) (n : ℕ) (v : View) (h : Holds service tei k asked w.outstanding n (line_at number card) v) where
@@ -148,13 +146,11 @@ module _ (service : Service) (tei number : ℕ) where
     abbrev to : Option ℕ
     to = state_of service tei (line_at number (after e card))
 
-    knows-then : Knows (led c number v.teis m) later.management × (led c number v.teis m ≡ hearing [] (led c number v.teis m))
-    knows-then =
-        let x = moment card e number v.teis s here (subst (λ u. Knows u (line_at number card).management) h.quiet h.knows) (e.line == number) refl in
-        subst (λ u. Knows (led c number u m) later.management × (led c number u m ≡ hearing [] (led c number u m))) (sym h.quiet) (x.knows, x.quiet_is)
+    follows-then : Follows (led c number v.teis e) later.management
+    follows-then = moment-follows card e number v.teis s here h.follows
 
-    on-then : is_on tei (led c number v.teis m) ≡ is_some to
-    on-then = knows-then.0.on tei ∙ is-told service tei later
+    on-then : is_on tei (led c number v.teis e) ≡ is_some to
+    on-then = follows-then.on.same tei ∙ is-told service tei later
 
     on-before : is_on tei v.teis ≡ is_some from
     on-before = on-is k asked w.outstanding n (line_at number card) v h
@@ -196,8 +192,7 @@ module _ (service : Service) (tei number : ℕ) where
     holds-then = record {
       true_of = moment-known service tei number card s timely e here k h.true_of;
       counts_of = moment-counted service tei number card s timely e here k n h.true_of h.counts_of;
-      knows = knows-then.0;
-      quiet = knows-then.1;
+      follows = follows-then;
       link_is =
           subst (λ (x : Known). let l = watch c service tei number x m in IsSeen to (watch c service tei number k m) (news.asked service tei number asked m)
           (cond (is_state 5 to) w.outstanding (not (l.next == l.acknowledged))) (repeated service tei number n m) (views c service tei number v m).link) (sym known_is)
@@ -237,8 +232,7 @@ module _ (c : Config) (events : List Event) (number : ℕ) (ranged : IsInRange c
   at-start = record {
     true_of = begins-true c events number ranged all within service tei;
     counts_of = subst (λ (y : Link). Counts y.state 0 y.repeats) (sym off-link) tt;
-    knows = subst (λ (l : Line). Knows (hearing [] none_on) l.management) (sym start) (fresh-known c);
-    quiet = refl;
+    follows = subst (λ (l : Line). Follows at_first.teis l.management) (sym start) (fresh-follows c);
     link_is = subst (λ o. IsSeen o nothing_yet false false 0 (in_state 1)) (sym off) refl;
   }
 

@@ -22,7 +22,7 @@ use Rattle.lapd_tei.specs.Machine.{Management}
 use Rattle.lapd_tei.specs.declared.messages.Message.TheVariants.{IdentityRemove}
 use Rattle.lapd_tei.specs.Messages.{heard_in}
 use Rattle.lapd_tei.specs.Rows as rows
-use Rattle.lapd_tei.specs.Table.{free_place, free_tei, is_on}
+use Rattle.lapd_tei.specs.Table.{free_place, free_tei}
 use Rattle.lapd_tei.specs.Words as words
 use Rattle.lapd_tei.specs.Words.{Course, Step, begun}
 use Rattle.lapd_tei.proofs.LawLemmas as tei_lemmas
@@ -48,24 +48,23 @@ use Rattle.model_line.specs.Requested.{at_requested, at_deactivated, aim_of_requ
 use Rattle.model_line.specs.Sound.{IsSound}
 use Rattle.model_line.proofs.AimsSound.{IsProper}
 use Rattle.model_line.proofs.ProperAims.{heard_aims, request_proper}
-use Rattle.laws_line.specs.Timers.{left_by}
 use Rattle.laws_line.proofs.LinkMoves.{IsOne, taken-one}
 use Rattle.laws_line.proofs.Places.{has-place}
 use Rattle.laws_line.proofs.TimersFollow.{number-is}
-use Rattle.laws_trace.specs.ChecksAreTimely.{HasReason}
+use Rattle.laws_trace.specs.OrdersHaveReasons.{HasReason}
 use Rattle.laws_trace.proofs.LossesOfParts.{served-by}
 use Rattle.laws_trace.proofs.OneLink.{given-orders}
 
 -- TEI management: what its rows order.
-module _ (m : Management) (P : Order → Type 0) (starts : is_some m.check ≡ false → P (Start timers.T201)) (stops : is_some m.check ≡ true → P (Stop timers.T201)) where
+module _ (m : Management) (P : Order → Type 0) (starts : P (Start timers.T201)) (stops : is_some m.check ≡ true → P (Stop timers.T201)) where
   abbrev Due : Course → Type 0
   Due x = All P x.told.orders
 
   none : All P []
   none = All-nil P
 
-  one-start : is_some m.check ≡ false → All P (Start timers.T201 ∷ [])
-  one-start off = All-cons P (Start timers.T201) [] (starts off) none
+  one-start : All P (Start timers.T201 ∷ [])
+  one-start = All-cons P (Start timers.T201) [] starts none
 
   one-stop : is_some m.check ≡ true → All P (Stop timers.T201 ∷ [])
   one-stop on = All-cons P (Stop timers.T201) [] (stops on) none
@@ -89,25 +88,19 @@ module _ (m : Management) (P : Order → Type 0) (starts : is_some m.check ≡ f
       either (own.tei == tei) (rows.count tei (rows.counted own)) words.unserved
       (λ same. either (nat_le 2 (rows.responses (rows.counted own))) (rows.doubled tei) (words.check_is (Some (rows.counted own))) (λ two. one-stop (ap is_some is)) none) none
 
-  none-runs : (a b : Bool) → (a && not b) ≡ true → b ≡ false
-  none-runs true false e = refl
-  none-runs true true e = absurd (true≢false (sym e))
-  none-runs false b e = absurd (true≢false (sym e))
-
   serves : (info : List ℕ) → Due (rows.serve (heard_in info) (begun m))
   serves =
       served-by m Due
       (λ ri. either (words.no_room m.waiting) words.lose_one (rows.assign ri (rows.remembered_in ri m.remembered)) (λ full. none) (assigns ri (rows.remembered_in ri m.remembered)))
       (λ tei. responds tei m.check refl)
-      (λ tei. either (rows.may_be_checked tei m) (words.begin_check tei) words.unserved (λ may. one-start (none-runs (is_on tei m.places) (is_some m.check) may)) none) none
+      (λ tei. either (rows.may_be_checked tei m) (words.begin_check tei) words.unserved (λ may. one-start) none) none
 
-  -- T201 is started again where its own expiry is the event
-  expires : P (Start timers.T201) → (o : Option Check) → m.check ≡ o → Due (rows.expire_check o (begun m))
-  expires again None is = none
-  expires again (Some own) is = by-period own.period
+  expires : (o : Option Check) → m.check ≡ o → Due (rows.expire_check o (begun m))
+  expires None is = none
+  expires (Some own) is = by-period own.period
     where
       by-period : (p : Period) → Due (rows.expire_period own p (begun m))
-      by-period First = All-cons P (Start timers.T201) [] again none
+      by-period First = one-start
       by-period Second = either (rows.is_unanswered own) (rows.removed own.tei) words.end_check (λ none. one-stop (ap is_some is)) (one-stop (ap is_some is))
 
   joins : (tei : ℕ) (o : Option ℕ) → Due (rows.join_at tei o (begun m))
@@ -125,41 +118,22 @@ module _ (m : Management) (P : Order → Type 0) (starts : is_some m.check ≡ f
       go true is = one-stop (its-check tei m.check is)
       go false is = none
 
-  -- A check that is not refused begins while none runs.
-  checks : (tei : ℕ) (off on full : Bool) (x y z : Refusal) → (on ≡ is_some m.check)
-      → Due (teis.unless_refused (teis.refusal_if off x (teis.refusal_if on y (teis.refusal_if full z None))) (words.begin_check tei) m)
-  checks tei true on full x y z is = none
-  checks tei false true full x y z is = none
-  checks tei false false true x y z is = none
-  checks tei false false false x y z is = one-start (sym is)
-
   unless : (o : Option Refusal) (does : Step) → Due (does (begun m)) → Due (teis.unless_refused o does m)
   unless None does h = h
   unless (Some why) does h = none
 
-  pub rows-due : (e : teis.Event) → (e ≡ teis.expiry → P (Start timers.T201)) → All P (teis.told e m).orders
+  pub rows-due : (e : teis.Event) → All P (teis.told e m).orders
   unfolding teis.course teis.refusal
-  rows-due (teis.message octets) again = serves octets
-  rows-due teis.expiry again = expires (again refl) m.check refl
-  rows-due (teis.assign tei) again = unless (teis.refusal (teis.assign tei) m) (rows.put_on tei) (joins tei (free_place m.places))
-  rows-due (teis.remove tei) again = unless (teis.refusal (teis.remove tei) m) (rows.take_off tei) (takes-off tei)
-  rows-due (teis.check tei) again = checks tei _ (is_some m.check) _ _ _ _ refl
+  rows-due (teis.message octets) = serves octets
+  rows-due teis.expiry = expires m.check refl
+  rows-due (teis.assign tei) = unless (teis.refusal (teis.assign tei) m) (rows.put_on tei) (joins tei (free_place m.places))
+  rows-due (teis.remove tei) = unless (teis.refusal (teis.remove tei) m) (rows.take_off tei) (takes-off tei)
+  rows-due (teis.check tei) = unless (teis.refusal (teis.check tei) m) (words.begin_check tei) one-start
 
 -- A line whose caller runs what the line runs.
-module _ (c : Config) (l : Line) (s : IsSound c l) (ran : Timer → Bool) (same : (timer : Timer) → ran timer ≡ is_running timer l) (what : Event) where
+module _ (c : Config) (l : Line) (s : IsSound c l) (ran : Timer → Bool) (same : (timer : Timer) → ran timer ≡ is_running timer l) where
   abbrev R : Order → Type 0
-  R = HasReason ran what
-
-  starts-due : is_some l.management.check ≡ false → R (Start timers.T201)
-  starts-due off = ap (left_by what timers.T201) (same timers.T201 ∙ off) ∙ go what
-    where
-      go : (what : Event) → left_by what timers.T201 false ≡ false
-      go (hears what) = refl
-      go (expiry (timers.T200 service tei)) = refl
-      go (expiry (timers.T203 service tei)) = refl
-      go (expiry timers.T201) = refl
-      go (request r) = refl
-      go next = refl
+  R = HasReason ran
 
   stops-due : is_some l.management.check ≡ true → R (Stop timers.T201)
   stops-due on = same timers.T201 ∙ on
@@ -173,13 +147,9 @@ module _ (c : Config) (l : Line) (s : IsSound c l) (ran : Timer → Bool) (same 
     its T200 on = same (timers.T200 service tei) ∙ ap (λ o. runs_at service T200 o l) at ∙ on
     its T203 on = same (timers.T203 service tei) ∙ ap (λ o. runs_at service T203 o l) at ∙ on
 
-    start : (k : LinkTimer) → R (Start (timer_at t k))
-    start T200 = tt
-    start T203 = tt
-
     of-timer : (k : LinkTimer) (starts before after : Bool) → (before ≡ true → R (Stop (timer_at t k)))
         → All R (cond starts (Start (timer_at t k) ∷ []) (cond (before && not after) (Stop (timer_at t k) ∷ []) []))
-    of-timer k true before after h = All-cons R (Start (timer_at t k)) [] (start k) (All-nil R)
+    of-timer k true before after h = All-cons R (Start (timer_at t k)) [] tt (All-nil R)
     of-timer k false true false h = All-cons R (Stop (timer_at t k)) [] (h refl) (All-nil R)
     of-timer k false true true h = All-nil R
     of-timer k false false after h = All-nil R
@@ -192,12 +162,12 @@ module _ (c : Config) (l : Line) (s : IsSound c l) (ran : Timer → Bool) (same 
         (of-timer T203 (runs T203 k.started && runs T203 k.link.running) (runs T203 x.running) (runs T203 k.link.running) (its T203))
 
   -- An event of TEI management: where a TEI leaves, its links' timers are stopped.
-  module _ (me : teis.Event) (fits : tei_laws.IsInRange me) (again : me ≡ teis.expiry → R (Start timers.T201)) where
+  module _ (me : teis.Event) (fits : tei_laws.IsInRange me) where
     abbrev own : List Order
     own = (teis.told me l.management).orders
 
     own-due : All R own
-    own-due = rows-due l.management R starts-due stops-due me again
+    own-due = rows-due l.management R tt stops-due me
 
     by-change : (o : Option Change) → tei_laws.Moves l.management.places o (teis.after me l.management).places
         → All R (of_change c o (told_of_management (teis.told me l.management)) (record l { management = teis.after me l.management })).told.orders
@@ -221,7 +191,7 @@ module _ (c : Config) (l : Line) (s : IsSound c l) (ran : Timer → Bool) (same 
   pub heard-due : (e : stream.Event) → All R (of_aim c (aim_of_heard c l e) l).told.orders
   heard-due e =
       heard_aims c l (λ aim. All R (of_aim c aim l).told.orders) (λ cause. All-nil R) (λ service tei place what at. link-due service tei place at (link.received what))
-      (λ info. management-due (teis.message info) tt (λ e. cc e)) (λ parts service to. All-nil R) e
+      (λ info. management-due (teis.message info) tt) (λ parts service to. All-nil R) e
 
   asked : (service : Service) (tei : ℕ) (asks : link.Request) (o : Option ℕ) → place_in l tei ≡ o → All R (of_aim c (at_requested service tei asks o) l).told.orders
   asked service tei asks None off = All-nil R
@@ -236,9 +206,9 @@ module _ (c : Config) (l : Line) (s : IsSound c l) (ran : Timer → Bool) (same 
   asked-due (Release service tei) proper = asked service tei link.Release (place_in l tei) refl
   asked-due (Data service tei contents) proper = asked service tei (link.Data contents) (place_in l tei) refl
   asked-due (Unit service tei contents) proper = All-nil R
-  asked-due (Assign tei) proper = management-due (teis.assign tei) proper (λ e. cc e)
-  asked-due (Remove tei) proper = management-due (teis.remove tei) proper (λ e. cc e)
-  asked-due (check_tei tei) proper = management-due (teis.check tei) proper (λ e. cc e)
+  asked-due (Assign tei) proper = management-due (teis.assign tei) proper
+  asked-due (Remove tei) proper = management-due (teis.remove tei) proper
+  asked-due (check_tei tei) proper = management-due (teis.check tei) proper
   asked-due (SetBusy service tei) proper = asked service tei link.SetBusy (place_in l tei) refl
   asked-due (ClearBusy service tei) proper = asked service tei link.ClearBusy (place_in l tei) refl
   asked-due (Deactivate service tei) proper = deactivated service tei (place_in l tei) refl
@@ -267,16 +237,16 @@ module _ (c : Config) (l : Line) (s : IsSound c l) (ran : Timer → Bool) (same 
 
 -- Any event of a line.
 pub event-due : (c : Config) (e : Event) (l : Line) → IsSound c l → (ran : Timer → Bool) → ((timer : Timer) → ran timer ≡ is_running timer l)
-    → All (HasReason ran e) (orders_in (answer c e l))
+    → All (HasReason ran) (orders_in (answer c e l))
 unfolding after answer
-event-due c (hears what) l s ran same = heard-due c l s ran same (hears what) what
-event-due c (expiry (timers.T200 service tei)) l s ran same = expired-due c l s ran same (expiry (timers.T200 service tei)) service tei T200 (place_in l tei) refl
-event-due c (expiry (timers.T203 service tei)) l s ran same = expired-due c l s ran same (expiry (timers.T203 service tei)) service tei T203 (place_in l tei) refl
-event-due c (expiry timers.T201) l s ran same = management-due c l s ran same (expiry timers.T201) teis.expiry tt (λ is. refl)
+event-due c (hears what) l s ran same = heard-due c l s ran same what
+event-due c (expiry (timers.T200 service tei)) l s ran same = expired-due c l s ran same service tei T200 (place_in l tei) refl
+event-due c (expiry (timers.T203 service tei)) l s ran same = expired-due c l s ran same service tei T203 (place_in l tei) refl
+event-due c (expiry timers.T201) l s ran same = management-due c l s ran same teis.expiry tt
 event-due c (request r) l s ran same = go (refusal c false r l) (request_proper c l r)
   where
     go : (o : Option Refusal) → IsProper c l (unless_refused o (aim_of_request r l))
-        → All (HasReason ran (request r)) (orders_in (unless_refused_told o (of_aim c (unless_refused o (aim_of_request r l)) l)))
-    go None proper = asked-due c l s ran same (request r) r proper
-    go (Some why) proper = All-nil (HasReason ran (request r))
-event-due c next l s ran same = next-due c l s ran same next
+        → All (HasReason ran) (orders_in (unless_refused_told o (of_aim c (unless_refused o (aim_of_request r l)) l)))
+    go None proper = asked-due c l s ran same r proper
+    go (Some why) proper = All-nil (HasReason ran)
+event-due c next l s ran same = next-due c l s ran same

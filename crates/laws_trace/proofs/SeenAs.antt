@@ -89,7 +89,7 @@ module _ (c : Config) (events : List Event) (number : ℕ) (ranged : IsInRange c
       (holds-now c events number ranged all within service tei) (asked-now c events number ranged all within service tei) place on
 
   pub tei-seen : is_on tei (view_of c service tei number events).teis ≡ has_tei tei (line_at number (after_all (fresh c) events))
-  tei-seen = (holds-now c events number ranged all within service tei).knows.on tei
+  tei-seen = (holds-now c events number ranged all within service tei).follows.on.same tei
 
   pub seen-behind : (what : line_event.Event) (place : ℕ) → place_in (line_at number (after (at number what) (after_all (fresh c) events))) tei ≡ Some place
       → IsSeenAs (link_of service tei (line_at number (after (at number what) (after_all (fresh c) events)))) (view_behind c service tei number events what).link

@@ -15,16 +15,14 @@ pub mod ControlFrames
 pub mod WaitedBegins
 pub mod AllAreAcknowledged
 pub mod Managing
-pub mod MessagesAreOwed
-pub mod TeisAgree
-pub mod TeisAreGiven
+pub mod TeisAreManaged
 pub mod NoLossInVain
 pub mod TimersAreTimely
-pub mod ChecksAreTimely
+pub mod OrdersHaveReasons
+pub mod WorkedOrders
 pub mod AllGoesAgain
 pub mod LinksMove
 pub mod News
-pub mod WorkedChecks
 pub mod WorkedUnits
 pub mod WorkedObserver
 pub mod WorkedNews
@@ -37,7 +35,6 @@ pub mod WorkedBusy
 pub mod WorkedAcknowledged
 pub mod WorkedDeliveries
 pub mod WorkedControls
-pub mod WorkedGiven
 pub mod WorkedLoss
 pub mod WorkedManaging
 pub mod WorkedOtherSide

@@ -21,8 +21,7 @@ use Rattle.model_card.specs.Event.{Event, at}
 use Rattle.model_card.specs.Machine.{answer}
 use Rattle.model_card.specs.Run.{Moment, moments, after_all}
 use Rattle.laws_trace.specs.LinkFrames.{frame_of, its_frame, malformed, Sent, sent_in}
-use Rattle.laws_trace.specs.Managing.{Managed, none_on, is_on}
-use Rattle.laws_trace.specs.MessagesAreOwed.{led}
+use Rattle.laws_trace.specs.Managing.{Managed, none_on, is_on, led}
 use Rattle.laws_trace.specs.Trace.{is_own, is_up, frame_in}
 
 -- The state (Q.921 annex B: 1 where the TEI is not on the line); the N(R) that was heard last, to which V(A) is set; the
@@ -164,7 +163,7 @@ at_first = record { teis = none_on; link = in_state 1 }
 
 abbrev pub views : Config → Service → ℕ → ℕ → View → Moment → View
 views c service tei number v m =
-    let teis = led c number v.teis m in
+    let teis = led c number v.teis m.event in
     let link = if m.event.line == number then by_event c service tei m.event.what m.answer v.link else v.link in
     record { teis = teis; link = if not (is_on tei teis) then in_state 1 else if is_on tei v.teis then link else in_state 4 }
 

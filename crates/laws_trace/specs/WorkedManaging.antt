@@ -1,99 +1,165 @@
--- Worked values: messages of TEI management that are owed and that begin, and ones that break the laws.
-use Rattle.std.specs.List.{IsDistinct}
-use Rattle.std.specs.Prelude.{◌≡◌, List, [], ◌∷◌, ◌++◌, map, Some, None, ℕ, true, false, refl}
-use Rattle.std.proofs.lemmas.List.Elements.{All-head}
-use Rattle.lapd_frame.specs.declared.addresses.Side.TheVariants.{Network}
+-- Worked values: TEIs that are assigned, checked and removed, what is due of them, and answers that break the law.
+use Rattle.std.specs.Prelude.{◌≡◌, ℕ, List, [], ◌∷◌, ◌++◌, None, Some, refl}
+use Rattle.lapd_frame.specs.declared.addresses.Side.TheVariants.{User}
+use Rattle.lapd_frame.specs.declared.notes.Note.{Note}
 use Rattle.lapd_frame.specs.declared.notes.Note.TheVariants.{Assigned, Removed, Doubled}
+use Rattle.lapd_frame.specs.declared.timers.Order.{Order}
+use Rattle.lapd_frame.specs.declared.timers.Order.TheVariants.{Start, Stop}
 use Rattle.lapd_frame.specs.declared.timers.Timer.TheVariants.{T201}
 use Rattle.lapd_frame.specs.Reading.{reading, header_of, control_of, unnumbered_of}
-use Rattle.lapd_tei.specs.declared.messages.Message.TheVariants.{IdentityAssigned, IdentityCheckRequest, IdentityRemove}
+use Rattle.lapd_tei.specs.declared.messages.Message.{Message}
+use Rattle.lapd_tei.specs.declared.messages.Message.TheVariants.{IdentityAssigned, IdentityDenied, IdentityCheckRequest, IdentityRemove}
 use Rattle.lapd_tei.specs.Events as teis
-use Rattle.lapd_tei.specs.declared.remembered.Remembered.{Remembered}
 use Rattle.lapd_tei.specs.Messages.{frame_of}
-use Rattle.model_line.specs.Event.{expiry}
+use Rattle.model_line.specs.declared.config.Config.{Config}
+use Rattle.model_line.specs.Event.{Answer, expiry, next, nothing, told, gave}
 use Rattle.model_line.specs.Machine as lines
-use Rattle.model_line.specs.Request.{Assign, Remove, Check}
+use Rattle.model_line.specs.Request.{Assign, Check}
 use Rattle.model_card.specs.Card.{fresh}
 use Rattle.model_card.specs.Event.{Event, at}
-use Rattle.model_card.specs.Run.{moments}
+use Rattle.model_card.specs.Machine.{answer}
+use Rattle.model_card.specs.Run.{after_all}
 use Rattle.laws_card.specs.Worked.{usual, on_0}
-use Rattle.laws_trace.specs.Managing.{Checked, Managed, none_on, is_on, owed_through}
-use Rattle.laws_trace.specs.MessagesAreOwed.{messages_begun, owed, all_owed}
-use Rattle.laws_trace.specs.TeisAgree.{IsTrue, AgreeThrough, AreForOne}
-use Rattle.laws_trace.specs.Trace.{noted, trace_of, IsFront}
+use Rattle.laws_trace.specs.Managing.{Due, nothing_due, none_on, due, managed_after}
+use Rattle.laws_trace.specs.TeisAreManaged.{IsAsDue}
 use Rattle.laws_trace.specs.WorkedUnits.{calls, comes}
 
--- A terminal asks for a TEI by Ri 0x1234: the lowest is owed to it, and begins.
-abbrev pub asked : List Event
-asked = comes (0xFC ∷ 0xFF ∷ 0x03 ∷ 0x0F ∷ 0x12 ∷ 0x34 ∷ 0x01 ∷ 0xFF ∷ []) ∷ []
+-- A message of a terminal: its type, Ri 0x1234 and Ai.
+abbrev message : ℕ → ℕ → Event
+message type last = comes (0xFC ∷ 0xFF ∷ 0x03 ∷ 0x0F ∷ 0x12 ∷ 0x34 ∷ type ∷ last ∷ [])
 
-assigned_owed : owed usual 0 none_on (moments (fresh usual) asked) ≡ IdentityAssigned 0x1234 64 ∷ []
-unfolding moments owed owed_through lines.after lines.answer lines.takes_slot teis.course teis.refusal reading header_of control_of unnumbered_of
-assigned_owed = refl
+abbrev asks : Event
+asks = message 0x01 0xFF
 
-assigned_begins : messages_begun usual (trace_of usual (asked ++ calls 1) 0) ≡ frame_of Network (IdentityAssigned 0x1234 64) ∷ []
-unfolding moments lines.after lines.answer lines.takes_slot teis.course teis.refusal reading header_of control_of unnumbered_of
-assigned_begins = refl
+abbrev responds : Event
+responds = message 0x05 0x81
 
--- A check is owed its request, and one more where T201 expires; and a second expiry owes nothing.
-checked_twice : owed usual 0 none_on (moments (fresh usual) (on_0 (Assign 64) ∷ on_0 (Check 64) ∷ at 0 (expiry T201) ∷ at 0 (expiry T201) ∷ []))
-    ≡ IdentityCheckRequest 64 ∷ IdentityCheckRequest 64 ∷ []
-unfolding moments owed owed_through lines.after lines.answer lines.takes_slot teis.course teis.refusal
-checked_twice = refl
+abbrev verifies : Event
+verifies = message 0x07 0x81
 
--- Where a message begins that is not owed, or the first that is owed is passed over, the law is broken.
-not_owed : IsFront (frame_of Network (IdentityAssigned 7 64) ∷ []) [] → ⊥
-not_owed front = cc front.whole_is
+abbrev expires : Event
+expires = at 0 (expiry T201)
 
-passed_over : IsFront (frame_of Network (IdentityCheckRequest 64) ∷ []) (map (frame_of Network) (IdentityAssigned 7 64 ∷ IdentityCheckRequest 64 ∷ [])) → ⊥
-passed_over front = cc front.whole_is
+-- What is due by an event behind others.
+abbrev due_behind : Config → List Event → Event → Due
+due_behind c before e = due c e.what (managed_after c 0 before)
 
--- A removal that was granted is owed; where it never begins, that all of them go is broken.
-abbrev removed : List Event
-removed = on_0 (Assign 64) ∷ on_0 (Remove 64) ∷ []
+abbrev owed_after : Config → List Event → List Message
+owed_after c events = (managed_after c 0 events).owed
 
-removal_owed : all_owed usual removed 0 ≡ frame_of Network (IdentityRemove 64) ∷ []
-unfolding moments owed owed_through lines.after lines.answer lines.takes_slot teis.course teis.refusal
-removal_owed = refl
+-- A terminal asks for a TEI: the lowest is told, and its answer begins with the next call, and no more then.
+assigned : (due_behind usual [] asks).notes ≡ Assigned 64 ∷ []
+unfolding reading header_of control_of unnumbered_of
+assigned = refl
 
-never_put : messages_begun usual [] ≡ frame_of Network (IdentityRemove 64) ∷ [] → ⊥
-never_put all = cc all
+begins : (due_behind usual (asks ∷ []) (at 0 next)).begins ≡ IdentityAssigned 0x1234 64 ∷ []
+unfolding reading header_of control_of unnumbered_of
+begins = refl
 
--- Where it is noted that a TEI was assigned, and no terminal asked, the law is broken.
-unasked : AgreeThrough usual none_on (noted (Assigned 64 ∷ []) None ∷ []) → ⊥
-unasked h = cc (All-head (IsTrue none_on) (Assigned 64) [] h.0.are).asked
+begins_once : (due_behind usual (asks ∷ calls 1) (at 0 next)).begins ≡ []
+unfolding reading header_of control_of unnumbered_of
+begins_once = refl
 
--- So it is where it is noted that a TEI was removed, or that two terminals have it, and no check says so; and where
--- T201 ended a check that none had answered, or two answered one, and it is not noted.
-unchecked : AgreeThrough usual none_on (noted (Removed 64 ∷ []) None ∷ []) → ⊥
-unchecked h = cc (All-head (IsTrue none_on) (Removed 64) [] h.0.are).checked
+-- It asks again, and gets the same; behind TEI 64, which was put on the line by hand, the next; and where the line has no
+-- room, none; and nothing on the user's side.
+asked_again : owed_after usual (asks ∷ asks ∷ []) ≡ IdentityAssigned 0x1234 64 ∷ IdentityAssigned 0x1234 64 ∷ []
+unfolding reading header_of control_of unnumbered_of
+asked_again = refl
 
-undoubled : AgreeThrough usual none_on (noted (Doubled 64 ∷ []) None ∷ []) → ⊥
-undoubled h = cc (All-head (IsTrue none_on) (Doubled 64) [] h.0.are).checked
+next_lowest : owed_after usual (on_0 (Assign 64) ∷ asks ∷ []) ≡ IdentityAssigned 0x1234 65 ∷ []
+unfolding reading header_of control_of unnumbered_of
+next_lowest = refl
 
-abbrev answered : ℕ → Checked
-answered n = record { tei = 64; again = true; answers = n; answered = false }
+denied : owed_after (record usual { terminals = 1 }) (on_0 (Assign 64) ∷ asks ∷ []) ≡ IdentityDenied 0x1234 ∷ []
+unfolding reading header_of control_of unnumbered_of
+denied = refl
 
-untold_removal : AgreeThrough usual (record none_on { ended = Some (answered 0) }) (noted [] None ∷ []) → ⊥
-untold_removal h = cc (h.0.unanswered refl)
+unserved : owed_after (record usual { side = User }) (asks ∷ []) ≡ []
+unfolding reading header_of control_of unnumbered_of
+unserved = refl
 
-untold_two : AgreeThrough usual (record none_on { check = Some (answered 2) }) (noted [] None ∷ []) → ⊥
-untold_two h = cc (h.0.twice refl)
+-- A check asks, and once more where T201 runs out; then TEI 64 is told as removed, or stays where a terminal answered.
+abbrev checked : List Event
+checked = on_0 (Assign 64) ∷ on_0 (Check 64) ∷ []
 
--- So it is where a TEI is held for two Ri, where an Ri has two, and where one is held that is not on the line.
-abbrev given : ℕ → ℕ → Remembered
-given ri tei = record { ri = ri; tei = tei }
+asked_twice : owed_after usual (checked ++ expires ∷ expires ∷ []) ≡ IdentityCheckRequest 64 ∷ IdentityCheckRequest 64 ∷ []
+asked_twice = refl
 
-abbrev holds : List Remembered → Managed
-holds held = record none_on { on = 64 ∷ 65 ∷ []; held = held }
+started : (due_behind usual checked expires).orders ≡ Start T201 ∷ []
+started = refl
 
-two_for_one : AreForOne (holds (given 1 64 ∷ given 2 64 ∷ [])) → ⊥
-unfolding IsDistinct
-two_for_one h = cc h.0.0.0
+removed : (due_behind usual (checked ++ expires ∷ []) expires).notes ≡ Removed 64 ∷ []
+removed = refl
 
-one_has_two : AreForOne (holds (given 1 64 ∷ given 1 65 ∷ [])) → ⊥
-unfolding IsDistinct
-one_has_two h = cc h.1.0.0
+stopped : (due_behind usual (checked ++ expires ∷ []) expires).orders ≡ Stop T201 ∷ []
+stopped = refl
 
-held_off_line : AreForOne (holds (given 1 66 ∷ [])) → ⊥
-held_off_line h = cc (All-head (λ (r : Remembered). is_on r.tei (holds (given 1 66 ∷ [])) ≡ true) (given 1 66) [] h.2)
+stays : (managed_after usual 0 (checked ++ responds ∷ expires ∷ expires ∷ [])).on ≡ 64 ∷ []
+unfolding reading header_of control_of unnumbered_of
+stays = refl
+
+-- Two answers in one period say that two terminals have it; one in each do not.
+doubled : (due_behind usual (checked ++ responds ∷ []) responds).notes ≡ Doubled 64 ∷ []
+unfolding reading header_of control_of unnumbered_of
+doubled = refl
+
+taken_from_both : owed_after usual (checked ++ responds ∷ responds ∷ []) ≡ IdentityCheckRequest 64 ∷ IdentityRemove 64 ∷ []
+unfolding reading header_of control_of unnumbered_of
+taken_from_both = refl
+
+one_in_each : (due_behind usual (checked ++ responds ∷ expires ∷ []) responds).notes ≡ []
+unfolding reading header_of control_of unnumbered_of
+one_in_each = refl
+
+-- A verify begins a check, and none while one runs.
+verified : (due_behind usual (on_0 (Assign 64) ∷ []) verifies).orders ≡ Start T201 ∷ []
+unfolding reading header_of control_of unnumbered_of
+verified = refl
+
+verified_again : (due_behind usual checked verifies).orders ≡ []
+unfolding reading header_of control_of unnumbered_of
+verified_again = refl
+
+-- Four messages are owed; one more is lost.
+abbrev four : List Event
+four = asks ∷ asks ∷ asks ∷ asks ∷ []
+
+one_lost : (due_behind usual four asks).lost ≡ 1
+unfolding reading header_of control_of unnumbered_of
+one_lost = refl
+
+-- The machine answers so.
+abbrev answered : List Event → Event → Answer
+answered before e = answer e (after_all (fresh usual) before)
+
+abbrev tells : List Note → List Order → Answer
+tells notes orders = told (record nothing { notes = notes; orders = orders })
+
+removes_so : answered (checked ++ expires ∷ []) expires ≡ tells (Removed 64 ∷ []) (Stop T201 ∷ [])
+unfolding after_all lines.after lines.answer lines.takes_slot teis.course teis.refusal
+removes_so = refl
+
+-- Where a TEI is told that no terminal asked for, or where one is not told as removed, the law is broken; so it is where
+-- T201 is not stopped, or started anew by a verify, and where a message begins that is not owed, or none though one is.
+unasked : IsAsDue usual (nothing_due none_on) (tells (Assigned 64 ∷ []) []) → ⊥
+unasked h = cc h.notes
+
+untold : IsAsDue usual (due_behind usual (checked ++ expires ∷ []) expires) (tells [] (Stop T201 ∷ [])) → ⊥
+untold h = cc h.notes
+
+runs_on : IsAsDue usual (due_behind usual (checked ++ expires ∷ []) expires) (tells (Removed 64 ∷ []) []) → ⊥
+runs_on h = cc h.orders
+
+anew : IsAsDue usual (due_behind usual checked verifies) (tells [] (Start T201 ∷ [])) → ⊥
+unfolding reading header_of control_of unnumbered_of
+anew h = cc h.orders
+
+abbrev frame : Answer
+frame = gave (Some (record { octets = frame_of usual.side (IdentityRemove 64); orders = [] }))
+
+not_owed : IsAsDue usual (due_behind usual [] (at 0 next)) frame → ⊥
+unfolding reading header_of control_of unnumbered_of
+not_owed h = cc h.begins
+
+passed_over : IsAsDue usual (due_behind usual checked (at 0 next)) (gave None) → ⊥
+passed_over h = cc h.begins

@@ -14,15 +14,13 @@ ghost use Rattle.laws_trace.specs.Deliveries.{Deliveries, AllAreTold};
 ghost use Rattle.laws_trace.specs.LinksMove.{LinksMove};
 ghost use Rattle.laws_trace.specs.LinksTakeTurns.{LinksTakeTurns};
 ghost use Rattle.laws_trace.specs.MessagesComeFirst.{MessagesComeFirst};
-ghost use Rattle.laws_trace.specs.MessagesAreOwed.{MessagesAreOwed, AllMessagesGoOut};
 ghost use Rattle.laws_trace.specs.News.{NewsIsTold};
-ghost use Rattle.laws_trace.specs.NoLossInVain.{NoLossInVain, QueuesAreFull};
+ghost use Rattle.laws_trace.specs.NoLossInVain.{NoLossInVain};
 ghost use Rattle.laws_trace.specs.PlacesAreKept.{PlacesAreKept};
 ghost use Rattle.laws_trace.specs.RoomsAreTold.{RoomsAreTold, AllPlacesAreLeft};
-ghost use Rattle.laws_trace.specs.TeisAgree.{TeisAgree, HeldForOne};
-ghost use Rattle.laws_trace.specs.TeisAreGiven.{TeisAreGiven};
+ghost use Rattle.laws_trace.specs.OrdersHaveReasons.{OrdersHaveReasons};
+ghost use Rattle.laws_trace.specs.TeisAreManaged.{TeisAreManaged};
 ghost use Rattle.laws_trace.specs.TimersAreTimely.{TimersRun, TimersAreStarted};
-ghost use Rattle.laws_trace.specs.ChecksAreTimely.{ChecksAreTimed, OrdersHaveReasons};
 ghost use Rattle.laws_trace.specs.TurnsMeanwhile.{LinksTakeTurnsMeanwhile};
 ghost use Rattle.laws_trace.specs.UnitsAreSpelled.{UnitsAreSpelled};
 ghost use Rattle.laws_trace.specs.UnitsAreTold.{UnitsAreTold};
@@ -136,35 +134,30 @@ pub fn all_are_acknowledged()
     ensures { Always AllAreAcknowledged }
 {}
 
-/// Nothing is lost in vain. Behind a moment that tells a frame as lost, all but four of the messages that are owed have
-/// begun, or as many control frames of one link as the configuration says would begin, were the line only called for
-/// its next frame (`seen`): so four messages wait, or as many control frames of one link, and that part of the line has
-/// no room (`full`); which, is not said (profile).
+/// Nothing is lost in vain. An answer tells as many frames as lost as messages of TEI management are, by
+/// [`teis_are_managed`]: one where four are owed and another is, and else none; or none of these is, and as many
+/// control frames of one link wait on the line as the configuration says, so that there is no room for another; of
+/// which, is not said (profile).
 pub fn nothing_is_lost_in_vain()
-    ensures seen { Always NoLossInVain }
-    ensures full { Always QueuesAreFull }
+    ensures { Always NoLossInVain }
 {}
 
-/// Messages of TEI management are owed. The frames that begin with SAPI 63 are the first of the messages that are owed,
-/// in their order, whole, each once (`front`), and they are all of them, once the line was only called for its next
-/// frame, as often as the configuration says (`all`). Owed are: to a terminal that asks for a TEI by an Ri, the one
-/// that is held for this Ri, or that there is none; a check of a TEI, once as it begins, by a granted request or a
-/// verify, and once more as T201 expires; and that a TEI is removed, by a granted request, or since two terminals have
-/// it; except those that the answer counts as lost. And what is noted of TEIs, and granted, agrees with what is heard
-/// (`notes`): a TEI that is noted as assigned was asked for right before, and is the lowest from 64 on that was not on
-/// the line; it is noted that two have one where a second terminal answers its check in one period, and that one was
-/// removed where T201 expires for the second time and none had answered, and nowhere else; and management is granted to
-/// put on the line what is not there, and to remove or check what is. So no TEI is held for two Ri at a time, no Ri has
-/// two, and each that is held is on the line (`held`). The user's side serves no message, and is granted neither a
-/// removal nor a check. And a terminal that asks for a TEI by an Ri for which none is held is assigned one, where fewer
-/// are on the line than the configuration has terminals, and the answer loses nothing: it is denied only where it must
-/// be (`given`; Q.921 clauses 4.1.1.5 and 5.3.1 to 5.3.5).
-pub fn messages_are_owed()
-    ensures front { Always MessagesAreOwed }
-    ensures all { Always AllMessagesGoOut }
-    ensures notes { Always TeisAgree }
-    ensures held { Always HeldForOne }
-    ensures given { Always TeisAreGiven }
+/// TEIs are managed as the procedures say. After whatever happened to a card, what the answer to an event of a line
+/// shows of TEI management is exactly what is due by that event, as whoever watches the line knows (`Managing` of
+/// specs/): the notes of TEIs, the orders of T201, and the frames with SAPI 63 that begin. A terminal that asks for a
+/// TEI by an Ri is owed the one that is held for this Ri; or the lowest from 64 on that is not on the line, while that
+/// has fewer than the configuration has terminals, which is told; or a denial; and where there is no room for the
+/// answer, nothing. A check of a TEI on the line begins by a granted request, and by a verify while none runs: its
+/// terminals are asked, and T201 is started; both once more as it expires. As it expires again the check is over, and a
+/// TEI of which no terminal answered is told as removed. Where a second one answers in one of the periods, it is told
+/// that two have it, T201 is stopped, and they are owed a removal, as they are by a granted request; and the TEI
+/// leaves. Messages begin as the line is called for its next frame, before all other frames, the oldest first, whole,
+/// each once; at most four are owed. And management is granted exactly to put a TEI of at most 126 on a line that does
+/// not have it and has room, and, on the network's side and while fewer than four messages are owed, to remove one that
+/// is on the line, and to check it while no check runs. The user's side serves no message (Q.921 clauses 4.1.1.5, 5.3.1
+/// to 5.3.5 and profile).
+pub fn teis_are_managed()
+    ensures { Always TeisAreManaged }
 {}
 
 /// Timers are timely. At a caller's that obeys the orders T200 of a link runs exactly where an answer is awaited: in
@@ -176,14 +169,12 @@ pub fn messages_are_owed()
 /// while the terminal is not busy, whose N(R) acknowledges an I-frame; for T203 it is RR, REJ, I or SABME (`started`).
 /// So T200 runs on from an earlier I-frame or enquiry when further I-frames go (clause 5.6.1), when a frame
 /// acknowledges nothing, and in state 8 until the enquiry is answered (clause 5.6.7); and no UI, XID, UA, request for
-/// data or call for a frame starts a timer anew that runs. T201 runs exactly while a TEI is checked (`checks`). It is
-/// started only where it does not run, or has just expired: so as a check begins, and as its second period does; and
-/// each timer is stopped only where it ran before the event (`ordered`; Q.921 clauses 5.3.3.2, 5.3.5, 5.5.1, 5.5.3,
-/// 5.6.1 to 5.6.7, 5.9.1, 5.9.8 and 5.10.3).
+/// data or call for a frame starts a timer anew that runs. And each timer is stopped only where it ran before the event
+/// (`ordered`; of T201 [`teis_are_managed`] says all; Q.921 clauses 5.5.1, 5.5.3, 5.6.1 to 5.6.7, 5.9.1, 5.9.8 and
+/// 5.10.3).
 pub fn timers_are_timely()
     ensures run { Always TimersRun }
     ensures started { Always TimersAreStarted }
-    ensures checks { Always ChecksAreTimed }
     ensures ordered { Always OrdersHaveReasons }
 {}
 

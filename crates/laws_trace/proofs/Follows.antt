@@ -1,0 +1,372 @@
+-- What the observer of a line knows of its TEIs is what TEI management has, and what is due by an event is what that tells.
+use Rattle.std.proofs.Common.{◌≡◌, ℕ, ◌+◌, ◌*◌, ◌/◌, ◌%◌, ◌≤◌, ◌<◌, ◌==◌, ◌&&◌, ◌||◌, Bool, true, false, cond, not, List, [], ◌∷◌, length, Option, Some, None, IfSome, option_map, refl, sym, ap, ◌∙◌, subst, arith, eqb-true, eq-eqb, true≢false}
+use Rattle.std.specs.Prelude.{filter, is_some, nat_le, nat_lt}
+use Rattle.std.specs.List.{find, range_with_len}
+use Rattle.std.proofs.lemmas.Bool.{leb-true, leb-false, ltb-true, ltb-false}
+use Rattle.lapd_frame.specs.declared.notes.Note.TheVariants.{Removed, Doubled}
+use Rattle.lapd_frame.specs.declared.timers.Order.TheVariants.{Stop}
+use Rattle.lapd_frame.specs.declared.timers.Timer.TheVariants.{T201}
+use Rattle.lapd_tei.specs.Machine.{Management}
+use Rattle.lapd_tei.specs.declared.remembered.Remembered.{Remembered}
+use Rattle.lapd_tei.specs.declared.check.Check.{Check}
+use Rattle.lapd_tei.specs.declared.check.Period.{Period}
+use Rattle.lapd_tei.specs.declared.check.Period.TheVariants.{First, Second}
+use Rattle.lapd_tei.specs.declared.messages.Message.{Message}
+use Rattle.lapd_tei.specs.declared.messages.Message.TheVariants.{IdentityAssigned, IdentityDenied, IdentityCheckRequest, IdentityRemove}
+use Rattle.lapd_tei.specs.Messages.{heard_of_type, heard_in}
+use Rattle.lapd_tei.specs.Rows as rows
+use Rattle.lapd_tei.specs.Sound.{IsSound, IsSoundCheck}
+use Rattle.lapd_tei.specs.Table as table
+use Rattle.lapd_tei.specs.Table.{place_of, free_place}
+use Rattle.lapd_tei.specs.Words as words
+use Rattle.lapd_tei.specs.Words.{Course, begun}
+use Rattle.lapd_tei.proofs.Tables.{free_tei-is}
+use Rattle.model_line.specs.declared.config.Config.{Config}
+use Rattle.model_line.specs.Request as request
+use Rattle.laws_trace.specs.Managing.{by_type, by_message, Checked, Managed, Due, nothing_due, owes, free_tei, gives, asked, is_checked, without, first_check, may_check, responded, ran_out, by_granted, is_on}
+use Rattle.laws_trace.specs.TeisAreManaged.{is_of_teis, is_of_t201}
+use Rattle.laws_trace.proofs.ManagingTables.{AreOn, free-fewer, none-free, comes-on, leaves-on}
+
+-- A check, as it is seen.
+abbrev pub is_second : Period → Bool
+is_second First = false
+is_second Second = true
+
+abbrev pub earlier : Period → ℕ → Bool
+earlier First n = false
+earlier Second n = not (n == 0)
+
+abbrev pub seen_check : Check → Checked
+seen_check check = record { tei = check.tei; again = is_second check.period; answered = not (rows.responses check == 0); before = earlier check.period check.first }
+
+-- In the first period no answer is counted for the second.
+abbrev pub InOrder : Check → Type 0
+InOrder check = is_second check.period ≡ false → check.second ≡ 0
+
+abbrev pub as_seen : List ℕ → Management → Managed
+as_seen on m = record { on = on; held = m.remembered; check = option_map seen_check m.check; owed = m.waiting }
+
+pub record Follows (w : Managed) (m : Management) : Type 0 where
+  pub is : w ≡ as_seen w.on m
+  pub on : AreOn w.on m.places
+  pub order : IfSome m.check InOrder
+
+-- What is due is what is told.
+pub record Leads (d : Due) (x : Course) : Type 0 where
+  pub notes : filter is_of_teis x.told.notes ≡ d.notes
+  pub orders : filter is_of_t201 x.told.orders ≡ d.orders
+  pub lost : x.told.lost ≡ d.lost
+  pub begins : d.begins ≡ []
+  pub follows : Follows d.known x.now
+
+find-same : (f g : ℕ → Bool) → ((x : ℕ) → f x ≡ g x) → (xs : List ℕ) → find f xs ≡ find g xs
+find-same f g h [] = refl
+find-same f g h (x ∷ xs) = ap (λ b. cond b (Some x) (find f xs)) (h x) ∙ ap (λ o. cond (g x) (Some x) o) (find-same f g h xs)
+
+some-seen : (o : Option Check) → is_some (option_map seen_check o) ≡ is_some o
+some-seen None = refl
+some-seen (Some check) = refl
+
+checked-seen : (tei : ℕ) (o : Option Check) → is_checked tei (option_map seen_check o) ≡ rows.is_checked tei o
+checked-seen tei None = refl
+checked-seen tei (Some check) = refl
+
+more-than-none : (n : ℕ) → not (n + 1 == 0) ≡ true
+more-than-none n = go (n + 1 == 0) refl
+  where
+    go : (b : Bool) → (n + 1 == 0) ≡ b → not b ≡ true
+    go true is = let none : n + 1 ≡ 0 = eqb-true (n + 1) 0 is in absurd (omega (arith, none))
+    go false is = refl
+
+module _ (on : List ℕ) (m : Management) (h : AreOn on m.places) (order : IfSome m.check InOrder) (s : IsSound m) where
+  abbrev w : Managed
+  w = as_seen on m
+
+  pub here : Follows w m
+  here = record { is = refl; on = h; order = order }
+
+  plain : (message : Message) → Leads (owes message w) (words.send message (begun m))
+  plain message = record { notes = refl; orders = refl; lost = refl; begins = refl; follows = record { is = refl; on = h; order = order } }
+
+  pub none-due : Leads (nothing_due w) (words.unserved (begun m))
+  none-due = record { notes = refl; orders = refl; lost = refl; begins = refl; follows = here }
+
+  -- A TEI leaves.
+  gone : (tei : ℕ) (check : Option Check) (waiting : List Message) → cond (is_checked tei w.check) None w.check ≡ option_map seen_check check → IfSome check InOrder
+      → Follows (record (without tei w) { owed = waiting })
+      (record { places = words.freed m.places (place_of tei m.places); remembered = filter (words.is_of_other tei) m.remembered; check = check; waiting = waiting })
+  gone tei check waiting is order = record {
+    is = ap (λ (o : Option Checked). record { on = (without tei w).on; held = (without tei w).held; check = o; owed = waiting }) is;
+    on = leaves-on on m.places h tei s.table;
+    order = order;
+  }
+
+  -- A check begins.
+  pub begins-check : (tei : ℕ) → Leads (first_check tei w) (words.begin_check tei (begun m))
+  begins-check tei = record { notes = refl; orders = refl; lost = refl; begins = refl; follows = record { is = refl; on = h; order = λ first. refl } }
+
+  pub may-is : (tei : ℕ) → may_check tei w ≡ rows.may_be_checked tei m
+  may-is tei = ap (λ b. b && not (is_some w.check)) (h.same tei) ∙ ap (λ b. table.is_on tei m.places && not b) (some-seen m.check)
+
+  pub verify-leads : (tei : ℕ) → Leads (cond (may_check tei w) (first_check tei w) (nothing_due w)) (rows.verify tei (begun m))
+  verify-leads tei =
+      subst (λ b. Leads (cond b (first_check tei w) (nothing_due w)) (rows.verify tei (begun m))) (sym (may-is tei)) (go (rows.may_be_checked tei m))
+    where
+      go : (b : Bool) → Leads (cond b (first_check tei w) (nothing_due w)) ((cond b (words.begin_check tei) words.unserved) (begun m))
+      go true = begins-check tei
+      go false = none-due
+
+  pub there : (check : Check) → m.check ≡ Some check → IsSoundCheck m.places check
+  there check is = subst (λ o. IfSome o (IsSoundCheck m.places)) is s.checked
+
+  in-order : (check : Check) → m.check ≡ Some check → InOrder check
+  in-order check is = subst (λ o. IfSome o InOrder) is order
+
+  -- A response to a check: the second one of a period has the TEI leave.
+  module _ (tei : ℕ) (check : Check) (is : m.check ≡ Some check) where
+    abbrev doubling : Due
+    doubling = record (owes (IdentityRemove tei) (without tei w)) { notes = Doubled tei ∷ []; orders = Stop T201 ∷ [] }
+
+    abbrev answered : Due
+    answered = nothing_due (record w { check = Some (record { tei = check.tei; again = is_second check.period; answered = true; before = earlier check.period check.first }) })
+
+    its-own : (check.tei == tei) ≡ true → cond (is_checked tei w.check) None w.check ≡ None
+    its-own own = ap (λ (o : Option Check). cond (is_checked tei (option_map seen_check o)) None (option_map seen_check o)) is ∙ ap (λ b. cond b None (Some (seen_check check))) own
+
+    doubles : (check.tei == tei) ≡ true → Leads doubling (rows.doubled tei (begun m))
+    doubles own = record { notes = refl; orders = refl; lost = refl; begins = refl; follows = gone tei None (words.with_message (IdentityRemove tei) m.waiting) (its-own own) tt }
+
+    one-more : (p : Period) → let k = record check { period = p } in
+        Some (record { tei = k.tei; again = is_second p; answered = true; before = earlier p k.first }) ≡ Some (seen_check (rows.counted k))
+    one-more First = ap (λ b. Some (record { tei = check.tei; again = false; answered = b; before = false })) (sym (more-than-none check.first))
+    one-more Second = ap (λ b. Some (record { tei = check.tei; again = true; answered = b; before = not (check.first == 0) })) (sym (more-than-none check.second))
+
+    counted-order : (p : Period) → let k = record check { period = p } in InOrder k → InOrder (rows.counted k)
+    counted-order First k = k
+    counted-order Second k = λ first. absurd (true≢false first)
+
+    answers-once : Leads answered (words.check_is (Some (rows.counted check)) (begun m))
+    answers-once = record {
+      notes = refl;
+      orders = refl;
+      lost = refl;
+      begins = refl;
+      follows = record {
+        is = ap (λ (o : Option Checked). record { on = on; held = m.remembered; check = o; owed = m.waiting }) (one-more check.period);
+        on = h;
+        order = counted-order check.period (in-order check is);
+      };
+    }
+
+    is-second : nat_le 2 (rows.responses (rows.counted check)) ≡ not (rows.responses check == 0)
+    is-second = go check.period (there check is).first (there check is).second
+      where
+        count : (n : ℕ) → n ≤ 1 → nat_le 2 (n + 1) ≡ not (n == 0)
+        count n few = by-test (n == 0) refl (nat_le 2 (n + 1)) refl
+          where
+            by-test : (a : Bool) → (n == 0) ≡ a → (b : Bool) → nat_le 2 (n + 1) ≡ b → b ≡ not a
+            by-test true zero true two = let none : n ≡ 0 = eqb-true n 0 zero in let most : 2 ≤ n + 1 = leb-true 2 (n + 1) two in absurd (omega (arith, none, most))
+            by-test true zero false two = refl
+            by-test false some true two = refl
+            by-test false some false two =
+                let less : n + 1 < 2 = leb-false 2 (n + 1) two in
+                let none : n ≡ 0 = omega (arith, less) in
+                absurd (true≢false (sym (eq-eqb n 0 none) ∙ some))
+
+        go : (p : Period) → check.first ≤ 1 → check.second ≤ 1 → let k = record check { period = p } in nat_le 2 (rows.responses (rows.counted k)) ≡ not (rows.responses k == 0)
+        go First first second = count check.first first
+        go Second first second = count check.second second
+
+    counts : (check.tei == tei) ≡ true → Leads (cond (not (rows.responses check == 0)) doubling answered) (rows.count tei (rows.counted check) (begun m))
+    counts own = subst (λ b. Leads (cond b doubling answered) (rows.count tei (rows.counted check) (begun m))) is-second (go (nat_le 2 (rows.responses (rows.counted check))))
+      where
+        go : (b : Bool) → Leads (cond b doubling answered) ((cond b (rows.doubled tei) (words.check_is (Some (rows.counted check)))) (begun m))
+        go true = doubles own
+        go false = answers-once
+
+    responds-so : Leads (responded tei (Some (seen_check check)) w) (rows.respond tei (Some check) (begun m))
+    responds-so = go (check.tei == tei) refl
+      where
+        go : (b : Bool) → (check.tei == tei) ≡ b
+            → Leads (cond (not b) (nothing_due w) (cond (not (rows.responses check == 0)) doubling answered)) ((cond b (rows.count tei (rows.counted check)) words.unserved) (begun m))
+        go true own = counts own
+        go false own = none-due
+
+  pub respond-leads : (tei : ℕ) → Leads (responded tei w.check w) (rows.respond tei m.check (begun m))
+  respond-leads tei = go m.check refl
+    where
+      go : (o : Option Check) → m.check ≡ o → Leads (responded tei (option_map seen_check o) w) (rows.respond tei o (begun m))
+      go None is = none-due
+      go (Some check) is = responds-so tei check is
+
+  -- T201 runs out.
+  module _ (check : Check) (is : m.check ≡ Some check) where
+    abbrev over : Due
+    over = record (nothing_due (record w { check = None })) { orders = Stop T201 ∷ [] }
+
+    abbrev unanswered : Due
+    unanswered = record (nothing_due (without check.tei w)) { notes = Removed check.tei ∷ []; orders = Stop T201 ∷ [] }
+
+    asks-again : check.second ≡ 0
+        → Leads (ran_out (Some (record { tei = check.tei; again = false; answered = not (check.first == 0); before = false })) w) (rows.expire_period check First (begun m))
+    asks-again none = record {
+      notes = refl;
+      orders = refl;
+      lost = refl;
+      begins = refl;
+      follows = record {
+        is =
+            ap (λ n. record { on = on; held = m.remembered; check = Some (record { tei = check.tei; again = true; answered = not (n == 0); before = not (check.first == 0) }); owed = words.with_message (IdentityCheckRequest check.tei) m.waiting })
+            (sym none);
+        on = h;
+        order = λ first. absurd (true≢false first);
+      };
+    }
+
+    ends : Leads over (words.end_check (begun m))
+    ends = record { notes = refl; orders = refl; lost = refl; begins = refl; follows = record { is = refl; on = h; order = tt } }
+
+    own-check : cond (is_checked check.tei w.check) None w.check ≡ None
+    own-check =
+        ap (λ (o : Option Check). cond (is_checked check.tei (option_map seen_check o)) None (option_map seen_check o)) is
+        ∙ ap (λ b. cond b None (Some (seen_check check))) (eq-eqb check.tei check.tei refl)
+
+    removes : Leads unanswered (rows.removed check.tei (begun m))
+    removes = record { notes = refl; orders = refl; lost = refl; begins = refl; follows = gone check.tei None m.waiting own-check tt }
+
+    by-answers : (a b : Bool) → Leads (cond (not a || not b) over unanswered) ((cond (a && b) (rows.removed check.tei) words.end_check) (begun m))
+    by-answers true true = removes
+    by-answers true false = ends
+    by-answers false true = ends
+    by-answers false false = ends
+
+    by-period : (p : Period) → check.period ≡ p
+        → Leads (ran_out (Some (record { tei = check.tei; again = is_second p; answered = not (rows.responses (record check { period = p }) == 0); before = earlier p check.first })) w)
+        (rows.expire_period check p (begun m))
+    by-period First at = asks-again (in-order check is (ap is_second at))
+    by-period Second at = by-answers (check.first == 0) (check.second == 0)
+
+  pub expire-leads : Leads (ran_out w.check w) (rows.expire (begun m))
+  expire-leads = go m.check refl
+    where
+      go : (o : Option Check) → m.check ≡ o → Leads (ran_out (option_map seen_check o) w) (rows.expire_check o (begun m))
+      go None is = record { notes = refl; orders = refl; lost = refl; begins = refl; follows = here }
+      go (Some check) is = by-period check is check.period refl
+
+  -- Management asks.
+  pub assign-leads : (tei place : ℕ) → free_place m.places ≡ Some place → table.is_on tei m.places ≡ false → Leads (by_granted (request.Assign tei) w) (rows.put_on tei (begun m))
+  assign-leads tei place free off =
+      subst (λ o. Leads (by_granted (request.Assign tei) w) (rows.join_at tei o (begun m))) (sym free)
+      (record { notes = refl; orders = refl; lost = refl; begins = refl; follows = record { is = refl; on = comes-on on m.places h place tei free off; order = order } })
+
+  pub remove-leads : (tei : ℕ) → Leads (by_granted (request.Remove tei) w) (rows.take_off tei (begun m))
+  remove-leads tei =
+      subst (λ b. Leads (record (owes (IdentityRemove tei) (without tei w)) { orders = cond b (Stop T201 ∷ []) [] }) (rows.take_off tei (begun m))) (sym same) (go (rows.is_checked tei m.check) refl)
+    where
+      same : is_checked tei w.check ≡ rows.is_checked tei m.check
+      same = checked-seen tei m.check
+
+      go : (b : Bool) → rows.is_checked tei m.check ≡ b
+          → Leads (record (owes (IdentityRemove tei) (without tei w)) { orders = cond b (Stop T201 ∷ []) [] })
+          (words.leave tei ((cond b words.end_check rows.nothing_happens) (words.send (IdentityRemove tei) (begun m))))
+      go true is = record {
+        notes = refl;
+        orders = refl;
+        lost = refl;
+        begins = refl;
+        follows = gone tei None (words.with_message (IdentityRemove tei) m.waiting) (ap (λ b. cond b None w.check) (same ∙ is)) tt;
+      }
+      go false is = record {
+        notes = refl;
+        orders = refl;
+        lost = refl;
+        begins = refl;
+        follows = gone tei m.check (words.with_message (IdentityRemove tei) m.waiting) (ap (λ b. cond b None w.check) (same ∙ is)) order;
+      }
+
+  -- A terminal asks for a TEI.
+  module _ (c : Config) (places : length m.places ≡ c.terminals) where
+    pub fewer-on : (place : ℕ) → free_place m.places ≡ Some place → nat_lt (length on) c.terminals ≡ true
+    fewer-on place free = go (nat_lt (length on) c.terminals) refl
+      where
+        go : (b : Bool) → nat_lt (length on) c.terminals ≡ b → b ≡ true
+        go true is = refl
+        go false is =
+            let most = ltb-false (length on) c.terminals is in
+            let fewer = free-fewer m.places place free in
+            let size = h.size in
+            absurd (omega (arith, most, fewer, size, places))
+
+    pub all-on : free_place m.places ≡ None → nat_lt (length on) c.terminals ≡ false
+    all-on none = go (nat_lt (length on) c.terminals) refl
+      where
+        go : (b : Bool) → nat_lt (length on) c.terminals ≡ b → b ≡ false
+        go true is =
+            let less = ltb-true (length on) c.terminals is in
+            let all = none-free m.places none in
+            let size = h.size in
+            absurd (omega (arith, less, all, size, places))
+        go false is = refl
+
+    abbrev lowest : Option ℕ
+    lowest = find (λ tei. not (is_on tei w)) (range_with_len 64 63)
+
+    lowest-is : lowest ≡ table.free_tei m.places
+    lowest-is = find-same (λ tei. not (is_on tei w)) (table.is_off m.places) (λ tei. ap not (h.same tei)) (range_with_len 64 63)
+
+    module _ (ri : ℕ) where
+      comes : (place tei : ℕ) → free_place m.places ≡ Some place → table.free_tei m.places ≡ Some tei → Leads (gives ri None (Some tei) w) (rows.assign_new ri (Some place) (Some tei) (begun m))
+      comes place tei free is = record {
+        notes = refl;
+        orders = refl;
+        lost = refl;
+        begins = refl;
+        follows = record { is = refl; on = comes-on on m.places h place tei free (free_tei-is m.places tei is).off; order = order };
+      }
+
+      new : (p t : Option ℕ) → free_place m.places ≡ p → table.free_tei m.places ≡ t → Leads (gives ri None (free_tei c w) w) (rows.assign_new ri p t (begun m))
+      new None t free is =
+          subst (λ o. Leads (gives ri None o w) (rows.assign_new ri None t (begun m))) (sym (ap (λ b. cond b lowest None) (all-on free))) (plain (IdentityDenied ri))
+      new (Some place) t free is =
+          subst (λ o. Leads (gives ri None o w) (rows.assign_new ri (Some place) t (begun m))) (sym (ap (λ b. cond b lowest None) (fewer-on place free) ∙ lowest-is ∙ is)) (go t is)
+        where
+          go : (t : Option ℕ) → table.free_tei m.places ≡ t → Leads (gives ri None t w) (rows.assign_new ri (Some place) t (begun m))
+          go None is = plain (IdentityDenied ri)
+          go (Some tei) is = comes place tei free is
+
+      by-held : (o : Option Remembered) → Leads (gives ri o (free_tei c w) w) (rows.assign ri (option_map rows.tei_in o) (begun m))
+      by-held (Some r) = plain (IdentityAssigned ri r.tei)
+      by-held None = new (free_place m.places) (table.free_tei m.places) refl refl
+
+      pub request-leads : Leads (asked c ri w) (rows.request ri (begun m))
+      request-leads = go (words.no_room m.waiting)
+        where
+          go : (b : Bool) → Leads (cond b (record (nothing_due w) { lost = 1 }) (gives ri (find (rows.is_for ri) m.remembered) (free_tei c w) w))
+              ((cond b words.lose_one (rows.assign ri (rows.remembered_in ri m.remembered))) (begun m))
+          go true = record { notes = refl; orders = refl; lost = refl; begins = refl; follows = here }
+          go false = by-held (find (rows.is_for ri) m.remembered)
+
+  -- What a terminal says.
+  module _ (c : Config) (places : length m.places ≡ c.terminals) where
+    by-both : {X Y : Type 0} (P : X → Y → Type 0) (b : Bool) (u v : X) (x y : Y) → P u x → P v y → P (cond b u v) (cond b x y)
+    by-both P true u v x y h k = h
+    by-both P false u v x y h k = k
+
+    verifies : (action : ℕ) (b : Bool) → Leads (cond (b && may_check action w) (first_check action w) (nothing_due w)) (rows.serve (cond b (heard_of_type 7 0 action) None) (begun m))
+    verifies action true = verify-leads action
+    verifies action false = none-due
+
+    by-type-leads : (type ri action : ℕ) → Leads (by_type c type ri action w) (rows.serve (heard_of_type type ri action) (begun m))
+    by-type-leads type ri action =
+        by-both (λ d o. Leads d (rows.serve o (begun m))) (type == 1 && action == 127) _ _ _ _ (request-leads c places ri)
+        (by-both (λ d o. Leads d (rows.serve o (begun m))) (type == 5) _ _ _ _ (respond-leads action) (verifies action (type == 7)))
+
+    pub serve-leads : (info : List ℕ) → Leads (by_message c w info) (rows.serve (heard_in info) (begun m))
+    serve-leads [] = none-due
+    serve-leads (a ∷ []) = none-due
+    serve-leads (a ∷ high ∷ []) = none-due
+    serve-leads (a ∷ high ∷ low ∷ []) = none-due
+    serve-leads (a ∷ high ∷ low ∷ type ∷ []) = none-due
+    serve-leads (a ∷ high ∷ low ∷ type ∷ last ∷ []) =
+        by-both (λ d o. Leads d (rows.serve o (begun m))) (a == 0x0F && last % 2 == 1) _ _ _ _ (by-type-leads type (256 * high + low) (last / 2)) none-due
+    serve-leads (a ∷ high ∷ low ∷ type ∷ last ∷ sixth ∷ more) = none-due

@@ -1,0 +1,230 @@
+-- What is due of TEI management by one event of a line is what its answer shows, and the observer follows it.
+use Rattle.std.proofs.Common.{◌≡◌, ℕ, ◌==◌, Bool, true, false, cond, List, [], ◌∷◌, ◌++◌, map, take, drop, slice_get, All, filter, Option, Some, None, IfSome, option_map, refl, sym, ap, ◌∙◌, subst, append-nil, true≢false, ◌⊎◌, inl, inr, arith}
+use Rattle.std.specs.Option.{option_map_or, unwrap_or}
+use Rattle.std.proofs.lemmas.List.Elements.{filter-append}
+use Rattle.model_bits.specs.Stream as stream
+use Rattle.lapd_frame.specs.declared.controls.Control.TheVariants.{Ui}
+use Rattle.lapd_frame.specs.declared.notes.Note.{Note}
+use Rattle.lapd_frame.specs.declared.services.Service.{Service}
+use Rattle.lapd_frame.specs.declared.services.Service.TheVariants.{Call, Packet}
+use Rattle.lapd_frame.specs.declared.timers.Timer.{Timer}
+use Rattle.lapd_frame.specs.declared.timers.Timer.TheVariants.{T200, T203, T201}
+use Rattle.lapd_frame.specs.Grammar.{Parts}
+use Rattle.lapd_frame.specs.Services.{sapi_of}
+use Rattle.lapd_frame.proofs.Spelling.{reading-again}
+use Rattle.lapd_tei.specs.Events as teis
+use Rattle.lapd_tei.specs.Machine.{Management}
+use Rattle.lapd_tei.specs.declared.messages.Message.{Message}
+use Rattle.lapd_tei.specs.Messages.{frame_of, information_of}
+use Rattle.lapd_tei.specs.Words.{Course}
+use Rattle.model_link.specs.Events as link
+use Rattle.model_link.specs.Machine as links
+use Rattle.model_link.specs.declared.timers.LinkTimer.{LinkTimer}
+use Rattle.model_link.specs.declared.timers.LinkTimer.TheVariants as link_timer
+use Rattle.model_line.specs.declared.config.Config.{Config}
+use Rattle.model_line.specs.Effect.{Aim, at_none, at_link, at_management, of_aim}
+use Rattle.model_line.specs.Event.{Event, hears, expiry, next, Answer, LineTold, told, gave, nothing}
+use Rattle.model_line.specs.Expiry.{at_timer}
+use Rattle.model_line.specs.Laws.{orders_in}
+use Rattle.model_line.specs.Line.{Line, link_in, link_at, place_in, terms, service_at}
+use Rattle.model_line.specs.Machine.{after, answer, aim_of}
+use Rattle.model_line.specs.Heard.{aim_of_heard, management_sapi}
+use Rattle.model_line.specs.Taken.{Taken, taken, next_of, line_of}
+use Rattle.model_line.specs.Requested.{at_requested, at_deactivated}
+use Rattle.model_line.specs.Sound.{IsSound}
+use Rattle.model_line.proofs.ProperAims.{heard_aims}
+use Rattle.laws_line.specs.Frames.{lost_in}
+use Rattle.laws_line.specs.Served.{IsOwed, IsIdle, contents_of}
+use Rattle.laws_line.proofs.LinkMoves.{IsOne, taken-one}
+use Rattle.laws_line.proofs.Serving.{served}
+use Rattle.laws_trace.specs.Managing.{Managed, Due, nothing_due, by_message, message_in, ran_out, due}
+use Rattle.laws_trace.specs.TeisAreManaged.{is_of_teis, is_of_t201, of_management, is_message, IsAsDue}
+use Rattle.laws_trace.specs.Trace.{frame_in}
+use Rattle.laws_trace.proofs.Follows.{Follows, Leads, InOrder, as_seen, here, serve-leads, expire-leads}
+use Rattle.laws_trace.proofs.ManagingTables.{AreOn}
+use Rattle.laws_trace.proofs.ManagingNotes.{IsOther, none-of-teis, link-others, told-orders, behind, Cases, is_management, heard-cases}
+use Rattle.laws_trace.proofs.OneLink.{given-orders}
+use Rattle.laws_trace.proofs.ReadAgain.{read-again}
+
+-- What an answer shows, and what is known behind it. What is lost is so many messages, or is none of them, where the event
+-- is one of a link.
+pub record Shows (c : Config) (l : Line) (e : Event) (d : Due) (a : Answer) (new : Management) : Type 0 where
+  pub as_due : IsAsDue c d a
+  pub lost : (lost_in a ≡ d.lost) ⊎ ((d.lost ≡ 0) × (is_management (aim_of c e l) ≡ false))
+  pub follows : Follows d.known new
+
+-- An event of TEI management: what it tells, and what its links tell behind.
+pub record Comes (d : Due) (t : LineTold) (new : Management) : Type 0 where
+  pub notes : filter is_of_teis t.notes ≡ d.notes
+  pub orders : filter is_of_t201 t.orders ≡ d.orders
+  pub lost : t.lost ≡ d.lost
+  pub follows : Follows d.known new
+
+teis-of-teis : (x : Course) (d : Due) → Leads d x → (others : List Note) → All IsOther others → filter is_of_teis (x.told.notes ++ others) ≡ d.notes
+teis-of-teis x d h others are =
+    filter-append is_of_teis x.told.notes others ∙ ap (λ ns. filter is_of_teis x.told.notes ++ ns) (none-of-teis others are) ∙ append-nil (filter is_of_teis x.told.notes) ∙ h.notes
+
+module _ (c : Config) (l : Line) where
+  managed : (me : teis.Event) (d : Due) → Leads d (teis.course me l.management) → let y = of_aim c (at_management me) l in Comes d y.told y.line.management
+  managed me d h =
+      let x = teis.course me l.management in
+      let b = behind c x.told (record l { management = x.now }) x.told.change in
+      record {
+        notes = ap (filter is_of_teis) b.notes ∙ teis-of-teis x d h b.others b.are;
+        orders = b.orders ∙ h.orders;
+        lost = b.lost ∙ h.lost;
+        follows = subst (Follows d.known) (sym b.stays) h.follows;
+      }
+
+  -- No event of it.
+  pub record IsUnmanaged (aim : Aim) : Type 0 where
+    pub stays : (of_aim c aim l).line.management ≡ l.management
+    pub others : filter is_of_teis (of_aim c aim l).told.notes ≡ []
+    pub orders : filter is_of_t201 (of_aim c aim l).told.orders ≡ []
+    pub none : is_management aim ≡ false
+
+  none-aims : (t : LineTold) → filter is_of_teis t.notes ≡ [] → t.orders ≡ [] → IsUnmanaged (at_none t)
+  none-aims t notes orders = record { stays = refl; others = notes; orders = ap (filter is_of_t201) orders; none = refl }
+
+  link-aims : (service : Service) (tei place : ℕ) (event : link.Event) → IsUnmanaged (at_link service tei place event)
+  link-aims service tei place event =
+      let t = terms c service tei in
+      let x = link_in l service place in
+      record { stays = refl; others = none-of-teis (links.told t event x).notes (link-others t event x); orders = told-orders t event x; none = refl }
+
+  timer-aims : (service : Service) (tei : ℕ) (timer : LinkTimer) (o : Option ℕ) → IsUnmanaged (at_timer service tei timer o)
+  timer-aims service tei timer None = none-aims nothing refl refl
+  timer-aims service tei timer (Some place) = link-aims service tei place (link.expired timer)
+
+  pub asked-aims : (service : Service) (tei : ℕ) (asked : link.Request) (o : Option ℕ) → IsUnmanaged (at_requested service tei asked o)
+  asked-aims service tei asked None = none-aims nothing refl refl
+  asked-aims service tei asked (Some place) = link-aims service tei place (link.requested asked false)
+
+  pub deactivated-aims : (service : Service) (tei : ℕ) (o : Option ℕ) → IsUnmanaged (at_deactivated service tei o)
+  deactivated-aims service tei None = none-aims nothing refl refl
+  deactivated-aims service tei (Some place) = link-aims service tei place link.cleared
+
+-- One event of a line.
+first-goes : (ms : List Message) (m : Message) → slice_get ms 0 ≡ Some m → take 1 ms ≡ m ∷ []
+first-goes [] m is = absurd (cc is)
+first-goes (n ∷ ms) m is = let same : n ≡ m = cc is in ap (λ x. x ∷ []) same
+
+no-sapi : (service : Service) → (sapi_of service == management_sapi) ≡ false
+no-sapi Call = refl
+no-sapi Packet = refl
+
+module _ (c : Config) (l : Line) (s : IsSound c l) (on : List ℕ) (h : AreOn on l.management.places) (order : IfSome l.management.check InOrder) where
+  abbrev m : Management
+  m = l.management
+
+  abbrev w : Managed
+  w = as_seen on m
+
+  known : Follows w m
+  known = here on m h order s.management
+
+  pub managed-shows : (e : Event) (d : Due) (me : teis.Event) → Leads d (teis.course me m) → let y = of_aim c (at_management me) l in Shows c l e d (told y.told) y.line.management
+  managed-shows e d me leads =
+      let x = managed c l me d leads in
+      record { as_due = record { notes = x.notes; orders = x.orders; begins = none-begins }; lost = inl x.lost; follows = x.follows }
+    where
+      none-begins : [] ≡ map (frame_of c.side) d.begins
+      none-begins = ap (map (frame_of c.side)) (sym leads.begins)
+
+  pub unmanaged-shows : (e : Event) (aim : Aim) → is_management (aim_of c e l) ≡ false → IsUnmanaged c l aim
+      → let y = of_aim c aim l in Shows c l e (nothing_due w) (told y.told) y.line.management
+  unmanaged-shows e aim none x = record {
+    as_due = record { notes = x.others; orders = x.orders; begins = refl };
+    lost = inr (refl, none);
+    follows = subst (Follows w) (sym x.stays) known;
+  }
+
+  -- What is heard.
+  abbrev Heard : stream.Event → Aim → Option (List ℕ) → Type 0
+  Heard e aim message = let y = of_aim c aim l in Shows c l (hears e) (option_map_or (by_message c w) message (nothing_due w)) (told y.told) y.line.management
+
+  plain-aim : (e : stream.Event) → is_management (aim_of_heard c l e) ≡ false → IsUnmanaged c l (aim_of_heard c l e)
+  plain-aim e none =
+      heard_aims c l (λ aim. is_management aim ≡ false → IsUnmanaged c l aim) (λ cause none. none-aims c l _ refl refl)
+      (λ service tei place what at none. link-aims c l service tei place (link.received what)) (λ info none. absurd (true≢false none)) (λ parts service to none. none-aims c l _ refl refl) e none
+
+  by-cases : (e : stream.Event) → Cases (aim_of_heard c l e) (message_in c e) → Heard e (aim_of_heard c l e) (message_in c e)
+  unfolding teis.course teis.refusal
+  by-cases e (inl x) =
+      subst (λ aim. Heard e aim (message_in c e)) (sym x.aim_is)
+      (subst (Heard e (at_management (teis.message x.info))) (sym x.said_is)
+      (managed-shows (hears e) (by_message c w x.info) (teis.message x.info) (serve-leads on m h order s.management c s.places x.info)))
+  by-cases e (inr x) = subst (Heard e (aim_of_heard c l e)) (sym x.said_is) (unmanaged-shows (hears e) (aim_of_heard c l e) x.aim_is (plain-aim e x.aim_is))
+
+  pub hears-shows : (e : stream.Event) → Shows c l (hears e) (due c (hears e) w) (answer c (hears e) l) (after c (hears e) l).management
+  unfolding after answer
+  hears-shows e = by-cases e (heard-cases c l e)
+
+  -- An expiry.
+  pub expiry-shows : (timer : Timer) → Shows c l (expiry timer) (due c (expiry timer) w) (answer c (expiry timer) l) (after c (expiry timer) l).management
+  unfolding after answer teis.course teis.refusal
+  expiry-shows (T200 service tei) =
+      let x = timer-aims c l service tei link_timer.T200 (place_in l tei) in unmanaged-shows (expiry (T200 service tei)) (at_timer service tei link_timer.T200 (place_in l tei)) x.none x
+  expiry-shows (T203 service tei) =
+      let x = timer-aims c l service tei link_timer.T203 (place_in l tei) in unmanaged-shows (expiry (T203 service tei)) (at_timer service tei link_timer.T203 (place_in l tei)) x.none x
+  expiry-shows T201 = managed-shows (expiry T201) (ran_out w.check w) teis.expiry (expire-leads on m h order s.management)
+
+  -- A call for the next frame.
+  next-orders : (o : Option Taken) → IfSome o (IsOne c l) → filter is_of_t201 (orders_in (gave (option_map next_of o))) ≡ []
+  next-orders None x = refl
+  next-orders (Some t) (inl x) = ap (λ (t : Taken). filter is_of_t201 t.orders) x.1
+  next-orders (Some t) (inr (inl x)) = ap (λ (t : Taken). filter is_of_t201 t.orders) x.1
+  next-orders (Some t) (inr (inr x)) =
+      let t = terms c (service_at x.number) x.tei in
+      ap (λ (t : Taken). filter is_of_t201 t.orders) x.is ∙ ap (filter is_of_t201) (given-orders c l s (service_at x.number) x.tei t (link_at x.number l) x.what x.given)
+      ∙ told-orders t link.offer (link_at x.number l)
+
+  message-is : (message : Message) → is_message c (frame_of c.side message) ≡ true
+  message-is message =
+      let parts : Parts = record { address = record { sapi = 63; command = true; tei = 127 }; control = Ui false; info = information_of message } in
+      ap of_management (reading-again c.side parts (frame_of c.side message) (record { is_frame = record { sapi = omega arith; tei = omega arith; kind = refl; size = refl }; octets_are = refl }))
+
+  kept-of : (frame : List ℕ) (b : Bool) → is_message c frame ≡ b → filter (is_message c) (frame ∷ []) ≡ cond b (frame ∷ []) []
+  kept-of frame b is = ap (λ b. cond b (frame ∷ []) []) is
+
+  abbrev later : Managed
+  later = record w { owed = drop 1 m.waiting }
+
+  stays : (new : Line) → new.management ≡ m → m.waiting ≡ [] → Follows later new.management
+  stays new is none = subst (Follows later) (sym is) (subst (λ ms. Follows (record w { owed = ms }) m) (sym (ap (drop 1) none ∙ sym none)) known)
+
+  none-goes : m.waiting ≡ [] → [] ≡ map (frame_of c.side) (take 1 m.waiting)
+  none-goes none = sym (ap (λ ms. map (frame_of c.side) (take 1 ms)) none)
+
+  abbrev Goes : Line → Option Taken → Type 0
+  Goes new o = (filter (is_message c) (frame_in (gave (option_map next_of o))) ≡ map (frame_of c.side) (take 1 m.waiting)) × Follows later new.management
+
+  goes : (new : Line) (o : Option Taken) → elim o as (λ o. Type 0) [ None ↦ IsIdle c l new | Some t ↦ IsOwed c (contents_of l) l new t.frame ] → Goes new o
+  goes new None x = (none-goes x.nothing.messages, stays new (ap (λ (l : Line). l.management) x.line) x.nothing.messages)
+  goes new (Some t) (inl x) = (
+    kept-of t.frame true (ap (is_message c) x.spelled ∙ message-is x.message) ∙ ap (λ f. f ∷ []) x.spelled ∙ sym (ap (map (frame_of c.side)) (first-goes m.waiting x.message x.oldest)),
+    subst (λ (l : Line). Follows later l.management) (sym x.line) (record { is = refl; on = h; order = order }),
+  )
+  goes new (Some t) (inr (inl x)) = (
+    kept-of t.frame false (ap (is_message c) x.spelled
+        ∙ read-again c.side (λ r. of_management r ≡ false) (record { sapi = sapi_of x.unit.service; command = true; tei = x.unit.tei }) (Ui false) (λ info. no-sapi x.unit.service) (λ fault. refl) x.unit.contents)
+        ∙ none-goes x.no_message,
+    stays new (ap (λ (l : Line). l.management) x.line) x.no_message,
+  )
+  goes new (Some t) (inr (inr x)) = (
+    kept-of t.frame false (ap (is_message c) x.spelled
+        ∙ read-again c.side (λ r. of_management r ≡ false) (record { sapi = sapi_of (service_at x.number); command = x.command; tei = x.tei }) x.control (λ info. no-sapi (service_at x.number)) (λ fault. refl)
+        (unwrap_or x.information []))
+        ∙ none-goes x.its_turn.no_message,
+    stays new (ap (λ (l : Line). l.management) x.line) x.its_turn.no_message,
+  )
+
+  pub next-shows : Shows c l next (due c next w) (answer c next l) (after c next l).management
+  unfolding after answer
+  next-shows =
+      let x = goes (option_map_or line_of (taken c l) l) (taken c l) (served c l s) in
+      record {
+        as_due = record { notes = refl; orders = next-orders (taken c l) (taken-one c l s); begins = x.0 };
+        lost = inl refl;
+        follows = x.1;
+      }

@@ -1,0 +1,215 @@
+-- What is due of TEI management by a request, and by any event of a line, is what its answer shows.
+use Rattle.std.proofs.Common.{◌≡◌, ℕ, ◌==◌, ◌&&◌, Bool, true, false, cond, not, List, [], ◌∷◌, length, Option, Some, None, IfSome, is_some, refl, sym, ap, ◌∙◌, subst, true≢false, inl, arith}
+use Rattle.std.proofs.lemmas.Bool.{leb-true, leb-false, ltb-true, ltb-false}
+use Rattle.std.specs.Prelude.{nat_le, nat_lt}
+use Rattle.std.specs.List.{list_any}
+use Rattle.lapd_frame.specs.declared.refusals.Refusal.{Refusal}
+use Rattle.lapd_tei.specs.Events as teis
+use Rattle.lapd_tei.specs.Machine.{Management}
+use Rattle.lapd_tei.specs.Table.{free_place}
+use Rattle.lapd_tei.specs.Words.{Course, begun}
+use Rattle.lapd_tei.proofs.Tables.{on-range}
+use Rattle.model_link.specs.Events as link
+use Rattle.model_line.specs.declared.config.Config.{Config}
+use Rattle.model_line.specs.Effect.{at_management, of_aim}
+use Rattle.model_line.specs.Event.{Event, hears, expiry, request, next, told}
+use Rattle.model_line.specs.Line.{Line, place_in, has_tei}
+use Rattle.model_line.specs.Machine.{after, answer, unless_refused, unless_refused_told}
+use Rattle.model_line.specs.Refusal.{refusal, wrong_side, bad_tei, no_link, tei_taken, table_full, check_running, control_full}
+use Rattle.model_line.specs.Request.{Request, Establish, Release, Data, Assign, Remove, Check, SetBusy, ClearBusy, Deactivate}
+use Rattle.model_line.specs.Requested.{aim_of_request}
+use Rattle.model_line.specs.Sides.{has_management}
+use Rattle.model_line.specs.Sound.{IsSound}
+use Rattle.laws_line.specs.Share.{is_granted}
+use Rattle.laws_line.proofs.Asked.{passed}
+use Rattle.laws_trace.specs.Managing.{Managed, nothing_due, is_grantable, by_granted, due}
+use Rattle.laws_trace.specs.TeisAreManaged.{IsGrantedSo}
+use Rattle.laws_trace.proofs.Follows.{Follows, Leads, InOrder, as_seen, here, assign-leads, remove-leads, begins-check, may-is, fewer-on, all-on}
+use Rattle.laws_trace.proofs.ManagingTables.{AreOn}
+use Rattle.laws_trace.proofs.ManagingNotes.{is_management}
+use Rattle.laws_trace.proofs.FollowsLine.{Shows, IsUnmanaged, asked-aims, deactivated-aims, managed-shows, unmanaged-shows, hears-shows, expiry-shows, next-shows}
+
+-- The rows that refuse a request of management.
+refused-3 : (a b d : Bool) (x y z : Refusal) → is_some (cond a (Some x) (cond b (Some y) (cond d (Some z) None))) ≡ not (not a && not b && not d)
+refused-3 true b d x y z = refl
+refused-3 false true d x y z = refl
+refused-3 false false true x y z = refl
+refused-3 false false false x y z = refl
+
+refused-4 : (side bad on full : Bool) (x y z u : Refusal) → (on ≡ true → bad ≡ false)
+    → is_some (cond (not side) (Some x) (cond bad (Some y) (cond (not on) (Some z) (cond full (Some u) None)))) ≡ not (side && on && not full)
+refused-4 false bad on full x y z u low = refl
+refused-4 true true true full x y z u low = absurd (true≢false (low refl))
+refused-4 true true false full x y z u low = refl
+refused-4 true false false full x y z u low = refl
+refused-4 true false true true x y z u low = refl
+refused-4 true false true false x y z u low = refl
+
+refused-5 : (side bad on runs full : Bool) (x y z u v : Refusal) → (on ≡ true → bad ≡ false)
+    → is_some (cond (not side) (Some x) (cond bad (Some y) (cond (not on) (Some z) (cond runs (Some u) (cond full (Some v) None))))) ≡ not (side && (on && not runs) && not full)
+refused-5 false bad on runs full x y z u v low = refl
+refused-5 true true true runs full x y z u v low = absurd (true≢false (low refl))
+refused-5 true true false runs full x y z u v low = refl
+refused-5 true false false runs full x y z u v low = refl
+refused-5 true false true true full x y z u v low = refl
+refused-5 true false true false true x y z u v low = refl
+refused-5 true false true false false x y z u v low = refl
+
+low-test : (tei : ℕ) → nat_le tei 126 ≡ not (nat_lt 126 tei)
+low-test tei = go (nat_le tei 126) refl (nat_lt 126 tei) refl
+  where
+    go : (a : Bool) → nat_le tei 126 ≡ a → (b : Bool) → nat_lt 126 tei ≡ b → a ≡ not b
+    go true low true high = let x = leb-true tei 126 low in let y = ltb-true 126 tei high in absurd (omega (arith, x, y))
+    go true low false high = refl
+    go false low true high = refl
+    go false low false high = let x = leb-false tei 126 low in let y = ltb-false 126 tei high in absurd (omega (arith, x, y))
+
+module _ (c : Config) (l : Line) (s : IsSound c l) (on : List ℕ) (h : AreOn on l.management.places) (order : IfSome l.management.check InOrder) where
+  abbrev m : Management
+  m = l.management
+
+  abbrev w : Managed
+  w = as_seen on m
+
+  known : Follows w m
+  known = here on m h order s.management
+
+  -- A request.
+  abbrev Answers : Request → Bool → Option Refusal → Type 0
+  Answers r g o =
+      let x = of_aim c (unless_refused o (aim_of_request r l)) l in
+      let a = unless_refused_told o x in
+      Shows c l (request r) (cond g (by_granted r w) (nothing_due w)) a x.line.management × (is_granted a ≡ g)
+
+  refused-shows : (r : Request) (why : Refusal) → Answers r false (Some why)
+  refused-shows r why = (record { as_due = record { notes = refl; orders = refl; begins = refl }; lost = inl refl; follows = known }, refl)
+
+  by-grant : (r : Request) → is_some (refusal c false r l) ≡ not (is_grantable c r w) → (refusal c false r l ≡ None → Answers r true None) → Answers r (is_grantable c r w) (refusal c false r l)
+  by-grant r same granted = go (refusal c false r l) refl (is_grantable c r w) same
+    where
+      go : (o : Option Refusal) → refusal c false r l ≡ o → (g : Bool) → is_some o ≡ not g → Answers r g o
+      go None is true same = granted is
+      go None is false same = absurd (true≢false (sym same))
+      go (Some why) is true same = absurd (true≢false same)
+      go (Some why) is false same = refused-shows r why
+
+  course-is : (e : teis.Event) → teis.refusal e m ≡ None → teis.course e m ≡ teis.step e (begun m)
+  unfolding teis.course
+  course-is e none = ap (λ o. teis.unless_refused o (teis.step e) m) none
+
+  granted-shows : (r : Request) (e : teis.Event) → aim_of_request r l ≡ at_management e → teis.refusal e m ≡ None → Leads (by_granted r w) (teis.step e (begun m)) → Answers r true None
+  granted-shows r e aim none leads =
+      subst (λ aim. let y = of_aim c aim l in Shows c l (request r) (by_granted r w) (told y.told) y.line.management × (is_granted (told y.told) ≡ true)) (sym aim)
+      (managed-shows c l s on h order (request r) (by_granted r w) e (subst (λ (x : Course). Leads (by_granted r w) x) (sym (course-is e none)) leads), refl)
+
+  two : (a b : Bool) (x y : Refusal) → a ≡ false → b ≡ false → teis.refusal_if a x (teis.refusal_if b y None) ≡ None
+  two a b x y e f = rw (e, f) refl
+
+  three : (a b d : Bool) (x y z : Refusal) → a ≡ false → b ≡ false → d ≡ false → teis.refusal_if a x (teis.refusal_if b y (teis.refusal_if d z None)) ≡ None
+  three a b d x y z e f g = rw (e, f, g) refl
+
+  is-there : (o : Option ℕ) → not (is_some o) ≡ false → (place : ℕ) × (o ≡ Some place)
+  is-there None e = absurd (true≢false e)
+  is-there (Some place) e = (place, refl)
+
+  on-low : (tei : ℕ) → has_tei tei l ≡ true → nat_lt 126 tei ≡ false
+  on-low tei there = go (nat_lt 126 tei) refl
+    where
+      go : (b : Bool) → nat_lt 126 tei ≡ b → b ≡ false
+      go true high = let x = ltb-true 126 tei high in let y = on-range m.places tei s.management.table there in absurd (omega (arith, x, y))
+      go false high = refl
+
+  room-is : nat_lt (length on) c.terminals ≡ not (not (is_some (free_place m.places)))
+  room-is = go (free_place m.places) refl
+    where
+      go : (o : Option ℕ) → free_place m.places ≡ o → nat_lt (length on) c.terminals ≡ not (not (is_some o))
+      go None is = all-on on m h order s.management c s.places is
+      go (Some place) is = fewer-on on m h order s.management c s.places place is
+
+  assign-shows : (tei : ℕ) → Answers (Assign tei) (is_grantable c (Assign tei) w) (refusal c false (Assign tei) l)
+  unfolding teis.refusal
+  assign-shows tei = by-grant (Assign tei) same granted
+    where
+      same : is_some (refusal c false (Assign tei) l) ≡ not (is_grantable c (Assign tei) w)
+      same =
+          refused-3 (nat_lt 126 tei) (has_tei tei l) (not (is_some (free_place m.places))) _ _ _
+          ∙ sym (ap (λ b. not (b && not (list_any (λ y. y == tei) on) && nat_lt (length on) c.terminals)) (low-test tei)
+          ∙ ap (λ b. not (not (nat_lt 126 tei) && not b && nat_lt (length on) c.terminals)) (h.same tei)
+          ∙ ap (λ b. not (not (nat_lt 126 tei) && not (has_tei tei l) && b)) room-is)
+
+      granted : refusal c false (Assign tei) l ≡ None → Answers (Assign tei) true None
+      granted none =
+          let bad = passed (bad_tei tei) (tei_taken tei l ∷ table_full l ∷ []) none in
+          let taken = passed (tei_taken tei l) (table_full l ∷ []) bad.1 in
+          let full = passed (table_full l) [] taken.1 in
+          let free = is-there (free_place m.places) full.0 in
+          granted-shows (Assign tei) (teis.assign tei) refl (two _ _ _ _ taken.0 full.0) (assign-leads on m h order s.management tei free.0 free.1 taken.0)
+
+  remove-shows : (tei : ℕ) → Answers (Remove tei) (is_grantable c (Remove tei) w) (refusal c false (Remove tei) l)
+  unfolding teis.refusal
+  remove-shows tei = by-grant (Remove tei) same granted
+    where
+      same : is_some (refusal c false (Remove tei) l) ≡ not (is_grantable c (Remove tei) w)
+      same =
+          refused-4 (has_management c.side) (nat_lt 126 tei) (has_tei tei l) (nat_le 4 (length m.waiting)) _ _ _ _ (on-low tei)
+          ∙ ap (λ b. not (has_management c.side && b && not (nat_le 4 (length m.waiting)))) (sym (h.same tei))
+
+      granted : refusal c false (Remove tei) l ≡ None → Answers (Remove tei) true None
+      granted none =
+          let side = passed (wrong_side c) (bad_tei tei ∷ no_link tei l ∷ control_full l ∷ []) none in
+          let bad = passed (bad_tei tei) (no_link tei l ∷ control_full l ∷ []) side.1 in
+          let unknown = passed (no_link tei l) (control_full l ∷ []) bad.1 in
+          let full = passed (control_full l) [] unknown.1 in
+          granted-shows (Remove tei) (teis.remove tei) refl (two _ _ _ _ unknown.0 full.0) (remove-leads on m h order s.management tei)
+
+  check-shows : (tei : ℕ) → Answers (Check tei) (is_grantable c (Check tei) w) (refusal c false (Check tei) l)
+  unfolding teis.refusal
+  check-shows tei = by-grant (Check tei) same granted
+    where
+      same : is_some (refusal c false (Check tei) l) ≡ not (is_grantable c (Check tei) w)
+      same =
+          refused-5 (has_management c.side) (nat_lt 126 tei) (has_tei tei l) (is_some m.check) (nat_le 4 (length m.waiting)) _ _ _ _ _ (on-low tei)
+          ∙ ap (λ b. not (has_management c.side && b && not (nat_le 4 (length m.waiting)))) (sym (may-is on m h order s.management tei))
+
+      granted : refusal c false (Check tei) l ≡ None → Answers (Check tei) true None
+      granted none =
+          let side = passed (wrong_side c) (bad_tei tei ∷ no_link tei l ∷ check_running l ∷ control_full l ∷ []) none in
+          let bad = passed (bad_tei tei) (no_link tei l ∷ check_running l ∷ control_full l ∷ []) side.1 in
+          let unknown = passed (no_link tei l) (check_running l ∷ control_full l ∷ []) bad.1 in
+          let running = passed (check_running l) (control_full l ∷ []) unknown.1 in
+          let full = passed (control_full l) [] running.1 in
+          granted-shows (Check tei) (teis.check tei) refl (three _ _ _ _ _ _ unknown.0 running.0 full.0) (begins-check on m h order s.management tei)
+
+  link-shows : (r : Request) → IsUnmanaged c l (aim_of_request r l) → (o : Option Refusal) → refusal c false r l ≡ o
+      → let x = of_aim c (unless_refused o (aim_of_request r l)) l in Shows c l (request r) (nothing_due w) (unless_refused_told o x) x.line.management
+  link-shows r x (Some why) is = (refused-shows r why).0
+  link-shows r x None is = unmanaged-shows c l s on h order (request r) (aim_of_request r l) (ap (λ o. is_management (unless_refused o (aim_of_request r l))) is ∙ x.none) x
+
+  abbrev Requested : Request → Type 0
+  Requested r = Shows c l (request r) (due c (request r) w) (answer c (request r) l) (after c (request r) l).management × IsGrantedSo c w (request r) (answer c (request r) l)
+
+  request-shows : (r : Request) → Requested r
+  unfolding after answer
+  request-shows (Establish service tei) = (link-shows (Establish service tei) (asked-aims c l service tei link.Establish (place_in l tei)) (refusal c false (Establish service tei) l) refl, tt)
+  request-shows (Release service tei) = (link-shows (Release service tei) (asked-aims c l service tei link.Release (place_in l tei)) (refusal c false (Release service tei) l) refl, tt)
+  request-shows (Data service tei contents) =
+      (link-shows (Data service tei contents) (asked-aims c l service tei (link.Data contents) (place_in l tei)) (refusal c false (Data service tei contents) l) refl, tt)
+  request-shows (Request.Unit service tei contents) =
+      (link-shows (Request.Unit service tei contents) (record { stays = refl; others = refl; orders = refl; none = refl }) (refusal c false (Request.Unit service tei contents) l) refl, tt)
+  request-shows (SetBusy service tei) = (link-shows (SetBusy service tei) (asked-aims c l service tei link.SetBusy (place_in l tei)) (refusal c false (SetBusy service tei) l) refl, tt)
+  request-shows (ClearBusy service tei) = (link-shows (ClearBusy service tei) (asked-aims c l service tei link.ClearBusy (place_in l tei)) (refusal c false (ClearBusy service tei) l) refl, tt)
+  request-shows (Deactivate service tei) = (link-shows (Deactivate service tei) (deactivated-aims c l service tei (place_in l tei)) (refusal c false (Deactivate service tei) l) refl, tt)
+  request-shows (Assign tei) = assign-shows tei
+  request-shows (Remove tei) = remove-shows tei
+  request-shows (Check tei) = check-shows tei
+
+  seen-shows : (e : Event) → Shows c l e (due c e w) (answer c e l) (after c e l).management × IsGrantedSo c w e (answer c e l)
+  seen-shows (hears e) = (hears-shows c l s on h order e, tt)
+  seen-shows (expiry timer) = (expiry-shows c l s on h order timer, tt)
+  seen-shows (request r) = request-shows r
+  seen-shows next = (next-shows c l s on h order, tt)
+
+pub event-shows : (c : Config) (l : Line) → IsSound c l → (w : Managed) → Follows w l.management → (e : Event)
+    → Shows c l e (due c e w) (answer c e l) (after c e l).management × IsGrantedSo c w e (answer c e l)
+event-shows c l s w h e =
+    subst (λ w. Shows c l e (due c e w) (answer c e l) (after c e l).management × IsGrantedSo c w e (answer c e l)) (sym h.is) (seen-shows c l s w.on h.on h.order e)

@@ -1,5 +1,5 @@
 -- What a link tells that is cleared, as its TEI leaves the line or it is deactivated.
-use Rattle.std.proofs.Common.{◌≡◌, ℕ, Bool, false, ◌||◌, Option, None, refl, ap}
+use Rattle.std.proofs.Common.{◌≡◌, ℕ, Bool, false, ◌||◌, None, refl, ap}
 use Rattle.std.specs.List.{list_any}
 use Rattle.std.specs.Option.{option_or}
 use Rattle.lapd_frame.specs.declared.notes.Note.{Note}

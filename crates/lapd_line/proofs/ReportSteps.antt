@@ -1,6 +1,7 @@
 -- What is written into a report in which nothing is told yet.
-use Rattle.lapd_line.proofs.Vocabulary.{◌≡◌, ℕ, List, [], Option, Some, None, drop, if◌then◌else◌, refl, sym, ap, ◌∙◌, Cause, listed, Answer, told_with, LineTold, nothing, told_of_link, TeiOutcome, told_of, told_of_management, BareReport, told_in}
+use Rattle.lapd_line.proofs.Vocabulary.{◌≡◌, ℕ, ◌||◌, Bool, true, false, false≢true, List, [], Option, Some, None, drop, refl, sym, ap, ◌∙◌, Cause, listed, Answer, told_with, LineTold, nothing, told_of_link, TeiOutcome, told_of, told_of_management, BareReport, told_in}
 use Rattle.std.specs.Option.{option_or}
+use Rattle.std.specs.Prelude.{if◌then◌else◌}
 use Rattle.model_line.specs.Effect.{unserved_cause}
 use Rattle.lapd_line.specs.Reports.{IsClear}
 
@@ -46,3 +47,16 @@ management_told {r} octets told clear =
       orders = listed told.orders;
       lost = told.lost;
     }
+
+-- contents are lent where they were delivered
+pub some_lent : (delivered unit : Bool) (contents : List ℕ) → (delivered || unit) ≡ true
+    → Some contents ≡ option_or (if delivered then Some contents else None) (if unit then Some contents else None)
+some_lent true unit contents is = refl
+some_lent false true contents is = refl
+some_lent false false contents is = absurd (false≢true is)
+
+pub none_lent : (delivered unit : Bool) (contents : List ℕ) → (delivered || unit) ≡ false
+    → None ≡ option_or (if delivered then Some contents else None) (if unit then Some contents else None)
+none_lent true unit contents is = absurd (false≢true (sym is))
+none_lent false true contents is = absurd (false≢true (sym is))
+none_lent false false contents is = refl

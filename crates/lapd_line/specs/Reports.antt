@@ -3,7 +3,7 @@
 -- An answer has room for four notes and four orders, by value. No clause needs to speak of that room: an answer
 -- equals what the machine tells, so a list that was cut would break the clause. That four suffice is
 -- `answers_are_short` of `laws_line`.
-use Rattle.std.specs.Prelude.{◌≡◌, ℕ, List, [], take, drop, Option, Some, None, option_map, if◌then◌else◌}
+use Rattle.std.specs.Prelude.{◌≡◌, ℕ, ◌||◌, Bool, List, [], take, drop, Option, Some, None, option_map, if◌then◌else◌}
 use Rattle.std.specs.Option.{option_copied, option_or}
 use Rattle.model_bits.specs.Stream as stream
 use Rattle.model_bits.specs.declared.heard.Cause.{Cause}
@@ -30,6 +30,10 @@ without_contents t = record t { contents = None }
 pub record IsClear (o : BareReport) : Type 0 where
   pub answer : link.IsClear o.answer
   pub cause : o.cause ≡ None
+
+-- Whether contents were delivered.
+abbrev pub has_contents : BareReport → Bool
+has_contents o = o.answer.told.delivered || o.answer.told.unit
 
 -- Why something was dropped.
 abbrev pub cause_in : BareReport → Option Cause

@@ -152,6 +152,7 @@ impl FrameLine {
     }
 
     /// The contents alone.
+    #[tactic(auto, using(crate::proofs::ReportSteps::none_lent))]
     #[inline(always)]
     pub fn contents<'a>(&self, octets: &'a [u8], bare: &BareReport) -> Option<&'a [u8]>
         ensures { option_copied result ≡ (told_in (octets_of (Some (came (config_of self.now).n201 octets.now))) bare.now).contents }

@@ -84,7 +84,7 @@ impl BareReport {
     ghost use Rattle.std.specs.Prelude.{ℕ, List};
     ghost use Rattle.lapd_frame.specs.ShortLists.{listed};
     ghost use Rattle.model_line.specs.Event.{dropped};
-    ghost use Rattle.lapd_line.specs.Reports.{report_told, told_in, cause_in, IsClear};
+    ghost use Rattle.lapd_line.specs.Reports.{report_told, told_in, cause_in, has_contents, IsClear};
 
     /// Nothing is told yet.
     pub fn nothing() -> BareReport
@@ -151,11 +151,14 @@ impl BareReport {
     }
 
     /// Whether contents were delivered.
-    pub(crate) fn has_contents(&self) -> bool {
+    pub(crate) fn has_contents(&self) -> bool
+        ensures { result ≡ has_contents self.now }
+    {
         self.answer.told.delivered || self.answer.told.unit
     }
 
     /// The contents that the frame of these octets delivered.
+    #[tactic(auto, using(crate::proofs::ReportSteps::some_lent, crate::proofs::ReportSteps::none_lent))]
     pub(crate) fn lent<'a>(&self, octets: &'a [u8]) -> Option<&'a [u8]>
         ensures { option_copied result ≡ (told_in octets.now self.now).contents }
     {

@@ -34,10 +34,10 @@ impl NextFrame {
     }
 
     /// The same as a list.
-    pub fn order_list(&self) -> &ShortList<Order>
-        ensures { result.now ≡ self.now.orders }
+    pub fn order_list(&self) -> ShortList<Order>
+        ensures { result ≡ self.now.orders }
     {
-        &self.orders
+        self.orders
     }
 }
 

@@ -81,7 +81,7 @@ impl Report<'_> {
 }
 
 impl BareReport {
-    ghost use Rattle.std.specs.Prelude.{ℕ, List};
+    ghost use Rattle.std.specs.Prelude.{ℕ, List, []};
     ghost use Rattle.lapd_frame.specs.ShortLists.{listed};
     ghost use Rattle.model_line.specs.Event.{dropped};
     ghost use Rattle.lapd_line.specs.Reports.{report_told, told_in, cause_in, has_contents, IsClear};
@@ -106,17 +106,17 @@ impl BareReport {
     }
 
     /// What layer 3 and management are told, in order.
-    pub fn notes(&self) -> &ShortList<Note>
-        ensures { (octets : List ℕ) → listed result.now ≡ (told_in octets self.now).notes }
+    pub fn notes(&self) -> ShortList<Note>
+        ensures { listed result ≡ (told_in [] self.now).notes }
     {
-        &self.answer.told.notes
+        self.answer.told.notes
     }
 
     /// What is to be done with timers, in order.
-    pub fn orders(&self) -> &ShortList<Order>
-        ensures { (octets : List ℕ) → listed result.now ≡ (told_in octets self.now).orders }
+    pub fn orders(&self) -> ShortList<Order>
+        ensures { listed result ≡ (told_in [] self.now).orders }
     {
-        &self.answer.orders
+        self.answer.orders
     }
 
     /// Why something was dropped.
@@ -132,7 +132,7 @@ impl BareReport {
 
     /// How many control frames and messages of TEI management found no room to wait.
     pub fn lost(&self) -> u8
-        ensures { (octets : List ℕ) → result ≡ (told_in octets self.now).lost }
+        ensures { result ≡ (told_in [] self.now).lost }
     {
         self.answer.told.lost
     }

@@ -79,8 +79,6 @@ impl PlainReport {
     /// Shows the same of a report without references, with its contents.
     #[inline(always)]
     pub fn show_bare(&mut self, told: &BareReport, delivered: Option<&[u8]>)
-        requires notes { length (told_in [] told.now).notes ≤ 4 }
-        requires orders { length (told_in [] told.now).orders ≤ 4 }
         ensures { length (contents_of (option_copied delivered.entry)) ≤ 260
             → Shows self.new (record (told_in [] told.now) { contents = option_copied delivered.entry }) }
     {
@@ -94,9 +92,8 @@ impl PlainReport {
 
     /// Shows that a call gave a frame, with these orders.
     #[inline(always)]
-    pub fn show_next(&mut self, orders: &ShortList<Order>)
-        requires { length (listed orders.now) ≤ 4 }
-        ensures { ShowsPull self.new true (listed orders.now) }
+    pub fn show_next(&mut self, orders: ShortList<Order>)
+        ensures { ShowsPull self.new true (listed orders) }
     {
         self.note_count = 0;
         self.order_count = write_order_list(&mut self.orders, orders);
@@ -155,12 +152,11 @@ impl PlainReport {
     }
 }
 
-// The same of lists that mostly have no note, and one order at most.
+// Mostly there are none, and then nothing is done with the list.
 #[inline(always)]
-fn write_note_list(places: &mut [PlainNote; 4], notes: &ShortList<Note>) -> u8
-    requires { length (listed notes.now) ≤ 4 }
-    ensures count { result ≡ length (listed notes.now) }
-    ensures notes { take result places.new ≡ map plain_note (listed notes.now) }
+fn write_note_list(places: &mut [PlainNote; 4], notes: ShortList<Note>) -> u8
+    ensures count { result ≡ length (listed notes) }
+    ensures notes { take result places.new ≡ map plain_note (listed notes) }
 {
     match notes {
         ShortList::None => 0,
@@ -170,19 +166,15 @@ fn write_note_list(places: &mut [PlainNote; 4], notes: &ShortList<Note>) -> u8
     }
 }
 
+// As above, of orders.
 #[inline(always)]
-fn write_order_list(places: &mut [PlainOrder; 4], orders: &ShortList<Order>) -> u8
-    requires { length (listed orders.now) ≤ 4 }
-    ensures count { result ≡ length (listed orders.now) }
-    ensures orders { take result places.new ≡ map plain_order (listed orders.now) }
+fn write_order_list(places: &mut [PlainOrder; 4], orders: ShortList<Order>) -> u8
+    ensures count { result ≡ length (listed orders) }
+    ensures orders { take result places.new ≡ map plain_order (listed orders) }
 {
     match orders {
         ShortList::None => 0,
-        ShortList::One(items) => {
-            places[0] = PlainOrder::of(items[0]);
-            1
-        }
-        ShortList::Two(_) | ShortList::Three(_) | ShortList::Four(_) => {
+        ShortList::One(_) | ShortList::Two(_) | ShortList::Three(_) | ShortList::Four(_) => {
             write_orders(places, orders.as_slice())
         }
     }

@@ -357,7 +357,8 @@ enum {
     LAPD_REMOVE = 6,    /* take the TEI from the line (MDL-REMOVE request, clause 4.1.1.6) */
     LAPD_CHECK = 7,     /* ask which terminals have the TEI (clause 5.3.3.2) */
     LAPD_BUSY = 8,      /* take no I-frames on the link for now (clause 5.6.6) */
-    LAPD_READY = 9      /* take I-frames again */
+    LAPD_READY = 9,     /* take I-frames again */
+    LAPD_DEACTIVATE = 10 /* the line is down: give the link up; the TEI stays (annex B, persistent deactivation) */
 };
 
 /* Asks for something at a line; the contents are copied. LAPD_REFUSED_BAD_TEI to LAPD_REFUSED_CONTROL_FULL, or
@@ -419,6 +420,12 @@ typedef struct lapd_head {
 /* Which frame a pull of the line began last, as after one whose report says `begun`: it stays until a pull begins
  * another. The length is 0 where no pull has begun one yet. LAPD_WRONG_CARD on a card for frames, which has no pulls. */
 LAPD_STATUS lapd_begun(lapd_card *card, uint32_t line, lapd_head *head);
+
+/* Which frame was heard last at the line, also where it was dropped afterwards, as for a TEI that is not on the line: it stays
+ * until the next is. Of one that is too long to be kept the length is n201 and five, whatever it was. The length is 0 where
+ * none was heard yet. How many were heard so far, lapd_counters tells: the sum of LAPD_HEARD_I to LAPD_HEARD_UNDEFINED, and
+ * LAPD_HEARD_OVERLONG. LAPD_WRONG_CARD on a card for frames, whose caller has each frame that it hands over. */
+LAPD_STATUS lapd_heard(lapd_card *card, uint32_t line, lapd_head *head);
 
 /*
  * What is counted of a line: the place of each number in lapd_counters.
@@ -640,6 +647,18 @@ LAPD_INLINE_STATUS lapd_busy(lapd_card *card, uint32_t line, uint8_t service, ui
 /* It can again. */
 LAPD_INLINE_STATUS lapd_ready(lapd_card *card, uint32_t line, uint8_t service, uint8_t tei, lapd_report *report) {
     return lapd_request_with(card, line, LAPD_READY, service, tei, LAPD_NULL, 0, report);
+}
+
+/* The line is down, as where layer 1 lost its synchronization: gives the link up, with all contents and control frames that wait
+ * on it. It is in state 4 then, its timer stops, and its release is told as its state has it; the TEI stays. Of a whole line:
+ *
+ *     uint8_t place = 0;
+ *     for (lapd_link link; lapd_next_link(&card, line, &place, &link) == LAPD_OK;)
+ *         if (lapd_deactivate(&card, line, link.service, link.tei, &report) == LAPD_OK)
+ *             ... the report's notes and orders ...
+ */
+LAPD_INLINE_STATUS lapd_deactivate(lapd_card *card, uint32_t line, uint8_t service, uint8_t tei, lapd_report *report) {
+    return lapd_request_with(card, line, LAPD_DEACTIVATE, service, tei, LAPD_NULL, 0, report);
 }
 
 /* A status in words: a refusal by its name in docs/FORMAT.md. */

@@ -278,6 +278,9 @@ public:
     status ready(uint32_t line, service by, uint8_t tei, report &to) {
         return of(lapd_ready(&card_, line, number(by), tei, to.raw()));
     }
+    status deactivate(uint32_t line, service by, uint8_t tei, report &to) {
+        return of(lapd_deactivate(&card_, line, number(by), tei, to.raw()));
+    }
 
     status state_of(uint32_t line, service by, uint8_t tei, state &to) {
         uint8_t raw = 0;
@@ -330,6 +333,7 @@ public:
         return of(lapd_exchange(&card_, line, at(in), in.size(), at(out), out.size(), &steps, to.raw()));
     }
     status begun(uint32_t line, lapd_head &to) { return of(lapd_begun(&card_, line, &to)); }
+    status heard(uint32_t line, lapd_head &to) { return of(lapd_heard(&card_, line, &to)); }
 };
 
 /// A card for frames.

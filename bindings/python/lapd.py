@@ -143,6 +143,7 @@ class Request(enum.IntEnum):
     CHECK = 7
     BUSY = 8
     READY = 9
+    DEACTIVATE = 10
 
 
 class State(enum.IntEnum):
@@ -226,8 +227,8 @@ _TAKES: Dict[str, List[Any]] = {
     "lapd_next_frame": [_AT, _U32, _AT, _SIZE, _AT, _AT], "lapd_expire": [_AT, _U32, _AT, _AT],
     "lapd_request_with": [_AT, _U32, _U8, _U8, _U8, _AT, _SIZE, _AT],
     "lapd_state": [_AT, _U32, _U8, _U8, _AT], "lapd_next_link": [_AT, _U32, _AT, _AT],
-    "lapd_room": [_AT, _U32, _U8, _U8, _AT], "lapd_begun": [_AT, _U32, _AT], "lapd_counters": [_AT, _U32, _AT],
-    "lapd_stored": [_AT, _AT], "lapd_limit": [_AT, _AT], "lapd_lines": [_AT, _AT],
+    "lapd_room": [_AT, _U32, _U8, _U8, _AT], "lapd_begun": [_AT, _U32, _AT], "lapd_heard": [_AT, _U32, _AT],
+    "lapd_counters": [_AT, _U32, _AT], "lapd_stored": [_AT, _AT], "lapd_limit": [_AT, _AT], "lapd_lines": [_AT, _AT],
     "lapd_clock_start": [_AT, _AT], "lapd_clock_set_lengths": [_AT, _U32, _U32, _U32], "lapd_clock_free": [_AT],
     "lapd_clock_apply_report": [_AT, _U32, _AT, _U64], "lapd_clock_due": [_AT, _U64, _AT], "lapd_clock_next": [_AT, _AT],
     "lapd_status_text": [_U32], "lapd_note_text": [_AT], "lapd_cause_text": [_U8], "lapd_counter_text": [_U32],
@@ -503,6 +504,9 @@ class AnyCard(_Owner):
     def ready(self, line: int, tei: int, service: Service = Service.CALL) -> Report:
         return self._ask(line, Request.READY, service, tei)
 
+    def deactivate(self, line: int, tei: int, service: Service = Service.CALL) -> Report:
+        return self._ask(line, Request.DEACTIVATE, service, tei)
+
     def expire(self, line: int, timer: Timer) -> Report:
         return self._event("lapd_expire", line, ctypes.byref(_raw_timer(timer)))
 
@@ -566,8 +570,15 @@ class Card(AnyCard):
 
     def begun(self, line: int) -> Optional[Head]:
         """Which frame a pull began last; None where none has begun one."""
+        return self._head("lapd_begun", line)
+
+    def heard(self, line: int) -> Optional[Head]:
+        """Which frame was heard last; None where none was. Of one that is too long the length is n201 and five."""
+        return self._head("lapd_heard", line)
+
+    def _head(self, function: str, line: int) -> Optional[Head]:
         head = _Head()
-        _call("lapd_begun", self._at, line, ctypes.byref(head))
+        _call(function, self._at, line, ctypes.byref(head))
         return Head(bytes(head.octets), head.length) if head.length else None
 
 

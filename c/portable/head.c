@@ -42,16 +42,17 @@ typedef int64_t s64;
 /* What cannot be, by the proofs, ends the program. */
 #define TRAP() abort()
 #define UNREACHABLE TRAP()
-#define FUNC_PROLOGUE (void)instance
+#define FUNC_PROLOGUE const u32 limit = (u32)instance->octets; (void)limit
 #define FUNC_EPILOGUE
 
-/* Behind a machine's memory are eight octets more, so that the test of a load or a store needs no sum. */
-enum { BEHIND = 8 };
+/* A load or a store has a place and how far ahead of it it goes, less than AHEAD; so much more than AHEAD is behind a machine's
+ * memory. So the test of a place needs no sum and no width, and serves all that goes ahead of it. */
+enum { AHEAD = 512, BEHIND = AHEAD + 8 };
 #ifdef LAPD_UNTESTED
-#define TEST(at) (void)0
+#define TEST(at) (void)limit
 #define TEST_BLOCK(at, count) (void)0
 #else
-#define TEST(at) do { if (UNLIKELY((at) > instance->octets)) TRAP(); } while (0)
+#define TEST(at) do { if (UNLIKELY((at) > limit)) TRAP(); } while (0)
 #define TEST_BLOCK(at, count) do { if (UNLIKELY((u64)(at) + (count) > instance->octets)) TRAP(); } while (0)
 #endif
 
@@ -69,17 +70,17 @@ enum { BEHIND = 8 };
 #endif
 
 /* Loads and stores: so many bits of memory, read as a signed or unsigned number, as a value of the machine. */
-#define DEFINE_LOAD(name, bits, as, value)                                          \
-    static inline value name(const machine *instance, u64 at) {                     \
-        u##bits octets;                                                             \
-        TEST(at);                                                                   \
-        memcpy(&octets, instance->data + (size_t)at, sizeof octets);                \
-        return (value)(as)TURNED_##bits(octets);                                    \
+#define DEFINE_LOAD(name, bits, as, value)                                                  \
+    static inline value name(const machine *instance, u32 limit, u64 at, u32 ahead) {       \
+        u##bits octets;                                                                     \
+        TEST(at);                                                                           \
+        memcpy(&octets, instance->data + (size_t)at + ahead, sizeof octets);                \
+        return (value)(as)TURNED_##bits(octets);                                            \
     }
-#define DEFINE_STORE(name, bits, value)                                             \
-    static inline void name(machine *instance, u64 at, value number) {              \
-        u##bits octets = (u##bits)number;                                           \
-        TEST(at);                                                                   \
-        octets = TURNED_##bits(octets);                                             \
-        memcpy(instance->data + (size_t)at, &octets, sizeof octets);                \
+#define DEFINE_STORE(name, bits, value)                                                     \
+    static inline void name(machine *instance, u32 limit, u64 at, u32 ahead, value number) { \
+        u##bits octets = (u##bits)number;                                                   \
+        TEST(at);                                                                           \
+        octets = TURNED_##bits(octets);                                                     \
+        memcpy(instance->data + (size_t)at + ahead, &octets, sizeof octets);                \
     }

@@ -3,10 +3,11 @@
  * Timers are the library's clock, by the system's monotonic time (linecard.c). Layer 3 answers each message of a terminal
  * with the same message.
  *
- *     exchange [RECORD] < OCTETS > OCTETS
+ *     exchange [RECORD [CAPTURE]] < OCTETS > OCTETS
  *
  * Standard error tells what layer 3 is told. With RECORD, all that happens is written there as a script of docs/FORMAT.md:
- * `lapdsim run < RECORD` then shows the same.
+ * `lapdsim run < RECORD` then shows the same. With CAPTURE, how the frames of both ways begin is written there for Wireshark
+ * (pcap.c).
  */
 #define _POSIX_C_SOURCE 200809L
 
@@ -16,6 +17,12 @@
 #include <unistd.h>
 
 #include "linecard.h"
+#include "pcap.h"
+
+enum { MOST_AT_A_TIME = 64, MOST_OF_A_CAPTURE = 4 };
+
+static FILE *capture; /* or NULL */
+static uint64_t heard;
 
 /* A message came on a link: the same message goes back. */
 static bool message_came(linecard *own, const lapd_note *note, const uint8_t *contents, size_t length) {
@@ -46,6 +53,8 @@ static bool exchange(const uint8_t *in, uint8_t *out, size_t length) {
             return false;
         for (; own.record != NULL && before < steps; before++)
             before % 2 == 0 ? fprintf(own.record, "rx 0 %02X\n", in[before / 2]) : fprintf(own.record, "pull 0 1\n");
+        if (capture != NULL && !pcap_heads(capture, own.now, LAPD_NETWORK, &own.card, 0, &report, &heard))
+            return false;
         if (!linecard_tell(&own, &report))
             return false;
     }
@@ -54,14 +63,14 @@ static bool exchange(const uint8_t *in, uint8_t *out, size_t length) {
 
 /* Serves the line until it ends. */
 static bool serve(void) {
-    uint8_t in[64], out[64];
+    uint8_t in[MOST_AT_A_TIME], out[MOST_AT_A_TIME];
     struct pollfd line = {.fd = STDIN_FILENO, .events = POLLIN, .revents = 0};
     while (poll(&line, 1, linecard_patience(&own)) >= 0) {
         if (!linecard_pass(&own))
             return false;
         if (line.revents == 0)
             continue;
-        ssize_t length = read(STDIN_FILENO, in, sizeof in);
+        ssize_t length = read(STDIN_FILENO, in, capture != NULL ? MOST_OF_A_CAPTURE : sizeof in);
         if (length <= 0)
             return true;
         if (!exchange(in, out, (size_t)length))
@@ -71,12 +80,16 @@ static bool serve(void) {
 }
 
 int main(int words, char **argv) {
-    if (words > 2 || (words == 2 && (own.record = fopen(argv[1], "w")) == NULL)) {
-        fprintf(stderr, "usage: exchange [RECORD] < OCTETS > OCTETS\n");
+    if (words > 3 || (words > 1 && (own.record = fopen(argv[1], "w")) == NULL)
+        || (words > 2 && (capture = fopen(argv[2], "wb")) == NULL)) {
+        fprintf(stderr, "usage: exchange [RECORD [CAPTURE]] < OCTETS > OCTETS\n");
         return 2;
     }
     if (own.record != NULL)
         fprintf(own.record, "card " LINECARD_NUMBERS "\n");
+    if (capture != NULL)
+        pcap_begin(capture);
     bool good = linecard_is_ok(&own, lapd_card_start(&own.card, &linecard_config), "card") && linecard_begin(&own) && serve();
-    return !linecard_end(&own) || !good;
+    bool is_kept = capture == NULL || (!ferror(capture) && fclose(capture) == 0);
+    return !linecard_end(&own) || !is_kept || !good;
 }

@@ -1,8 +1,6 @@
 /* pcap.c: captures that Wireshark and tshark read. See pcap.h. Every number has its high octet first. */
 #include "pcap.h"
 
-#include "lapd.h"
-
 enum { LINK_TYPE = 177, LONGEST = 65535, FROM_OTHER = 0, TO_OTHER = 4, HARDWARE = 8445, PROTOCOL = 0x0030, PSEUDO_HEADER = 16 };
 
 static void put_number(FILE *to, uint64_t number, int octets) {
@@ -31,4 +29,30 @@ void pcap_frame(FILE *to, uint64_t milliseconds, bool is_sent, uint16_t side, co
     put_number(to, 0, 7);
     put_number(to, PROTOCOL, 2);
     fwrite(octets, 1, captured, to);
+}
+
+static void put_head(FILE *to, uint64_t milliseconds, bool is_sent, uint16_t side, const lapd_head *head) {
+    size_t captured = head->length < sizeof head->octets ? head->length : sizeof head->octets;
+    pcap_frame(to, milliseconds, is_sent, side, head->octets, captured, head->length);
+}
+
+/* How many frames were heard in all. */
+static uint64_t frames_heard(const struct lapd_counters *counters) {
+    uint64_t sum = counters->values[LAPD_HEARD_OVERLONG];
+    for (unsigned kind = LAPD_HEARD_I; kind <= LAPD_HEARD_UNDEFINED; kind++)
+        sum += counters->values[kind];
+    return sum;
+}
+
+bool pcap_heads(FILE *to, uint64_t milliseconds, uint16_t side, lapd_card *card, uint32_t line, const lapd_report *report, uint64_t *heard) {
+    struct lapd_counters counters;
+    lapd_head head;
+    if (lapd_counters(card, line, &counters) != LAPD_OK || lapd_heard(card, line, &head) != LAPD_OK)
+        return false;
+    if (frames_heard(&counters) != *heard)
+        put_head(to, milliseconds, false, side, &head);
+    *heard = frames_heard(&counters);
+    if (report->begun && lapd_begun(card, line, &head) == LAPD_OK)
+        put_head(to, milliseconds, true, side, &head);
+    return true;
 }

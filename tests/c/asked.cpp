@@ -50,6 +50,8 @@ void asks_octets(lapd::card &card, lapd::report &report) {
     wants(card.pull(1, octet, report) == status::ok && !report.begun() && octet == 0x7E, "a flag");
     wants(card.pull(1, octet, report) == status::ok && report.begun() && octet == 0x00, "a pull");
     wants(card.begun(1, head) == status::ok && head.length == 3 && head.octets[2] == 0x73, "a begun frame");
+    wants(card.heard(1, head) == status::ok && head.length == 3 && head.octets[2] == 0x7F, "a frame that was heard");
+    wants(card.heard(0, head) == status::ok && head.length == 0, "no frame that was heard");
 }
 
 void asks_frames(lapd::frame_card &card, lapd::report &report) {

@@ -66,8 +66,12 @@ static void wrong_calls(void) {
     lapd_head head = {1, {2, 3, 4, 5}};
     wants(lapd_begun(&none, 0, &head) == LAPD_NO_CARD, "a frame of no card");
     wants(lapd_begun(&card, LINES, &head) == LAPD_WRONG_LINE, "a frame of no line");
+    wants(lapd_heard(&none, 0, &head) == LAPD_NO_CARD, "a frame that no card heard");
+    wants(lapd_heard(&card, LINES, &head) == LAPD_WRONG_LINE, "a frame that no line heard");
     wants(head.length == 1 && memcmp(head.octets, "\x02\x03\x04\x05", 4) == 0, "a wrong call has told a frame");
     wants(lapd_begun(&card, 1, &head) == LAPD_OK && head.length == 0, "a frame before the first");
+    head.length = 1;
+    wants(lapd_heard(&card, 1, &head) == LAPD_OK && head.length == 0, "a frame heard before the first");
     wants(place == 7 && link.service == 1 && link.tei == 2 && link.state == 3, "a wrong call has changed something");
 }
 
@@ -114,6 +118,7 @@ static void echo(void) {
     static const uint8_t sabme[] = {0x00, 0x81, 0x7F}, data[] = {0x00, 0x81, 0x00, 0x00, 0x11, 0x22, 0x33, 0x44};
     static hdlc_sender sender;
     lapd_report told = report;
+    lapd_head head = {1, {2, 3, 4, 5}};
     uint8_t octets[32], whole[] = {0x02, 0x81, 0x00, 0x02, 0x11, 0x22, 0x33, 0x44};
     hdlc_begin(&sender);
     hear(&sender, sabme, sizeof sabme, &told);
@@ -121,6 +126,7 @@ static void echo(void) {
         pull(octets);
     hear(&sender, data, sizeof data, &told);
     wants(told.delivered && told.length == 4, "nothing was delivered");
+    wants(lapd_heard(&card, 0, &head) == LAPD_OK && head.length == sizeof data && memcmp(head.octets, data, 4) == 0, "another frame was heard");
     wants(lapd_data(&card, 0, LAPD_CALL, 64, told.contents, told.length, &told) == LAPD_OK, "contents of a report");
     send(octets, sizeof octets);
     wants(memcmp(octets, whole, sizeof whole) == 0, "other contents went back");

@@ -1,8 +1,8 @@
 /*
  * counts.c: what is counted of lines to which things happen at random: frames of every kind, whole, too long, too short,
- * and with a wrong check; timers, requests and pulls. Each counter is counted here again, from what was sent to the card,
- * from what its reports tell, and from which frames began or were given; by table 5 of the standard, and not by the
- * library's code. The card is one for octets, or for frames. For tests alone.
+ * and with a wrong check; timers, requests and pulls. Each counter is counted here again (counting.c), from what was sent to the
+ * card, from what its reports tell, and from which frames began or were given. The card is one for octets, or for frames. For
+ * tests alone.
  *
  *     counts SEED KIND [user]   status 1 where a counter is another, or where hardly any name has something; KIND is octets
  *                               or frames; user where the card is the user's side
@@ -11,6 +11,7 @@
 #include <stdlib.h>
 #include <string.h>
 
+#include "counting.h"
 #include "hdlc.h"
 #include "lapd.h"
 
@@ -21,7 +22,7 @@ static lapd_card card;
 static bool for_frames;
 static lapd_report report;
 static hdlc_sender senders[LINES];
-static uint64_t counted[LINES][LAPD_COUNTERS];
+static counting counted[LINES];
 static uint32_t seed;
 
 static unsigned below(unsigned most) {
@@ -29,84 +30,28 @@ static unsigned below(unsigned most) {
     return (seed >> 8) % most;
 }
 
-/* The kind of a frame, as LAPD_HEARD_I and so on number them. */
-static unsigned kind_of(unsigned control) {
-    static const uint8_t unnumbered[] = {0x6F, 0x43, 0x03, 0x63, 0x0F, 0x87, 0xAF};
-    if (control % 2 == 0)
-        return LAPD_HEARD_I;
-    if (control % 4 == 1)
-        return control <= 0x09 ? LAPD_HEARD_RR + control / 4 : LAPD_HEARD_UNDEFINED;
-    for (unsigned i = 0; i < sizeof unnumbered; i++)
-        if ((control & ~0x10u) == unnumbered[i])
-            return LAPD_HEARD_SABME + i;
-    return LAPD_HEARD_UNDEFINED;
-}
-
-/* A frame that was heard or begun: commands have C/R 0 from a terminal, and 1 from the network. Octets that it has not
- * are 0. */
-static void count_frame(uint32_t line, bool is_begun, const uint8_t octets[4], size_t length) {
-    unsigned kind = kind_of(octets[2]);
-    bool from_network = is_begun == (config.side == LAPD_NETWORK);
-    bool is_command = (octets[0] & 2) == (from_network ? 2 : 0), asks = kind <= LAPD_HEARD_REJ;
-    counted[line][(is_begun ? LAPD_BEGUN_I : LAPD_HEARD_I) + kind]++;
-    counted[line][is_begun ? LAPD_BEGUN_OCTETS : LAPD_HEARD_OCTETS] += length;
-    if (is_command && asks && octets[3] % 2 == 1)
-        counted[line][is_begun ? LAPD_BEGUN_POLLS : LAPD_HEARD_POLLS]++;
-}
-
-static void count_heard(uint32_t line, const uint8_t *octets, size_t length) {
-    uint8_t first[4] = {0};
-    bool is_short = length < 3 || (length == 3 && octets[2] % 4 != 3);
-    if (is_short)
-        return;
-    memcpy(first, octets, length < 4 ? length : 4);
-    if (length > N201 + 4)
-        counted[line][LAPD_HEARD_OVERLONG]++;
-    else
-        count_frame(line, false, first, length);
-}
-
-/* What a report tells. */
-static void count_told(uint32_t line) {
-    static const uint8_t places[] = {0, LAPD_TOLD_ESTABLISH_INDICATION, LAPD_TOLD_ESTABLISH_CONFIRM,
-        LAPD_TOLD_RELEASE_INDICATION, LAPD_TOLD_RELEASE_CONFIRM, LAPD_TOLD_DATA, LAPD_TOLD_UNIT, 0, LAPD_TOLD_ASSIGNED,
-        LAPD_TOLD_REMOVED, LAPD_TOLD_DOUBLED, LAPD_TOLD_XID};
-    static const char letters[] = "ABCDEFGHIJKLNO";
-    for (unsigned i = 0; i < report.note_count; i++) {
-        const lapd_note *note = &report.notes[i];
-        if (note->note == LAPD_ERROR_INDICATION)
-            counted[line][LAPD_ERRORS_A + (strchr(letters, note->error) - letters)]++;
-        else
-            counted[line][places[note->note]]++;
-    }
-    if (report.cause != 0)
-        counted[line][LAPD_DROPPED_ABORT + report.cause - LAPD_ABORT]++;
-    counted[line][LAPD_LOST] += report.lost;
-}
-
 static void pull(uint32_t line) {
     uint8_t octet;
     lapd_head head;
     lapd_pull(&card, line, &octet, &report);
-    count_told(line);
+    count_told(&counted[line], &report);
     if (report.begun && lapd_begun(&card, line, &head) == LAPD_OK)
-        count_frame(line, true, head.octets, head.length);
+        count_head(&counted[line], true, head.octets, head.length);
 }
 
 /* At a card for frames. */
 static void take_next(uint32_t line) {
-    uint8_t octets[LAPD_MOST_FRAME], first[4] = {0};
+    uint8_t octets[LAPD_MOST_FRAME];
     size_t length;
     if (lapd_next_frame(&card, line, octets, sizeof octets, &length, &report) != LAPD_OK)
         return;
-    count_told(line);
-    memcpy(first, octets, length < 4 ? length : 4);
-    count_frame(line, true, first, length);
+    count_told(&counted[line], &report);
+    count_given(&counted[line], octets, length);
 }
 
 static void octet_comes(uint32_t line, uint8_t octet) {
     lapd_octet(&card, line, octet, &report);
-    count_told(line);
+    count_told(&counted[line], &report);
 }
 
 /* A frame of any kind: rarely one that makes sense. */
@@ -155,7 +100,7 @@ static void noise_comes(uint32_t line) {
     const uint8_t *noise = noises[below(3)];
     if (for_frames) {
         lapd_frame_failed(&card, line, causes[below(sizeof causes)], &report);
-        count_told(line);
+        count_told(&counted[line], &report);
         return;
     }
     for (unsigned i = 0; i < sizeof *noises; i++)
@@ -168,10 +113,10 @@ static void frame_comes(uint32_t line) {
     size_t length = below(3) ? likely_frame(octets) : any_frame(octets);
     if (below(20) == 0)
         noise_comes(line);
-    count_heard(line, octets, length);
+    count_heard(&counted[line], octets, length);
     if (for_frames) {
         lapd_frame(&card, line, octets, length, &report);
-        count_told(line);
+        count_told(&counted[line], &report);
         return;
     }
     hdlc_load(&senders[line], octets, length);
@@ -183,19 +128,19 @@ static void frame_comes(uint32_t line) {
 
 static void asks(uint32_t line) {
     static const uint8_t requests[] = {LAPD_ESTABLISH, LAPD_RELEASE, LAPD_DATA, LAPD_DATA, LAPD_DATA, LAPD_UNIT,
-        LAPD_ASSIGN, LAPD_REMOVE, LAPD_CHECK, LAPD_BUSY, LAPD_READY, LAPD_READY};
+        LAPD_ASSIGN, LAPD_REMOVE, LAPD_CHECK, LAPD_BUSY, LAPD_READY, LAPD_READY, LAPD_DEACTIVATE};
     uint8_t request = requests[below(sizeof requests)], contents[N201 + 4] = {1, 2, 3};
     size_t length = request == LAPD_DATA || request == LAPD_UNIT ? below(sizeof contents) : 0;
     uint8_t service = below(2) ? LAPD_CALL : LAPD_PACKET;
     uint32_t status = lapd_request(&card, line, request, service, (uint8_t)(64 + below(4)), contents, length, &report);
     if (status == LAPD_OK)
-        count_told(line);
+        count_told(&counted[line], &report);
 }
 
 static void expires(uint32_t line) {
     lapd_timer timer = {(uint8_t)(LAPD_T200 + below(3)), below(2) ? LAPD_CALL : LAPD_PACKET, (uint8_t)(64 + below(4))};
     lapd_expire(&card, line, &timer, &report);
-    count_told(line);
+    count_told(&counted[line], &report);
 }
 
 static void happens(uint32_t line) {
@@ -214,24 +159,11 @@ static void happens(uint32_t line) {
         frame_comes(line);
 }
 
-/* Of a line: status 1 where a counter is another. */
-static int compare(uint32_t line) {
-    struct lapd_counters counters;
-    int failed = lapd_counters(&card, line, &counters) != LAPD_OK;
-    for (unsigned i = 0; i < LAPD_COUNTERS; i++)
-        if (counters.values[i] != counted[line][i]) {
-            fprintf(stderr, "counts: line %u, place %u: %llu, where %llu were\n", (unsigned)line, i,
-                    (unsigned long long)counters.values[i], (unsigned long long)counted[line][i]);
-            failed = 1;
-        }
-    return failed;
-}
-
 /* How many names have something on some line. */
 static unsigned names(void) {
     unsigned many = 0;
     for (unsigned i = 0; i < LAPD_COUNTERS; i++)
-        many += counted[0][i] + counted[1][i] + counted[2][i] > 0;
+        many += counted[0].values[i] + counted[1].values[i] + counted[2].values[i] > 0;
     return many;
 }
 
@@ -247,13 +179,15 @@ int main(int count, char **words) {
         return 1;
     for (uint32_t line = 0; line < LINES; line++) {
         hdlc_begin(&senders[line]);
+        counted[line].side = config.side;
+        counted[line].n201 = config.n201;
         for (uint8_t tei = 64; tei < 67; tei++)
             lapd_assign(&card, line, tei, &report);
     }
     for (unsigned i = 0; i < TURNS; i++)
         happens(below(LINES));
     for (uint32_t line = 0; line < LINES; line++)
-        failed |= compare(line);
+        failed |= !counts_the_same(&counted[line], &card, line, "counts");
     printf("counts: %u of %d names\n", names(), LAPD_COUNTERS);
     lapd_card_free(&card);
     return failed || names() < (config.side == LAPD_USER ? 40 : 45);

@@ -84,6 +84,7 @@ static void of_other_kind(lapd_card *frames, lapd_card *octets) {
     refused(lapd_pull(frames, 0, out, &report), LAPD_WRONG_CARD, "a pull of a card for frames");
     refused(lapd_exchange(frames, 0, sabme, 3, out, 3, &steps, &report), LAPD_WRONG_CARD, "an exchange at a card for frames");
     refused(lapd_begun(frames, 0, &head), LAPD_WRONG_CARD, "a frame begun by no pull");
+    refused(lapd_heard(frames, 0, &head), LAPD_WRONG_CARD, "a frame heard in no octets");
     wants(steps == 3 && head.length == 1 && head.octets[3] == 5, "a call of the other kind has written something");
     refused(lapd_frame(octets, 9, sabme, 3, &report), LAPD_WRONG_CARD, "a frame at a card for octets");
     refused(lapd_frame_failed(octets, 9, 99, &report), LAPD_WRONG_CARD, "a fault at a card for octets");
@@ -164,6 +165,7 @@ static uint32_t chance(uint32_t below) {
 
 typedef struct {
     lapd_card frames, octets;
+    lapd_head heard[LINES];
     unsigned told, sent, delivered;
 } pair;
 
@@ -185,6 +187,22 @@ static unsigned hear_octet(pair *both, uint32_t line, uint8_t octet, unsigned te
     return tells + 1;
 }
 
+/* How the latest frame of the line began: what came in its octets. */
+static void is_latest(pair *both, uint32_t line) {
+    lapd_head head = {1, {2, 3, 4, 5}};
+    wants(lapd_heard(&both->octets, line, &head) == LAPD_OK && memcmp(&head, &both->heard[line], sizeof head) == 0,
+          "another frame was heard last");
+}
+
+static void was_heard(pair *both, uint32_t line, const uint8_t *frame, size_t count) {
+    lapd_head *head = &both->heard[line];
+    if (count < 3 || (count == 3 && frame[2] % 4 != 3))
+        return;
+    memset(head, 0, sizeof *head);
+    memcpy(head->octets, frame, count < 4 ? count : 4);
+    head->length = (uint16_t)(count > config.n201 + 4u ? config.n201 + 5u : count);
+}
+
 /* The octets of a frame come on an idle line, and 1s after them: at most one octet has anything to tell. */
 static void hear(pair *both, uint32_t line, const uint8_t *frame, size_t count, lapd_report *told) {
     static hdlc_sender sender;
@@ -196,6 +214,8 @@ static void hear(pair *both, uint32_t line, const uint8_t *frame, size_t count, 
     while (hdlc_busy(&sender))
         tells = hear_octet(both, line, hdlc_octet(&sender), tells, told);
     wants(tells <= 1, "two octets of a frame tell something");
+    was_heard(both, line, frame, count);
+    is_latest(both, line);
 }
 
 /* The octets that a fault means, by its cause: from a flag to the 1s of an idle line. One of them tells it. */
@@ -211,6 +231,7 @@ static void hear_fault(pair *both, uint32_t line, uint8_t cause, lapd_report *to
     for (size_t i = 0; i < faults[cause].count; i++)
         tells = hear_octet(both, line, faults[cause].octets[i], tells, told);
     wants(tells == 1, "not one octet of a fault tells it");
+    is_latest(both, line);
 }
 
 /* A frame as a terminal may send it, or a little different, or anything. */

@@ -80,6 +80,7 @@ static void give_frame(void) { status = lapd_next_frame(&card, 0, frame, sizeof 
 static void find_link(void) { status = lapd_next_link(&card, 0, &place, &link); }
 static void ask_room(void) { status = lapd_room(&card, 0, LAPD_CALL, 64, &room); }
 static void ask_begun(void) { status = lapd_begun(&card, 0, &head); }
+static void ask_heard(void) { status = lapd_heard(&card, 0, &head); }
 static void ask_counters(void) { status = lapd_counters(&card, 0, &counters); }
 static void exchange(void) { status = lapd_exchange(&card, 0, octets, sizeof octets, given, sizeof given, &steps, &report); }
 
@@ -161,6 +162,7 @@ int main(void) {
     show("lapd_next_link", most(0, find_link));
     show("lapd_room", most(0, ask_room));
     show("lapd_begun", most(0, ask_begun));
+    show("lapd_heard", most(0, ask_heard));
     show("lapd_counters", most(0, ask_counters));
     show("lapd_card_free", most(0, card_free));
     show("lapd_clock_free", most(0, clock_free));

@@ -34,6 +34,8 @@ RUN, REPORT = 256, 304
 # Octets of stack in a machine's memory, where C's own has the rest; calls were seen to take less than half, and one that takes
 # more ends the program, as the stack lies at the memory's beginning.
 STACK = 8192
+# As c/portable/head.c has it: a load or a store goes less than so far ahead of the place that is tested.
+AHEAD = 512
 WIDTH = {"uint8_t": 8, "uint16_t": 16, "uint32_t": 32, "uint64_t": 64, "size_t": 64}
 LOADS = {8: "i32_load8_u", 16: "i32_load16_u", 32: "i32_load", 64: "i64_load"}
 STORES = {8: "i32_store8", 16: "i32_store16", 32: "i32_store", 64: "i64_store"}
@@ -72,52 +74,58 @@ def plain(body: str) -> str:
     body = re.sub(r"^ +", "", body, flags=re.M)
     body = re.sub(r"\bZ_machine_instance_t ?\* ?", "machine *", body)
     body = body.replace("instance->w2c_memory.pages", "(u32)(instance->octets / 65536)")
-    return body.replace("&instance->w2c_memory", "instance").replace("instance->w2c_memory", "instance")
+    body = body.replace("&instance->w2c_memory", "instance").replace("instance->w2c_memory", "instance")
+    return re.sub(r"\b(i\d\d_(?:load|store)\w*)\(instance, (\(u64\)\(w2c_i\d+\))(?: \+ (\d+)u?)?", access, body)
+
+
+def access(found: "re.Match[str]") -> str:
+    """The beginning of a load or a store: its place, and how far ahead of it it goes, where that is near enough."""
+    name, at, ahead = found[1], found[2], int(found[3] or 0)
+    return f"{name}(instance, limit, {at}, {ahead}" if ahead < AHEAD else f"{name}(instance, limit, {at} + {ahead}, 0"
 
 
 # ---- A caller's structs and the machine's memory -------------------------------------------------------------------------
 
-def place(at: int) -> str:
-    return "at" if at == 0 else f"at + {at}"
-
-
-def moved(kind: str, to: str, value: str, is_put: bool) -> str:
-    """The statement that puts or gets one value of a plain type, or a struct."""
+def moved(kind: str, at: str, ahead: int, value: str, is_put: bool) -> str:
+    """The statement that puts or gets one value of a plain type, or a struct, so far ahead of a place."""
+    to = f"{at} + {ahead}" if ahead else at
     if kind in structs():
         return f"{'put' if is_put else 'get'}_{kind}(instance, {to}, &{value});"
     width = WIDTH[kind]
     if width == 8:
         return f"instance->data[{to}] = {value};" if is_put else f"{value} = instance->data[{to}];"
+    words = f"(instance, limit, {at}, {ahead}"
     cast = "u32" if width < 64 else "u64"
-    return f"{STORES[width]}(instance, {to}, ({cast}){value});" if is_put else f"{value} = ({kind}){LOADS[width]}(instance, {to});"
+    return f"{STORES[width]}{words}, ({cast}){value});" if is_put else f"{value} = ({kind}){LOADS[width]}{words});"
 
 
 def field_moved(it: Struct, field: Field, is_put: bool) -> List[str]:
     """The statements for a field: of an array so much as the struct says that there is."""
     if field.count is None:
-        return [moved(field.kind, place(field.at), f"it->{field.name}", is_put)]
+        return [moved(field.kind, "at", field.at, f"it->{field.name}", is_put)]
     size = structs()[field.kind].octets if field.kind in structs() else WIDTH[field.kind] // 8
     count = COUNTED.get((it.name, field.name))
     if size == 1:
         much = f"at_most(it->{count}, {field.count})" if count else str(field.count)
-        of = f"it->{field.name}", f"instance->data + {place(field.at)}"
+        of = f"it->{field.name}", f"instance->data + at + {field.at}"
         return [f"memcpy({', '.join(of[::-1] if is_put else of)}, {much});"]
     bound = f"i < {field.count}" + (f" && i < it->{count}" if count else "")
     step = f"(u64){size} * i"
     return [f"for (u32 i = 0; {bound}; i++)",
-            "    " + moved(field.kind, f"{place(field.at)} + {step}", f"it->{field.name}[i]", is_put)]
+            "    " + moved(field.kind, f"at + {step}", field.at, f"it->{field.name}[i]", is_put)]
 
 
 def mover(it: Struct, is_put: bool) -> str:
     names = READ.get(it.name) if is_put else None
     rows = [row for one in it.fields if names is None or one.name in names for row in field_moved(it, one, is_put)]
     what = f"void put_{it.name}(machine *instance, u64 at, const" if is_put else f"void get_{it.name}(const machine *instance, u64 at,"
+    rows = ["FUNC_PROLOGUE;", *rows]
     return f"static inline {what} {tag(it.name)} *it) {{\n" + "".join(f"    {row}\n" for row in rows) + "}\n"
 
 
 def plain_mover(kind: str, is_put: bool) -> str:
     what = f"void put_{kind}(machine *instance, u64 at, const" if is_put else f"void get_{kind}(const machine *instance, u64 at,"
-    return f"static inline {what} {kind} *it) {{\n    {moved(kind, 'at', '*it', is_put)}\n}}\n"
+    return f"static inline {what} {kind} *it) {{\n    FUNC_PROLOGUE;\n    {moved(kind, 'at', 0, '*it', is_put)}\n}}\n"
 
 
 def tag(name: str) -> str:
@@ -246,8 +254,9 @@ def other_octets() -> int:
 
 
 def own_octets(made: Machine) -> int:
-    """So many octets a machine takes beside its heap: its data and stack, what is handed over, and 64 of its own."""
-    return -(-made.heap_base // 16) * 16 + 16 + REPORT + other_octets() + 64
+    """So many octets a machine takes beside its heap: its data and stack, what is handed over, what is behind it, and 64 of
+    its own."""
+    return -(-made.heap_base // 16) * 16 + 16 + REPORT + other_octets() + AHEAD + 64
 
 
 def asked_for(memory: str, rest: str) -> str:

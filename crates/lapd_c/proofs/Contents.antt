@@ -1,5 +1,5 @@
 -- Contents that an answer delivers have at most N201 octets.
-use Rattle.lapd_c.proofs.Vocabulary.{◌≡◌, ℕ, ◌≤◌, Answer, Card, OctetCard, told, gave, option_map, Bool, true, false, cond, List, length, Option, nat_lt, refl, sym, ap, subst, arith, None, leb-true, ltb-false, and_parts, option_or, option_map_or, Control, Ui, Refusal, Service, Timer, T200, T203, T201, State, TeiAssigned, AwaitingEstablishment, AwaitingRelease, Established, TimerRecovery, Terms, LinkTimer, Arrived, is_eligible, eligible_of, information_in, Link, Course, Step, begun, by_bit, leave_unserved, deliver_unit, delivered-at_once, no_more, another, how_many, Telling, HasTold, frames_in_4, frames_in_5, frames_in_6, frames_in_7, frames_in_8, expired_tells, malformed_tells, granted_tells, Change, Gained, Left, Config, hears, expiry, request, next, refused, nothing, told_of_management, of_link, of_change, of_management, of_aim, at_timer, aim_of_expiry, Line, link_in, terms, place_in, unless_refused, unless_refused_told, aim_of_heard, refusal, Request, Establish, Release, Data, Unit, Assign, Remove, Check, SetBusy, ClearBusy, at_requested, aim_of_request, heard_aims, PoolFull, line_at, wants_room, contents_of, contents_in, ContentsFit}
+use Rattle.lapd_c.proofs.Vocabulary.{◌≡◌, ℕ, ◌≤◌, Answer, Card, OctetCard, told, gave, option_map, Bool, true, false, cond, List, length, Option, nat_lt, refl, sym, ap, subst, arith, None, leb-true, ltb-false, and_parts, option_or, option_map_or, Control, Ui, Refusal, Service, Timer, T200, T203, T201, State, TeiAssigned, AwaitingEstablishment, AwaitingRelease, Established, TimerRecovery, Terms, LinkTimer, Arrived, is_eligible, eligible_of, information_in, Link, Course, Step, begun, by_bit, leave_unserved, deliver_unit, delivered-at_once, no_more, another, how_many, Telling, HasTold, frames_in_4, frames_in_5, frames_in_6, frames_in_7, frames_in_8, expired_tells, malformed_tells, granted_tells, Change, Gained, Left, Config, hears, expiry, request, next, refused, nothing, told_of_management, of_link, of_change, of_management, of_aim, at_timer, aim_of_expiry, Line, link_in, terms, place_in, unless_refused, unless_refused_told, aim_of_heard, refusal, Request, Establish, Release, Data, Unit, Assign, Remove, Check, SetBusy, ClearBusy, Deactivate, at_requested, at_deactivated, aim_of_request, heard_aims, PoolFull, line_at, wants_room, contents_of, contents_in, ContentsFit}
 use Rattle.model_link.proofs.Leads.{Leads}
 use Rattle.std.proofs.Common.{Some}
 use Rattle.model_bits.specs.Stream as stream
@@ -8,6 +8,8 @@ use Rattle.model_link.specs.declared.timers.LinkTimer.TheVariants as link_timer
 use Rattle.model_link.specs.Events as link
 use Rattle.model_link.specs.Machine as links
 use Rattle.model_link.specs.Requests
+use Rattle.model_link.specs.Steps.{◌then◌}
+use Rattle.model_link.specs.Words.{begin_anew}
 use Rattle.lapd_tei.specs.Events as teis
 use Rattle.lapd_tei.specs.Machine as tei
 use Rattle.model_line.specs.Event.{Event}
@@ -88,6 +90,16 @@ module _ (t : Terms) where
       go None = none_small t.n201 _ (two l (granted_tells t r))
       go (Some why) = omega arith
 
+  cleared-small : (l : Link) → IsSmall t.n201 (links.told t link.cleared l).unit
+  cleared-small l = go l.state
+    where
+      go : (here : State) → IsSmall t.n201 ((links.told_of_clearing here t then begin_anew) (begun l)).unit
+      go TeiAssigned = omega arith
+      go AwaitingEstablishment = omega arith
+      go AwaitingRelease = omega arith
+      go Established = omega arith
+      go TimerRecovery = omega arith
+
 either_small : (most : ℕ) (d u : Option (List ℕ)) → IsSmall most d → IsSmall most u → IsSmall most (option_or d u)
 either_small most None u x y = y
 either_small most (Some contents) u x y = x
@@ -127,6 +139,10 @@ module _ (c : Config) where
   asked-small l service n what None = omega arith
   asked-small l service n what (Some place) = link-small service n place (link.requested what false) l (requested-small (terms c service n) what false (link_in l service place))
 
+  deactivated-small : (l : Line) (service : Service) (n : ℕ) (o : Option ℕ) → IsSmall c.n201 (of_aim c (at_deactivated service n o) l).told.contents
+  deactivated-small l service n None = omega arith
+  deactivated-small l service n (Some place) = link-small service n place link.cleared l (cleared-small (terms c service n) (link_in l service place))
+
   request-small : (l : Line) (r : Request) → IsSmall c.n201 (of_aim c (aim_of_request r l) l).told.contents
   request-small l (Establish service n) = asked-small l service n link.Establish (place_in l n)
   request-small l (Release service n) = asked-small l service n link.Release (place_in l n)
@@ -137,6 +153,7 @@ module _ (c : Config) where
   request-small l (Check n) = management-small (teis.check n) l
   request-small l (SetBusy service n) = asked-small l service n link.SetBusy (place_in l n)
   request-small l (ClearBusy service n) = asked-small l service n link.ClearBusy (place_in l n)
+  request-small l (Deactivate service n) = deactivated-small l service n (place_in l n)
 
   unrefused-small : (r : Request) (l : Line) (o : Option Refusal) → IsSmall c.n201 (contents_in (unless_refused_told o (of_aim c (unless_refused o (aim_of_request r l)) l)))
   unrefused-small r l None = request-small l r

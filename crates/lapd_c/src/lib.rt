@@ -6,8 +6,8 @@
 //!
 //! - `card`: a card in C, how it begins and ends; `kinds`, what a card for octets and one for frames do alike;
 //!   `card_slot`, where it lies. `events`, what happens at one of either kind; for octets `octets`, one that comes and
-//!   one that goes, `exchange`, octets taken and given in turn, and `begun`, which frame a pull began; for frames
-//!   `frames`, which come and go. `questions`, what it answers about itself; `counters`, what was counted of a line;
+//!   one that goes, `exchange`, octets taken and given in turn, `begun` and `heard`, which frame a pull began and which was
+//!   heard last; for frames `frames`, which come and go. `questions`, what it answers about itself; `counters`, what was counted of a line;
 //!   `links`, which links it has, and `rooms`, how many contents more one takes.
 //! - `clock`: a clock in C, and its exports; `clock_reports`, the orders of a report; `clock_slot`, where it lies.
 //! - `laws`: what holds of the machine's answers, so that a report has room for each.
@@ -36,6 +36,7 @@ mod counters;
 mod events;
 mod exchange;
 mod frames;
+mod heard;
 mod kinds;
 mod laws;
 mod links;

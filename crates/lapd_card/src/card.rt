@@ -14,6 +14,7 @@ ghost use Rattle.model_ports.specs.Begun.{head_begun_at};
 ghost use Rattle.model_ports.specs.Card as machine;
 ghost use Rattle.model_ports.specs.Card.{after, answer};
 ghost use Rattle.model_ports.specs.Event.{at};
+ghost use Rattle.model_ports.specs.HeadHeard.{head_heard_at};
 ghost use Rattle.model_ports.specs.Port as port;
 ghost use Rattle.model_ports.specs.Port.{told};
 
@@ -221,6 +222,15 @@ impl<S: Shelf> Card<S> {
         ensures { (m : machine.OctetCard) → Stands S.store self.now m → result ≡ head_begun_at line m }
     {
         self.ports[line].begun()
+    }
+
+    /// How the frame begins that was heard last at a line, and how long it is, also where it was dropped afterwards; none where
+    /// none was heard yet. Of a frame that is too long to be kept, the length is N201 and five octets, whatever it was.
+    pub fn latest_heard(&self, line: usize) -> Option<Head>
+        requires { line < line_count self.now }
+        ensures { (m : machine.OctetCard) → Stands S.store self.now m → result ≡ head_heard_at line m }
+    {
+        self.ports[line].heard()
     }
 
     /// What was counted of a line since the card's start, as [`FrameCard::counters`] has it: a frame as it is heard when its

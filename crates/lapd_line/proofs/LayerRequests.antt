@@ -1,5 +1,5 @@
 -- Requests, and why they are refused.
-use Rattle.lapd_line.proofs.Vocabulary.{◌≡◌, ℕ, ◌+◌, ◌||◌, Bool, true, false, not, ◌≤◌, nat_lt, List, [], ◌∷◌, length, Option, Some, None, refl, sym, ap, subst, ◌∙◌, cond, arith, option_map_or, ltb-false, none-some, prefix_len, list_any, Refusal, BadTei, NoLink, WrongState, TooLong, QueueFull, PoolFull, WrongSide, Service, serves, refusal_for_room, Terms, Places, has, is_on, place_of, IsAt, is_on-at, place_of-is, Config, Line, has_tei, link_of, link_in, place_in, terms, link_number, with_link, refusal, Establish, Release, Data, SetBusy, ClearBusy, Assign, Remove, Check, Owned, Store, Link, Answer, told_with, at_link, of_aim, told_of_link, at_requested, Awake, LinkLayer, BareReport, Stands, Standing, Serves, Wakes, HasTerms, Refuses, machine_at, told_in, TeiRequest, event_of, link_refusal, management_refusal, may_ask}
+use Rattle.lapd_line.proofs.Vocabulary.{◌≡◌, ℕ, ◌+◌, ◌||◌, Bool, true, false, not, ◌≤◌, nat_lt, List, [], ◌∷◌, length, Option, Some, None, refl, sym, ap, subst, ◌∙◌, cond, arith, option_map_or, ltb-false, none-some, prefix_len, list_any, Refusal, BadTei, NoLink, WrongState, TooLong, QueueFull, PoolFull, WrongSide, Service, serves, refusal_for_room, Terms, Places, has, is_on, place_of, IsAt, is_on-at, place_of-is, Config, Line, has_tei, link_of, link_in, place_in, terms, link_number, with_link, refusal, Establish, Release, Data, SetBusy, ClearBusy, Deactivate, Assign, Remove, Check, Owned, Store, Link, Answer, told_with, at_link, of_aim, told_of_link, at_requested, Awake, LinkLayer, BareReport, Stands, Standing, Serves, Wakes, HasTerms, Refuses, machine_at, told_in, TeiRequest, event_of, link_refusal, management_refusal, may_ask}
 use Rattle.model_link.specs.Events as link
 use Rattle.model_link.specs.Link as machine
 use Rattle.model_link.specs.Machine as answers
@@ -102,6 +102,19 @@ module _ (e : LinkLayer) (s : Store) (others : List Owned) (m : Line) (st : Stan
       ∙ ap (λ b. cond (not b) (Some NoLink) (links.refusal (terms e.config service tei) (link_of service tei m) full request)) on
       ∙ ap (λ x. links.refusal (terms e.config service tei) x full request) (this ∙ ap (machine_at m.links) (sym same))
       ∙ refuses e.config (terms e.config service tei) (beside_links e m others) m.links (subst (λ x. HasTerms e.links x (terms e.config service tei)) (sym same) n.has_terms) (links_part e s others m st)
+
+-- a deactivation is refused where there is no link, and granted where there is one
+module _ (e : LinkLayer) (s : Store) (others : List Owned) (m : Line) (st : Stands e s others m) (service : Service) (tei : ℕ) where
+  pub deactivated_refused : nat_lt 126 tei ≡ false → place_of tei e.teis.places ≡ None → refusal e.config false (Deactivate service tei) m ≡ Some NoLink
+  deactivated_refused low none =
+      ap (λ b. cond b (Some BadTei) (cond (not (has_tei tei m)) (Some NoLink) None)) low
+      ∙ ap (λ b. cond (not b) (Some NoLink) None) (ap (λ t. is_on tei t.places) st.management ∙ off_line e.teis.places tei none)
+
+  pub deactivated_granted : (place : ℕ) → nat_lt 126 tei ≡ false → place_of tei e.teis.places ≡ Some place → refusal e.config false (Deactivate service tei) m ≡ None
+  deactivated_granted place low here =
+      let at = (place_of-is e.teis.places tei place here).1 in
+      ap (λ b. cond b (Some BadTei) (cond (not (has_tei tei m)) (Some NoLink) None)) low
+      ∙ ap (λ b. cond (not b) (Some NoLink) None) (ap (λ t. is_on tei t.places) st.management ∙ is_on-at e.teis.places place tei at)
 
 -- what is granted is the same, whether the pool is full or not
 same_step : (t : Terms) (l : machine.Link) (full : Bool) (request : link.Request) → links.refusal t l full request ≡ None → answers.course t (link.requested request full) l ≡ answers.course t (link.requested request false) l

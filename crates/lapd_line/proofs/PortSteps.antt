@@ -1,5 +1,6 @@
 -- What a port does.
-use Rattle.lapd_line.proofs.Vocabulary.{◌≡◌, ℕ, ◌≤◌, Bool, true, false, List, [], ◌∷◌, ◌++◌, length, take, slice_get, Option, Some, None, is_some, option_map, option_to_list, refl, sym, ap, ◌∙◌, subst, append_assoc, cond, le-ltb, same_Some, option_map_or, unwrap_or, bits, low_bits, number_of, Framing, runs_low, refilled, with_idle, Item, idle, frame, line_text, bits-push, heard_in, Head, head_shown, listed, ShortList, Order, Owned, Store, next, given_shown, answer, without_octets, Cause, in_bits, Loading, TakesNext, FrameLine, config_of, orders_taken, IsLoaded, IsSaid, PortStands, with_frame, left_is, one_item, text_of}
+use Rattle.lapd_line.proofs.Vocabulary.{◌≡◌, ℕ, ◌≤◌, Bool, true, false, List, [], ◌∷◌, ◌++◌, length, take, slice_get, Option, Some, None, is_some, option_map, option_to_list, fold, fold-append, inl, inr, ◌⊎◌, refl, sym, ap, ◌∙◌, subst, append_assoc, cond, le-ltb, same_Some, option_map_or, unwrap_or, bits, low_bits, number_of, Framing, runs_low, refilled, with_idle, Item, idle, frame, line_text, bits-push, heard_in, Head, head_shown, listed, ShortList, Order, Owned, Store, next, given_shown, answer, without_octets, Cause, in_bits, Loading, TakesNext, FrameLine, config_of, orders_taken, IsLoaded, IsSaid, PortStands, or_heard, or_latest, with_frame, left_is, one_item, text_of}
+use Rattle.lapd_bits.specs.declared.ended.Ended.{Ended}
 use Rattle.lapd_bits.specs.declared.ended.Ended.TheVariants as ended
 use Rattle.model_bits.specs.Framer as framer
 use Rattle.model_bits.specs.Stream as stream
@@ -35,6 +36,25 @@ is_dropped None cause e = absurd (cc)
 is_dropped (Some (stream.frame octets)) cause e = absurd (cc)
 is_dropped (Some (stream.overlong head)) cause e = absurd (cc)
 is_dropped (Some (stream.dropped other)) cause e = cc
+
+-- how the latest frame began is what it was, with what the octet has ended
+pub latest_more : (n201 octet : ℕ) (received : List ℕ) (o : Option stream.Event) → heard_in n201 (received ++ octet ∷ []) ≡ heard_in n201 received ++ option_to_list o
+    → fold (or_heard n201) None (heard_in n201 (received ++ octet ∷ [])) ≡ or_latest n201 (fold (or_heard n201) None (heard_in n201 received)) o
+latest_more n201 octet received o is = ap (fold (or_heard n201) None) is ∙ fold-append (or_heard n201) None (heard_in n201 received) (option_to_list o) ∙ ended o
+  where
+    ended : (e : Option stream.Event) → fold (or_heard n201) (fold (or_heard n201) None (heard_in n201 received)) (option_to_list e) ≡ or_latest n201 (fold (or_heard n201) None (heard_in n201 received)) e
+    ended None = refl
+    ended (Some e) = refl
+
+-- what ended nothing, or was dropped, leaves it
+pub latest_left : (n201 : ℕ) (before : Option Head) (o : Option stream.Event) (e : Ended) → e ≡ without_octets o → (e ≡ ended.Nothing) ⊎ ((cause : Cause) × (e ≡ ended.Dropped cause))
+    → or_latest n201 before o ≡ before
+latest_left n201 before None e told is = refl
+latest_left n201 before (Some (stream.dropped cause)) e told is = refl
+latest_left n201 before (Some (stream.frame octets)) e told (inl is) = absurd (cc)
+latest_left n201 before (Some (stream.frame octets)) e told (inr (cause, is)) = absurd (cc)
+latest_left n201 before (Some (stream.overlong head)) e told (inl is) = absurd (cc)
+latest_left n201 before (Some (stream.overlong head)) e told (inr (cause, is)) = absurd (cc)
 
 -- ---- what goes
 
@@ -74,7 +94,7 @@ module _ {old : FrameLine} {s : Store} {mid : FrameLine} {t : Store} (port : Por
       subst (λ a. IsLoaded a (Some orders) port (reframed port g)) (sym one.is)
       (record {
         orders = ap Some one.loaded.0;
-        stands = λ n201 p there. record { received = there.received; sent = one.loaded.1.0 p.items p.given there.sent; room = h.room ∙ there.room };
+        stands = λ n201 p there. record { received = there.received; sent = one.loaded.1.0 p.items p.given there.sent; room = h.room ∙ there.room; latest = there.latest; limit = there.limit };
       })
 
   -- and what is shown of it is its head
@@ -146,7 +166,7 @@ module _ {port : Port} {g : Framing} {octet : ℕ} (gives : Gives port.framer g 
       subst (PortStands n201 (reframed port g))
       (sym (ap {B = machine.Port} (λ x. record (with_item said p) { given = (with_item said p).given ++ x ∷ [] }) octet_is
       ∙ ap {A = machine.Port} {B = machine.Port} (λ q. record q { given = q.given ++ octet ∷ [] }) (sym item_is)))
-      (record { received = st.received; sent = gives.stands begun.items begun.given st.sent; room = gives.room ∙ st.room })
+      (record { received = st.received; sent = gives.stands begun.items begun.given st.sent; room = gives.room ∙ st.room; latest = st.latest; limit = st.limit })
 
   -- and answers what it answers
   pub given_told : (none told : ShortList Order) (taken_one : Bool) → taken_one ≡ is_some taken → listed none ≡ [] → told ≡ unwrap_or taken none

@@ -1,13 +1,16 @@
 -- What the port of a line stands for: its deframer for the octets received, its framer for the items that were put on the
--- line and the octets given.
-use Rattle.std.specs.Prelude.{◌≡◌, ℕ, ◌++◌, ◌∷◌, [], List, Option, Some, None, is_some, option_map}
+-- line and the octets given; and it keeps how the frame begins that was heard last.
+use Rattle.std.specs.Prelude.{◌≡◌, ℕ, ◌+◌, ◌++◌, ◌∷◌, [], List, Option, Some, None, is_some, option_map}
+use Rattle.std.specs.Option.{option_map_or}
 use Rattle.lapd_bits.specs.Deframer as deframer
+use Rattle.model_bits.specs.declared.heads.Head.{Head}
 use Rattle.model_bits.specs.Framer as framer
 use Rattle.model_bits.specs.Sent.{frame}
 use Rattle.model_bits.specs.Stream as stream
 use Rattle.lapd_frame.specs.declared.timers.Order.{Order}
 use Rattle.model_line.specs.Event.{Answer, NextFrame}
 use Rattle.model_ports.specs.Codec.{IsTextOf}
+use Rattle.model_ports.specs.HeadHeard.{head_heard, or_heard}
 use Rattle.model_ports.specs.Port as machine
 use Rattle.model_ports.specs.Port.{is_due, given_in, frame_begun, orders_with, after, answer, pull}
 use Rattle.lapd_line.specs.declared.port.Port.{Port}
@@ -18,10 +21,16 @@ pub record PortStands (n201 : ℕ) (port : Port) (p : machine.Port) : Type 0 whe
   pub received : deframer.Stands n201 port.deframer p.received
   pub sent : framer.Stands port.framer p.items p.given
   pub room : port.framer.room ≡ n201
+  pub latest : port.heard ≡ head_heard n201 p
+  pub limit : port.too_long ≡ n201 + 5
 
 -- What the latest octet has ended, if it ended anything.
 abbrev pub latest_in : Port → Option stream.Event
 latest_in port = deframer.latest_of port.deframer
+
+-- How the frame begins that was heard last, with what the latest octet has ended.
+abbrev pub or_latest : ℕ → Option Head → Option stream.Event → Option Head
+or_latest n201 before ended = option_map_or (or_heard n201 before) ended before
 
 -- The octets of the frame that it ended; none where it ended no frame.
 abbrev pub latest_frame : Port → List ℕ

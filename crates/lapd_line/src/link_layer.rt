@@ -93,6 +93,23 @@ impl LinkLayer {
         self.links.expire(number, timer, &mut report.answer, shelf);
     }
 
+    /// A link of the TEI at a place is left as one that begins, while the TEI stays.
+    pub(crate) fn clear_link<S: Shelf>(
+        &mut self,
+        service: Service,
+        tei: u8,
+        place: usize,
+        shelf: &mut S,
+    ) -> BareReport
+        requires at { IsAt self.old.teis.places place tei }
+        requires stands { Standing self.old (S.store shelf.old) }
+        ensures { Serves (always (at_link service tei place event.cleared)) [] self.old (S.store shelf.old) self.new (S.store shelf.new) result }
+    {
+        let number = link_number(place, service);
+        self.awake.wake(number);
+        BareReport::of_link(self.links.clear(number, shelf), 0)
+    }
+
     /// The state of the link of a service with this TEI; none where the TEI is not on the line.
     pub(crate) fn state(&self, service: Service, tei: u8) -> Option<u8>
         ensures { (store : Store) (others : List Owned) (m : machine.Line) → Stands self.now store others m

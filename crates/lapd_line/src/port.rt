@@ -1,10 +1,12 @@
 //! The port of a line: what stands between its octets and its frames.
 
-ghost use Rattle.std.specs.Prelude.{◌≡◌, ℕ, ◌+◌, ◌*◌, ◌<◌, ◌≤◌, ◌∷◌, ◌++◌, [], length, IsTrue, Option, IfOk};
+ghost use Rattle.std.specs.Prelude.{◌≡◌, ℕ, ◌+◌, ◌*◌, ◌<◌, ◌≤◌, ◌^◌, ◌∷◌, ◌++◌, [], length, get_or, IsTrue, Option, IfOk};
 ghost use Rattle.lapd_bits.specs.Ended.{without_octets};
+ghost use Rattle.model_bits.specs.Heads.{head_of};
 ghost use Rattle.model_bits.specs.Heard.{heard_of};
 ghost use Rattle.model_line.specs.Event.{Answer};
 ghost use Rattle.model_ports.specs.Begun.{head_begun};
+ghost use Rattle.model_ports.specs.HeadHeard.{head_heard};
 ghost use Rattle.model_ports.specs.Port as machine;
 ghost use Rattle.model_ports.specs.Port.{gained, is_due, fresh_port};
 ghost use Rattle.model_ports.specs.Stored.{held_at};
@@ -30,10 +32,14 @@ use std::alloc::Global;
 pub struct Port {
     pub(crate) deframer: Deframer,
     pub(crate) framer: Framer,
+    /// How the frame began that was heard last.
+    heard: Option<Head>,
+    /// The least length of a frame that is too long to be kept.
+    too_long: u16,
 }
 
 impl Port {
-    ghost use Rattle.lapd_line.specs.Ports.{PortStands, IsSaid, Pulls, latest_in, latest_frame, with_frame};
+    ghost use Rattle.lapd_line.specs.Ports.{PortStands, IsSaid, Pulls, latest_in, latest_frame, or_latest, with_frame};
 
     /// A port for information fields of `n201` octets at most, which is 1,024 at most. No octet has come, and none was given.
     ///
@@ -46,7 +52,12 @@ impl Port {
     {
         let deframer = Deframer::start(alloc, n201)?;
         let framer = Framer::start(alloc, n201)?;
-        Ok(Port { deframer, framer })
+        Ok(Port {
+            deframer,
+            framer,
+            heard: None,
+            too_long: n201 + 5,
+        })
     }
 
     /// Takes an octet that came from the line, low bit first, and tells whether it has ended anything. [`Port::latest`] lends
@@ -58,7 +69,12 @@ impl Port {
             → PortStands n201 self.new (record p { received = p.received ++ octet ∷ [] }) }
         ensures told { result ≡ without_octets (latest_in self.new) }
     {
-        self.deframer.step(octet)
+        let ended = self.deframer.step(octet);
+        match ended {
+            Ended::Nothing | Ended::Dropped(_) => {}
+            Ended::Frame(_) | Ended::Overlong => self.heard = self.latest_head(),
+        }
+        ended
     }
 
     /// What the latest octet has ended. A frame is lent until the next octet.
@@ -108,6 +124,29 @@ impl Port {
         self.framer.begun()
     }
 
+    /// How the frame that was heard last begins, and how long it is, also where it was dropped afterwards; none where none was
+    /// heard yet. Of a frame that is too long to be kept, the length is N201 and five octets, whatever it was.
+    pub fn heard(&self) -> Option<Head>
+        ensures { (n201 : ℕ) (p : machine.Port) → PortStands n201 self.now p → result ≡ head_heard n201 p }
+    {
+        self.heard
+    }
+
+    /// The same with what the latest octet has ended, which is not kept yet. It stands apart, since few octets end a frame.
+    #[inline(never)]
+    fn latest_head(&self) -> Option<Head>
+        ensures { (n201 : ℕ) → self.now.too_long ≡ n201 + 5 → result ≡ or_latest n201 self.now.heard (latest_in self.now) }
+    {
+        match self.deframer.latest() {
+            Heard::Nothing | Heard::Dropped(_) => self.heard,
+            Heard::Frame(octets) => head_of(octets),
+            Heard::Overlong(octets) => Some(Head {
+                octets,
+                length: self.too_long,
+            }),
+        }
+    }
+
     /// How many octets the port stores: of the frame that is received, and of the frame that is sent.
     pub fn held(&self) -> u32
         requires { (n201 : ℕ) × (n201 ≤ 1024) × ((p : machine.Port) × PortStands n201 self.now p) }
@@ -115,5 +154,35 @@ impl Port {
         ensures few { (n201 : ℕ) (p : machine.Port) → PortStands n201 self.now p → result ≤ 2 * n201 + 10 }
     {
         self.deframer.held() + self.framer.held()
+    }
+}
+
+/// How a frame of these octets begins, and how long it is.
+fn head_of(octets: &[u8]) -> Option<Head>
+    requires { length octets.now < 2 ^ 16 }
+    ensures { result ≡ head_of octets.now }
+{
+    if octets.is_empty() {
+        return None;
+    }
+    Some(Head {
+        octets: [
+            octet_at(octets, 0),
+            octet_at(octets, 1),
+            octet_at(octets, 2),
+            octet_at(octets, 3),
+        ],
+        length: octets.len() as u16,
+    })
+}
+
+/// The octet at a place; 0 where there is none.
+fn octet_at(octets: &[u8], place: usize) -> u8
+    ensures { result ≡ get_or octets.now place 0 }
+{
+    if place < octets.len() {
+        octets[place]
+    } else {
+        0
     }
 }

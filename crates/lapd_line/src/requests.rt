@@ -1,6 +1,6 @@
 //! What layer 3 and management ask for.
 
-ghost use Rattle.std.specs.Prelude.{◌≡◌, ◌≤◌, ◌==◌, ◌||◌, ℕ, List, [], length, Some, None, IfOk, IfErr, OnOk, OnErr, nat_le};
+ghost use Rattle.std.specs.Prelude.{◌≡◌, ◌≤◌, ◌==◌, ◌||◌, ℕ, false, List, [], length, Some, None, IfOk, IfErr, OnOk, OnErr, nat_le};
 ghost use Rattle.lapd_frame.specs.declared.services.Service.{Service};
 ghost use Rattle.lapd_store.specs.Ownership.{Owned};
 ghost use Rattle.lapd_store.specs.Store.{Store, used_slots};
@@ -14,7 +14,7 @@ ghost use Rattle.model_line.specs.Effect.{at_management, at_units};
 ghost use Rattle.model_line.specs.Refusal.{refusal};
 ghost use Rattle.model_line.specs.Request as asked;
 ghost use Rattle.model_line.specs.Request.{request_of};
-ghost use Rattle.model_line.specs.Requested.{aim_of_request, at_requested};
+ghost use Rattle.model_line.specs.Requested.{aim_of_request, at_deactivated, at_requested};
 ghost use Rattle.model_line.specs.Sides.{last_unit_tei};
 ghost use Rattle.lapd_line.specs.Requests.{event_of, link_refusal, management_refusal, may_ask};
 
@@ -117,6 +117,7 @@ impl LinkLayer {
             Request::Data(service, tei, contents) => (service, tei, LinkRequest::Data(contents)),
             Request::SetBusy(service, tei) => (service, tei, LinkRequest::SetBusy),
             Request::ClearBusy(service, tei) => (service, tei, LinkRequest::ClearBusy),
+            Request::Deactivate(service, tei) => return self.deactivate(service, tei, shelf),
         };
         self.ask(service, tei, request, report, shelf, slots)
     }
@@ -161,6 +162,31 @@ impl LinkLayer {
             }
             Err(why) => Err(why),
         }
+    }
+
+    /// Gives up the link of a service with a TEI, as its line is down.
+    fn deactivate<S: Shelf>(
+        &mut self,
+        service: Service,
+        tei: u8,
+        shelf: &mut S,
+    ) -> Result<BareReport, Refusal>
+        requires { Standing self.old (S.store shelf.old) }
+        ensures refused { IfErr result (λ why. (others : List Owned) (m : Line) → Stands self.old (S.store shelf.old) others m
+            → refusal self.old.config false (asked.Deactivate service tei) m ≡ Some why) }
+        ensures unchanged { OnErr result (self.new ≡ self.old) }
+        ensures kept { OnErr result (shelf.new ≡ shelf.old) }
+        ensures granted { OnOk result ((others : List Owned) (m : Line) → Stands self.old (S.store shelf.old) others m
+            → refusal self.old.config false (asked.Deactivate service tei) m ≡ None) }
+        ensures served { IfOk result (Serves (λ m. at_deactivated service tei (machine.place_in m tei)) [] self.old (S.store shelf.old) self.new (S.store shelf.new)) }
+    {
+        if tei > LAST_TEI {
+            return Err(Refusal::BadTei);
+        }
+        let Some(place) = self.teis.place(tei) else {
+            return Err(Refusal::NoLink);
+        };
+        Ok(self.clear_link(service, tei, place, shelf))
     }
 
     /// Asks TEI management for something about a TEI.

@@ -2,7 +2,7 @@
 use Rattle.std.specs.Prelude.{ℕ, Bool, true, false, if◌then◌else◌, List, codes, bytes_eq, Option, Some, None, option_map}
 use Rattle.lapd_frame.specs.declared.services.Service.TheVariants.{Call, Packet}
 use Rattle.lapd_script.specs.declared.command.Asked.{Asked}
-use Rattle.lapd_script.specs.declared.command.Asked.TheVariants.{Assign, Remove, Check, Establish, Release, SetBusy, ClearBusy, Data, Unit}
+use Rattle.lapd_script.specs.declared.command.Asked.TheVariants.{Assign, Remove, Check, Establish, Release, SetBusy, ClearBusy, Deactivate, Data, Unit}
 use Rattle.lapd_script.specs.declared.command.CardKind.TheVariants.{Octets, Frames}
 use Rattle.lapd_script.specs.declared.word.Word.{Word}
 use Rattle.lapd_script.specs.declared.word.Word.TheVariants.{Card, Rx, In, Failed, Next, Pull, Wait, Timers, Stored, Counters, Ask}
@@ -21,6 +21,8 @@ asked_named name =
     else if bytes_eq name (codes "busy16") then Some (SetBusy Packet)
     else if bytes_eq name (codes "ready") then Some (ClearBusy Call)
     else if bytes_eq name (codes "ready16") then Some (ClearBusy Packet)
+    else if bytes_eq name (codes "deactivate") then Some (Deactivate Call)
+    else if bytes_eq name (codes "deactivate16") then Some (Deactivate Packet)
     else if bytes_eq name (codes "data") then Some («Data» Call)
     else if bytes_eq name (codes "data16") then Some («Data» Packet)
     else if bytes_eq name (codes "unit") then Some (Unit Call)
@@ -51,5 +53,6 @@ carries_octets (Establish service) = false
 carries_octets (Release service) = false
 carries_octets (SetBusy service) = false
 carries_octets (ClearBusy service) = false
+carries_octets (Deactivate service) = false
 carries_octets (Data service) = true
 carries_octets (Unit service) = true

@@ -97,6 +97,9 @@ packet_data = refl
 ready : read (codes "ready 0 255") ≡ Ok (ask 0 255 (asked.TheVariants.ClearBusy Call) [])
 ready = refl
 
+deactivate : read (codes "deactivate16 0 64") ≡ Ok (ask 0 64 (asked.TheVariants.Deactivate Packet) [])
+deactivate = refl
+
 -- the first fault that holds
 no_such_word : read (codes "foo bar") ≡ Err UnknownWord
 no_such_word = refl

@@ -20,6 +20,8 @@ pub enum Asked {
     SetBusy(Service),
     /// `ready`, `ready16`: it is ready again.
     ClearBusy(Service),
+    /// `deactivate`, `deactivate16`: the line is down, so the link is given up.
+    Deactivate(Service),
     /// `data`, `data16`: contents for the link.
     Data(Service),
     /// `unit`, `unit16`: contents without acknowledgement.

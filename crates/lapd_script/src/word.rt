@@ -82,6 +82,10 @@ impl Asked {
             Some(Asked::ClearBusy(Service::Call))
         } else if name == b"ready16".as_slice() {
             Some(Asked::ClearBusy(Service::Packet))
+        } else if name == b"deactivate".as_slice() {
+            Some(Asked::Deactivate(Service::Call))
+        } else if name == b"deactivate16".as_slice() {
+            Some(Asked::Deactivate(Service::Packet))
         } else if name == b"data".as_slice() {
             Some(Asked::Data(Service::Call))
         } else if name == b"data16".as_slice() {

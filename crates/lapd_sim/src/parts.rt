@@ -56,6 +56,7 @@ pub(crate) fn request_for(what: Asked, tei: u8, octets: &[u8]) -> Request<'_>
         Asked::Release(service) => Request::Release(service, tei),
         Asked::SetBusy(service) => Request::SetBusy(service, tei),
         Asked::ClearBusy(service) => Request::ClearBusy(service, tei),
+        Asked::Deactivate(service) => Request::Deactivate(service, tei),
         Asked::Data(service) => Request::Data(service, tei, octets),
         Asked::Unit(service) => Request::Unit(service, tei, octets),
     }

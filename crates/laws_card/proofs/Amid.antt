@@ -7,11 +7,12 @@ use Rattle.std.proofs.lemmas.List.Elements.{All-head, All-tail}
 use Rattle.model_link.specs.declared.frames.ControlFrame.{ControlFrame}
 use Rattle.model_line.specs.Event as line_event
 use Rattle.model_line.specs.Event.{hears, expiry, request, next}
-use Rattle.model_line.specs.Line.{Line, fresh_line, link_count, place_at, tei_at, link_at}
+use Rattle.model_line.specs.Line.{Line, fresh_line, link_count, service_at, place_at, tei_at, link_at}
 use Rattle.model_line.specs.Machine as lines
 use Rattle.model_line.specs.Taken.{Taken, taken}
 use Rattle.laws_line.specs.Among.{is_take, go_first}
 use Rattle.laws_line.specs.Drains.{frames_before, control_text}
+use Rattle.laws_line.specs.Requests.{deactivates}
 use Rattle.laws_line.proofs.Among.{no-farther-off, other-waits}
 use Rattle.laws_line.proofs.Ordered.{next-goes}
 use Rattle.model_card.specs.Card.{Card, line_at}
@@ -21,7 +22,7 @@ use Rattle.model_card.specs.Run.{IsAtLine, AreAtLines, after_all}
 use Rattle.model_card.specs.Sound.{IsSound}
 use Rattle.model_card.proofs.CardSound.{after_is_sound}
 use Rattle.laws_card.specs.Among.{IsTakenAmong}
-use Rattle.laws_card.specs.PromisesOfTakes.{come_first_at, takes_of, StaysAt}
+use Rattle.laws_card.specs.PromisesOfTakes.{come_first_at, takes_of, is_deactivated_at, StaysAt, IsNotDeactivated}
 use Rattle.laws_card.proofs.Meanwhile.{at-another, at-next, few-lines, line-sound}
 
 is-the-next : (w : line_event.Event) → is_take w ≡ true → w ≡ next
@@ -62,26 +63,26 @@ module _ (number link tei : ℕ) (f : ControlFrame) where
   on-first card (e ∷ events) on = on.0
 
   -- what is no next of the line
-  other-event : (card : Card) (e : Event) → IsSound card → number < card.config.lines → link < link_count card.config → (e.line == number && is_take e.what) ≡ false
+  other-event : (card : Card) (e : Event) → IsSound card → number < card.config.lines → link < link_count card.config → (e.line == number && is_take e.what) ≡ false → is_deactivated_at number link tei e ≡ false
       → On (line_at number card) → On (line_at number (after e card)) → (before behind : List ControlFrame) → Waits (line_at number card) before behind
       → Farther card before (line_at number card) (line_at number (after e card))
-  other-event card e s few some apart at at' before behind waits = go (e.line == number) refl apart
+  other-event card e s few some apart up at at' before behind waits = go (e.line == number) refl apart up
     where
-      by-own : is_take e.what ≡ false
+      by-own : is_take e.what ≡ false → deactivates (service_at link) tei e.what ≡ false
           → ((line_at number (after e card) ≡ line_at number card) ⊎ (line_at number (after e card) ≡ lines.after card.config e.what (line_at e.line card))) → e.line ≡ number
           → Farther card before (line_at number card) (line_at number (after e card))
-      by-own other (inl same) here = unmoved card before behind (line_at number card) (line_at number (after e card)) same waits
-      by-own other (inr moved) here =
+      by-own other stays (inl same) here = unmoved card before behind (line_at number card) (line_at number (after e card)) same waits
+      by-own other stays (inr moved) here =
           let is : line_at number (after e card) ≡ lines.after card.config e.what (line_at number card) = moved ∙ ap (λ n. lines.after card.config e.what (line_at n card)) here in
           subst (λ x. Farther card before (line_at number card) x) (sym is) (
-            other-waits card.config s.config link tei some e.what (line_at number card) other (line-sound card number s few) at (subst On is at') before f behind waits,
+            other-waits card.config s.config link tei some e.what (line_at number card) other stays (line-sound card number s few) at (subst On is at') before f behind waits,
             no-farther-off card.config s.config link tei some e.what (line_at number card) (length before) other,
           )
 
-      go : (b : Bool) → (e.line == number) ≡ b → (b && is_take e.what) ≡ false → Farther card before (line_at number card) (line_at number (after e card))
-      go true is other =
-          by-own other (own-line card e (lines.after card.config e.what (line_at e.line card)) (wants_room e card) (few-lines number card s few) (eqb-true e.line number is)) (eqb-true e.line number is)
-      go false is other =
+      go : (b : Bool) → (e.line == number) ≡ b → (b && is_take e.what) ≡ false → (b && deactivates (service_at link) tei e.what) ≡ false → Farther card before (line_at number card) (line_at number (after e card))
+      go true is other stays =
+          by-own other stays (own-line card e (lines.after card.config e.what (line_at e.line card)) (wants_room e card) (few-lines number card s few) (eqb-true e.line number is)) (eqb-true e.line number is)
+      go false is other stays =
           unmoved card before behind (line_at number card) (line_at number (after e card))
           (at-another card number e (λ same. eqb-false e.line number is (sym same))) waits
 
@@ -122,13 +123,15 @@ module _ (number link tei : ℕ) (f : ControlFrame) where
           (more before' behind (subst (λ l. Waits l before' behind) (sym is) waits') (omega (arith, less, near)))
 
   pub taken-amid : (events : List Event) (card : Card) → IsSound card → number < card.config.lines → link < link_count card.config → AreAtLines card events → StaysAt number link tei card events
+      → IsNotDeactivated number link tei events
       → (before behind : List ControlFrame) → Waits (line_at number card) before behind → Less card events before → IsTakenAmong card number events (control_text card.config link tei f)
   unfolding StaysAt come_first_at Rest
-  taken-amid [] card s few some lines on before behind waits less = absurd (omega (arith, less))
-  taken-amid (e ∷ events) card s few some lines on before behind waits less =
+  taken-amid [] card s few some lines on up before behind waits less = absurd (omega (arith, less))
+  taken-amid (e ∷ events) card s few some lines on up before behind waits less =
       let here = All-head (IsAtLine card) e events lines in
       by-kind (e.line == number && is_take e.what) refl
-      (λ before' behind' waits' less'. taken-amid events (after e card) (after_is_sound card e s here) few some (All-tail (IsAtLine card) e events lines) on.1 before' behind' waits' less')
+      (λ before' behind' waits' less'. taken-amid events (after e card) (after_is_sound card e s here) few some (All-tail (IsAtLine card) e events lines) on.1
+      (All-tail (λ e. is_deactivated_at number link tei e ≡ false) e events up) before' behind' waits' less')
     where
       come : ℕ
       come = go_first (line_at number (after e card)) - go_first (line_at number card)
@@ -158,7 +161,8 @@ module _ (number link tei : ℕ) (f : ControlFrame) where
           (subst (λ x. frames_before card.config (line_at number card) link (length before) + come_first_at number (after x card) events < 1 + takes_of number events) same now)
           (subst (λ x. Rest card x events) same more))
       by-kind false is more =
-          let x = other-event card e s few some is on.0 (on-first (after e card) events on.1) before behind waits in
+          let stays = All-head (λ e. is_deactivated_at number link tei e ≡ false) e events up in
+          let x = other-event card e s few some is stays on.0 (on-first (after e card) events on.1) before behind waits in
           let farther = x.1 in
           let fewer : frames_before card.config (line_at number card) link (length before) + (cond false 0 come + rest) < cond false 1 0 + takes_of number events = with-kind false is in
           let sum : (cond false 0 come + rest) ≡ come + rest = omega arith in

@@ -11,7 +11,7 @@ use Rattle.laws_line.specs.Served.{IsIdle, IsOwed, contents_of}
 use Rattle.laws_line.proofs.Serving.{served}
 use Rattle.model_card.specs.Card.{Card, line_at}
 use Rattle.model_card.specs.Event.{Event, at}
-use Rattle.model_card.specs.Machine.{after, answer}
+use Rattle.model_card.specs.Machine.{answer}
 use Rattle.model_card.specs.Run.{after_all, AreAtLines}
 use Rattle.model_card.specs.Sound.{IsSound}
 use Rattle.model_card.proofs.CardSound.{always_sound}

@@ -1,5 +1,5 @@
 -- What is heard, in a moment of a run.
-use Rattle.std.proofs.Common.{◌≡◌, ℕ, true, false, List, Ok, get_or, refl, sym, ap, ◌∙◌, subst, arith, true≢false}
+use Rattle.std.proofs.Common.{◌≡◌, ℕ, false, List, Ok, get_or, refl, sym, ap, ◌∙◌, subst, arith, true≢false}
 use Rattle.std.proofs.lemmas.Bool.{and_parts}
 use Rattle.std.proofs.lemmas.List.{get_or-set_same}
 use Rattle.model_bits.specs.Stream as stream

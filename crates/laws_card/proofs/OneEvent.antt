@@ -13,7 +13,7 @@ use Rattle.model_line.specs.Event.{refused}
 use Rattle.model_line.specs.Line.{Line, fresh_line}
 use Rattle.model_line.specs.Machine as lines
 use Rattle.laws_line.specs.OneEvent.{IsOneEvent}
-use Rattle.laws_line.specs.Steady.{IsBy, IsOfManagement}
+use Rattle.laws_line.specs.Steady.{IsOf, IsOfManagement}
 use Rattle.laws_line.proofs.Parts.{one-event}
 use Rattle.model_card.specs.Event.{Event}
 use Rattle.model_card.specs.Card.{Card, line_at, is_full}
@@ -39,7 +39,7 @@ module _ (c : Config) (l : Line) (e : line_event.Event) (takes : lines.takes_slo
   unfolding lines.takes_slot
   no-take is = true≢false (sym takes ∙ ap (λ e. lines.takes_slot c e l) is)
 
-  no-link : (service : Service) (tei : ℕ) (event : link.Event) → IsBy c e (refused PoolFull) service tei event → ⊥
+  no-link : (service : Service) (tei : ℕ) (event : link.Event) → IsOf c e (refused PoolFull) service tei event → ⊥
   no-link service tei (link.received (link.frame parts)) by = no-heard (stream.frame by.octets) by.by
   no-link service tei (link.received link.undefined) by = ⊎_elim (λ x. no-heard _ x.0) (λ x. no-heard _ x.0) by.by
   no-link service tei (link.received link.wrong_size) by = ⊎_elim (λ x. no-heard _ x.0) (λ x. no-heard _ x.0) by.by
@@ -47,7 +47,7 @@ module _ (c : Config) (l : Line) (e : line_event.Event) (takes : lines.takes_slo
   no-link service tei (link.expired timer) by = no-expiry _ by
   no-link service tei (link.requested asked full) by = true≢false (sym by.1)
   no-link service tei link.offer by = no-take by
-  no-link service tei link.cleared by = by
+  no-link service tei link.cleared by = true≢false (sym by.1)
 
   no-management : (event : teis.Event) → IsOfManagement c e (refused PoolFull) event → ⊥
   no-management (teis.message info) by = no-heard (stream.frame by.heard.octets) by.heard.by

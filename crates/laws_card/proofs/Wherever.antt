@@ -4,7 +4,6 @@ use Rattle.std.specs.Prelude.{All}
 use Rattle.std.proofs.lemmas.List.Elements.{All-nil, All-cons, All-head, All-tail}
 use Rattle.model_line.specs.declared.config.Config.{Config}
 use Rattle.model_line.specs.Line.{Line}
-use Rattle.model_line.specs.Machine as lines
 use Rattle.laws_line.specs.Served.{HasNothing}
 use Rattle.laws_line.proofs.Bounds.{to-go-few}
 use Rattle.model_line.specs.Sound as line_sound
@@ -55,7 +54,7 @@ waiting card events s all number link tei before f behind few h only enough = ca
 
 meanwhile : Law WaitingIsTakenMeanwhile
 unfolding Law
-meanwhile card events s all number link tei before f behind few h on less = taken-amid number link tei f events card s few h.few all on before behind h.waits less
+meanwhile card events s all number link tei before f behind few h on up less = taken-amid number link tei f events card s few h.few all on up before behind h.waits less
 
 pub waiting-taken : (m : Card) (events : List Event) → IsSound m → AreAtLines m events → WaitingAreTaken m events
 unfolding Law

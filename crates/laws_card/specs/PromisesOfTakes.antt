@@ -1,8 +1,8 @@
 -- What is promised of the calls for the next frame in a list of events, from a card on.
-use Rattle.std.specs.Prelude.{◌≡◌, ℕ, ◌+◌, ◌-◌, ◌<◌, false, ◌≤◌, ◌==◌, ◌&&◌, if◌then◌else◌, List, [], ◌∷◌, ◌++◌, length, Some}
+use Rattle.std.specs.Prelude.{◌≡◌, ℕ, ◌+◌, ◌-◌, ◌<◌, false, ◌≤◌, ◌==◌, ◌&&◌, if◌then◌else◌, List, [], ◌∷◌, ◌++◌, length, All, Bool, Some}
 use Rattle.model_link.specs.declared.frames.ControlFrame.{ControlFrame}
 use Rattle.model_line.specs.declared.config.Config.{Config}
-use Rattle.model_line.specs.Line.{Line, link_count, link_number, place_at, tei_at, link_at, link_in, terms}
+use Rattle.model_line.specs.Line.{Line, link_count, link_number, service_at, place_at, tei_at, link_at, link_in, terms}
 use Rattle.lapd_frame.specs.declared.controls.Control.{Control}
 use Rattle.lapd_frame.specs.declared.services.Service.{Service}
 use Rattle.lapd_frame.specs.Grammar.{Parts}
@@ -12,6 +12,7 @@ use Rattle.model_line.specs.Event.{hears}
 use Rattle.laws_line.specs.Drains.{frames_to_go, frames_before, IsEnough, control_text, most_frames, most_frames_before}
 use Rattle.laws_line.specs.Heard.{IsFor}
 use Rattle.laws_line.specs.Among.{is_take, go_first}
+use Rattle.laws_line.specs.Requests.{deactivates}
 use Rattle.model_card.specs.Card.{Card, line_at}
 use Rattle.model_card.specs.Event.{Event, at}
 use Rattle.model_card.specs.Machine.{after}
@@ -53,12 +54,21 @@ unfoldable pub StaysAt : ℕ → ℕ → ℕ → Card → List Event → Type 0
 StaysAt number link tei card [] = tei_at (place_at link) (line_at number card) ≡ Some tei
 StaysAt number link tei card (e ∷ events) = (tei_at (place_at link) (line_at number card) ≡ Some tei) × StaysAt number link tei (after e card) events
 
--- Whatever happens at the line beside these calls: as long as the TEI stays, one of them takes a control frame that waits,
--- once they are more than the frames before it, with each message and unit data that comes meanwhile.
+-- None of these events deactivates the link.
+abbrev pub is_deactivated_at : ℕ → ℕ → ℕ → Event → Bool
+is_deactivated_at number link tei e = e.line == number && deactivates (service_at link) tei e.what
+
+abbrev pub IsNotDeactivated : ℕ → ℕ → ℕ → List Event → Type 0
+IsNotDeactivated number link tei events = All (λ e. is_deactivated_at number link tei e ≡ false) events
+
+-- Whatever happens at the line beside these calls: as long as the TEI stays, and the link is not deactivated, one of them
+-- takes a control frame that waits, once they are more than the frames before it, with each message and unit data that comes
+-- meanwhile.
 abbrev pub WaitingIsTakenMeanwhile : Card → List Event → Type 0
 WaitingIsTakenMeanwhile card events =
     (number link tei : ℕ) (before : List ControlFrame) (f : ControlFrame) (behind : List ControlFrame) → number < card.config.lines →
     IsWaiting card.config (line_at number card) link tei before f behind → StaysAt number link tei card events →
+    IsNotDeactivated number link tei events →
     frames_before card.config (line_at number card) link (length before) + come_first_at number card events < takes_of number events →
     IsTakenAmong card number events (control_text card.config link tei f)
 

@@ -19,7 +19,7 @@ use Rattle.laws_line.specs.Frames.{lost_in}
 use Rattle.model_card.specs.Card.{Card, fresh}
 use Rattle.model_card.specs.Counts.{sent, heard, accepted, expired, rejected, window}
 use Rattle.model_card.specs.Drops.{IsDropWithoutCost, IsDropWithoutEffect}
-use Rattle.model_card.specs.Event.{Event, at}
+use Rattle.model_card.specs.Event.{at}
 use Rattle.model_card.specs.Isolation.{events_at, answers_at, answer_in}
 use Rattle.model_card.specs.Numbered.{Share, AreNumbered}
 use Rattle.model_card.specs.Promises.{IsWithinLimit, IsNotRefusedForPool}

@@ -4,11 +4,11 @@
 ghost use Rattle.laws_card.specs.Laws.{NothingIsLost, TakesServe, OneEvent, HeardIsDelivered};
 
 /// Nothing that was accepted is lost silently. Each link keeps its contents without the oldest that a valid N(R)
-/// acknowledges, and with those of a granted data request at the end; or it keeps nothing, and a granted release, a note
-/// or the end of its TEI says so. The note is an establishment indication, a release indication or a release confirm of
-/// the link (`kept`; clauses 5.5.3.2, 5.6.3.2 and 5.7). So the contents that each link keeps are those accepted for it
-/// since its numbers began, in order, without what went, and its V(A) counts those that were acknowledged (`counted`;
-/// clause 3.5.2.3).
+/// acknowledges, and with those of a granted data request at the end; or it keeps nothing, and a granted release or
+/// deactivation, a note or the end of its TEI says so. The note is an establishment indication, a release indication or a
+/// release confirm of the link (`kept`; clauses 5.5.3.2, 5.6.3.2 and 5.7). So the contents that each link keeps are those
+/// accepted for it since its numbers began, in order, without what went, and its V(A) counts those that were acknowledged
+/// (`counted`; clause 3.5.2.3).
 pub fn nothing_is_lost()
     ensures { NothingIsLost }
 {}

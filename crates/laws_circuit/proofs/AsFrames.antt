@@ -18,9 +18,11 @@ use Rattle.model_ports.specs.Card.{answer_to, card_after}
 unfoldable use Rattle.model_ports.specs.Card.{after, answer, meant}
 use Rattle.model_ports.specs.Port as port
 use Rattle.model_ports.specs.Port.{answer_of, gained, is_due}
+use Rattle.laws_line.specs.Share as share
 use Rattle.laws_wire.specs.Wire as wire
 use Rattle.laws_wire.specs.Wire.{Station, contents_of}
-use Rattle.laws_circuit.specs.Circuit.{Termination, port_of, happens, told_by, unless_refused}
+use Rattle.laws_circuit.specs.Circuit.{Termination, port_of, happens, answered, told_by, unless_refused}
+use Rattle.laws_circuit.specs.Through.{is_granted}
 
 -- An end as one of frames, with the frames on its way.
 abbrev pub as_station : List (List ℕ) → Termination → Station
@@ -74,12 +76,14 @@ heard-as value s way = go (gained s.card.card.config.n201 (port_of s).received v
 
 -- A request is told or refused, and gives no frame.
 abbrev IsReply : line.Answer → Type 0
-IsReply a = (wire.frames_by a ≡ []) × ((contents : List (List ℕ)) → unless_refused (answer_of a) contents ≡ wire.unless_refused a contents)
+IsReply a =
+    (wire.frames_by a ≡ []) × ((contents : List (List ℕ)) → unless_refused (answer_of a) contents ≡ wire.unless_refused a contents)
+    × (is_granted (answer_of a) ≡ share.is_granted a)
 
 replies : (full : Bool) (why : Option Refusal) (t : Effect) → IsReply (cond full (line.refused PoolFull) (lines.unless_refused_told why t))
-replies true why t = (refl, λ contents. refl)
-replies false None t = (refl, λ contents. refl)
-replies false (Some why) t = (refl, λ contents. refl)
+replies true why t = (refl, λ contents. refl, refl)
+replies false None t = (refl, λ contents. refl, refl)
+replies false (Some why) t = (refl, λ contents. refl, refl)
 
 replied : (s : Termination) (r : Request) → IsReply (machine.answer (frames.at s.line (line.request r)) s.card.card)
 unfolding line_answer
@@ -99,6 +103,11 @@ asked-as r s way =
       granted = s.granted ++ reply.1 (contents_of r) i;
       told = s.told ++ same-told a i;
     }
+
+-- it is granted or refused there as well
+pub granted-as : (r : Request) (s : Termination) (way : List (List ℕ)) → is_granted (answered (port.request r) s) ≡ share.is_granted (wire.answered (line.request r) (as_station way s))
+unfolding answer meant
+granted-as r s way = (replied s r).2
 
 pub pulled-as : (s : Termination) (way : List (List ℕ)) → IsAs (happens port.pull s) (if_meant (meaning port.pull s) (as_station way s))
 unfolding after answer meant line_answer takes_slot

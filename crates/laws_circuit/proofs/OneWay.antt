@@ -119,7 +119,7 @@ module _ (n201 : ℕ) (p : Port) (way received : List ℕ) (frames : List (List 
     exact : frames_among sent_items ≡ frames_among p.items
     exact = frames_sent p.items ∙ all_exact (frames_among p.items) h.octets
 
-    out : GoOut n201 p.given (frames_among p.items)
+    pub out : GoOut n201 p.given (frames_among p.items)
     out =
         subst (GoOut n201 p.given) exact
         (go_out n201 sent_items p.given (left_of p) (same_text p.items ∙ sound.text.text) (heard_whole n201 p.items on.long sound.sizes) (cut_sent p.items p.given on.cut))

@@ -14,10 +14,9 @@ use Rattle.laws_circuit.specs.Beats.{beat}
 unfoldable use Rattle.laws_circuit.specs.Beats.{beats}
 use Rattle.laws_circuit.specs.Circuit.{Termination, port_of, happens, told_by, unless_refused, with_first_of, Circuit, pulls, hears, OctetDoing, at_near, at_far, doing}
 unfoldable use Rattle.laws_circuit.specs.Circuit.{doing_all}
-use Rattle.laws_circuit.proofs.Drained.{one_pull, one_hearing}
 use Rattle.laws_circuit.proofs.Projected.{doing_meant, heard-way}
 unfoldable use Rattle.laws_circuit.proofs.Projected.{doings_meant}
-use Rattle.laws_circuit.proofs.Quiet.{IsMute, count_near, count_far}
+use Rattle.laws_circuit.proofs.Mute.{IsMute, one_pull, one_hearing, count_near, count_far}
 
 -- ---- lists
 
@@ -49,34 +48,34 @@ many-append (suc m) n =
     ap many (let e : suc m + n ≡ suc (m + n) = omega arith in e)
     ∙ ap (λ l. at_near pulls ∷ at_far pulls ∷ at_near hears ∷ at_far hears ∷ l) (many-append m n)
 
-pub many-mute : (n201 n : ℕ) → All (IsMute n201) (many n)
+pub many-mute : (n : ℕ) → All IsMute (many n)
 unfolding many
-many-mute n201 zero = All-nil (IsMute n201)
-many-mute n201 (suc n) =
-    All-cons (IsMute n201) (at_near pulls) (at_far pulls ∷ at_near hears ∷ at_far hears ∷ many n) tt
-    (All-cons (IsMute n201) (at_far pulls) (at_near hears ∷ at_far hears ∷ many n) tt
-    (All-cons (IsMute n201) (at_near hears) (at_far hears ∷ many n) tt
-    (All-cons (IsMute n201) (at_far hears) (many n) tt (many-mute n201 n))))
+many-mute zero = All-nil IsMute
+many-mute (suc n) =
+    All-cons IsMute (at_near pulls) (at_far pulls ∷ at_near hears ∷ at_far hears ∷ many n) tt
+    (All-cons IsMute (at_far pulls) (at_near hears ∷ at_far hears ∷ many n) tt
+    (All-cons IsMute (at_near hears) (at_far hears ∷ many n) tt
+    (All-cons IsMute (at_far hears) (many n) tt (many-mute n))))
 
-pub pulls-near : (n201 n : ℕ) → count_near n201 one_pull (many n) ≡ n
+pub pulls-near : (n : ℕ) → count_near one_pull (many n) ≡ n
 unfolding many
-pulls-near n201 zero = refl
-pulls-near n201 (suc n) = let rest = pulls-near n201 n in omega (arith, rest)
+pulls-near zero = refl
+pulls-near (suc n) = let rest = pulls-near n in omega (arith, rest)
 
-pub pulls-far : (n201 n : ℕ) → count_far n201 one_pull (many n) ≡ n
+pub pulls-far : (n : ℕ) → count_far one_pull (many n) ≡ n
 unfolding many
-pulls-far n201 zero = refl
-pulls-far n201 (suc n) = let rest = pulls-far n201 n in omega (arith, rest)
+pulls-far zero = refl
+pulls-far (suc n) = let rest = pulls-far n in omega (arith, rest)
 
-pub hearings-near : (n201 n : ℕ) → count_near n201 one_hearing (many n) ≡ n
+pub hearings-near : (n : ℕ) → count_near one_hearing (many n) ≡ n
 unfolding many
-hearings-near n201 zero = refl
-hearings-near n201 (suc n) = let rest = hearings-near n201 n in omega (arith, rest)
+hearings-near zero = refl
+hearings-near (suc n) = let rest = hearings-near n in omega (arith, rest)
 
-pub hearings-far : (n201 n : ℕ) → count_far n201 one_hearing (many n) ≡ n
+pub hearings-far : (n : ℕ) → count_far one_hearing (many n) ≡ n
 unfolding many
-hearings-far n201 zero = refl
-hearings-far n201 (suc n) = let rest = hearings-far n201 n in omega (arith, rest)
+hearings-far zero = refl
+hearings-far (suc n) = let rest = hearings-far n in omega (arith, rest)
 
 -- ---- as many octets stay on the way
 

@@ -20,11 +20,11 @@ use Rattle.model_ports.specs.Card as ports
 use Rattle.laws_wire.specs.Call.{CanCall}
 use Rattle.laws_wire.specs.Worked.{user, network}
 use Rattle.laws_circuit.specs.Circuit.{Circuit, OctetAct, asks, pulls, hears, OctetDoing, at_near, at_far, doing_all, port_of}
-use Rattle.laws_circuit.specs.Through.{IsTalkOf, IsTalk, HasAllGone, IsToldAll}
+use Rattle.laws_circuit.specs.Through.{IsTalkOf, IsTalk, both_call, HasAllGone, IsToldAll}
 use Rattle.laws_circuit.specs.WorkedCall.{begins, establishes, goes_on, sends}
 use Rattle.laws_circuit.proofs.Through.{calls-come-through-in-octets}
 
-can : CanCall user 0 network 0 0
+pub can : CanCall user 0 network 0 0
 can = record { near = refl; far = refl; sides = refl; n201 = refl; near_line = omega arith; far_line = omega arith; terminal = omega arith }
 
 abbrev after_it : Circuit
@@ -99,7 +99,7 @@ mute-talk (asks r) e = absurd (cc e)
 mute-talk pulls e = tt
 mute-talk hears e = tt
 
-by-mutes : (ds : List OctetDoing) → are_mute ds ≡ true → All (IsTalk Call 0) ds
+pub by-mutes : (ds : List OctetDoing) → are_mute ds ≡ true → All (IsTalk Call 0) ds
 by-mutes [] e = All-nil (IsTalk Call 0)
 by-mutes (at_near act ∷ ds) e =
     let both = and_parts (mute act) (are_mute ds) e in All-cons (IsTalk Call 0) (at_near act) ds (mute-talk act both.0) (by-mutes ds both.1)
@@ -116,5 +116,5 @@ talk =
     (All-cons (IsTalk Call 0) (at_near (asks (Data Call 0 (0xAB ∷ [])))) goes_on asked (by-mutes goes_on refl))
 
 -- so each was told all
-pub told : IsToldAll Call 0 after_it
+pub told : IsToldAll Call 0 (both_call sends begins) after_it
 told = (calls-come-through-in-octets Call user network 0 0 0 sends can talk).all gone

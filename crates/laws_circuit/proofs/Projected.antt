@@ -32,7 +32,7 @@ unfoldable use Rattle.laws_wire.specs.Wire.{doing_all as frames_done}
 use Rattle.laws_wire.proofs.RestedRounds.{doing-append}
 use Rattle.laws_circuit.specs.Circuit.{Termination, port_of, happens, with_first_of, Circuit, OctetAct, asks, pulls, hears, OctetDoing, at_near, at_far, acting, turned, doing}
 unfoldable use Rattle.laws_circuit.specs.Circuit.{doing_all}
-use Rattle.laws_circuit.specs.Through.{IsTalkOf, IsTalk, IsData}
+use Rattle.laws_circuit.specs.Through.{IsTalkOf, IsTalk, IsAsked}
 use Rattle.laws_circuit.proofs.AsFrames.{as_station, meaning, if_meant, heard-as, asked-as, pulled-as}
 use Rattle.laws_circuit.proofs.OneWay.{Carries, one-given, one-put, none-heard, one-heard}
 use Rattle.laws_circuit.proofs.Ran.{Ran, goes-on, on-way, config, within-ports, sound-port, on-line, gives-octets}
@@ -94,9 +94,9 @@ same-received (Some a) p = refl
 
 -- ---- what layer 3 asks
 
-asked-octets : (service : Service) (tei : ℕ) (r : Request) → IsData service tei r → AreOctets (contents_given r)
+asked-octets : (service : Service) (tei : ℕ) (r : Request) → IsAsked service tei r → AreOctets (contents_given r)
 asked-octets service tei (asked.Data s t contents) is = is.2
-asked-octets service tei (asked.Establish s t) is = absurd is
+asked-octets service tei (asked.Establish s t) is = All-nil (λ octet. octet < 256)
 asked-octets service tei (asked.Release s t) is = absurd is
 asked-octets service tei (asked.Unit s t contents) is = absurd is
 asked-octets service tei (asked.Assign t) is = absurd is
@@ -104,45 +104,47 @@ asked-octets service tei (asked.Remove t) is = absurd is
 asked-octets service tei (asked.Check t) is = absurd is
 asked-octets service tei (asked.SetBusy s t) is = absurd is
 asked-octets service tei (asked.ClearBusy s t) is = absurd is
+asked-octets service tei (asked.Deactivate s t) is = absurd is
 
-asked-data : (service : Service) (tei : ℕ) (r : Request) → IsData service tei r → call.IsData service tei r
-asked-data service tei (asked.Data s t contents) is = (is.0, is.1)
-asked-data service tei (asked.Establish s t) is = absurd is
-asked-data service tei (asked.Release s t) is = absurd is
-asked-data service tei (asked.Unit s t contents) is = absurd is
-asked-data service tei (asked.Assign t) is = absurd is
-asked-data service tei (asked.Remove t) is = absurd is
-asked-data service tei (asked.Check t) is = absurd is
-asked-data service tei (asked.SetBusy s t) is = absurd is
-asked-data service tei (asked.ClearBusy s t) is = absurd is
+asked-there : (service : Service) (tei : ℕ) (r : Request) → IsAsked service tei r → call.IsCallOf service tei (wire.requests r)
+asked-there service tei (asked.Data s t contents) is = (is.0, is.1)
+asked-there service tei (asked.Establish s t) is = is
+asked-there service tei (asked.Release s t) is = absurd is
+asked-there service tei (asked.Unit s t contents) is = absurd is
+asked-there service tei (asked.Assign t) is = absurd is
+asked-there service tei (asked.Remove t) is = absurd is
+asked-there service tei (asked.Check t) is = absurd is
+asked-there service tei (asked.SetBusy s t) is = absurd is
+asked-there service tei (asked.ClearBusy s t) is = absurd is
+asked-there service tei (asked.Deactivate s t) is = absurd is
 
 abbrev AreTalks : Service → ℕ → List wire.Act → Type 0
-AreTalks service tei acts = All (call.IsTalkOf service tei) acts
+AreTalks service tei acts = All (call.IsCallOf service tei) acts
 
 acts-talk : (service : Service) (tei : ℕ) (act : OctetAct) (w : Circuit) → IsTalkOf service tei act → AreTalks service tei (option_to_list (act_meant act w))
-acts-talk service tei (asks r) w is = All-cons (call.IsTalkOf service tei) (wire.requests r) [] (asked-data service tei r is) (All-nil (call.IsTalkOf service tei))
+acts-talk service tei (asks r) w is = All-cons (call.IsCallOf service tei) (wire.requests r) [] (asked-there service tei r is) (All-nil (call.IsCallOf service tei))
 acts-talk service tei pulls w is = go (is_due (port_of w.near))
   where
     go : (due : Bool) → AreTalks service tei (option_to_list (cond due (Some wire.gives) None))
-    go true = All-cons (call.IsTalkOf service tei) wire.gives [] tt (All-nil (call.IsTalkOf service tei))
-    go false = All-nil (call.IsTalkOf service tei)
+    go true = All-cons (call.IsCallOf service tei) wire.gives [] tt (All-nil (call.IsCallOf service tei))
+    go false = All-nil (call.IsCallOf service tei)
 acts-talk service tei hears w is = go w.far.way
   where
     by : (ends : Bool) → AreTalks service tei (option_to_list (cond ends (Some wire.takes) None))
-    by true = All-cons (call.IsTalkOf service tei) wire.takes [] tt (All-nil (call.IsTalkOf service tei))
-    by false = All-nil (call.IsTalkOf service tei)
+    by true = All-cons (call.IsCallOf service tei) wire.takes [] tt (All-nil (call.IsCallOf service tei))
+    by false = All-nil (call.IsCallOf service tei)
 
     go : (way : List ℕ) → AreTalks service tei (option_to_list (hearing_means way w.near))
-    go [] = All-nil (call.IsTalkOf service tei)
+    go [] = All-nil (call.IsCallOf service tei)
     go (value ∷ more) = by (is_some (gained w.near.card.card.config.n201 (port_of w.near).received value))
 
-near-of : (service : Service) (tei : ℕ) (o : Option wire.Act) → AreTalks service tei (option_to_list o) → All (call.IsTalk service tei) (option_to_list (option_map wire.at_near o))
-near-of service tei None h = All-nil (call.IsTalk service tei)
-near-of service tei (Some act) h = All-cons (call.IsTalk service tei) (wire.at_near act) [] (All-head (call.IsTalkOf service tei) act [] h) (All-nil (call.IsTalk service tei))
+near-of : (service : Service) (tei : ℕ) (o : Option wire.Act) → AreTalks service tei (option_to_list o) → All (call.IsCall service tei) (option_to_list (option_map wire.at_near o))
+near-of service tei None h = All-nil (call.IsCall service tei)
+near-of service tei (Some act) h = All-cons (call.IsCall service tei) (wire.at_near act) [] (All-head (call.IsCallOf service tei) act [] h) (All-nil (call.IsCall service tei))
 
-far-of : (service : Service) (tei : ℕ) (o : Option wire.Act) → AreTalks service tei (option_to_list o) → All (call.IsTalk service tei) (option_to_list (option_map wire.at_far o))
-far-of service tei None h = All-nil (call.IsTalk service tei)
-far-of service tei (Some act) h = All-cons (call.IsTalk service tei) (wire.at_far act) [] (All-head (call.IsTalkOf service tei) act [] h) (All-nil (call.IsTalk service tei))
+far-of : (service : Service) (tei : ℕ) (o : Option wire.Act) → AreTalks service tei (option_to_list o) → All (call.IsCall service tei) (option_to_list (option_map wire.at_far o))
+far-of service tei None h = All-nil (call.IsCall service tei)
+far-of service tei (Some act) h = All-cons (call.IsCall service tei) (wire.at_far act) [] (All-head (call.IsCallOf service tei) act [] h) (All-nil (call.IsCall service tei))
 
 -- ---- one way, where ports stay in part
 
@@ -351,7 +353,7 @@ module _ (n201 : ℕ) where
       pub back' : List (List ℕ)
       pub follows : Follows c d w' there' back'
       pub same : wire.doing_all ds (as_wire there back w) ≡ as_wire there' back' w'
-      pub talk : All (call.IsTalk service tei) ds
+      pub talk : All (call.IsCall service tei) ds
 
     by-near : (o : Option wire.Act) (f : Wire) → wire.doing_all (option_to_list (option_map wire.at_near o)) f ≡ if_acted o f
     unfolding frames_done
@@ -379,7 +381,7 @@ module _ (n201 : ℕ) where
 
     pub all-done : (ds : List OctetDoing) → All (IsTalk service tei) ds → (w : Circuit) (there back : List (List ℕ)) → Follows c d w there back → Done (doings_meant ds w) w there back (doing_all ds w)
     unfolding doing_all doings_meant frames_done
-    all-done [] all w there back h = record { there' = there; back' = back; follows = h; same = refl; talk = All-nil (call.IsTalk service tei) }
+    all-done [] all w there back h = record { there' = there; back' = back; follows = h; same = refl; talk = All-nil (call.IsCall service tei) }
     all-done (x ∷ ds) all w there back h =
         let one = one-done x (All-head (IsTalk service tei) x ds all) w there back h in
         let rest = all-done ds (All-tail (IsTalk service tei) x ds all) (doing x w) one.there' one.back' one.follows in
@@ -390,5 +392,5 @@ module _ (n201 : ℕ) where
           back' = rest.back';
           follows = rest.follows;
           same = doing-append first others (as_wire there back w) ∙ ap (wire.doing_all others) one.same ∙ rest.same;
-          talk = All-append (call.IsTalk service tei) first others one.talk rest.talk;
+          talk = All-append (call.IsCall service tei) first others one.talk rest.talk;
         }

@@ -20,7 +20,7 @@ unfoldable use Rattle.model_ports.specs.Card.{after, meant}
 use Rattle.model_ports.specs.Event.{Event, at}
 use Rattle.model_ports.specs.HeardOctets as ports
 use Rattle.model_ports.specs.Port as port
-use Rattle.model_ports.specs.Port.{Port, gained, is_due, left_of}
+use Rattle.model_ports.specs.Port.{gained, is_due, left_of}
 use Rattle.model_ports.specs.Pulls.{longest_text}
 use Rattle.model_ports.specs.Run.{IsAtLine, AreAtLines}
 unfoldable use Rattle.model_ports.specs.Run.{after_all, meant_all}
@@ -35,7 +35,7 @@ use Rattle.model_ports.proofs.Steps.{config_stays, moments-append}
 use Rattle.laws_card.proofs.Wherever.{all-right}
 use Rattle.laws_trace.specs.FramesAreRead.{contents_given, HasOctets, GivesOctets}
 use Rattle.laws_trace.specs.Trace as traces
-use Rattle.laws_trace.specs.Trace.{Seen, begun, seen, seen_told, trace, trace_of, frame_in, frames_begun}
+use Rattle.laws_trace.specs.Trace.{begun, seen, seen_told, trace, trace_of, frames_begun}
 use Rattle.laws_trace.proofs.OctetsBegin.{frames-are-octets}
 use Rattle.laws_circuit.specs.Circuit.{Termination, port_of, happens}
 

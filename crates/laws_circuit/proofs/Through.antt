@@ -27,10 +27,11 @@ use Rattle.laws_wire.specs.Wire as wire
 use Rattle.laws_wire.specs.Wire.{Wire, IsStill}
 use Rattle.laws_wire.proofs.Run.{calls-come-through}
 use Rattle.laws_circuit.specs.Circuit.{Termination, port_of, happens, Circuit, OctetDoing, doing_all}
-use Rattle.laws_circuit.specs.Through.{termination, assigned, calling, IsTalk, HasGone, HasAllGone, ComesThrough, CallsComeThroughInOctets}
+use Rattle.laws_circuit.specs.Through.{termination, assigned, calling, IsTalk, both_call, HasGone, HasAllGone, ComesThrough, CallsComeThroughInOctets}
 use Rattle.laws_circuit.proofs.AsFrames.{asked-as}
 use Rattle.laws_circuit.proofs.OneWay.{Carries, all-given, framed}
 use Rattle.laws_circuit.proofs.Projected.{as_wire, doings_meant, port-after, asked-way, Fits, Follows, Done, all-done}
+use Rattle.laws_circuit.proofs.WhoCalls.{same-calls}
 use Rattle.laws_circuit.proofs.Ran.{Ran, goes-on, within-ports, sound-port, on-line}
 
 -- ---- as it begins
@@ -138,12 +139,16 @@ module _ (service : Service) (c d : Config) (line other tei : ℕ) (ds : List Oc
   pub led : wire.doing_all (doings_meant ds begun) wire_begun ≡ as_wire done.there' done.back' last
   led = ap (wire.doing_all (doings_meant ds begun)) (sym begins) ∙ done.same
 
-  pub on-wire : call.ComesThrough service tei (wire.turns (doings_meant ds begun) wire_begun) (as_wire done.there' done.back' last)
-  on-wire =
-      subst (call.ComesThrough service tei (wire.turns (doings_meant ds begun) wire_begun)) led
-      (calls-come-through service c d line other tei (doings_meant ds begun) can done.talk)
+  pub same-both : call.both_call (doings_meant ds begun) wire_begun ≡ both_call ds begun
+  same-both = ap (call.both_call (doings_meant ds begun)) (sym begins) ∙ same-calls size service tei c d fits fits-far ds talk begun [] [] follows
 
-  still : HasAllGone last → IsStill (as_wire done.there' done.back' last)
+  pub on-wire : call.ComesThrough service tei (wire.turns (doings_meant ds begun) wire_begun) (both_call ds begun) (as_wire done.there' done.back' last)
+  on-wire =
+      subst (λ both. call.ComesThrough service tei (wire.turns (doings_meant ds begun) wire_begun) both (as_wire done.there' done.back' last)) same-both
+      (subst (call.ComesThrough service tei (wire.turns (doings_meant ds begun) wire_begun) (call.both_call (doings_meant ds begun) wire_begun)) led
+      (calls-come-through service c d line other tei (doings_meant ds begun) can done.talk))
+
+  pub still : HasAllGone last → IsStill (as_wire done.there' done.back' last)
   still gone =
       let f = done.follows in
       record {
@@ -153,7 +158,7 @@ module _ (service : Service) (c d : Config) (line other tei : ℕ) (ds : List Oc
         far_way = gone-way size d fits-far last.far f.far (port_of last.near).received done.back' f.comes gone.far;
       }
 
-  comes-through : ComesThrough service tei last
+  comes-through : ComesThrough service tei (both_call ds begun) last
   comes-through = record {
     near_so_far = on-wire.near_so_far;
     far_so_far = on-wire.far_so_far;

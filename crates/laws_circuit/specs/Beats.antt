@@ -1,11 +1,11 @@
 -- How many octets a call takes: each end's line runs at the same rate, an octet a beat.
-use Rattle.std.specs.Prelude.{◌≤◌, ℕ, zero, suc, ◌+◌, ◌*◌, ◌/◌, List, [], ◌∷◌, length, All}
+use Rattle.std.specs.Prelude.{◌≤◌, ℕ, zero, suc, ◌+◌, ◌*◌, ◌/◌, Bool, List, [], ◌∷◌, length, All, if◌then◌else◌}
 use Rattle.lapd_frame.specs.declared.services.Service.{Service}
 use Rattle.model_line.specs.declared.config.Config.{Config}
 use Rattle.model_ports.specs.Pulls.{longest_text}
 use Rattle.laws_wire.specs.Call.{CanCall}
 use Rattle.laws_circuit.specs.Circuit.{Circuit, pulls, hears, OctetDoing, at_near, at_far, doing_all}
-use Rattle.laws_circuit.specs.Through.{calling, IsTalk, IsToldAll}
+use Rattle.laws_circuit.specs.Through.{calling, IsTalk, both_call, IsToldAll}
 
 -- A beat: each end's next octet is pulled, and then the first octet on the way to each end is heard.
 abbrev pub beat : List OctetDoing
@@ -20,12 +20,13 @@ beats (suc n) w = beats n (doing_all beat w)
 abbrev pub longest : ℕ → ℕ
 longest n201 = longest_text n201 / 8 + 1
 
--- So many beats are enough behind the last request, where at most so many octets are on their way at a time, and so much data
--- was granted: for each of the frames that are given and heard, four for the establishment and four for each request, and once
--- more until nothing is left, the longest frame and the way.
-abbrev pub enough_beats : ℕ → ℕ → ℕ → ℕ
-enough_beats n201 way granted = (5 + 4 * granted) * (longest n201 + way)
+-- So many beats are enough behind the last request, where at most so many octets are on their way at a time, one end calls or
+-- both, and so much data was granted: for each frame that is given and heard, of which there are two for each end that calls and
+-- two for each request, the longest frame before it, the frame itself, and the way.
+abbrev pub enough_beats : ℕ → ℕ → Bool → ℕ → ℕ
+enough_beats n201 way both granted = ((if both then 4 else 2) + 2 * granted) * (longest n201 + (longest n201 + way))
 
+-- What was granted in the whole call.
 abbrev pub granted_of : Circuit → ℕ
 granted_of w = length w.near.granted + length w.far.granted
 
@@ -33,6 +34,6 @@ granted_of w = length w.near.granted + length w.far.granted
 abbrev pub AllIsToldInBeats : Type 0
 AllIsToldInBeats =
     (service : Service) (c d : Config) (line other tei way n : ℕ) (ds : List OctetDoing) → CanCall c line d other tei → All (IsTalk service tei) ds →
-    let w = doing_all ds (calling service tei c line d other) in
-    length w.near.way ≤ way → length w.far.way ≤ way → enough_beats c.n201 way (granted_of w) ≤ n →
-    IsToldAll service tei (beats n w)
+    let w = doing_all ds (calling service tei c line d other) in let both = both_call ds (calling service tei c line d other) in
+    length w.near.way ≤ way → length w.far.way ≤ way → enough_beats c.n201 way both (granted_of w) ≤ n →
+    IsToldAll service tei both (beats n w)

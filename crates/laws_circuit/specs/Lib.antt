@@ -4,3 +4,6 @@ pub mod Through
 pub mod Beats
 pub mod Worked
 pub mod WorkedCall
+pub mod Damaged
+pub mod Resting
+pub mod WorkedDamaged

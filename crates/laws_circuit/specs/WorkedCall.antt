@@ -73,7 +73,7 @@ cut_untold : (doing_all cut begins).far.told ≡ []
 unfolding lines.after lines.answer lines.takes_slot reading header_of control_of unnumbered_of supervisory_of teis.course teis.refusal seq distance_of named low_bits ports.after ports.answer ports.meant doing_all
 cut_untold = refl
 
--- Fifteen beats establish, where the bound is 1605.
+-- Fifteen beats establish, where the bound is 1284.
 in_beats : (beats 15 begins).near.told ≡ confirmed Call 0 ∷ []
 unfolding lines.after lines.answer lines.takes_slot reading header_of control_of unnumbered_of supervisory_of teis.course teis.refusal seq distance_of named low_bits ports.after ports.answer ports.meant doing_all beats
 in_beats = refl

@@ -14,12 +14,13 @@ use Rattle.model_line.specs.Expiry.{at_timer, aim_of_expiry}
 use Rattle.model_line.specs.Line.{Line, place_in, link_in, terms}
 use Rattle.model_line.specs.Machine.{after, answer, unless_refused, unless_refused_told, of_request}
 use Rattle.model_line.specs.Refusal.{refusal}
-use Rattle.model_line.specs.Requested.{at_requested, aim_of_request}
+use Rattle.model_line.specs.Request.{Request, Deactivate}
+use Rattle.model_line.specs.Requested.{at_requested, at_deactivated, aim_of_request}
 use Rattle.laws_line.specs.Heard.{IsTo, IsOneEvent as IsOneHeard}
 use Rattle.laws_line.specs.OneEvent.{IsAlone}
 use Rattle.laws_line.specs.Requests.{of_link}
 use Rattle.laws_line.specs.Share.{is_granted}
-use Rattle.laws_line.specs.Steady.{Brings, BringsMalformed, timer_of, IsBy}
+use Rattle.laws_line.specs.Steady.{Brings, BringsMalformed, timer_of, IsOf}
 use Rattle.laws_line.proofs.Granting.{not-refused}
 use Rattle.laws_line.proofs.Hearing.{sapi-is, read-event, malformed-event, overlong-event}
 
@@ -73,13 +74,11 @@ module _ (c : Config) (l : Line) (service : Service) (tei place : ℕ) (on : pla
   request-aim link.SetBusy = ap (at_requested service tei link.SetBusy) on
   request-aim link.ClearBusy = ap (at_requested service tei link.ClearBusy) on
 
-  by-request : (asked : link.Request) → refusal c false (of_link service tei asked) l ≡ None → Alone (request (of_link service tei asked)) (link.requested asked false)
+  by-granted : (r : Request) (event : link.Event) → aim_of_request r l ≡ at_link service tei place event → refusal c false r l ≡ None → Alone (request r) event
   unfolding after answer
-  by-request asked none =
-      let r = of_link service tei asked in
-      let event = link.requested asked false in
+  by-granted r event is none =
       let aim : unless_refused (refusal c false r l) (aim_of_request r l) ≡ at_link service tei place event =
-      ap (λ o. unless_refused o (aim_of_request r l)) none ∙ request-aim asked in
+      ap (λ o. unless_refused o (aim_of_request r l)) none ∙ is in
       record {
         line = ap (λ a. (of_aim c a l).line) aim;
         answer_is = record {
@@ -92,7 +91,7 @@ module _ (c : Config) (l : Line) (service : Service) (tei place : ℕ) (on : pla
         };
       }
 
-  pub is-alone : (e : Event) (event : link.Event) → e ≢ next → IsBy c e (answer c e l) service tei event → Alone e event
+  pub is-alone : (e : Event) (event : link.Event) → e ≢ next → IsOf c e (answer c e l) service tei event → Alone e event
   is-alone e (link.received (link.frame parts)) other by = by-frame e parts by
   is-alone e (link.received link.undefined) other by = by-malformed e link.undefined by
   is-alone e (link.received link.wrong_size) other by = by-malformed e link.wrong_size by
@@ -101,6 +100,8 @@ module _ (c : Config) (l : Line) (service : Service) (tei place : ℕ) (on : pla
   is-alone e (link.requested asked full) other by =
       subst (λ full. Alone e (link.requested asked full)) (sym by.2)
       (subst (λ e. is_granted (answer c e l) ≡ true → Alone e (link.requested asked false)) (sym by.0)
-      (λ granted. by-request asked (not-refused c (of_link service tei asked) l granted)) by.1)
+      (λ granted. by-granted (of_link service tei asked) (link.requested asked false) (request-aim asked) (not-refused c (of_link service tei asked) l granted)) by.1)
   is-alone e link.offer other by = absurd (other by)
-  is-alone e link.cleared other by = absurd by
+  is-alone e link.cleared other by =
+      subst (λ e. is_granted (answer c e l) ≡ true → Alone e link.cleared) (sym by.0)
+      (λ granted. by-granted (Deactivate service tei) link.cleared (ap (at_deactivated service tei) on) (not-refused c (Deactivate service tei) l granted)) by.1

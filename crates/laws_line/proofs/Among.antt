@@ -1,5 +1,5 @@
 -- A control frame that waits is taken by one of so many calls also where other events of its line are between them.
-use Rattle.std.proofs.Common.{◌≡◌, ℕ, ◌+◌, ◌-◌, ◌<◌, ◌≤◌, Bool, true, false, cond, List, [], ◌∷◌, ◌++◌, length, take, Option, Some, None, refl, sym, ap, subst, ◌∙◌, ◌⊎◌, inl, inr, arith, append_assoc, append-nil, length-append}
+use Rattle.std.proofs.Common.{◌≡◌, ℕ, ◌+◌, ◌-◌, ◌<◌, ◌≤◌, ◌==◌, ◌&&◌, Bool, true, false, cond, List, [], ◌∷◌, ◌++◌, length, take, Option, Some, None, refl, sym, ap, subst, ◌∙◌, ◌⊎◌, inl, inr, arith, append_assoc, append-nil, length-append, eq-eqb, true≢false}
 use Rattle.lapd_frame.specs.declared.services.Service.{Service}
 use Rattle.lapd_frame.specs.Grammar.{Parts}
 use Rattle.model_link.specs.declared.frames.ControlFrame.{ControlFrame}
@@ -24,14 +24,17 @@ use Rattle.model_line.specs.Machine.{after, answer, unless_refused}
 use Rattle.model_line.specs.Heard.{aim_of_heard}
 use Rattle.model_line.specs.Taken.{Taken, taken}
 use Rattle.model_line.specs.Refusal.{refusal}
+use Rattle.model_line.specs.Request.{Deactivate}
 use Rattle.model_line.specs.Requested.{aim_of_request}
 use Rattle.model_line.specs.Sound.{IsInRange, IsSound}
 use Rattle.model_line.proofs.LineSound.{after_sound}
+use Rattle.laws_line.specs.Requests.{deactivates}
 use Rattle.laws_line.specs.Steady.{IsBy}
-use Rattle.laws_line.proofs.Happening.{Happens, event-happens}
+use Rattle.laws_line.proofs.Happening.{IsGivenUp, Happens, event-happens}
 use Rattle.laws_line.specs.Drains.{way_round, frames_before, frames_before, control_text}
 use Rattle.laws_line.specs.Among.{after_events, is_take, takes_in, go_first, comes_first, come_first, StaysOnLine, IsTakenIn}
 use Rattle.laws_line.proofs.Ordered.{next-goes}
+use Rattle.laws_line.proofs.Told.{same_of_itself}
 
 -- What an event that is no call for the next frame leaves of whose turn it is, and what it brings.
 record Meanwhile (l l' : Line) : Type 0 where
@@ -101,12 +104,22 @@ module _ (c : Config) (ranged : IsInRange c) (number tei : ℕ) (few : number < 
       let two : true ≡ false = sym take ∙ apart in cc
   no-offer e a service other event apart by (inr is) = subst (IsBy c e a service other) is by
 
-  stays : (e : Event) (l : Line) → is_take e ≡ false → tei_at (place_at number) l ≡ Some tei → tei_at (place_at number) (after c e l) ≡ Some tei
+  -- where a link is given up, that is asked for
+  not-up : (e : Event) (l : Line) (a : Answer) → deactivates (service_at number) tei e ≡ false → tei_at (place_at number) l ≡ Some tei
+      → IsGivenUp (service_at number) number e l a → ⊥
+  not-up e l a up at x =
+      let its : tei ≡ x.tei = let same : Some tei ≡ Some x.tei = sym at ∙ x.on_line in cc in
+      let asked : deactivates (service_at number) tei (request (Deactivate (service_at number) x.tei)) ≡ true =
+      ap (λ b. b && x.tei == tei) (same_of_itself (service_at number)) ∙ eq-eqb x.tei tei (sym its) in
+      true≢false (sym asked ∙ ap (deactivates (service_at number) tei) (sym x.by.0) ∙ up)
+
+  stays : (e : Event) (l : Line) → is_take e ≡ false → deactivates (service_at number) tei e ≡ false → tei_at (place_at number) l ≡ Some tei → tei_at (place_at number) (after c e l) ≡ Some tei
       → Happens c number e l (after c e l) (answer c e l) → Waits (frames l) (frames (after c e l))
   unfolding Waits
-  stays e l apart at at' (inl same) = ([], ap (λ (x : Link). x.waiting) same ∙ sym (append-nil (frames l)))
-  stays e l apart at at' (inr (inl gone)) = absurd (gone.0 (at' ∙ sym at))
-  stays e l apart at at' (inr (inr one)) =
+  stays e l apart up at at' (inl same) = ([], ap (λ (x : Link). x.waiting) same ∙ sym (append-nil (frames l)))
+  stays e l apart up at at' (inr (inl (inl moved, gone))) = absurd (moved (at' ∙ sym at))
+  stays e l apart up at at' (inr (inl (inr down, gone))) = absurd (not-up e l (answer c e l) up at down)
+  stays e l apart up at at' (inr (inr one)) =
       let t = terms c (service_at number) one.tei in
       let own = links.after t one.event (link_at number l) in
       let w = left-waiting t one.event (link_at number l) own.state (no-offer e (answer c e l) (service_at number) one.tei one.event apart one.by) in
@@ -134,9 +147,9 @@ module _ (c : Config) (ranged : IsInRange c) (number tei : ℕ) (few : number < 
       let comes : comes_first c e l ≡ go_first (after c e l) - go_first l = ap (λ b. cond b 0 (go_first (after c e l) - go_first l)) apart in
       omega (arith, no-farther e l others apart, comes)
 
-  pub other-waits : (e : Event) (l : Line) → is_take e ≡ false → IsSound c l → tei_at (place_at number) l ≡ Some tei → tei_at (place_at number) (after c e l) ≡ Some tei
+  pub other-waits : (e : Event) (l : Line) → is_take e ≡ false → deactivates (service_at number) tei e ≡ false → IsSound c l → tei_at (place_at number) l ≡ Some tei → tei_at (place_at number) (after c e l) ≡ Some tei
       → (before : List ControlFrame) (f : ControlFrame) (behind : List ControlFrame) → Waiting l before f behind → (behind' : List ControlFrame) × Waiting (after c e l) before f behind'
-  other-waits e l apart s at at' before f behind waits = still-waits e l (stays e l apart at at' (event-happens c e l number s few)) before f behind waits
+  other-waits e l apart up s at at' before f behind waits = still-waits e l (stays e l apart up at at' (event-happens c e l number s few)) before f behind waits
 
   sooner : (e : Event) (es : List Event) (l : Line) (frame : List ℕ) → IsTakenIn c es (after c e l) frame → IsTakenIn c (e ∷ es) l frame
   unfolding after_events
@@ -169,12 +182,12 @@ module _ (c : Config) (ranged : IsInRange c) (number tei : ℕ) (few : number < 
       go (inl (t, some, is)) = at-once es l t (control_text c number tei f) some is
       go (inr (before', waits', nearer)) = sooner next es l (control_text c number tei f) (more before' behind waits' (fewer before' nearer))
 
-  by-other : (f : ControlFrame) (e : Event) (es : List Event) (l : Line) → is_take e ≡ false → IsSound c l → tei_at (place_at number) l ≡ Some tei → tei_at (place_at number) (after c e l) ≡ Some tei
+  by-other : (f : ControlFrame) (e : Event) (es : List Event) (l : Line) → is_take e ≡ false → deactivates (service_at number) tei e ≡ false → IsSound c l → tei_at (place_at number) l ≡ Some tei → tei_at (place_at number) (after c e l) ≡ Some tei
       → (before behind : List ControlFrame) → Waiting l before f behind
       → frames_before c l number (length before) + come_first c (e ∷ es) l < takes_in (e ∷ es) → Rest f e es l → IsTakenIn c (e ∷ es) l (control_text c number tei f)
   unfolding come_first Rest
-  by-other f e es l apart s at at' before behind waits less more =
-      let w = other-waits e l apart s at at' before f behind waits in
+  by-other f e es l apart up s at at' before behind waits less more =
+      let w = other-waits e l apart up s at at' before f behind waits in
       let farther = no-farther e l (length before) apart in
       let count : takes_in (e ∷ es) ≡ 0 + takes_in es = ap (λ b. cond b 1 0 + takes_in es) apart in
       sooner e es l (control_text c number tei f) (more before w.0 w.1 (omega (arith, less, farther, count)))
@@ -189,13 +202,13 @@ module _ (c : Config) (ranged : IsInRange c) (number tei : ℕ) (few : number < 
   unfolding StaysOnLine Rest
   taken-in f [] l s on before behind waits less = absurd (omega (arith, less))
   taken-in f (next ∷ es) l s on before behind waits less =
-      by-take f es l s on.0 before behind waits less (λ before' behind' waits' less'. taken-in f es (after c next l) (after_sound c ranged next l s) on.1 before' behind' waits' less')
+      by-take f es l s on.0 before behind waits less (λ before' behind' waits' less'. taken-in f es (after c next l) (after_sound c ranged next l s) on.2 before' behind' waits' less')
   taken-in f (hears e ∷ es) l s on before behind waits less =
-      by-other f (hears e) es l refl s on.0 (on-first es (after c (hears e) l) on.1) before behind waits less
-      (λ before' behind' waits' less'. taken-in f es (after c (hears e) l) (after_sound c ranged (hears e) l s) on.1 before' behind' waits' less')
+      by-other f (hears e) es l refl refl s on.0 (on-first es (after c (hears e) l) on.2) before behind waits less
+      (λ before' behind' waits' less'. taken-in f es (after c (hears e) l) (after_sound c ranged (hears e) l s) on.2 before' behind' waits' less')
   taken-in f (expiry timer ∷ es) l s on before behind waits less =
-      by-other f (expiry timer) es l refl s on.0 (on-first es (after c (expiry timer) l) on.1) before behind waits less
-      (λ before' behind' waits' less'. taken-in f es (after c (expiry timer) l) (after_sound c ranged (expiry timer) l s) on.1 before' behind' waits' less')
+      by-other f (expiry timer) es l refl refl s on.0 (on-first es (after c (expiry timer) l) on.2) before behind waits less
+      (λ before' behind' waits' less'. taken-in f es (after c (expiry timer) l) (after_sound c ranged (expiry timer) l s) on.2 before' behind' waits' less')
   taken-in f (request r ∷ es) l s on before behind waits less =
-      by-other f (request r) es l refl s on.0 (on-first es (after c (request r) l) on.1) before behind waits less
-      (λ before' behind' waits' less'. taken-in f es (after c (request r) l) (after_sound c ranged (request r) l s) on.1 before' behind' waits' less')
+      by-other f (request r) es l refl on.1 s on.0 (on-first es (after c (request r) l) on.2) before behind waits less
+      (λ before' behind' waits' less'. taken-in f es (after c (request r) l) (after_sound c ranged (request r) l s) on.2 before' behind' waits' less')

@@ -28,7 +28,7 @@ takes-leave : (n : ℕ) (l : Line) → IsSound small l → tei_at (place_at 0) l
 unfolding StaysOnLine
 takes-leave zero l s at = at
 takes-leave (suc n) l s at =
-    (at, takes-leave n (after small next l) (after_sound small refl next l s) (same-place small refl 0 64 (omega arith) l (after small next l) (next-moves small 0 l s (omega arith)).places at))
+    (at, refl, takes-leave n (after small next l) (after_sound small refl next l s) (same-place small refl 0 64 (omega arith) l (after small next l) (next-moves small 0 l s (omega arith)).places at))
 
 abbrev check_in : Line
 check_in = after small (hears (dropped Fcs)) asked
@@ -49,7 +49,7 @@ unit-sound = after_sound small refl (request (Request.Unit Call 127 (0xAB ∷ []
 
 stays : StaysOnLine small 0 64 events asked
 unfolding StaysOnLine
-stays = (still_on_line, (check-on_line, takes-leave 4 unit_asked unit-sound unit-on_line))
+stays = (still_on_line, refl, (check-on_line, refl, takes-leave 4 unit_asked unit-sound unit-on_line))
 
 pub is-taken : IsTakenIn small events asked (control_text small 0 64 (response (ReceiveReady (seq 0) true)))
 is-taken =

@@ -24,8 +24,8 @@ use Rattle.model_line.specs.Line.{Line, link_number, place_in, link_in, link_of,
 use Rattle.model_line.specs.Machine.{answer, unless_refused, unless_refused_told, of_request}
 use Rattle.model_line.specs.Heard.{aim_of_heard}
 use Rattle.model_line.specs.Refusal.{Row, first_that_holds, bad_tei, no_link, wrong_state, too_long, queue_full, pool_full, refusal}
-use Rattle.model_line.specs.Request.{Request, Establish, Release, Data, Unit, Assign, Remove, Check, SetBusy, ClearBusy}
-use Rattle.model_line.specs.Requested.{at_requested, aim_of_request}
+use Rattle.model_line.specs.Request.{Request, Establish, Release, Data, Unit, Assign, Remove, Check, SetBusy, ClearBusy, Deactivate}
+use Rattle.model_line.specs.Requested.{at_requested, at_deactivated, aim_of_request}
 use Rattle.model_line.proofs.ProperAims.{heard_aims}
 use Rattle.laws_line.specs.Share.{no_share, ending, share_aimed, share_of, is_link, is_granted, asked_for, asked_by}
 
@@ -99,6 +99,10 @@ module _ (c : Config) (l : Line) (number : ℕ) where
       at-link service tei place (link.requested what false)
       (ap (λ xs. cond (is_some (requests.refusal (terms c service tei) (link_in l service place) false what)) [] xs) none ∙ nothing-more (is_some (requests.refusal (terms c service tei) (link_in l service place) false what)))
 
+  deactivated : (service : Service) (tei : ℕ) (o : Option ℕ) → Accepts [] (at_deactivated service tei o)
+  deactivated service tei None = refl
+  deactivated service tei (Some place) = at-link service tei place link.cleared refl
+
   contents-asked : (service : Service) (tei : ℕ) (contents : List ℕ) → refusal c false (Data service tei contents) l ≡ None → (o : Option ℕ) → place_in l tei ≡ o
       → Accepts (cond (option_map_or (is_link number service) o false) (contents ∷ []) []) (at_requested service tei (link.Data contents) o)
   contents-asked service tei contents e None at = refl
@@ -118,6 +122,7 @@ module _ (c : Config) (l : Line) (number : ℕ) where
   granted (Check tei) e = ends _
   granted (SetBusy service tei) e = requested service tei link.SetBusy (place_in l tei) refl
   granted (ClearBusy service tei) e = requested service tei link.ClearBusy (place_in l tei) refl
+  granted (Deactivate service tei) e = deactivated service tei (place_in l tei)
 
 pub asked-is : (c : Config) (e : Event) (l : Line) (number : ℕ) → (share_of c number e l).accepted ≡ asked_by number e l (answer c e l)
 unfolding answer

@@ -29,8 +29,8 @@ use Rattle.model_line.specs.Heard.{management_sapi, group_tei, drop_for, to_serv
 use Rattle.model_line.specs.Taken.{Taken, taken, line_of}
 use Rattle.model_line.specs.Refusal.{wrong_side, bad_tei, no_link, tei_taken, table_full, check_running, control_full, refusal}
 use Rattle.model_line.specs.Sides.{at_side, managed_at}
-use Rattle.model_line.specs.Request.{Request, Establish, Release, Data, Unit, Assign, Remove, Check, SetBusy, ClearBusy}
-use Rattle.model_line.specs.Requested.{at_requested, aim_of_request}
+use Rattle.model_line.specs.Request.{Request, Establish, Release, Data, Unit, Assign, Remove, Check, SetBusy, ClearBusy, Deactivate}
+use Rattle.model_line.specs.Requested.{at_requested, at_deactivated, aim_of_request}
 use Rattle.model_line.specs.Sound.{IsInRange, IsSound}
 use Rattle.model_line.proofs.TakenWalk.{next_walk}
 use Rattle.model_line.proofs.Ranges.{ranges_of}
@@ -143,6 +143,7 @@ module _ (c : Config) (l : Line) where
   grants (Unit service tei contents) none = tt
   grants (SetBusy service tei) none = tt
   grants (ClearBusy service tei) none = tt
+  grants (Deactivate service tei) none = tt
 
   granted : (e : Event) (r : Request) → e ≡ request r → is_granted (answer c e l) ≡ true → Granted r (after c e l).management (lost_in (answer c e l))
   granted e r is = subst (λ x. is_granted (answer c x l) ≡ true → Granted r (after c x l).management (lost_in (answer c x l))) (sym is) (λ g. grants r (not-refused c r l g))
@@ -177,6 +178,10 @@ module _ (c : Config) (l : Line) where
   by-asked service tei what None = refl
   by-asked service tei what (Some place) = refl
 
+  by-deactivated : (service : Service) (tei : ℕ) (o : Option ℕ) → (of_aim c (at_deactivated service tei o) l).line.management ≡ l.management
+  by-deactivated service tei None = refl
+  by-deactivated service tei (Some place) = refl
+
   asked-caused : (r : Request) (a : Answer) → is_granted a ≡ true → FromCause (request r) (of_aim c (aim_of_request r l) l).line a
   asked-caused (Establish service tei) a g = inl (by-asked service tei link.Establish (place_in l tei))
   asked-caused (Release service tei) a g = inl (by-asked service tei link.Release (place_in l tei))
@@ -184,6 +189,7 @@ module _ (c : Config) (l : Line) where
   asked-caused (Unit service tei contents) a g = inl refl
   asked-caused (SetBusy service tei) a g = inl (by-asked service tei link.SetBusy (place_in l tei))
   asked-caused (ClearBusy service tei) a g = inl (by-asked service tei link.ClearBusy (place_in l tei))
+  asked-caused (Deactivate service tei) a g = inl (by-deactivated service tei (place_in l tei))
   asked-caused (Assign tei) a g = inr (inr (inr (inr (record { asked = Assign tei; by = refl; granted = g; its = refl }))))
   asked-caused (Remove tei) a g = inr (inr (inr (inr (record { asked = Remove tei; by = refl; granted = g; its = refl }))))
   asked-caused (Check tei) a g = inr (inr (inr (inr (record { asked = Check tei; by = refl; granted = g; its = refl }))))

@@ -55,8 +55,8 @@ use Rattle.model_line.specs.Heard.{drop_for, management_sapi, group_tei, at_plac
 use Rattle.model_line.specs.Sides.{group_told, IsToGroup}
 use Rattle.model_line.proofs.Sides.{side_aims}
 use Rattle.model_line.specs.Refusal.{refusal}
-use Rattle.model_line.specs.Request.{Request, Establish, Release, Data, Unit, Assign, Remove, Check, SetBusy, ClearBusy}
-use Rattle.model_line.specs.Requested.{at_requested, aim_of_request}
+use Rattle.model_line.specs.Request.{Request, Establish, Release, Data, Unit, Assign, Remove, Check, SetBusy, ClearBusy, Deactivate}
+use Rattle.model_line.specs.Requested.{at_requested, at_deactivated, aim_of_request}
 use Rattle.model_line.specs.Sound.{IsInRange, IsSound}
 use Rattle.model_line.proofs.LinksSound.{sound_in}
 use Rattle.laws_line.specs.Heard.{IsFor, IsTo, contents_in, due, is_data_of, is_unit_of, IsHeard}
@@ -232,6 +232,10 @@ module _ (c : Config) (ranged : IsInRange c) (l : Line) (s : IsSound c l) where
   asked-silent service tei what None e = dropped (at_none nothing) refl
   asked-silent service tei what (Some place) e = none-by-link service tei place (link.requested what false) e refl refl
 
+  deactivated-silent : (service : Service) (tei : ℕ) (o : Option ℕ) → place_in l tei ≡ o → Silent (at_deactivated service tei o)
+  deactivated-silent service tei None e = dropped (at_none nothing) refl
+  deactivated-silent service tei (Some place) e = none-by-link service tei place link.cleared e refl refl
+
   pub request-silent : (r : Request) → Silent (aim_of_request r l)
   request-silent (Establish service tei) = asked-silent service tei link.Establish (place_in l tei) refl
   request-silent (Release service tei) = asked-silent service tei link.Release (place_in l tei) refl
@@ -242,6 +246,7 @@ module _ (c : Config) (ranged : IsInRange c) (l : Line) (s : IsSound c l) where
   request-silent (Check tei) = managed (teis.check tei)
   request-silent (SetBusy service tei) = asked-silent service tei link.SetBusy (place_in l tei) refl
   request-silent (ClearBusy service tei) = asked-silent service tei link.ClearBusy (place_in l tei) refl
+  request-silent (Deactivate service tei) = deactivated-silent service tei (place_in l tei) refl
 
   -- contents by a frame that was heard
   pub record Heard (octets contents : List ℕ) (ns : List Note) : Type 0 where

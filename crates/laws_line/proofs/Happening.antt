@@ -1,5 +1,5 @@
 -- What an event of a line is to one of its links.
-use Rattle.std.proofs.Common.{◌≡◌, ◌≢◌, ℕ, ◌<◌, Bool, true, false, ◌==◌, length, get_or, set, Option, Some, None, refl, ap, sym, ◌∙◌, subst, arith, eqb-true, eq-eqb, true≢false, option_map, IfSome, inl, inr, ◌⊎◌}
+use Rattle.std.proofs.Common.{◌≡◌, ◌≢◌, ℕ, ◌<◌, Bool, true, false, ◌==◌, length, get_or, set, Option, Some, None, refl, ap, sym, ◌∙◌, subst, arith, eqb-true, eq-eqb, true≢false, option_map, IfSome, inl, inr, ◌⊎◌, ⊎_elim}
 use Rattle.std.specs.Option.{option_map_or}
 use Rattle.std.proofs.lemmas.List.{get_or-set_same, get_or-set_other}
 use Rattle.lapd_frame.specs.declared.refusals.Refusal.{Refusal}
@@ -31,13 +31,19 @@ use Rattle.model_line.proofs.Numbers.{place_at-number, service_at-number}
 use Rattle.model_line.proofs.ProperAims.{heard_proper, expiry_proper, request_proper}
 use Rattle.model_line.proofs.TakenWalk.{taken_walk, next_walk}
 use Rattle.laws_line.specs.Loss.{IsMoved}
-use Rattle.laws_line.specs.Steady.{IsBy}
+use Rattle.laws_line.specs.Steady.{IsBy, IsDeactivated, IsOf}
 use Rattle.laws_line.proofs.Kept.{begin_here, begin_away}
 use Rattle.laws_line.proofs.Tied.{Ties, heard-ties, expiry-ties, request-ties}
 use Rattle.laws_line.proofs.Told.{moved}
 
--- A link is left as it is; or its TEI leaves the line, or a TEI comes to its place, and it is as one that begins; or it has one
--- event.
+-- A link of a TEI on the line is deactivated.
+pub record IsGivenUp (service : Service) (number : ℕ) (e : Event) (before : Line) (answer : Answer) : Type 0 where
+  pub tei : ℕ
+  pub on_line : tei_at (place_at number) before ≡ Some tei
+  pub by : IsDeactivated e answer service tei
+
+-- A link is left as it is; or its TEI leaves the line, or a TEI comes to its place, or it is deactivated, and it is as one that
+-- begins; or it has one event.
 pub record HasOne (c : Config) (service : Service) (number : ℕ) (e : Event) (before after : Line) (answer : Answer) : Type 0 where
   pub tei : ℕ
   pub on_line : tei_at (place_at number) before ≡ Some tei
@@ -47,24 +53,45 @@ pub record HasOne (c : Config) (service : Service) (number : ℕ) (e : Event) (b
 
 abbrev pub Happens : Config → ℕ → Event → Line → Line → Answer → Type 0
 Happens c number e before after answer =
-    (link_at number after ≡ link_at number before) ⊎ (IsMoved number before after × (link_at number after ≡ fresh))
+    (link_at number after ≡ link_at number before)
+    ⊎ ((IsMoved number before after ⊎ IsGivenUp (service_at number) number e before answer) × (link_at number after ≡ fresh))
     ⊎ HasOne c (service_at number) number e before after answer
+
+-- An event of a link is by what comes, or it is deactivated.
+pub by-or-down : (c : Config) (e : Event) (a : Answer) (service : Service) (tei : ℕ) (le : link.Event)
+    → IsOf c e a service tei le → IsBy c e a service tei le ⊎ ((le ≡ link.cleared) × IsDeactivated e a service tei)
+by-or-down c e a service tei (link.received what) by = inl by
+by-or-down c e a service tei (link.expired timer) by = inl by
+by-or-down c e a service tei (link.requested asked full) by = inl by
+by-or-down c e a service tei link.offer by = inl by
+by-or-down c e a service tei link.cleared by = inr (refl, by)
 
 module _ (c : Config) (l : Line) (s : IsSound c l) (number : ℕ) (few : number < link_count c) (e : Event) (a : Answer) where
   abbrev Goes : Line → Type 0
   Goes l' = Happens c number e l l' a
 
   at-its-link : (service : Service) (tei place : ℕ) (le : link.Event) → IsAt l.management.places place tei
-      → IsBy c e a service tei le → Goes (of_aim c (at_link service tei place le) l).line
+      → IsOf c e a service tei le → Goes (of_aim c (at_link service tei place le) l).line
   at-its-link service tei place le at by = go (link_number place service == number) refl
     where
-      one : link_number place service ≡ number → HasOne c service (link_number place service) e l (of_aim c (at_link service tei place le) l).line a
-      one same =
+      there-is : link_number place service ≡ number → tei_at (place_at (link_number place service)) l ≡ Some tei
+      there-is same = ap (λ p. tei_at p l) (place_at-number place service) ∙ at
+
+      ended : link_number place service ≡ number → le ≡ link.cleared → IsDeactivated e a service tei
+          → IsGivenUp service (link_number place service) e l a × (link_at (link_number place service) (of_aim c (at_link service tei place le) l).line ≡ fresh)
+      ended same is down = (
+        record { tei = tei; on_line = there-is same; by = down },
+        get_or-set_same l.links (link_number place service) (links.after (terms c service tei) le (link_in l service place)) fresh (omega (arith, same, few, s.count))
+            ∙ ap (λ x. links.after (terms c service tei) x (link_in l service place)) is,
+      )
+
+      one : link_number place service ≡ number → IsBy c e a service tei le → HasOne c service (link_number place service) e l (of_aim c (at_link service tei place le) l).line a
+      one same by =
           let there : get_or (set l.links (link_number place service) (links.after (terms c service tei) le (link_in l service place))) (link_number place service) fresh ≡ links.after (terms c service tei) le (link_in l service place) =
           get_or-set_same l.links (link_number place service) (links.after (terms c service tei) le (link_in l service place)) fresh (omega (arith, same, few, s.count)) in
           record {
             tei = tei;
-            on_line = ap (λ p. tei_at p l) (place_at-number place service) ∙ at;
+            on_line = there-is same;
             event = le;
             by = by;
             is = there;
@@ -73,8 +100,18 @@ module _ (c : Config) (l : Line) (s : IsSound c l) (number : ℕ) (few : number 
       go : (b : Bool) → (link_number place service == number) ≡ b → Goes (of_aim c (at_link service tei place le) l).line
       go true same =
           let at_number : link_number place service ≡ number = eqb-true (link_number place service) number same in
+          ⊎_elim
+          (λ x.
           inr (inr (subst (λ k. HasOne c (service_at k) k e l (of_aim c (at_link service tei place le) l).line a) at_number
-          (subst (λ (v : Service). HasOne c v (link_number place service) e l (of_aim c (at_link service tei place le) l).line a) (sym (service_at-number place service)) (one at_number))))
+          (subst (λ (v : Service). HasOne c v (link_number place service) e l (of_aim c (at_link service tei place le) l).line a) (sym (service_at-number place service)) (one at_number x)))))
+          (λ x.
+          let down = ended at_number x.0 x.1 in
+          inr (inl (
+            inr (subst (λ k. IsGivenUp (service_at k) k e l a) at_number
+                (subst (λ (v : Service). IsGivenUp v (link_number place service) e l a) (sym (service_at-number place service)) down.0)),
+            subst (λ k. link_at k (of_aim c (at_link service tei place le) l).line ≡ fresh) at_number down.1,
+          )))
+          (by-or-down c e a service tei le by)
       go false other =
           let apart : number ≢ link_number place service = λ same. true≢false (sym (eq-eqb (link_number place service) number (sym same)) ∙ other) in
           inl (get_or-set_other l.links (link_number place service) number (links.after (terms c service tei) le (link_in l service place)) fresh apart)
@@ -87,8 +124,8 @@ module _ (c : Config) (l : Line) (s : IsSound c l) (number : ℕ) (few : number 
       → l'.management.places ≡ (teis.after me l.management).places → (b : Bool) → (place == place_at number) ≡ b → Goes l'
   at-its-place me o place at within moves l' ls ps true same =
       inr (inl (
-        λ again. moved l.management.places (teis.after me l.management).places (place_at number) o (at ∙ same) moves
-            (sym (ap (λ p. get_or p (place_at number) None) ps) ∙ again),
+        inl (λ again. moved l.management.places (teis.after me l.management).places (place_at number) o (at ∙ same) moves
+            (sym (ap (λ p. get_or p (place_at number) None) ps) ∙ again)),
         ap (λ xs. get_or xs number fresh) ls
             ∙ begin_here l.links place number (sym (eqb-true place (place_at number) same)) (omega (arith, within, s.places, s.count)),
       ))

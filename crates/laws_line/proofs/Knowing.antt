@@ -45,8 +45,8 @@ use Rattle.model_line.specs.Machine.{after, answer, unless_refused, unless_refus
 use Rattle.model_line.specs.Heard.{aim_of_heard}
 use Rattle.model_line.specs.Taken.{Taken, taken, line_of, with_message, with_unit, with_given_frame}
 use Rattle.model_line.specs.Refusal.{refusal}
-use Rattle.model_line.specs.Request.{Request, Establish, Release, Data, Unit, Assign, Remove, Check, SetBusy, ClearBusy}
-use Rattle.model_line.specs.Requested.{at_requested, aim_of_request}
+use Rattle.model_line.specs.Request.{Request, Establish, Release, Data, Unit, Assign, Remove, Check, SetBusy, ClearBusy, Deactivate}
+use Rattle.model_line.specs.Requested.{at_requested, at_deactivated, aim_of_request}
 use Rattle.model_line.specs.Sound.{IsSound}
 use Rattle.model_line.proofs.AimsSound.{IsProper}
 use Rattle.model_line.proofs.ProperAims.{heard_aims, request_proper}
@@ -225,6 +225,11 @@ module _ (c : Config) (l : Line) (s : IsSound c l) where
   asked-up service tei what None e = λ s' n'. refl
   asked-up service tei what (Some place) e = aimed service tei place (link.requested what false) e
 
+  deactivated-up : (service : Service) (tei : ℕ) (o : Option ℕ) → place_in l tei ≡ o
+      → Up l (of_aim c (at_deactivated service tei o) l).told.notes (of_aim c (at_deactivated service tei o) l).line
+  deactivated-up service tei None e = λ s' n'. refl
+  deactivated-up service tei (Some place) e = aimed service tei place link.cleared e
+
   request-up : (r : Request) → IsProper c l (aim_of_request r l) → Up l (of_aim c (aim_of_request r l) l).told.notes (of_aim c (aim_of_request r l) l).line
   request-up (Establish service tei) proper = asked-up service tei link.Establish (place_in l tei) refl
   request-up (Release service tei) proper = asked-up service tei link.Release (place_in l tei) refl
@@ -236,6 +241,7 @@ module _ (c : Config) (l : Line) (s : IsSound c l) where
   request-up (Check tei) proper = management-up c l s (teis.check tei) proper
   request-up (SetBusy service tei) proper = asked-up service tei link.SetBusy (place_in l tei) refl
   request-up (ClearBusy service tei) proper = asked-up service tei link.ClearBusy (place_in l tei) refl
+  request-up (Deactivate service tei) proper = deactivated-up service tei (place_in l tei) refl
 
   offered-up : (service : Service) (tei place : ℕ) → IsAt l.management.places place tei → (s' : Service) (n' : ℕ)
       → is_up_of s' n' l ≡ is_up_of s' n' (with_link (link_number place service) (links.after (terms c service tei) link.offer (link_in l service place)) l)

@@ -45,8 +45,8 @@ use Rattle.model_line.specs.Heard.{aim_of_heard}
 use Rattle.model_line.specs.Taken.{Taken, taken, line_of}
 use Rattle.model_line.specs.Refusal.{refusal}
 use Rattle.model_line.specs.Sides.{has_management}
-use Rattle.model_line.specs.Request.{Request, Establish, Release, Data, Unit, Assign, Remove, Check, SetBusy, ClearBusy}
-use Rattle.model_line.specs.Requested.{at_requested, aim_of_request}
+use Rattle.model_line.specs.Request.{Request, Establish, Release, Data, Unit, Assign, Remove, Check, SetBusy, ClearBusy, Deactivate}
+use Rattle.model_line.specs.Requested.{at_requested, at_deactivated, aim_of_request}
 use Rattle.model_line.specs.Sound.{IsSound}
 use Rattle.model_line.proofs.AimsSound.{IsProper}
 use Rattle.model_line.proofs.ProperAims.{heard_aims, request_proper}
@@ -208,6 +208,10 @@ module _ (c : Config) (l : Line) (s : IsSound c l) (tei : ℕ) where
   asked-knows service by what None = refl
   asked-knows service by what (Some place) = link-knows service by place (link.requested what false)
 
+  deactivated-knows : (service : Service) (by : ℕ) (o : Option ℕ) → Knows l (λ on. on) tei (of_aim c (at_deactivated service by o) l).told.notes (of_aim c (at_deactivated service by o) l).line
+  deactivated-knows service by None = refl
+  deactivated-knows service by (Some place) = link-knows service by place link.cleared
+
   request-knows : (r : Request) → refusal c false r l ≡ None → IsProper c l (aim_of_request r l)
       → Knows l (λ on. on_by_request tei on r) tei (of_aim c (aim_of_request r l) l).told.notes (of_aim c (aim_of_request r l) l).line
   request-knows (Establish service by) granted proper = asked-knows service by link.Establish (place_in l by)
@@ -219,6 +223,7 @@ module _ (c : Config) (l : Line) (s : IsSound c l) (tei : ℕ) where
   request-knows (Check by) granted proper = management-knows c l s (teis.check by) proper tei (λ none. refl)
   request-knows (SetBusy service by) granted proper = asked-knows service by link.SetBusy (place_in l by)
   request-knows (ClearBusy service by) granted proper = asked-knows service by link.ClearBusy (place_in l by)
+  request-knows (Deactivate service by) granted proper = deactivated-knows service by (place_in l by)
 
   took-on : (t : Taken) → IsOne c l t → has_tei tei l ≡ has_tei tei t.line
   took-on t (inl x) = ap (λ (u : Taken). has_tei tei u.line) (sym x.1)

@@ -19,6 +19,7 @@ pub mod Managing
 pub mod Tied
 pub mod Happening
 pub mod Alone
+pub mod GivingUp
 pub mod Readings
 pub mod TeiNotes
 pub mod Noting

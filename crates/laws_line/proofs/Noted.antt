@@ -34,8 +34,8 @@ use Rattle.model_line.specs.Machine.{after, answer, unless_refused, unless_refus
 use Rattle.model_line.specs.Heard.{aim_of_heard}
 use Rattle.model_line.specs.Taken.{Taken, taken, line_of}
 use Rattle.model_line.specs.Refusal.{refusal}
-use Rattle.model_line.specs.Request.{Request, Establish, Release, Data, Unit, Assign, Remove, Check, SetBusy, ClearBusy}
-use Rattle.model_line.specs.Requested.{at_requested, aim_of_request}
+use Rattle.model_line.specs.Request.{Request, Establish, Release, Data, Unit, Assign, Remove, Check, SetBusy, ClearBusy, Deactivate}
+use Rattle.model_line.specs.Requested.{at_requested, at_deactivated, aim_of_request}
 use Rattle.model_line.specs.Sound.{IsSound}
 use Rattle.model_line.proofs.AimsSound.{IsProper}
 use Rattle.model_line.proofs.Numbers.{number_within}
@@ -159,12 +159,17 @@ module _ (c : Config) (l : Line) (s : IsSound c l) where
   asked-noted e service tei what None proper by = nothing-noted c l s e _ _ refl refl
   asked-noted e service tei what (Some place) proper by = of-link c l s e service tei place (link.requested what false) proper by
 
+  deactivated-noted : (e : Event) (service : Service) (tei : ℕ) (o : Option ℕ) → OwnOf e (at_deactivated service tei o)
+  deactivated-noted e service tei None proper by = nothing-noted c l s e _ _ refl refl
+  deactivated-noted e service tei (Some place) proper by = of-link c l s e service tei place link.cleared proper by
+
   request-noted : (r : Request) → OwnOf (request r) (aim_of_request r l)
   request-noted (Establish service tei) proper by = asked-noted (request (Establish service tei)) service tei link.Establish (place_in l tei) proper by
   request-noted (Release service tei) proper by = asked-noted (request (Release service tei)) service tei link.Release (place_in l tei) proper by
   request-noted (Data service tei contents) proper by = asked-noted (request (Data service tei contents)) service tei (link.Data contents) (place_in l tei) proper by
   request-noted (SetBusy service tei) proper by = asked-noted (request (SetBusy service tei)) service tei link.SetBusy (place_in l tei) proper by
   request-noted (ClearBusy service tei) proper by = asked-noted (request (ClearBusy service tei)) service tei link.ClearBusy (place_in l tei) proper by
+  request-noted (Deactivate service tei) proper by = deactivated-noted (request (Deactivate service tei)) service tei (place_in l tei) proper by
   request-noted (Unit service tei contents) proper by = nothing-noted c l s (request (Unit service tei contents)) _ _ refl refl
   request-noted (Assign tei) proper by = managed c l s (request (Assign tei)) (teis.assign tei) proper (λ t ns is. is.1) (λ t ns is. absurd is)
   request-noted (Remove tei) proper by = managed c l s (request (Remove tei)) (teis.remove tei) proper (λ t ns is. absurd is) (λ t ns is. is.1)

@@ -26,8 +26,8 @@ use Rattle.model_line.specs.Line.{Line, UnitData, link_number, link_count, place
 use Rattle.model_line.specs.Machine.{after, answer, unless_refused, unless_refused_told}
 use Rattle.model_line.specs.Heard.{aim_of_heard}
 use Rattle.model_line.specs.Refusal.{refusal}
-use Rattle.model_line.specs.Request.{Request, Establish, Release, Data, Assign, Remove, Check, SetBusy, ClearBusy}
-use Rattle.model_line.specs.Requested.{at_requested, aim_of_request}
+use Rattle.model_line.specs.Request.{Request, Establish, Release, Data, Assign, Remove, Check, SetBusy, ClearBusy, Deactivate}
+use Rattle.model_line.specs.Requested.{at_requested, at_deactivated, aim_of_request}
 use Rattle.model_line.specs.Sound.{IsSound}
 use Rattle.model_line.proofs.AimsSound.{IsProper}
 use Rattle.model_line.proofs.ProperAims.{heard_proper, expiry_proper, request_proper}
@@ -195,6 +195,10 @@ module _ (c : Config) (l : Line) (s : IsSound c l) (e : Event) where
   asked-falls service tei what None proper by = inr (refl, refl)
   asked-falls service tei what (Some place) proper by = at-its-link service tei place (link.requested what false) proper by
 
+  deactivated-falls : (service : Service) (tei : ℕ) (o : Option ℕ) → Falls (at_deactivated service tei o)
+  deactivated-falls service tei None proper by = inr (refl, refl)
+  deactivated-falls service tei (Some place) proper by = at-its-link service tei place link.cleared proper by
+
 heard-falls : (c : Config) (l : Line) (s : IsSound c l) (e : stream.Event) → Falls c l s (hears e) (aim_of_heard c l e)
 heard-falls c l s e =
     heard-aims-at c l e (Falls c l s (hears e)) (λ cause proper by. inr (refl, refl))
@@ -224,6 +228,7 @@ module _ (c : Config) (l : Line) (s : IsSound c l) where
   request-falls (Data service tei contents) = asked-falls c l s (request (Data service tei contents)) service tei (link.Data contents) (place_in l tei)
   request-falls (SetBusy service tei) = asked-falls c l s (request (SetBusy service tei)) service tei link.SetBusy (place_in l tei)
   request-falls (ClearBusy service tei) = asked-falls c l s (request (ClearBusy service tei)) service tei link.ClearBusy (place_in l tei)
+  request-falls (Deactivate service tei) = deactivated-falls c l s (request (Deactivate service tei)) service tei (place_in l tei)
   request-falls (Request.Unit service tei contents) = λ proper by.
       inl (of_units (record { service = service; tei = tei; contents = contents }) (record { by = refl; granted = refl }))
   request-falls (Assign tei) = λ proper by. inl (of_management (teis.assign tei) (refl, refl))

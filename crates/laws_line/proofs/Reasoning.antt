@@ -38,8 +38,8 @@ use Rattle.model_line.specs.Line.{Line, place_in, link_in, terms}
 use Rattle.model_line.specs.Machine.{answer, unless_refused, unless_refused_told}
 use Rattle.model_line.specs.Heard.{group_tei}
 use Rattle.model_line.specs.Refusal.{refusal}
-use Rattle.model_line.specs.Request.{Request, Establish, Release, Data, Unit, Assign, Remove, Check as Checking, SetBusy, ClearBusy}
-use Rattle.model_line.specs.Requested.{at_requested, aim_of_request}
+use Rattle.model_line.specs.Request.{Request, Establish, Release, Data, Unit, Assign, Remove, Check as Checking, SetBusy, ClearBusy, Deactivate}
+use Rattle.model_line.specs.Requested.{at_requested, at_deactivated, aim_of_request}
 use Rattle.laws_line.specs.Heard.{notes_of}
 use Rattle.laws_line.specs.Messages.{asks, responds, Says}
 use Rattle.laws_line.specs.Reasons.{HasReason, HaveReasons}
@@ -194,6 +194,10 @@ module _ (c : Config) (l : Line) (e : Event) where
   asked-noted service tei what None = All-nil P
   asked-noted service tei what (Some place) = link-noted (terms c service tei) (link.requested what false) (link_in l service place)
 
+  deactivated-noted : (service : Service) (tei : ℕ) (o : Option ℕ) → All P (of_aim c (at_deactivated service tei o) l).told.notes
+  deactivated-noted service tei None = All-nil P
+  deactivated-noted service tei (Some place) = link-noted (terms c service tei) link.cleared (link_in l service place)
+
   granted-noted : (r : Request) → All P (of_aim c (aim_of_request r l) l).told.notes
   unfolding teis.course
   granted-noted (Establish service tei) = asked-noted service tei link.Establish (place_in l tei)
@@ -202,6 +206,7 @@ module _ (c : Config) (l : Line) (e : Event) where
   granted-noted (Unit service tei contents) = All-nil P
   granted-noted (SetBusy service tei) = asked-noted service tei link.SetBusy (place_in l tei)
   granted-noted (ClearBusy service tei) = asked-noted service tei link.ClearBusy (place_in l tei)
+  granted-noted (Deactivate service tei) = deactivated-noted service tei (place_in l tei)
   granted-noted (Assign tei) =
       management-noted (teis.assign tei) l
       (unless-noted P l.management (teis.refusal (teis.assign tei) l.management) (teis.assign tei) (put-noted P l.management tei (free_place l.management.places)))

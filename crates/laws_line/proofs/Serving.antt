@@ -37,8 +37,8 @@ use Rattle.model_line.specs.Effect.{Aim, at_none, at_link, at_management, at_uni
 use Rattle.model_line.specs.Expiry.{at_timer, aim_of_expiry}
 use Rattle.model_line.specs.Heard.{aim_of_heard}
 use Rattle.model_line.specs.Refusal.{refusal}
-use Rattle.model_line.specs.Request.{Request, Establish, Release, Data, Assign, Remove, Check, SetBusy, ClearBusy}
-use Rattle.model_line.specs.Requested.{at_requested, aim_of_request}
+use Rattle.model_line.specs.Request.{Request, Establish, Release, Data, Assign, Remove, Check, SetBusy, ClearBusy, Deactivate}
+use Rattle.model_line.specs.Requested.{at_requested, at_deactivated, aim_of_request}
 use Rattle.model_line.proofs.ProperAims.{heard_aims}
 use Rattle.laws_line.specs.Share.{is_granted}
 use Rattle.model_line.specs.Line.{Line, UnitData, link_count, service_at, place_at, place_in, tei_at, terms, terms_at, link_at, with_link}
@@ -241,6 +241,10 @@ module _ (c : Config) where
   by-asked service tei what None = refl
   by-asked service tei what (Some place) = refl
 
+  by-deactivated : (service : Service) (tei : ℕ) (o : Option ℕ) → unit_of (at_deactivated service tei o) ≡ []
+  by-deactivated service tei None = refl
+  by-deactivated service tei (Some place) = refl
+
   by-request : (l : Line) (r : Request) → unit_of (aim_of_request r l) ≡ unit_asked r
   by-request l (Establish service tei) = by-asked service tei link.Establish (place_in l tei)
   by-request l (Release service tei) = by-asked service tei link.Release (place_in l tei)
@@ -251,6 +255,7 @@ module _ (c : Config) where
   by-request l (Check tei) = refl
   by-request l (SetBusy service tei) = by-asked service tei link.SetBusy (place_in l tei)
   by-request l (ClearBusy service tei) = by-asked service tei link.ClearBusy (place_in l tei)
+  by-request l (Deactivate service tei) = by-deactivated service tei (place_in l tei)
 
 pub units-wait : (c : Config) (e : Event) (l : Line) → UnitsWait e l (after c e l) (answer c e l)
 unfolding after answer

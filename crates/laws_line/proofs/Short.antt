@@ -24,8 +24,8 @@ use Rattle.model_line.specs.Heard.{aim_of_heard}
 use Rattle.model_line.specs.Effect.{told_of_management, of_link, of_change, of_management, of_aim}
 use Rattle.model_line.specs.Taken.{Taken, with_message, message_taken, with_unit, unit_taken, with_given_frame, link_taken, first_taken, round, taken, next_of}
 use Rattle.model_line.specs.Refusal.{refusal}
-use Rattle.model_line.specs.Request.{Request, Establish, Release, Data, Unit, Assign, Remove, Check, SetBusy, ClearBusy}
-use Rattle.model_line.specs.Requested.{at_requested, aim_of_request}
+use Rattle.model_line.specs.Request.{Request, Establish, Release, Data, Unit, Assign, Remove, Check, SetBusy, ClearBusy, Deactivate}
+use Rattle.model_line.specs.Requested.{at_requested, at_deactivated, aim_of_request}
 use Rattle.lapd_tei.proofs.Brief.{IsBrief, told_brief}
 use Rattle.model_bits.specs.Stream as stream
 use Rattle.model_link.specs.declared.timers.LinkTimer.TheVariants as link_timer
@@ -103,6 +103,10 @@ module _ (c : Config) where
   requested_short l service n what None = none_short
   requested_short l service n what (Some place) = link_short service n place (link.requested what false) l
 
+  deactivated_short : (l : Line) (service : Service) (n : ℕ) (o : Option ℕ) → IsShort (of_aim c (at_deactivated service n o) l).told
+  deactivated_short l service n None = none_short
+  deactivated_short l service n (Some place) = link_short service n place link.cleared l
+
   request_short : (l : Line) (r : Request) → IsShort (of_aim c (aim_of_request r l) l).told
   request_short l (Establish service n) = requested_short l service n link.Establish (place_in l n)
   request_short l (Release service n) = requested_short l service n link.Release (place_in l n)
@@ -113,6 +117,7 @@ module _ (c : Config) where
   request_short l (Check n) = management_short (teis.check n) l
   request_short l (SetBusy service n) = requested_short l service n link.SetBusy (place_in l n)
   request_short l (ClearBusy service n) = requested_short l service n link.ClearBusy (place_in l n)
+  request_short l (Deactivate service n) = deactivated_short l service n (place_in l n)
 
   -- A call for the next frame orders what the frame's timer wants.
   HasFewOrders : Taken → Type 0

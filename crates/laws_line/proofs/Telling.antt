@@ -14,7 +14,7 @@ use Rattle.model_line.specs.declared.config.Config.{Config}
 use Rattle.model_line.specs.Event.{Event, Answer}
 use Rattle.model_line.specs.Line.{Line}
 use Rattle.model_line.specs.Machine.{after, answer}
-use Rattle.model_line.specs.Request.{Request, Establish, Release, Data, Unit, Assign, Remove, Check as Checking, SetBusy, ClearBusy}
+use Rattle.model_line.specs.Request.{Request, Establish, Release, Data, Unit, Assign, Remove, Check as Checking, SetBusy, ClearBusy, Deactivate}
 use Rattle.model_line.specs.Sound.{IsInRange, IsSound}
 use Rattle.laws_line.specs.Causes.{HasCause, IsTaken, HaveCauses, AreThere}
 use Rattle.laws_line.specs.Messages.{Said, asks, verifies, responds, IsSent, IsUnmoved, IsToldAgain, IsAssigned, IsDenied, Verifies, may_begin, is_answered, RespondsTo, Responds, Serves, ExpiresIn, Expires, Grants, is_of_management}
@@ -106,6 +106,7 @@ module _ (before after : Management) (ri tei : ℕ) (more : after.waiting ≡ be
   by-request (Unit service own contents) lost its h = true≢false (sym its)
   by-request (SetBusy service own) lost its h = true≢false (sym its)
   by-request (ClearBusy service own) lost its h = true≢false (sym its)
+  by-request (Deactivate service own) lost its h = true≢false (sym its)
 
 -- So of each event of a line.
 pub told-there : (c : Config) (e : Event) (before after : Line) (a : Answer) → HaveCauses c e before after a → AreThere before after

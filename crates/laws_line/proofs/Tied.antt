@@ -25,14 +25,14 @@ use Rattle.model_line.specs.Expiry.{at_timer, aim_of_expiry}
 use Rattle.model_line.specs.Line.{Line, place_in}
 use Rattle.model_line.specs.Heard.{drop_for, management_sapi, group_tei, at_place, to_service, addressed, message_of, aim_of_reading, unless_at_link, aim_of_long, heard_side, aim_of_heard}
 use Rattle.model_line.proofs.Sides.{side_aims}
-use Rattle.model_line.specs.Request.{Request, Establish, Release, Data, Assign, Remove, Check, SetBusy, ClearBusy}
-use Rattle.model_line.specs.Requested.{at_requested, aim_of_request}
+use Rattle.model_line.specs.Request.{Request, Establish, Release, Data, Assign, Remove, Check, SetBusy, ClearBusy, Deactivate}
+use Rattle.model_line.specs.Requested.{at_requested, at_deactivated, aim_of_request}
 use Rattle.laws_line.specs.Share.{is_granted}
 use Rattle.laws_line.specs.Heard.{IsTooLong}
-use Rattle.laws_line.specs.Steady.{BringsMalformed, IsBy}
+use Rattle.laws_line.specs.Steady.{BringsMalformed, IsBy, IsOf}
 
 abbrev pub Ties : Config → Event → Answer → Aim → Type 0
-Ties c e answer (at_link service tei place event) = IsBy c e answer service tei event
+Ties c e answer (at_link service tei place event) = IsOf c e answer service tei event
 Ties c e answer (at_none what) = Unit {0}
 Ties c e answer (at_management event) = Unit {0}
 Ties c e answer (at_units unit) = Unit {0}
@@ -133,6 +133,10 @@ module _ (c : Config) (l : Line) (answer : Answer) (granted : is_granted answer 
   asked-ties service tei asked None = tt
   asked-ties service tei asked (Some place) = (refl, granted, refl)
 
+  deactivated-ties : (service : Service) (tei : ℕ) (o : Option ℕ) → Ties c (request (Deactivate service tei)) answer (at_deactivated service tei o)
+  deactivated-ties service tei None = tt
+  deactivated-ties service tei (Some place) = (refl, granted)
+
   pub request-ties : (r : Request) → Ties c (request r) answer (aim_of_request r l)
   request-ties (Establish service tei) = asked-ties service tei link.Establish (place_in l tei)
   request-ties (Release service tei) = asked-ties service tei link.Release (place_in l tei)
@@ -143,3 +147,4 @@ module _ (c : Config) (l : Line) (answer : Answer) (granted : is_granted answer 
   request-ties (Check tei) = tt
   request-ties (SetBusy service tei) = asked-ties service tei link.SetBusy (place_in l tei)
   request-ties (ClearBusy service tei) = asked-ties service tei link.ClearBusy (place_in l tei)
+  request-ties (Deactivate service tei) = deactivated-ties service tei (place_in l tei)

@@ -42,8 +42,8 @@ use Rattle.model_line.specs.Machine.{after, answer, unless_refused, unless_refus
 use Rattle.model_line.specs.Heard.{aim_of_heard}
 use Rattle.model_line.specs.Taken.{Taken, with_message, with_unit, with_given_frame, taken, next_of, line_of}
 use Rattle.model_line.specs.Refusal.{refusal}
-use Rattle.model_line.specs.Request.{Request, Establish, Release, Data, Unit, Assign, Remove, Check, SetBusy, ClearBusy}
-use Rattle.model_line.specs.Requested.{at_requested, aim_of_request}
+use Rattle.model_line.specs.Request.{Request, Establish, Release, Data, Unit, Assign, Remove, Check, SetBusy, ClearBusy, Deactivate}
+use Rattle.model_line.specs.Requested.{at_requested, at_deactivated, aim_of_request}
 use Rattle.model_line.specs.Sound.{IsInRange, IsSound}
 use Rattle.model_line.proofs.AimsSound.{IsProper}
 use Rattle.model_line.proofs.ProperAims.{heard_aims, request_proper}
@@ -135,6 +135,11 @@ module _ (c : Config) (l : Line) (s : IsSound c l) where
   asked service tei what None e = λ timer. refl
   asked service tei what (Some place) e = aimed service tei place (link.requested what false) e
 
+  deactivated : (service : Service) (tei : ℕ) (o : Option ℕ) → place_in l tei ≡ o
+      → Follow as_it_was l (of_aim c (at_deactivated service tei o) l).told.orders (of_aim c (at_deactivated service tei o) l).line
+  deactivated service tei None e = λ timer. refl
+  deactivated service tei (Some place) e = aimed service tei place link.cleared e
+
   pub request-followed : (r : Request) → IsProper c l (aim_of_request r l) → Follow as_it_was l (of_aim c (aim_of_request r l) l).told.orders (of_aim c (aim_of_request r l) l).line
   request-followed (Establish service tei) proper = asked service tei link.Establish (place_in l tei) refl
   request-followed (Release service tei) proper = asked service tei link.Release (place_in l tei) refl
@@ -146,6 +151,7 @@ module _ (c : Config) (l : Line) (s : IsSound c l) where
   request-followed (Check tei) proper = managed (teis.check tei) proper
   request-followed (SetBusy service tei) proper = asked service tei link.SetBusy (place_in l tei) refl
   request-followed (ClearBusy service tei) proper = asked service tei link.ClearBusy (place_in l tei) refl
+  request-followed (Deactivate service tei) proper = deactivated service tei (place_in l tei) refl
 
   -- an expiry: of a link's timer,
   dead : (k : LinkTimer) (service : Service) (tei : ℕ) → place_in l tei ≡ None → (timer : Timer) → without (timer_of k service tei) timer (is_running timer l) ≡ is_running timer l

@@ -42,8 +42,8 @@ use Rattle.model_line.specs.Line.{Line, link_number, service_at, place_at, tei_a
 use Rattle.model_line.specs.Machine.{after, answer, unless_refused, unless_refused_told}
 use Rattle.model_line.specs.Heard.{aim_of_heard}
 use Rattle.model_line.specs.Refusal.{refusal}
-use Rattle.model_line.specs.Request.{Request, Establish, Release, Data, Unit, Assign, Remove, Check, SetBusy, ClearBusy}
-use Rattle.model_line.specs.Requested.{at_requested, aim_of_request}
+use Rattle.model_line.specs.Request.{Request, Establish, Release, Data, Unit, Assign, Remove, Check, SetBusy, ClearBusy, Deactivate}
+use Rattle.model_line.specs.Requested.{at_requested, at_deactivated, aim_of_request}
 use Rattle.model_line.specs.Sound.{IsSound}
 use Rattle.model_line.proofs.AimsSound.{IsProper}
 use Rattle.model_line.proofs.Numbers.{place_at-number, service_at-number}
@@ -189,7 +189,19 @@ module _ (c : Config) (l : Line) (s : IsSound c l) (number : ℕ) where
       (λ y is. inl (record {
         service = service;
         tei = tei;
-        asked = refl;
+        asked = inl refl;
+        its = ap (λ o. option_map_or (is_link number service) o false) e ∙ eq-eqb (link_number place service) number is;
+        granted = refl;
+      }))
+
+  deactivated-tells : (service : Service) (tei : ℕ) (o : Option ℕ) → place_in l tei ≡ o → Tells (request (Deactivate service tei)) (at_deactivated service tei o)
+  deactivated-tells service tei None e = no-loss (request (Deactivate service tei)) (at_none nothing) refl
+  deactivated-tells service tei (Some place) e =
+      at-link (request (Deactivate service tei)) service tei place link.cleared (place_of-is l.management.places tei place e).1
+      (λ y is. inl (record {
+        service = service;
+        tei = tei;
+        asked = inr refl;
         its = ap (λ o. option_map_or (is_link number service) o false) e ∙ eq-eqb (link_number place service) number is;
         granted = refl;
       }))
@@ -204,6 +216,7 @@ module _ (c : Config) (l : Line) (s : IsSound c l) (number : ℕ) where
   request-tells (Check tei) proper = management _ (teis.check tei) proper
   request-tells (SetBusy service tei) proper = asked-tells _ service tei link.SetBusy (place_in l tei) refl refl
   request-tells (ClearBusy service tei) proper = asked-tells _ service tei link.ClearBusy (place_in l tei) refl refl
+  request-tells (Deactivate service tei) proper = deactivated-tells service tei (place_in l tei) refl
 
 pub loss-told : (c : Config) (e : Event) (l : Line) (number : ℕ) → IsSound c l → (share_of c number e l).empties ≡ true
     → IsTold number e l (after c e l) (answer c e l)

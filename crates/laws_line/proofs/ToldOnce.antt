@@ -36,8 +36,8 @@ use Rattle.model_line.specs.Line.{Line, place_in, link_in, terms}
 use Rattle.model_line.specs.Machine.{answer, unless_refused, unless_refused_told}
 use Rattle.model_line.specs.Heard.{aim_of_heard}
 use Rattle.model_line.specs.Refusal.{refusal}
-use Rattle.model_line.specs.Request.{Request, Establish, Release, Data, Unit, Assign, Remove, Check, SetBusy, ClearBusy}
-use Rattle.model_line.specs.Requested.{at_requested, aim_of_request}
+use Rattle.model_line.specs.Request.{Request, Establish, Release, Data, Unit, Assign, Remove, Check, SetBusy, ClearBusy, Deactivate}
+use Rattle.model_line.specs.Requested.{at_requested, at_deactivated, aim_of_request}
 use Rattle.model_line.specs.Sound.{IsInRange, IsSound}
 use Rattle.model_line.proofs.LinksSound.{sound_in}
 use Rattle.model_line.proofs.ProperAims.{heard_aims}
@@ -163,6 +163,10 @@ module _ (c : Config) (ranged : IsInRange c) (l : Line) (s : IsSound c l) where
   asked-once service tei what None on = refl
   asked-once service tei what (Some place) on = at-its-link service tei place (link.requested what false) on
 
+  deactivated-once : (service : Service) (tei : ℕ) (o : Option ℕ) → place_in l tei ≡ o → Once (at_deactivated service tei o)
+  deactivated-once service tei None on = refl
+  deactivated-once service tei (Some place) on = at-its-link service tei place link.cleared on
+
   request-once : (r : Request) → Once (aim_of_request r l)
   request-once (Establish service tei) = asked-once service tei link.Establish (place_in l tei) refl
   request-once (Release service tei) = asked-once service tei link.Release (place_in l tei) refl
@@ -173,6 +177,7 @@ module _ (c : Config) (ranged : IsInRange c) (l : Line) (s : IsSound c l) where
   request-once (Check tei) = managed (teis.check tei)
   request-once (SetBusy service tei) = asked-once service tei link.SetBusy (place_in l tei) refl
   request-once (ClearBusy service tei) = asked-once service tei link.ClearBusy (place_in l tei) refl
+  request-once (Deactivate service tei) = deactivated-once service tei (place_in l tei) refl
 
 pub told-once : (c : Config) (e : Event) (l : Line) → IsInRange c → IsSound c l → IsNotedOnce (answer c e l)
 unfolding answer

@@ -23,8 +23,8 @@ use Rattle.model_line.specs.Line.{Line, place_in}
 use Rattle.model_line.specs.Machine.{after, unless_refused}
 use Rattle.model_line.specs.Taken.{Taken, taken, line_of}
 use Rattle.model_line.specs.Refusal.{wrong_side, bad_tei, no_link, check_running, control_full, refusal}
-use Rattle.model_line.specs.Request.{Request, Establish, Release, Data, Unit, Assign, Remove, Check, SetBusy, ClearBusy}
-use Rattle.model_line.specs.Requested.{at_requested, aim_of_request}
+use Rattle.model_line.specs.Request.{Request, Establish, Release, Data, Unit, Assign, Remove, Check, SetBusy, ClearBusy, Deactivate}
+use Rattle.model_line.specs.Requested.{at_requested, at_deactivated, aim_of_request}
 use Rattle.model_line.specs.Sides.{has_management}
 use Rattle.model_line.specs.Sound.{IsSound}
 use Rattle.laws_line.specs.Unmanaged.{IsUnmanaged, UsersManageNothing}
@@ -92,6 +92,10 @@ module _ (c : Config) (l : Line) (user : c.side ≡ User) (s : IsSound c l) (h :
   by-asked service tei what None = h
   by-asked service tei what (Some place) = same _ refl
 
+  by-deactivated : (service : Service) (tei : ℕ) (o : Option ℕ) → IsUnmanaged (of_aim c (at_deactivated service tei o) l).line
+  by-deactivated service tei None = h
+  by-deactivated service tei (Some place) = same _ refl
+
   -- nothing of TEI management but an assignment is granted
   not-ours : (b : Bool) → b ≡ has_management c.side → not b ≡ false → ⊥
   not-ours true is e = true≢false (is ∙ ap has_management user)
@@ -104,6 +108,7 @@ module _ (c : Config) (l : Line) (user : c.side ≡ User) (s : IsSound c l) (h :
   by-request (Unit service tei contents) none = same _ refl
   by-request (SetBusy service tei) none = by-asked service tei link.SetBusy (place_in l tei)
   by-request (ClearBusy service tei) none = by-asked service tei link.ClearBusy (place_in l tei)
+  by-request (Deactivate service tei) none = by-deactivated service tei (place_in l tei)
   by-request (Assign tei) none = by-management (teis.assign tei) (assigned l.management tei idle)
   by-request (Remove tei) none =
       absurd (not-ours (has_management c.side) refl (passed (wrong_side c) (bad_tei tei ∷ no_link tei l ∷ control_full l ∷ []) none).0)

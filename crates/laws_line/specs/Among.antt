@@ -2,9 +2,10 @@
 use Rattle.std.specs.Prelude.{◌≡◌, ℕ, ◌+◌, ◌-◌, Bool, true, false, List, [], ◌∷◌, ◌++◌, length, Some, if◌then◌else◌}
 use Rattle.model_line.specs.declared.config.Config.{Config}
 use Rattle.model_line.specs.Event.{Event, next}
-use Rattle.model_line.specs.Line.{Line, place_at, tei_at}
+use Rattle.model_line.specs.Line.{Line, service_at, place_at, tei_at}
 use Rattle.model_line.specs.Machine.{after}
 use Rattle.model_line.specs.Taken.{Taken, taken}
+use Rattle.laws_line.specs.Requests.{deactivates}
 
 -- A line after events.
 unfoldable pub after_events : Config → List Event → Line → Line
@@ -32,10 +33,11 @@ unfoldable pub come_first : Config → List Event → Line → ℕ
 come_first c [] l = 0
 come_first c (e ∷ es) l = comes_first c e l + come_first c es (after c e l)
 
--- At the place of a link stays this TEI.
+-- At the place of a link stays this TEI, and the link is not deactivated.
 unfoldable pub StaysOnLine : Config → ℕ → ℕ → List Event → Line → Type 0
 StaysOnLine c number tei [] l = tei_at (place_at number) l ≡ Some tei
-StaysOnLine c number tei (e ∷ es) l = (tei_at (place_at number) l ≡ Some tei) × StaysOnLine c number tei es (after c e l)
+StaysOnLine c number tei (e ∷ es) l =
+    (tei_at (place_at number) l ≡ Some tei) × (deactivates (service_at number) tei e ≡ false) × StaysOnLine c number tei es (after c e l)
 
 -- One of these events is a call that takes this frame.
 pub record IsTakenIn (c : Config) (es : List Event) (l : Line) (frame : List ℕ) : Type 0 where

@@ -15,6 +15,7 @@ pub mod Unmanaged
 pub mod Reasons
 pub mod Noted
 pub mod Machine
+pub mod Deactivated
 pub mod Laws
 pub mod WorkedLine
 pub mod WorkedSides

@@ -7,7 +7,7 @@ use Rattle.lapd_frame.specs.declared.services.Service.{Service}
 use Rattle.lapd_frame.specs.Services.{same_service}
 use Rattle.model_line.specs.Event.{Event, request, Answer}
 use Rattle.model_line.specs.Line.{Line, service_at, place_at, tei_at}
-use Rattle.model_line.specs.Request.{Release}
+use Rattle.model_line.specs.Request.{Release, Deactivate}
 use Rattle.laws_line.specs.Heard.{notes_of}
 use Rattle.laws_line.specs.Share.{is_of, is_granted}
 
@@ -18,11 +18,11 @@ is_loss_of service tei (notes.ReleaseIndication of by) = same_service of service
 is_loss_of service tei (notes.ReleaseConfirm of by) = same_service of service && by == tei
 is_loss_of service tei other = false
 
--- Layer 3 asked for it by a release of this link that was granted;
+-- Layer 3 asked for it by a release of this link that was granted, or by its deactivation;
 pub record IsReleased (number : ℕ) (event : Event) (l : Line) (answer : Answer) : Type 0 where
   pub service : Service
   pub tei : ℕ
-  pub asked : event ≡ request (Release service tei)
+  pub asked : (event ≡ request (Release service tei)) ⊎ (event ≡ request (Deactivate service tei))
   pub its : is_of number service tei l ≡ true
   pub granted : is_granted answer ≡ true
 

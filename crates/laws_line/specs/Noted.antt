@@ -18,7 +18,7 @@ use Rattle.model_line.specs.Line.{Line, tei_at, link_in, terms}
 use Rattle.model_line.specs.Heard.{heard_side}
 use Rattle.model_line.specs.Sides.{group_tei, IsToGroup}
 use Rattle.laws_line.specs.Heard.{notes_of}
-use Rattle.laws_line.specs.Steady.{IsBy}
+use Rattle.laws_line.specs.Steady.{IsOf}
 
 -- The event is one of a link of a TEI on the line, and the notes are those of the table.
 pub record NotesOneEvent (c : Config) (e : Event) (before after : Line) (answer : Answer) : Type 0 where
@@ -27,7 +27,7 @@ pub record NotesOneEvent (c : Config) (e : Event) (before after : Line) (answer 
   pub place : ℕ
   pub on_line : tei_at place before ≡ Some tei
   pub event : link.Event
-  pub by : IsBy c e answer service tei event
+  pub by : IsOf c e answer service tei event
   pub notes : notes_of answer
       ≡ told_by (terms c service tei) (as_heard (terms c service tei) event) (link_in before service place) (link_in after service place).state
 

@@ -20,7 +20,7 @@ use Rattle.laws_line.specs.Frames.{lost_in}
 use Rattle.laws_line.specs.Heard.{Says, notes_of}
 use Rattle.laws_line.specs.Loss.{IsMoved}
 use Rattle.laws_line.specs.Share.{is_granted}
-use Rattle.laws_line.specs.Steady.{HearsFrame, IsBy, IsOfManagement}
+use Rattle.laws_line.specs.Steady.{HearsFrame, IsOf, IsOfManagement}
 
 -- One link has this event, and nothing else changes; the line answers what the link tells.
 pub record IsAlone (c : Config) (before after : Line) (answer : Answer) (service : Service) (tei place : ℕ) (event : link.Event) : Type 0 where
@@ -52,7 +52,7 @@ pub record IsGranted (e : Event) (answer : Answer) (unit : UnitData) : Type 0 wh
 -- Whatever happens on a line is an event of a link of a TEI on it, of TEI management, unit data that is granted, unit
 -- data to the group that is heard on the user's side (`Heard` has what comes of it), or a call for the next frame;
 pub data IsOfPart (c : Config) (l : Line) (e : Event) (answer : Answer) : Type 0 where
-  of_link : (service : Service) (tei place : ℕ) (event : link.Event) → place_in l tei ≡ Some place → IsBy c e answer service tei event → IsOfPart c l e answer
+  of_link : (service : Service) (tei place : ℕ) (event : link.Event) → place_in l tei ≡ Some place → IsOf c e answer service tei event → IsOfPart c l e answer
   of_management : (event : teis.Event) → IsOfManagement c e answer event → IsOfPart c l e answer
   of_units : (unit : UnitData) → IsGranted e answer unit → IsOfPart c l e answer
   of_group : (parts : Parts) (service : Service) → HearsFrame c e parts → IsToGroup c parts service → IsOfPart c l e answer
@@ -67,7 +67,7 @@ SaysNothing (gave frame) = ⊥
 -- What becomes of it: an event of one part is this event of the part, and nothing else changes. Unit data waits whole, behind
 -- what waits; and a call for the next frame is one of the line's machine.
 pub record IsOneEvent (c : Config) (e : Event) (before after : Line) (answer : Answer) : Type 0 where
-  pub link : (service : Service) (tei place : ℕ) (event : link.Event) → e ≢ next → place_in before tei ≡ Some place → IsBy c e answer service tei event
+  pub link : (service : Service) (tei place : ℕ) (event : link.Event) → e ≢ next → place_in before tei ≡ Some place → IsOf c e answer service tei event
       → IsAlone c before after answer service tei place event
   pub management : (event : teis.Event) → IsOfManagement c e answer event → IsManaged c before after answer event
   pub units : (unit : UnitData) → IsGranted e answer unit → (after ≡ record before { units = before.units ++ unit ∷ [] }) × (answer ≡ told nothing)

@@ -17,7 +17,7 @@ use Rattle.lapd_tei.specs.Events as teis
 use Rattle.model_line.specs.declared.config.Config.{Config}
 use Rattle.model_line.specs.Event.{Event, hears, expiry, request, next, Answer}
 use Rattle.model_line.specs.Heard.{heard_side}
-use Rattle.model_line.specs.Request.{Assign, Remove, Check}
+use Rattle.model_line.specs.Request.{Assign, Remove, Check, Deactivate}
 use Rattle.laws_line.specs.Heard.{IsMalformed, IsTooLong}
 use Rattle.laws_line.specs.Requests.{of_link}
 use Rattle.laws_line.specs.Share.{is_granted}
@@ -57,6 +57,15 @@ IsBy c e answer service tei (link.expired timer) = e ≡ expiry (timer_of servic
 IsBy c e answer service tei (link.requested asked full) = (e ≡ request (of_link service tei asked)) × (is_granted answer ≡ true) × (full ≡ false)
 IsBy c e answer service tei link.offer = e ≡ next
 IsBy c e answer service tei link.cleared = ⊥
+
+-- The link is deactivated: its line is down, and it is as one that begins, while its TEI stays (annex B).
+abbrev pub IsDeactivated : Event → Answer → Service → ℕ → Type 0
+IsDeactivated e answer service tei = (e ≡ request (Deactivate service tei)) × (is_granted answer ≡ true)
+
+-- One or the other.
+abbrev pub IsOf : Config → Event → Answer → Service → ℕ → link.Event → Type 0
+IsOf c e answer service tei link.cleared = IsDeactivated e answer service tei
+IsOf c e answer service tei other = IsBy c e answer service tei other
 
 -- On the network's side a UI to the group with SAPI 63 is heard, with this information (Q.921 clauses 3.3.3, 3.3.4 and
 -- 5.3.1).

@@ -5,16 +5,17 @@ use Rattle.lapd_frame.specs.declared.services.Service.TheVariants.{Call}
 use Rattle.lapd_frame.specs.Reading.{reading, header_of, control_of, unnumbered_of, supervisory_of}
 use Rattle.laws_link.specs.States.{state_after}
 use Rattle.laws_link.specs.Waiting.{waiting_left}
-use Rattle.model_link.specs.declared.states.State.TheVariants.{TeiAssigned, AwaitingEstablishment}
+use Rattle.model_link.specs.declared.states.State.TheVariants.{TeiAssigned, AwaitingEstablishment, Established}
 use Rattle.model_link.specs.declared.timers.LinkTimer.TheVariants.{T200}
 use Rattle.model_link.specs.Events.{received, undefined, overlong}
 use Rattle.model_link.specs.Words.{command, response}
 use Rattle.lapd_seq.specs.Circle.{distance_of, named}
 use Rattle.lapd_seq.specs.Numbers.{seq}
 use Rattle.lapd_tei.specs.Events as teis
-use Rattle.model_line.specs.Line.{Line, fresh_line, link_at, terms}
+use Rattle.model_link.specs.Link.{fresh}
+use Rattle.model_line.specs.Line.{Line, fresh_line, has_tei, link_at, terms}
 use Rattle.model_line.specs.Machine.{after}
-use Rattle.model_line.specs.Request.{Establish, Data, Assign, SetBusy}
+use Rattle.model_line.specs.Request.{Establish, Data, Assign, SetBusy, Deactivate}
 use Rattle.laws_line.specs.Worked.{usual, both_up, heard}
 use Rattle.laws_line.specs.WorkedServed.{asked, taken_from}
 
@@ -56,6 +57,20 @@ sent_counted = refl
 sent_again : (link_at 0 (heard (0x02 ∷ 0x81 ∷ 0x09 ∷ 0x00 ∷ []) one_sent)).s ≡ 0
 unfolding after seq distance_of named reading header_of control_of unnumbered_of supervisory_of teis.course teis.refusal taken_from
 sent_again = refl
+
+-- The line is down: the link of call control is as one that begins, though contents are outstanding; that of packet mode
+-- stays up, and the TEI stays.
+given_up : link_at 0 (asked (Deactivate Call 64) one_sent) ≡ fresh
+unfolding after seq reading header_of control_of unnumbered_of teis.course teis.refusal taken_from
+given_up = refl
+
+other_stays : (link_at 1 (asked (Deactivate Call 64) one_sent)).state ≡ Established
+unfolding after seq reading header_of control_of unnumbered_of teis.course teis.refusal taken_from
+other_stays = refl
+
+tei_stays : has_tei 64 (asked (Deactivate Call 64) one_sent) ≡ true
+unfolding after seq reading header_of control_of unnumbered_of teis.course teis.refusal taken_from
+tei_stays = refl
 
 -- A frame with an undefined control field comes for the call control link of TEI 64: by the tables, and on the line, SABME
 -- waits behind UA, and UA is awaited. An I-frame that is too long moves no link in state 4.

@@ -1,5 +1,6 @@
 //! What holds of the machine of a line itself. Each law is the contract of a call that does nothing.
 
+ghost use Rattle.laws_line.specs.Deactivated.{DeactivationsGiveUp};
 ghost use Rattle.laws_line.specs.Machine.{DropsChangeNothing, LinesRise, LinesStaySound};
 
 /// A line is sound as it begins, and each event keeps it so: TEI management and the links are, the links of free
@@ -23,4 +24,11 @@ pub fn lines_rise()
 #[tactic(auto, using(crate::proofs::MachineLaws::drops_change_nothing))]
 pub fn drops_change_nothing()
     ensures { DropsChangeNothing }
+{}
+
+/// A link that is deactivated, where its TEI is on the line, is in state 4 afterwards, as one that begins: nothing is
+/// queued, no frame waits, and no timer runs. The timer that ran is ordered to stop, layer 3 is told the release as the
+/// state has it, and all else of the line stays, its TEIs too (Q.921 annex B, persistent deactivation).
+pub fn deactivations_give_up()
+    ensures { DeactivationsGiveUp }
 {}

@@ -68,9 +68,9 @@ pub fn what_waits_is_taken()
 
 /// What waits is taken in its turn also where other events of the line are between the calls for its next frame: what is
 /// heard, expiries of timers, and requests. Of what they bring only messages of TEI management and unit data go before a control
-/// frame that waits (`specs/Served` has the order). As long as its TEI stays at its place, it is taken, whole and with the SAPI
-/// of the service and the TEI, by one of the calls, once they are more than the frames before it, with each message and each
-/// unit data that comes meanwhile (`taken`). An event brings one of them at most (`one_at_most`).
+/// frame that waits (`specs/Served` has the order). As long as its TEI stays at its place, and the link is not deactivated, it is
+/// taken, whole and with the SAPI of the service and the TEI, by one of the calls, once they are more than the frames before it,
+/// with each message and each unit data that comes meanwhile (`taken`). An event brings one of them at most (`one_at_most`).
 pub fn what_waits_is_taken_meanwhile()
     ensures taken { (c : Config) (events : List Event) (l : Line) (number tei : ℕ) (before : List ControlFrame) (f : ControlFrame) (behind : List ControlFrame) →
         IsInRange c → IsSound c l → number < link_count c → StaysOnLine c number tei events l →

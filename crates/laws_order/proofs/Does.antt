@@ -50,7 +50,8 @@ use Rattle.laws_trace.proofs.DeliveriesRun.{data-noted, no-data}
 use Rattle.laws_trace.proofs.OneLink.{frames_given, is_at_link, HasOne, IsForeign, HasNone, Goes, event-goes}
 use Rattle.laws_trace.proofs.ReadAgain.{read-again}
 use Rattle.laws_wire.specs.Wire.{frames_by}
-use Rattle.laws_order.specs.Order.{data_noted, data_granted, ends_by_note, ends_by, is_of_link, of_link_in, of_link_on}
+use Rattle.laws_order.specs.Happenings.{is_of_link, of_link_in}
+use Rattle.laws_order.specs.Order.{data_noted, data_granted, ends_by_note, ends_by, of_link_on}
 use Rattle.laws_order.proofs.LinkEnds.{or-true, Ended, own, Leaves, IsNoRelease, event-leaves, undefined-ends, wrong-size-ends, overlong-ends, unit-data-stays}
 use Rattle.laws_order.proofs.Shown.{fits, same-frames, noted-is, asked_in, granted-is, ends-is, request-ends}
 
@@ -220,6 +221,9 @@ module _ (c : Config) (service : Service) (tei : ℕ) where
         go false g = refl
     asked-none next away = refl
 
+    ended-does : k' ≡ fresh → Does k k' e a
+    ended-does new = inl (ends-is service tei e a (fits c e l) (fresh-ends service tei l (lines.after c e l) (notes_of a) up new (known-up c e l service tei s)))
+
     none-does : HasNone c service tei e l (lines.after c e l) a → Does k k' e a
     none-does x = go x.is
       where
@@ -231,8 +235,7 @@ module _ (c : Config) (service : Service) (tei : ℕ) where
           granted = granted-is service tei e a ∙ asked-none e x.aims;
           frames = ap (of_link_on service tei c.side) (same-frames a) ∙ all-foreign (frame_in a) x.begins;
         }))
-        go (inr new) =
-            inl (ends-is service tei e a (fits c e l) (fresh-ends service tei l (lines.after c e l) (notes_of a) up new (known-up c e l service tei s)))
+        go (inr new) = ended-does new
 
     -- one
     module _ (x : HasOne c service tei e l (lines.after c e l) a) where
@@ -310,4 +313,5 @@ module _ (c : Config) (service : Service) (tei : ℕ) where
       where
         go : Goes c service tei e l (lines.after c e l) a → Does k k' e a
         go (inl x) = none-does x
-        go (inr x) = one-does x (comes-as e a x.event x.by)
+        go (inr (inl x)) = one-does x (comes-as e a x.event x.by)
+        go (inr (inr x)) = ended-does x.is

@@ -12,7 +12,9 @@ use Rattle.model_link.specs.TwoEnds.{End}
 use Rattle.model_link.specs.TwoEnds as two
 use Rattle.model_link.proofs.Joined.{Joined, joined-turned, done-at}
 use Rattle.model_line.specs.Came.{came}
+use Rattle.model_line.specs.declared.config.Config.{Config}
 use Rattle.model_line.specs.Event.{Event, hears, expiry, request, next}
+use Rattle.model_line.specs.Heard.{heard_side}
 use Rattle.model_line.specs.Line.{fresh_line, link_of}
 use Rattle.model_line.specs.Machine as lines
 use Rattle.model_card.specs.Card.{line_at}
@@ -22,8 +24,8 @@ use Rattle.model_card.proofs.CardSound.{after_is_sound}
 use Rattle.model_card.proofs.Steps.{by_room}
 use Rattle.laws_trace.specs.Trace.{Seen, seen}
 use Rattle.laws_wire.specs.Wire.{Station, Wire, requests, times_out, gives, takes, loses, answered, happens, comes, with_first_lost}
-use Rattle.laws_order.specs.Happenings.{Deed, acts, disturbed, elsewhere, IsNoFrame, IsElsewhere, IsPossibleAt, elsewhere_on, befalling, seen_by}
-use Rattle.laws_order.specs.Order.{data_noted, data_granted, is_of_link, of_link_in, of_link_at, of_link_on, link_here}
+use Rattle.laws_order.specs.Happenings.{is_of_link, of_link_in, of_link_at, Deed, acts, disturbed, elsewhere, IsNotOf, IsElsewhere, IsPossibleAt, elsewhere_on, befalling, seen_by}
+use Rattle.laws_order.specs.Order.{data_noted, data_granted, of_link_on, link_here}
 use Rattle.laws_order.proofs.Contents.{frame-same}
 use Rattle.laws_order.proofs.Does.{Has, Does, IsKind}
 use Rattle.laws_order.proofs.Pairs.{whole-is, facing, Pair, Led, Ends, happens-well, station-does, leaves-still, leaves-granted, linked, granted-by, up-by, expired-still, asked-still, offer-still}
@@ -33,7 +35,10 @@ module _ (service : Service) (tei : ℕ) where
   seen-so : (w w' : Wire) (dn dm : List (List ℕ)) (t u : List Seen) → t ≡ u → Ends service tei t ⊎ Led service tei w w' dn dm t → Ends service tei u ⊎ Led service tei w w' dn dm u
   seen-so w w' dn dm t u e h = subst (λ t. Ends service tei t ⊎ Led service tei w w' dn dm t) e h
 
-  -- An event that is no frame heard.
+  -- An event that is no frame of the link.
+  abbrev NotHeard : Config → Event → Type 0
+  NotHeard c e = (octets : List ℕ) → e ≡ hears (stream.frame octets) → of_link_at service tei (heard_side c) octets ≡ []
+
   module _ (w : Wire) (dn dm : List (List ℕ)) (h : Pair service tei w dn dm) (e : Event) where
     abbrev s : Station
     s = w.near
@@ -56,23 +61,27 @@ module _ (service : Service) (tei : ℕ) where
     }
 
     by-kind : (x : Has s.card.config service tei (link_here service tei s) (link_here service tei (happens e s)) e (answered e s))
-        → ((octets : List ℕ) → e ≡ hears (stream.frame octets) → ⊥) → (ev : link.Event) → x.event ≡ ev → IsKind s.card.config service tei e ev → Led service tei w w' dn dm t
-    by-kind x no-frame (link.received (link.frame f)) is kind = absurd (no-frame kind.0 kind.1)
-    by-kind x no-frame (link.received link.undefined) is kind = absurd kind
-    by-kind x no-frame (link.received link.wrong_size) is kind = absurd kind
-    by-kind x no-frame (link.received link.overlong) is kind = absurd kind
-    by-kind x no-frame (link.expired timer) is kind = led (expired-still service tei s h.near h.joined.near_up e x dn m h.joined timer is)
-    by-kind x no-frame (link.requested asked full) is kind = led (asked-still service tei s h.near h.joined.near_up e x dn m h.joined asked full is)
-    by-kind x no-frame link.offer is kind = led (offer-still service tei s h.near h.joined.near_up e x dn m h.joined is)
-    by-kind x no-frame link.cleared is kind = absurd kind
+        → NotHeard s.card.config e → (ev : link.Event) → x.event ≡ ev → IsKind s.card.config service tei e ev → Led service tei w w' dn dm t
+    by-kind x none (link.received (link.frame f)) is kind =
+        let read : of_link_at service tei (heard_side s.card.config) kind.0 ≡ f ∷ [] =
+        ap (of_link_in service tei) kind.2 ∙ ap (λ b. cond {A = List Parts} b (f ∷ []) []) kind.3 in
+        let wrong : [] ≡ f ∷ [] = sym (none kind.0 kind.1) ∙ read in
+        absurd (cc wrong)
+    by-kind x none (link.received link.undefined) is kind = absurd kind
+    by-kind x none (link.received link.wrong_size) is kind = absurd kind
+    by-kind x none (link.received link.overlong) is kind = absurd kind
+    by-kind x none (link.expired timer) is kind = led (expired-still service tei s h.near h.joined.near_up e x dn m h.joined timer is)
+    by-kind x none (link.requested asked full) is kind = led (asked-still service tei s h.near h.joined.near_up e x dn m h.joined asked full is)
+    by-kind x none link.offer is kind = led (offer-still service tei s h.near h.joined.near_up e x dn m h.joined is)
+    by-kind x none link.cleared is kind = absurd kind
 
-    pub event-led : ((octets : List ℕ) → e ≡ hears (stream.frame octets) → ⊥) → Ends service tei t ⊎ Led service tei w w' dn dm t
-    event-led no-frame = go (station-does service tei s h.near h.joined.near_up e)
+    pub event-led : NotHeard s.card.config e → Ends service tei t ⊎ Led service tei w w' dn dm t
+    event-led none = go (station-does service tei s h.near h.joined.near_up e)
       where
         go : Does s.card.config service tei (link_here service tei s) (link_here service tei (happens e s)) e (answered e s) → Ends service tei t ⊎ Led service tei w w' dn dm t
         go (inl ended) = inl ended
         go (inr (inl x)) = inr (led (leaves-still service tei s h.near h.joined.near_up e dn m x h.joined, leaves-granted service tei s h.near h.joined.near_up e x))
-        go (inr (inr x)) = inr (by-kind x no-frame x.event refl x.kind)
+        go (inr (inr x)) = inr (by-kind x none x.event refl x.kind)
 
   -- What is read of octets: a frame of the link, or none.
   data Read (r : Result Parts ReadFault) : Type 0 where
@@ -255,12 +264,12 @@ module _ (service : Service) (tei : ℕ) where
       }
 
   -- Whatever happens at the near end.
-  not-heard : (what : stream.Event) → IsNoFrame what → (octets : List ℕ) → hears what ≡ hears (stream.frame octets) → ⊥
-  not-heard (stream.frame heard) is octets e = is
-  not-heard (stream.overlong head) is octets e = cc e
-  not-heard (stream.dropped cause) is octets e = cc e
+  not-heard : (c : Config) (what : stream.Event) → IsNotOf service tei c what → NotHeard c (hears what)
+  not-heard c (stream.frame heard) is octets e = let same : heard ≡ octets = cc e in ap (of_link_at service tei (heard_side c)) (sym same) ∙ is
+  not-heard c (stream.overlong head) is octets e = cc e
+  not-heard c (stream.dropped cause) is octets e = cc e
 
-  pub near-led : (deed : Deed) (w : Wire) (dn dm : List (List ℕ)) → IsPossibleAt w.near deed → Pair service tei w dn dm
+  pub near-led : (deed : Deed) (w : Wire) (dn dm : List (List ℕ)) → IsPossibleAt service tei w.near deed → Pair service tei w dn dm
       → let t = seen_by deed w in Ends service tei t ⊎ Led service tei w (befalling deed w) dn dm t
   near-led (acts (requests r)) w dn dm is h =
       let t = seen (request r) (answered (request r) w.near) in
@@ -275,5 +284,5 @@ module _ (service : Service) (tei : ℕ) where
   near-led (acts loses) w dn dm is h = inr (loses-led w.near w.far w.near.way dn dm h)
   near-led (disturbed what) w dn dm is h =
       let t = seen (hears what) (answered (hears what) w.near) in
-      seen-so w _ dn dm t (t ++ []) (sym (append-nil t)) (event-led w dn dm h (hears what) (not-heard what is))
+      seen-so w _ dn dm t (t ++ []) (sym (append-nil t)) (event-led w dn dm h (hears what) (not-heard w.near.card.config what is))
   near-led (elsewhere e) w dn dm is h = inr (elsewhere-led w dn dm e is h)

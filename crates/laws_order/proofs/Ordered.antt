@@ -1,5 +1,5 @@
 -- Whole runs of two cards whose links face each other.
-use Rattle.std.proofs.Common.{◌≡◌, ℕ, zero, suc, ◌+◌, ◌≤◌, ◌<◌, ◌||◌, Bool, true, false, IsTrue, List, [], ◌∷◌, ◌++◌, length, take, drop, Option, None, Some, refl, sym, ap, ◌∙◌, subst, arith, append-nil, append_assoc, true≢false, ◌⊎◌, inl, inr}
+use Rattle.std.proofs.Common.{◌≡◌, ℕ, zero, suc, ◌+◌, ◌<◌, ◌||◌, Bool, true, false, IsTrue, List, [], ◌∷◌, ◌++◌, take, drop, Option, None, Some, refl, sym, ap, ◌∙◌, subst, append-nil, append_assoc, true≢false, ◌⊎◌, inl, inr}
 use Rattle.std.specs.Prelude.{All}
 use Rattle.std.specs.List.{list_any}
 use Rattle.std.specs.Option.{option_map_or}
@@ -24,8 +24,8 @@ use Rattle.model_card.proofs.Steps.{has_lines, line_sound as sound-line}
 use Rattle.laws_trace.specs.Trace.{Seen, IsFront}
 use Rattle.laws_wire.specs.Wire.{Station, Wire, requests, times_out, gives, takes, loses, turned, with_first_of}
 use Rattle.laws_wire.proofs.Spelled.{twice-other}
-use Rattle.laws_order.specs.Happenings.{Deed, acts, disturbed, elsewhere, IsPossibleAt, befalling, Happening, by_near, by_far, IsPossible, seen_by, seen_near, seen_far}
-use Rattle.laws_order.specs.Order.{noted_in, granted_in, data_noted, data_granted, ends_by, StaysEstablished, link_here, IsAtRest, FaceAtRest, kept_by, DeliveredInOrder}
+use Rattle.laws_order.specs.Happenings.{Deed, acts, disturbed, elsewhere, IsNotOf, IsPossibleAt, befalling, Happening, by_near, by_far, IsPossible, seen_by, seen_near, seen_far}
+use Rattle.laws_order.specs.Order.{noted_in, granted_in, data_noted, data_granted, ends_by, StaysEstablished, link_here, IsAtRest, HasReceivedOf, FaceAtRest, kept_by, DeliveredInOrder}
 use Rattle.laws_order.proofs.Leading.{near-led}
 use Rattle.laws_order.proofs.Pairs.{facing, Pair, Led, Ends}
 
@@ -59,24 +59,6 @@ far-place (acts loses) w = same-place w.far
 far-place (disturbed what) w = same-place w.far
 far-place (elsewhere e) w = same-place w.far
 
-possible-at : (s s' : Station) → StaysAt s s' → (deed : Deed) → IsPossibleAt s deed → IsPossibleAt s' deed
-possible-at s s' at (acts act) is = tt
-possible-at s s' at (disturbed what) is = is
-possible-at s s' at (elsewhere e) is = record {
-  within = subst (λ (c : Config). e.line < c.lines) (sym at.config) is.within;
-  other = λ same. is.other (same ∙ at.line);
-}
-
-still-possible : (w w' : Wire) → StaysAt w.near w'.near → StaysAt w.far w'.far → (h : Happening) → IsPossible w h → IsPossible w' h
-still-possible w w' near far (by_near deed) is = possible-at w.near w'.near near deed is
-still-possible w w' near far (by_far deed) is = possible-at w.far w'.far far deed is
-
-all-possible : (w w' : Wire) → StaysAt w.near w'.near → StaysAt w.far w'.far → (hs : List Happening) → All (IsPossible w) hs → All (IsPossible w') hs
-all-possible w w' near far [] all = All-nil (IsPossible w')
-all-possible w w' near far (h ∷ hs) all =
-    All-cons (IsPossible w') h hs (still-possible w w' near far h (All-head (IsPossible w) h hs all))
-    (all-possible w w' near far hs (All-tail (IsPossible w) h hs all))
-
 both-parts : (n : ℕ) (xs : List (List ℕ)) → xs ≡ take n xs ++ drop n xs
 both-parts zero xs = refl
 both-parts (suc n) [] = refl
@@ -87,6 +69,27 @@ or-parts true b e = absurd (true≢false e)
 or-parts false b e = (refl, e)
 
 module _ (service : Service) (tei : ℕ) where
+  possible-at : (s s' : Station) → StaysAt s s' → (deed : Deed) → IsPossibleAt service tei s deed → IsPossibleAt service tei s' deed
+  possible-at s s' at (acts act) is = tt
+  possible-at s s' at (disturbed what) is = subst (λ c. IsNotOf service tei c what) (sym at.config) is
+  possible-at s s' at (elsewhere e) is = record {
+    within = subst (λ (c : Config). e.line < c.lines) (sym at.config) is.within;
+    other = λ same. is.other (same ∙ at.line);
+  }
+
+  abbrev IsOpen : Wire → Happening → Type 0
+  IsOpen w h = IsPossible service tei w h
+
+  still-possible : (w w' : Wire) → StaysAt w.near w'.near → StaysAt w.far w'.far → (h : Happening) → IsOpen w h → IsOpen w' h
+  still-possible w w' near far (by_near deed) is = possible-at w.near w'.near near deed is
+  still-possible w w' near far (by_far deed) is = possible-at w.far w'.far far deed is
+
+  all-possible : (w w' : Wire) → StaysAt w.near w'.near → StaysAt w.far w'.far → (hs : List Happening) → All (IsOpen w) hs → All (IsOpen w') hs
+  all-possible w w' near far [] all = All-nil (IsOpen w')
+  all-possible w w' near far (h ∷ hs) all =
+      All-cons (IsOpen w') h hs (still-possible w w' near far h (All-head (IsOpen w) h hs all))
+      (all-possible w w' near far hs (All-tail (IsOpen w) h hs all))
+
   pub turned-pair : (w : Wire) (dn dm : List (List ℕ)) → Pair service tei w dn dm → Pair service tei (turned w) dm dn
   turned-pair w dn dm h = record {
     near = h.far;
@@ -140,7 +143,7 @@ module _ (service : Service) (tei : ℕ) where
   unmoved : (s s' : Station) → link_here service tei s' ≡ link_here service tei s → contents_at s' ≡ contents_at s ++ []
   unmoved s s' same = ap (λ (y : Link). y.contents) same ∙ sym (append-nil (contents_at s))
 
-  pub all-led : (hs : List Happening) (w : Wire) (dn dm : List (List ℕ)) → Pair service tei w dn dm → All (IsPossible w) hs
+  pub all-led : (hs : List Happening) (w : Wire) (dn dm : List (List ℕ)) → Pair service tei w dn dm → All (IsOpen w) hs
       → StaysEstablished service tei (seen_near hs w) → StaysEstablished service tei (seen_far hs w) → AreInOrder hs w dn dm
   unfolding seen_near seen_far
   all-led [] w dn dm h all near far = (front-now w dn dm h, front-now (turned w) dm dn (turned-pair w dn dm h))
@@ -148,9 +151,9 @@ module _ (service : Service) (tei : ℕ) where
       let w' = befalling deed w in
       let t = seen_by deed w in
       let stay = both-stay t (seen_near hs w') near in
-      let x = not-ended t (Led service tei w w' dn dm t) stay.0 (near-led service tei deed w dn dm (All-head (IsPossible w) (by_near deed) hs all) h) in
+      let x = not-ended t (Led service tei w w' dn dm t) stay.0 (near-led service tei deed w dn dm (All-head (IsOpen w) (by_near deed) hs all) h) in
       let rest = all-led hs w' (dn ++ data_noted service tei t) dm x.pair
-      (all-possible w w' (near-place deed w) (far-place deed w) hs (All-tail (IsPossible w) (by_near deed) hs all)) stay.1 far in (
+      (all-possible w w' (near-place deed w) (far-place deed w) hs (All-tail (IsOpen w) (by_near deed) hs all)) stay.1 far in (
         front-before dn t (seen_near hs w') (contents_at w.far) (contents_at w'.far) [] (seen_far hs w') (unmoved w.far w'.far x.other) rest.0,
         front-before dm [] (seen_far hs w') (contents_at w.near) (contents_at w'.near) t (seen_near hs w') x.granted
             (subst (λ ds. IsFront (ds ++ data_noted service tei (seen_far hs w')) (contents_at w'.near ++ data_granted service tei (seen_near hs w'))) (sym (append-nil dm)) rest.1),
@@ -161,9 +164,9 @@ module _ (service : Service) (tei : ℕ) where
       let t = seen_by deed v in
       let stay = both-stay t (seen_far hs w') far in
       let x = not-ended t (Led service tei v (befalling deed v) dm dn t) stay.0
-      (near-led service tei deed v dm dn (All-head (IsPossible w) (by_far deed) hs all) (turned-pair w dn dm h)) in
+      (near-led service tei deed v dm dn (All-head (IsOpen w) (by_far deed) hs all) (turned-pair w dn dm h)) in
       let rest = all-led hs w' dn (dm ++ data_noted service tei t) (turned-pair (befalling deed v) (dm ++ data_noted service tei t) dn x.pair)
-      (all-possible w w' (far-place deed v) (near-place deed v) hs (All-tail (IsPossible w) (by_far deed) hs all)) near stay.1 in (
+      (all-possible w w' (far-place deed v) (near-place deed v) hs (All-tail (IsOpen w) (by_far deed) hs all)) near stay.1 in (
         front-before dn [] (seen_near hs w') (contents_at w.far) (contents_at w'.far) t (seen_far hs w') x.granted
             (subst (λ ds. IsFront (ds ++ data_noted service tei (seen_near hs w')) (contents_at w'.far ++ data_granted service tei (seen_far hs w'))) (sym (append-nil dn)) rest.0),
         front-before dm t (seen_far hs w') (contents_at w.near) (contents_at w'.near) [] (seen_near hs w') (unmoved w.near w'.near x.other) rest.1,
@@ -204,28 +207,23 @@ module _ (service : Service) (tei : ℕ) where
     nothing-on : line_of (facing service tei s []) ≡ []
     nothing-on = ap (λ way. way ++ frames_of (terms c service tei) k.waiting) b.way ∙ ap (λ ws. frames_of (terms c service tei) ws) b.waiting
 
-    -- what was received of it, of all its contents
-    abbrev pub had : List (List ℕ)
-    had = take k.a k.contents
+  -- what the second station has received of the contents of the first
+  abbrev had : Station → Station → List (List ℕ)
+  had s u = take (link_here service tei u).r (link_here service tei s).contents
 
-    few : k.a ≤ length k.contents
-    few = let low : k.a ≤ k.s = proper.sound.ordered in let high : k.s ≤ length k.contents = proper.sound.accepted in omega (arith, low, high)
-
-  begins-one : (s u : Station) (b : IsAtRest service tei s) (d : IsAtRest service tei u) (ds : List (List ℕ)) → (link_here service tei u).r ≡ (link_here service tei s).a
-      → Direction (facing service tei s ds) (facing service tei u (had s b))
+  begins-one : (s u : Station) (b : IsAtRest service tei s) (d : IsAtRest service tei u) (ds : List (List ℕ)) → HasReceivedOf service tei s u
+      → Direction (facing service tei s ds) (facing service tei u (had s u))
   begins-one s u b d ds there =
       let n = facing service tei s ds in
-      let m = facing service tei u (had s b) in
-      let same : m.link.r ≡ n.link.a = there in
-      let within : n.link.a ≤ length n.link.contents = few s b in
+      let m = facing service tei u (had s u) in
       record {
-        carried = subst (Carried n.link.contents (n.link.a + n.terms.k) m.link.r) (sym (nothing-on s b)) (omega (arith, same));
-        rising = subst (Rising n.link.a m.link.r) (sym (nothing-on u d)) (omega (arith, same));
-        delivered = ap (λ r. take r n.link.contents) (sym same);
-        accepted = omega (arith, same, within);
+        carried = subst (Carried n.link.contents (n.link.a + n.terms.k) m.link.r) (sym (nothing-on s b)) there.window;
+        rising = subst (Rising n.link.a m.link.r) (sym (nothing-on u d)) there.acknowledged;
+        delivered = refl;
+        accepted = there.kept;
       }
 
-  begins-pair : (w : Wire) (h : FaceAtRest service tei w) → Pair service tei w (had w.far h.far) (had w.near h.near)
+  begins-pair : (w : Wire) (h : FaceAtRest service tei w) → Pair service tei w (had w.far w.near) (had w.near w.far)
   begins-pair w h =
       let n = proper w.near h.near in
       let m = proper w.far h.far in
@@ -240,8 +238,8 @@ module _ (service : Service) (tei : ℕ) where
           far_sound = m.sound;
           near_up = h.near.up;
           far_up = h.far.up;
-          there = begins-one w.near w.far h.near h.far (had w.far h.far) h.there;
-          back = begins-one w.far w.near h.far h.near (had w.near h.near) h.back;
+          there = begins-one w.near w.far h.near h.far (had w.far w.near) h.there;
+          back = begins-one w.far w.near h.far h.near (had w.near w.far) h.back;
         };
       }
 
@@ -250,11 +248,11 @@ module _ (service : Service) (tei : ℕ) where
   same-rest (x ∷ xs) ys zs e = same-rest xs ys zs (cc e)
 
   -- behind what was received before
-  since : (s : Station) (b : IsAtRest service tei s) (ds gs : List (List ℕ)) → IsFront (had s b ++ ds) (contents_at s ++ gs) → IsFront ds (kept_by service tei s ++ gs)
-  since s b ds gs h =
-      let front = had s b in
-      let kept = kept_by service tei s in
-      let whole : contents_at s ≡ front ++ kept = both-parts (link_here service tei s).a (contents_at s) in
+  since : (s u : Station) (ds gs : List (List ℕ)) → IsFront (had s u ++ ds) (contents_at s ++ gs) → IsFront ds (kept_by service tei s u ++ gs)
+  since s u ds gs h =
+      let front = had s u in
+      let kept = kept_by service tei s u in
+      let whole : contents_at s ≡ front ++ kept = both-parts (link_here service tei u).r (contents_at s) in
       record {
         rest = h.rest;
         whole_is =
@@ -264,7 +262,7 @@ module _ (service : Service) (tei : ℕ) where
 
 pub delivered-in-order : DeliveredInOrder
 delivered-in-order service tei w hs h all near far =
-    let x = all-led service tei hs w (had service tei w.far h.far) (had service tei w.near h.near) (begins-pair service tei w h) all near far in (
-      since service tei w.far h.far (data_noted service tei (seen_near hs w)) (data_granted service tei (seen_far hs w)) x.0,
-      since service tei w.near h.near (data_noted service tei (seen_far hs w)) (data_granted service tei (seen_near hs w)) x.1,
+    let x = all-led service tei hs w (had service tei w.far w.near) (had service tei w.near w.far) (begins-pair service tei w h) all near far in (
+      since service tei w.far w.near (data_noted service tei (seen_near hs w)) (data_granted service tei (seen_far hs w)) x.0,
+      since service tei w.near w.far (data_noted service tei (seen_far hs w)) (data_granted service tei (seen_near hs w)) x.1,
     )

@@ -44,7 +44,8 @@ use Rattle.laws_trace.specs.Units.{is_ui}
 use Rattle.laws_trace.proofs.OfferTells.{offer-tells_nothing}
 use Rattle.laws_trace.proofs.OneLink.{frames_given}
 use Rattle.laws_wire.specs.Wire.{Station, Wire, answered, happens, frames_by}
-use Rattle.laws_order.specs.Order.{data_noted, data_granted, ends_by, is_of_link, of_link_in, of_link_at, of_link_on, link_here}
+use Rattle.laws_order.specs.Happenings.{is_of_link, of_link_in, of_link_at}
+use Rattle.laws_order.specs.Order.{data_noted, data_granted, ends_by, of_link_on, link_here}
 use Rattle.laws_order.proofs.Contents.{request-grows, timer-same, offer-same}
 use Rattle.laws_order.proofs.Does.{Has, LeavesIt, Does, line-does}
 use Rattle.laws_order.proofs.Shown.{none-noted, none-granted}

@@ -14,7 +14,7 @@ use Rattle.lapd_tei.specs.Events as teis
 use Rattle.model_link.specs.Link.{is_multiple_frame}
 use Rattle.model_line.specs.declared.config.Config.{Config}
 use Rattle.model_line.specs.Machine as lines
-use Rattle.model_line.specs.Request.{Assign, Establish}
+use Rattle.model_line.specs.Request.{Assign, Establish, Data}
 use Rattle.model_line.specs.Came.{came}
 use Rattle.model_line.specs.Event.{hears, expiry, request, next}
 use Rattle.model_card.specs.Event.{at}
@@ -22,9 +22,9 @@ use Rattle.model_card.proofs.CardSound.{fresh_is_sound}
 use Rattle.laws_trace.specs.Trace.{IsFront}
 use Rattle.laws_wire.specs.Call.{station, assigned, calling}
 use Rattle.laws_wire.specs.Wire.{Station, Wire, Act, requests, times_out, gives, takes, loses, turned, acting, Doing, at_near, at_far, doing, doing_all, with_first_of}
-use Rattle.laws_order.specs.Happenings.{IsElsewhere, Happening, IsPossible, seen_near, seen_far}
-use Rattle.laws_order.specs.Order.{data_noted, data_granted, link_here, of_link_on, FaceAtRest, kept_by}
-use Rattle.laws_order.specs.Worked.{network, user, faces, calls_both, busy_run, call_near as near_stays, call_far as far_stays}
+use Rattle.laws_order.specs.Happenings.{IsElsewhere, Happening, IsPossible, happening_all, seen_near, seen_far}
+use Rattle.laws_order.specs.Order.{data_noted, data_granted, link_here, of_link_on, HasReceivedOf, FaceAtRest, kept_by}
+use Rattle.laws_order.specs.Worked.{network, user, faces, calls_both, others_speak, both_send, is_busy, busy_run, call_near as near_stays, call_far as far_stays, owes, sends_more, more_near_stays, more_far_stays}
 use Rattle.laws_order.proofs.Ordered.{delivered-in-order}
 use Rattle.laws_order.proofs.Pairs.{IsWell, happens-well}
 
@@ -74,18 +74,16 @@ record Looks (service : Service) (w : Wire) : Type 0 where
   far_way : of_link_on service 0 w.far.card.config.side w.far.way ≡ []
   near_side : w.near.card.config.side ≡ User
   far_side : w.far.card.config.side ≡ Network
-  near_r : (link_here service 0 w.near).r ≡ 0
-  near_a : (link_here service 0 w.near).a ≡ 0
-  far_r : (link_here service 0 w.far).r ≡ 0
-  far_a : (link_here service 0 w.far).a ≡ 0
+  there : HasReceivedOf service 0 w.near w.far
+  back : HasReceivedOf service 0 w.far w.near
 
 rests : (service : Service) (w : Wire) → AreWell w → Looks service w → FaceAtRest service 0 w
 rests service w h x = record {
   near = record { sound = h.near.sound; within = h.near.within; up = x.near_up; waiting = x.near_waiting; way = x.near_way };
   far = record { sound = h.far.sound; within = h.far.within; up = x.far_up; waiting = x.far_waiting; way = x.far_way };
   sides = x.far_side ∙ sym (ap other_side x.near_side);
-  there = x.far_r ∙ sym x.near_a;
-  back = x.near_r ∙ sym x.far_a;
+  there = x.there;
+  back = x.back;
 }
 
 call-looks : Looks Call faces
@@ -99,10 +97,8 @@ call-looks = record {
   far_way = refl;
   near_side = refl;
   far_side = refl;
-  near_r = refl;
-  near_a = refl;
-  far_r = refl;
-  far_a = refl;
+  there = record { acknowledged = leb-true 0 0 refl; kept = leb-true 0 0 refl; window = leb-true 0 7 refl };
+  back = record { acknowledged = leb-true 0 0 refl; kept = leb-true 0 0 refl; window = leb-true 0 7 refl };
 }
 
 call-rests : FaceAtRest Call 0 faces
@@ -119,30 +115,71 @@ packet-looks = record {
   far_way = refl;
   near_side = refl;
   far_side = refl;
-  near_r = refl;
-  near_a = refl;
-  far_r = refl;
-  far_a = refl;
+  there = record { acknowledged = leb-true 0 0 refl; kept = leb-true 0 0 refl; window = leb-true 0 3 refl };
+  back = record { acknowledged = leb-true 0 0 refl; kept = leb-true 0 0 refl; window = leb-true 0 3 refl };
 }
 
 packet-rests : FaceAtRest Packet 0 faces
 packet-rests = rests Packet faces well packet-looks
 
-abbrev ArePossible : List Happening → Type 0
-ArePossible [] = Unit {0}
-ArePossible (h ∷ hs) = IsPossible faces h × ArePossible hs
+abbrev IsOpen : Wire → Happening → Type 0
+IsOpen w h = IsPossible Call 0 w h
 
-all-of : (hs : List Happening) → ArePossible hs → All (IsPossible faces) hs
-all-of [] h = All-nil (IsPossible faces)
-all-of (x ∷ hs) h = All-cons (IsPossible faces) x hs h.0 (all-of hs h.1)
+abbrev ArePossible : Wire → List Happening → Type 0
+ArePossible w [] = Unit {0}
+ArePossible w (h ∷ hs) = IsOpen w h × ArePossible w hs
+
+all-of : (w : Wire) (hs : List Happening) → ArePossible w hs → All (IsOpen w) hs
+all-of w [] h = All-nil (IsOpen w)
+all-of w (x ∷ hs) h = All-cons (IsOpen w) x hs h.0 (all-of w hs h.1)
 
 at-the-other-line : IsElsewhere faces.far (at 1 (request (Assign 5)))
 unfolding lines.after lines.answer lines.takes_slot reading header_of control_of unnumbered_of supervisory_of teis.course teis.refusal seq distance_of named doing_all
 at-the-other-line = record { within = leb-true 2 2 refl; other = λ same. let e : ◌≡◌ {A = ℕ} 1 0 = same in absurd (omega (arith, e)) }
 
-possible : All (IsPossible faces) busy_run
-possible = all-of busy_run (tt, (tt, (tt, (tt, (tt, (tt, (at-the-other-line, (tt, (tt, (tt, (tt, (tt, (tt, (tt, (tt, (tt, (tt, (tt, (tt, (tt, (tt, (tt, (tt, (tt, (tt, (tt, (tt, (tt, (tt, (tt, (tt, (tt, (tt, (tt, tt))))))))))))))))))))))))))))))))))
+others-are : ArePossible faces others_speak
+unfolding lines.after lines.answer lines.takes_slot reading header_of control_of unnumbered_of supervisory_of teis.course teis.refusal seq distance_of named doing_all
+others-are = (refl, (refl, (refl, tt)))
+
+both : (w : Wire) (hs ks : List Happening) → ArePossible w hs → ArePossible w ks → ArePossible w (hs ++ ks)
+both w [] ks h k = k
+both w (x ∷ hs) ks h k = (h.0, both w hs ks h.1 k)
+
+then-are : ArePossible faces (both_send ++ is_busy)
+then-are = (tt, (tt, (tt, (tt, (tt, (tt, (at-the-other-line, (tt, (tt, (tt, (tt, (tt, (tt, (tt, (tt, (tt, (tt, (tt, (tt, (tt, (tt, (tt, (tt, (tt, (tt, (tt, (tt, (tt, (tt, (tt, (tt, (tt, (tt, (tt, tt))))))))))))))))))))))))))))))))))
+
+possible : All (IsOpen faces) busy_run
+possible = all-of faces busy_run (both faces others_speak (both_send ++ is_busy) others-are then-are)
 
 -- so the law says what the worked values show
-call-in-order : IsFront (data_noted Call 0 (seen_far busy_run faces)) (kept_by Call 0 faces.near ++ data_granted Call 0 (seen_near busy_run faces))
+call-in-order : IsFront (data_noted Call 0 (seen_far busy_run faces)) (kept_by Call 0 faces.near faces.far ++ data_granted Call 0 (seen_near busy_run faces))
 call-in-order = (delivered-in-order Call 0 faces busy_run call-rests possible near_stays far_stays).1
+
+-- and where something is received that is not acknowledged
+sent-well : AreWell owes
+unfolding lines.after lines.answer lines.takes_slot reading header_of control_of unnumbered_of supervisory_of teis.course teis.refusal seq distance_of named doing_all happening_all
+sent-well = acted-far takes (acting gives (acting (requests (Data Call 0 (1 ∷ []))) faces)) (acted gives (acting (requests (Data Call 0 (1 ∷ []))) faces) (acted (requests (Data Call 0 (1 ∷ []))) faces well))
+  where
+    acted-far : (act : Act) (w : Wire) → AreWell w → AreWell (doing (at_far act) w)
+    acted-far act w h = done (at_far act) w h
+
+owing-looks : Looks Call owes
+unfolding lines.after lines.answer lines.takes_slot reading header_of control_of unnumbered_of supervisory_of teis.course teis.refusal seq distance_of named doing_all happening_all
+owing-looks = record {
+  near_up = refl;
+  far_up = refl;
+  near_waiting = refl;
+  far_waiting = refl;
+  near_way = refl;
+  far_way = refl;
+  near_side = refl;
+  far_side = refl;
+  there = record { acknowledged = leb-true 0 1 refl; kept = leb-true 1 1 refl; window = leb-true 1 7 refl };
+  back = record { acknowledged = leb-true 0 0 refl; kept = leb-true 0 0 refl; window = leb-true 0 7 refl };
+}
+
+more-possible : All (IsOpen owes) sends_more
+more-possible = all-of owes sends_more (tt, (tt, (tt, (tt, (tt, tt)))))
+
+more-in-order : IsFront (data_noted Call 0 (seen_far sends_more owes)) (kept_by Call 0 owes.near owes.far ++ data_granted Call 0 (seen_near sends_more owes))
+more-in-order = (delivered-in-order Call 0 owes sends_more (rests Call owes sent-well owing-looks) more-possible more_near_stays more_far_stays).1

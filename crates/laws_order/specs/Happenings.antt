@@ -1,33 +1,54 @@
 -- All that can happen to two cards on one wire, at any of their lines.
-use Rattle.std.specs.Prelude.{◌≢◌, ◌<◌, ℕ, List, [], ◌∷◌, ◌++◌, flat_map}
+use Rattle.std.specs.Prelude.{◌≡◌, ◌≢◌, ◌<◌, ℕ, Bool, ◌&&◌, not, List, [], ◌∷◌, ◌++◌, flat_map, Result, Ok, Err, if◌then◌else◌}
 use Rattle.model_bits.specs.Stream as stream
+use Rattle.lapd_frame.specs.declared.addresses.Side.{Side}
+use Rattle.lapd_frame.specs.declared.faults.ReadFault.{ReadFault}
+use Rattle.lapd_frame.specs.declared.services.Service.{Service}
+use Rattle.lapd_frame.specs.Grammar.{Parts}
+use Rattle.lapd_frame.specs.Reading.{reading}
 use Rattle.model_line.specs.Came.{came}
+use Rattle.model_line.specs.declared.config.Config.{Config}
 use Rattle.model_line.specs.Event.{Event, hears, expiry, request, next}
+use Rattle.model_line.specs.Heard.{heard_side}
 use Rattle.model_card.specs.Event as card
 use Rattle.model_card.specs.Machine.{after}
+use Rattle.laws_trace.specs.LinkFrames.{is_for}
 use Rattle.laws_trace.specs.Trace.{Seen, seen}
+use Rattle.laws_trace.specs.Units.{is_ui}
 use Rattle.laws_wire.specs.Wire.{Station, Wire, Act, requests, times_out, gives, takes, loses, answered, happens, acting, turned}
 
+-- What is of a link: the frames with its SAPI and TEI, but unit data (Q.921 clauses 3.3.3, 3.3.4 and 5.2.2).
+abbrev pub is_of_link : Service → ℕ → Parts → Bool
+is_of_link service tei f = is_for service tei f.address && not (is_ui f.control)
+
+abbrev pub of_link_in : Service → ℕ → Result Parts ReadFault → List Parts
+of_link_in service tei (Ok f) = if is_of_link service tei f then f ∷ [] else []
+of_link_in service tei (Err fault) = []
+
+abbrev pub of_link_at : Service → ℕ → Side → List ℕ → List Parts
+of_link_at service tei side octets = of_link_in service tei (reading side octets)
+
 -- At one end: whatever `Wire` of `laws_wire` has, so that layer 3 or management asks for anything, any timer of the line expires, and
--- frames are given, taken or lost; on the wire no frame is heard, but a fault, or more octets than a frame has; or anything
--- happens at another line of the card.
+-- frames are given, taken or lost; on the wire something else is heard; or anything happens at another line of the card.
 pub data Deed : Type 0 where
   acts : Act → Deed
   disturbed : stream.Event → Deed
   elsewhere : card.Event → Deed
 
-abbrev pub IsNoFrame : stream.Event → Type 0
-IsNoFrame (stream.frame octets) = ⊥
-IsNoFrame other = Unit {0}
+-- What else is heard is no frame of the link: a fault, more octets than a frame has, a frame of TEI management or of another
+-- terminal on the line, unit data, or one that can't be read.
+abbrev pub IsNotOf : Service → ℕ → Config → stream.Event → Type 0
+IsNotOf service tei c (stream.frame octets) = of_link_at service tei (heard_side c) octets ≡ []
+IsNotOf service tei c other = Unit {0}
 
 pub record IsElsewhere (s : Station) (e : card.Event) : Type 0 where
   pub within : e.line < s.card.config.lines
   pub other : e.line ≢ s.line
 
-abbrev pub IsPossibleAt : Station → Deed → Type 0
-IsPossibleAt s (acts act) = Unit {0}
-IsPossibleAt s (disturbed what) = IsNoFrame what
-IsPossibleAt s (elsewhere e) = IsElsewhere s e
+abbrev pub IsPossibleAt : Service → ℕ → Station → Deed → Type 0
+IsPossibleAt service tei s (acts act) = Unit {0}
+IsPossibleAt service tei s (disturbed what) = IsNotOf service tei s.card.config what
+IsPossibleAt service tei s (elsewhere e) = IsElsewhere s e
 
 abbrev pub elsewhere_on : card.Event → Station → Station
 elsewhere_on e s = record s { card = after e s.card }
@@ -42,9 +63,9 @@ pub data Happening : Type 0 where
   by_near : Deed → Happening
   by_far : Deed → Happening
 
-abbrev pub IsPossible : Wire → Happening → Type 0
-IsPossible w (by_near deed) = IsPossibleAt w.near deed
-IsPossible w (by_far deed) = IsPossibleAt w.far deed
+abbrev pub IsPossible : Service → ℕ → Wire → Happening → Type 0
+IsPossible service tei w (by_near deed) = IsPossibleAt service tei w.near deed
+IsPossible service tei w (by_far deed) = IsPossibleAt service tei w.far deed
 
 abbrev pub happening : Happening → Wire → Wire
 happening (by_near deed) w = befalling deed w

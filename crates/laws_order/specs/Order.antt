@@ -1,26 +1,23 @@
 -- What is told at each of two cards is in order, whatever else happens.
-use Rattle.std.specs.Prelude.{◌≡◌, ◌<◌, ℕ, ◌&&◌, Bool, false, not, IsTrue, List, [], ◌∷◌, ◌++◌, flat_map, All, option_to_list, Result, Ok, Err, if◌then◌else◌}
+use Rattle.std.specs.Prelude.{◌≡◌, ◌≤◌, ◌<◌, ℕ, ◌+◌, ◌&&◌, Bool, false, IsTrue, List, [], ◌++◌, length, drop, flat_map, All, option_to_list, if◌then◌else◌}
 use Rattle.std.specs.List.{list_any}
 use Rattle.lapd_frame.specs.declared.addresses.Side.{Side}
-use Rattle.lapd_frame.specs.declared.faults.ReadFault.{ReadFault}
 use Rattle.lapd_frame.specs.declared.notes.Note.{Note}
 use Rattle.lapd_frame.specs.declared.notes.Note.TheVariants.{EstablishIndication, EstablishConfirm, ReleaseIndication, ReleaseConfirm, Error}
 use Rattle.lapd_frame.specs.declared.services.Service.{Service}
 use Rattle.lapd_frame.specs.Grammar.{Parts, other_side}
-use Rattle.lapd_frame.specs.Reading.{reading}
-use Rattle.model_link.specs.Link.{Link, queue_of, is_multiple_frame}
-use Rattle.model_line.specs.Line.{link_of}
+use Rattle.model_link.specs.declared.terms.Terms.{Terms}
+use Rattle.model_link.specs.Link.{Link, is_multiple_frame}
+use Rattle.model_line.specs.Line.{link_of, terms}
 use Rattle.model_line.specs.Request.{Request, Release}
 use Rattle.model_card.specs.Sound as card_sound
 use Rattle.laws_line.specs.Heard.{is_data_of}
 use Rattle.laws_link.specs.Steady.{is_anew}
 use Rattle.laws_trace.specs.DataGoesOut.{data_asked}
-use Rattle.laws_trace.specs.LinkFrames.{is_for}
 use Rattle.laws_trace.specs.Trace.{is_own, Seen, noted, granted, IsFront}
-use Rattle.laws_trace.specs.Units.{is_ui}
 use Rattle.laws_wire.specs.Facing.{line_of}
 use Rattle.laws_wire.specs.Wire.{Station, Wire}
-use Rattle.laws_order.specs.Happenings.{Happening, IsPossible, seen_near, seen_far}
+use Rattle.laws_order.specs.Happenings.{Happening, IsPossible, of_link_at, seen_near, seen_far}
 
 -- The contents that layer 3 of an end was granted to send by the link of a service with a TEI, and those that it was told of,
 -- in what is seen there.
@@ -61,26 +58,14 @@ ends_by service tei other = false
 abbrev pub StaysEstablished : Service → ℕ → List Seen → Type 0
 StaysEstablished service tei t = list_any (ends_by service tei) t ≡ false
 
--- What is on its way of a link: the frames with its SAPI and TEI, but unit data (clauses 3.3.3, 3.3.4 and 5.2.2).
-abbrev pub is_of_link : Service → ℕ → Parts → Bool
-is_of_link service tei f = is_for service tei f.address && not (is_ui f.control)
-
-abbrev pub of_link_in : Service → ℕ → Result Parts ReadFault → List Parts
-of_link_in service tei (Ok f) = if is_of_link service tei f then f ∷ [] else []
-of_link_in service tei (Err fault) = []
-
-abbrev pub of_link_at : Service → ℕ → Side → List ℕ → List Parts
-of_link_at service tei side octets = of_link_in service tei (reading side octets)
-
+-- What is on its way of a link.
 abbrev pub of_link_on : Service → ℕ → Side → List (List ℕ) → List Parts
 of_link_on service tei side way = flat_map (of_link_at service tei side) way
 
 abbrev pub link_here : Service → ℕ → Station → Link
 link_here service tei s = link_of service tei (line_of s)
 
--- At a line of a sound card the link is in state 7 or 8, no control frame of it waits, and nothing of it is on its way. Two cards
--- of the two sides face each other so, where each link has received just what the other takes for acknowledged: as an
--- establishment leaves them, with V(S) and V(R) zero, or later, where nothing that goes is missing.
+-- At a line of a sound card the link is in state 7 or 8, no control frame of it waits, and nothing of it is on its way.
 pub record IsAtRest (service : Service) (tei : ℕ) (s : Station) : Type 0 where
   pub sound : card_sound.IsSound s.card
   pub within : s.line < s.card.config.lines
@@ -88,22 +73,32 @@ pub record IsAtRest (service : Service) (tei : ℕ) (s : Station) : Type 0 where
   pub waiting : (link_here service tei s).waiting ≡ []
   pub way : of_link_on service tei s.card.config.side s.way ≡ []
 
+-- A link has received what the other takes for acknowledged, and it may be more: of what is kept for it, within the window.
+pub record HasReceived (t : Terms) (l : Link) (r : ℕ) : Type 0 where
+  pub acknowledged : l.a ≤ r
+  pub kept : r ≤ length l.contents
+  pub window : r ≤ l.a + t.k
+
+abbrev pub HasReceivedOf : Service → ℕ → Station → Station → Type 0
+HasReceivedOf service tei s u = HasReceived (terms s.card.config service tei) (link_here service tei s) (link_here service tei u).r
+
+-- Two cards of the two sides face each other so: as an establishment leaves them, with V(S) and V(R) zero, or later.
 pub record FaceAtRest (service : Service) (tei : ℕ) (w : Wire) : Type 0 where
   pub near : IsAtRest service tei w.near
   pub far : IsAtRest service tei w.far
   pub sides : w.far.card.config.side ≡ other_side w.near.card.config.side
-  pub there : (link_here service tei w.far).r ≡ (link_here service tei w.near).a
-  pub back : (link_here service tei w.near).r ≡ (link_here service tei w.far).a
+  pub there : HasReceivedOf service tei w.near w.far
+  pub back : HasReceivedOf service tei w.far w.near
 
--- The contents that the link kept then, sent or not: those that the other has not received.
-abbrev pub kept_by : Service → ℕ → Station → List (List ℕ)
-kept_by service tei s = queue_of (link_here service tei s)
+-- The contents that the link at the first station kept then, sent or not, and that the other has not received.
+abbrev pub kept_by : Service → ℕ → Station → Station → List (List ℕ)
+kept_by service tei s u = drop (link_here service tei u).r (link_here service tei s).contents
 
 -- As long as the establishment neither ends nor is renewed at either end, the contents that each is told of are a beginning of
--- those that the other kept then, and of those that it was granted to send since, in order, each once.
+-- those that the other kept for it then, and of those that it was granted to send since, in order, each once.
 abbrev pub DeliveredInOrder : Type 0
 DeliveredInOrder =
-    (service : Service) (tei : ℕ) (w : Wire) (hs : List Happening) → FaceAtRest service tei w → All (IsPossible w) hs →
+    (service : Service) (tei : ℕ) (w : Wire) (hs : List Happening) → FaceAtRest service tei w → All (IsPossible service tei w) hs →
     let near = seen_near hs w in let far = seen_far hs w in StaysEstablished service tei near → StaysEstablished service tei far →
-    IsFront (data_noted service tei near) (kept_by service tei w.far ++ data_granted service tei far)
-    × IsFront (data_noted service tei far) (kept_by service tei w.near ++ data_granted service tei near)
+    IsFront (data_noted service tei near) (kept_by service tei w.far w.near ++ data_granted service tei far)
+    × IsFront (data_noted service tei far) (kept_by service tei w.near w.far ++ data_granted service tei near)

@@ -1,7 +1,7 @@
 -- Worked values: two cards whose links of both services are established; each sends, a frame is damaged on its way, own busy begins and
--- ends, a timer expires, and something happens at another line. Each computes.
+-- ends, a timer expires, something happens at another line, and other terminals of the line are heard. Each computes.
 use Rattle.std.specs.Prelude.{◌≡◌, List, [], ◌∷◌, ◌++◌, refl}
-use Rattle.model_bits.specs.Stream.{dropped}
+use Rattle.model_bits.specs.Stream.{frame, dropped}
 use Rattle.model_bits.specs.declared.heard.Cause.TheVariants.{Fcs}
 use Rattle.lapd_frame.specs.declared.addresses.Side.TheVariants.{User, Network}
 use Rattle.lapd_frame.specs.declared.services.Service.TheVariants.{Call, Packet}
@@ -19,7 +19,7 @@ use Rattle.laws_wire.specs.Call.{calling}
 use Rattle.laws_wire.specs.Wire.{Wire, requests, times_out, gives, takes, loses, Doing, at_near, doing_all}
 use Rattle.laws_wire.specs.Worked.{establishes}
 use Rattle.laws_order.specs.Happenings.{acts, disturbed, elsewhere, Happening, by_near, by_far, happening_all, seen_near, seen_far}
-use Rattle.laws_order.specs.Order.{data_noted, StaysEstablished}
+use Rattle.laws_order.specs.Order.{data_noted, StaysEstablished, link_here, kept_by}
 
 abbrev pub network : Config
 network = record { lines = 2; terminals = 1; k = 7; k16 = 3; queue = 8; unit_queue = 4; control = 4; slots = 16; n201 = 260; n200 = 3; side = Network }
@@ -51,8 +51,14 @@ is_busy =
     ∷ by_far (acts gives) ∷ by_near (acts takes) ∷ by_far (acts (requests (ClearBusy Call 0))) ∷ by_far (acts gives) ∷ by_near (acts takes)
     ∷ by_near (acts (times_out (T203 Call 0))) ∷ []
 
+-- The far end hears frames of other terminals on the line: an I-frame of TEI 5, and SABME of TEI 6; and unit data of its own.
+abbrev pub others_speak : List Happening
+others_speak =
+    by_far (disturbed (frame (0x00 ∷ 0x0B ∷ 0x00 ∷ 0x00 ∷ 9 ∷ []))) ∷ by_far (disturbed (frame (0x00 ∷ 0x0D ∷ 0x7F ∷ [])))
+    ∷ by_far (disturbed (frame (0x00 ∷ 0x01 ∷ 0x03 ∷ 8 ∷ []))) ∷ []
+
 abbrev pub busy_run : List Happening
-busy_run = both_send ++ is_busy
+busy_run = others_speak ++ both_send ++ is_busy
 
 both_far : data_noted Call 0 (seen_far both_send faces) ≡ (1 ∷ []) ∷ (3 ∷ []) ∷ []
 unfolding lines.after lines.answer lines.takes_slot reading header_of control_of unnumbered_of supervisory_of teis.course teis.refusal seq distance_of named doing_all happening_all seen_near seen_far
@@ -74,3 +80,34 @@ call_near = refl
 pub call_far : StaysEstablished Call 0 (seen_far busy_run faces)
 unfolding lines.after lines.answer lines.takes_slot reading header_of control_of unnumbered_of supervisory_of teis.course teis.refusal seq distance_of named doing_all happening_all seen_near seen_far
 call_far = refl
+
+-- A moment of rest at which the far end has received what it has not acknowledged yet: it is not told again, though the near end keeps it.
+abbrev pub sends_one : List Happening
+sends_one = by_near (acts (requests (Data Call 0 (1 ∷ [])))) ∷ by_near (acts gives) ∷ by_far (acts takes) ∷ []
+
+abbrev pub owes : Wire
+owes = happening_all sends_one faces
+
+abbrev pub sends_more : List Happening
+sends_more =
+    by_near (acts (requests (Data Call 0 (2 ∷ [])))) ∷ by_far (acts gives) ∷ by_near (acts takes) ∷ by_near (acts gives) ∷ by_far (acts takes) ∷ []
+
+is_kept : (link_here Call 0 owes.near).contents ≡ (1 ∷ []) ∷ []
+unfolding lines.after lines.answer lines.takes_slot reading header_of control_of unnumbered_of supervisory_of teis.course teis.refusal seq distance_of named doing_all happening_all seen_near seen_far
+is_kept = refl
+
+not_missing : kept_by Call 0 owes.near owes.far ≡ []
+unfolding lines.after lines.answer lines.takes_slot reading header_of control_of unnumbered_of supervisory_of teis.course teis.refusal seq distance_of named doing_all happening_all seen_near seen_far
+not_missing = refl
+
+more_far : data_noted Call 0 (seen_far sends_more owes) ≡ (2 ∷ []) ∷ []
+unfolding lines.after lines.answer lines.takes_slot reading header_of control_of unnumbered_of supervisory_of teis.course teis.refusal seq distance_of named doing_all happening_all seen_near seen_far
+more_far = refl
+
+pub more_near_stays : StaysEstablished Call 0 (seen_near sends_more owes)
+unfolding lines.after lines.answer lines.takes_slot reading header_of control_of unnumbered_of supervisory_of teis.course teis.refusal seq distance_of named doing_all happening_all seen_near seen_far
+more_near_stays = refl
+
+pub more_far_stays : StaysEstablished Call 0 (seen_far sends_more owes)
+unfolding lines.after lines.answer lines.takes_slot reading header_of control_of unnumbered_of supervisory_of teis.course teis.refusal seq distance_of named doing_all happening_all seen_near seen_far
+more_far_stays = refl

@@ -26,7 +26,7 @@ told_of_old : data_noted Call 0 (seen_far comes_late with_old) ≡ (0x99 ∷ [])
 unfolding lines.after lines.answer lines.takes_slot reading header_of control_of unnumbered_of supervisory_of teis.course teis.refusal seq distance_of named doing_all happening_all seen_near seen_far
 told_of_old = refl
 
-never_granted : kept_by Call 0 with_old.near ++ data_granted Call 0 (seen_near comes_late with_old) ≡ []
+never_granted : kept_by Call 0 with_old.near with_old.far ++ data_granted Call 0 (seen_near comes_late with_old) ≡ []
 unfolding lines.after lines.answer lines.takes_slot reading header_of control_of unnumbered_of supervisory_of teis.course teis.refusal seq distance_of named doing_all happening_all seen_near seen_far
 never_granted = refl
 

@@ -113,13 +113,13 @@ module _ (m : OctetCard) (number : ℕ) (events : List Event) (r : IsReached m) 
 
 meanwhile : Law WaitingIsBegunMeanwhile
 unfolding Law
-meanwhile m events r all number link tei before f behind few h stays enough =
+meanwhile m events r all number link tei before f behind few h stays up enough =
     let s = reached_sound m r in
     let fs = meant_all m events in
     let n = frames_before m.card.config (line_at number m.card) link (length before) + come_first_at number m.card fs in
     let less = subst (λ k. n < k) (same_calls number fs) (pulls_are_takes.meanwhile m events number n s all few enough) in
     begun_by_pull m number events (control_text m.card.config link tei f)
-    (taken-amid number link tei f fs m.card s.card few h.few ((refines m events).at_lines all) stays before behind h.waits less)
+    (taken-amid number link tei f fs m.card s.card few h.few ((refines m events).at_lines all) stays up before behind h.waits less)
 
 ends : Law EndsInFlags
 unfolding Law

@@ -15,7 +15,7 @@ use Rattle.model_line.specs.Line.{link_number, link_in, terms}
 use Rattle.laws_line.specs.Drains.{frames_to_go, frames_before, control_text, most_frames, most_frames_before}
 use Rattle.laws_line.specs.Served.{HasNothing}
 use Rattle.model_card.specs.Card.{line_at}
-use Rattle.laws_card.specs.PromisesOfTakes.{IsWaiting, StaysAt, come_first_at, HearsFor, heard_at}
+use Rattle.laws_card.specs.PromisesOfTakes.{IsWaiting, StaysAt, IsNotDeactivated, come_first_at, HearsFor, heard_at}
 use Rattle.model_ports.specs.Card.{OctetCard, port_at, meant, said, after}
 use Rattle.model_ports.specs.Event.{Event, at}
 use Rattle.model_ports.specs.Port as port
@@ -69,14 +69,16 @@ pub record IsBegunAmong (m : OctetCard) (number : ℕ) (events : List Event) (oc
 abbrev pub AreEnough : OctetCard → ℕ → List Event → ℕ → Type 0
 AreEnough m number events n = pulls_behind m.card.config.n201 (port_at number m) n ≤ pulls_at number events
 
--- Where a control frame waits, one of the pulls of the line begins it, whatever else happens there, as long as the TEI stays: once
--- they are enough for the frames before it, with each message of TEI management and unit data that comes meanwhile.
+-- Where a control frame waits, one of the pulls of the line begins it, whatever else happens there, as long as the TEI stays and
+-- the link is not deactivated: once they are enough for the frames before it, with each message of TEI management and unit data
+-- that comes meanwhile.
 abbrev pub WaitingIsBegunMeanwhile : OctetCard → List Event → Type 0
 WaitingIsBegunMeanwhile m events =
     (number link tei : ℕ) (before : List ControlFrame) (f : ControlFrame) (behind : List ControlFrame) → number < m.card.config.lines →
     let c = m.card.config in
     let l = line_at number m.card in
     IsWaiting c l link tei before f behind → StaysAt number link tei m.card (meant_all m events) →
+    IsNotDeactivated number link tei (meant_all m events) →
     pulls_behind c.n201 (port_at number m) (frames_before c l link (length before) + come_first_at number m.card (meant_all m events)) ≤ pulls_of number events →
     IsBegunAmong m number events (control_text c link tei f)
 
@@ -166,8 +168,9 @@ pub record PromisesOfOctets (m : OctetCard) (events : List Event) : Type 0 where
   pub begun_is_told : BegunIsTold m events
   -- A control frame that waits, as an answer to a poll, SABME or DISC does, is begun by one of the pulls of its line, once they
   -- give more than the bits before it. This holds wherever in the list it waits, of a link of a TEI on the line, and whatever
-  -- octets, expiries and requests come between, as long as the TEI stays: then the bits of the longest frame count as well for
-  -- each message of TEI management and each unit data that comes meanwhile (clauses 5.5.1.2, 5.5.3.2, 5.6.2 to 5.6.7 and 5.8.1).
+  -- octets, expiries and requests come between, as long as the TEI stays and the link is not deactivated: then the bits of the
+  -- longest frame count as well for each message of TEI management and each unit data that comes meanwhile (clauses 5.5.1.2,
+  -- 5.5.3.2, 5.6.2 to 5.6.7 and 5.8.1).
   pub waiting_is_begun : (count : ℕ) → Wherever WaitingIsBegunMeanwhile m (take count events)
   -- So after an octet that ends a poll with a valid N(R), SABME or DISC, for a link with room for one control frame more, one of
   -- so many pulls as the configuration gives begins its answer: of 23,050, on a line with eight terminals, N201 of 260, windows of

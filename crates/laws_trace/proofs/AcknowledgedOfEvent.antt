@@ -304,4 +304,5 @@ module _ (service : Service) (tei : ℕ) where
       where
         go : Goes c service tei e l (after c e l) a → Here
         go (inl x) = none-here x
-        go (inr x) = by-event x x.event refl x.by
+        go (inr (inl x)) = by-event x x.event refl x.by
+        go (inr (inr x)) = λ up some_told none. no (sym (ap (λ (k : Link). is_multiple_frame k.state) x.is) ∙ up)

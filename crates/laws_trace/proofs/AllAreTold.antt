@@ -203,7 +203,8 @@ module _ (c : Config) (ranged : IsInRange c) (l : Line) (s : IsSound c l) (e : E
       go (inl x) =
           let on = on-line may.up (place_in l tei) refl in
           absurd (true≢false (sym (event-aims c l service tei on.0 on.1 e f by for) ∙ x.aims))
-      go (inr x) =
+      go (inr (inr x)) = absurd (none-some (stream.frame octets) (sym (ap brought x.by.0) ∙ is))
+      go (inr (inl x)) =
           let due = own-told f may x.event (is-frame c e a service tei f by x.event x.by) in
           brings-told service tei e a f.info (stream.frame octets) is (data-noted c ranged l s e service tei n count x ∙ ap is_some due)
           (x.contents ∙ ap (λ o. option_or o (links.told t x.event k).unit) due)

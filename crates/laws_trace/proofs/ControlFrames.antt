@@ -5,17 +5,19 @@ use Rattle.std.specs.Option.{option_map_or}
 use Rattle.std.proofs.lemmas.Bool.{and_parts}
 use Rattle.std.proofs.lemmas.Grind.{flat_map-append}
 use Rattle.std.proofs.lemmas.List.{get_or-set_same}
-use Rattle.std.proofs.lemmas.List.Elements.{All-head, All-tail}
+use Rattle.std.proofs.lemmas.List.Elements.{All-append, All-head, All-tail, All-weaker}
 use Rattle.lapd_frame.specs.declared.services.Service.{Service}
 use Rattle.lapd_tei.proofs.Tables.{place_of-is, at-within}
 use Rattle.model_link.specs.declared.frames.ControlFrame.{ControlFrame}
 use Rattle.model_link.specs.Link.{Link, fresh as fresh_link}
 use Rattle.model_line.specs.declared.config.Config.{Config}
+use Rattle.model_line.specs.Event as line_event
 use Rattle.model_line.specs.Line.{Line, fresh_line, link_count, link_number, link_in, link_of, place_in, tei_at, has_tei, state_of}
 use Rattle.model_line.specs.Machine as lines
 use Rattle.model_line.specs.Sound.{IsSound}
 use Rattle.model_line.proofs.Numbers.{place_at-number, number_within}
 use Rattle.laws_line.specs.Frames.{lost_in}
+use Rattle.laws_line.specs.Requests.{deactivates}
 use Rattle.laws_line.specs.Served.{HasNothing}
 use Rattle.model_card.specs.Card.{Card, fresh, line_at, is_full}
 use Rattle.model_card.specs.Event as card
@@ -25,9 +27,10 @@ use Rattle.model_card.specs.Sound as card_sound
 use Rattle.model_card.proofs.CardSound.{fresh_is_sound, always_sound, after_is_sound}
 use Rattle.model_card.proofs.Steps.{has_lines, by_room, line_sound}
 use Rattle.laws_card.specs.Timers.{AllHaveTheirTimers}
+use Rattle.laws_card.specs.Among.{AreTakesAt}
 use Rattle.laws_card.proofs.TimersRun.{timely-all, timely-after, begins-timely-card}
 use Rattle.laws_card.proofs.Wherever.{all-left, all-right, config-stays}
-use Rattle.laws_trace.specs.ControlFrames.{controls_at, IsPart, StaysOn, command_of, due_in, may_go_in, along, OnlyDueGo, AllDueGo}
+use Rattle.laws_trace.specs.ControlFrames.{controls_at, IsPart, StaysOn, is_deactivated_at, IsNotDeactivated, command_of, due_in, may_go_in, along, OnlyDueGo, AllDueGo}
 use Rattle.laws_trace.specs.Deliveries.{Standing, at_first, stand}
 use Rattle.laws_trace.specs.States.{expired_of, one_more, differ}
 use Rattle.laws_trace.specs.Trace.{Seen, seen, trace, trace_of, Always}
@@ -78,8 +81,8 @@ module _ (service : Service) (tei : ℕ) where
   moment-of m e = record { card = m; event = e; answer = cards.answer e m }
 
   -- What a moment is to the control frames of a link, and how the link stands behind it.
-  record Moves (c : Config) (was : Standing) (time : Bool) (l : Line) (t : List Seen) (lost : ℕ) (next : Line) : Type 0 where
-    passes : Passes service tei c was (standing service tei c was t) time l t lost next
+  record Moves (c : Config) (was : Standing) (time up : Bool) (l : Line) (t : List Seen) (lost : ℕ) (next : Line) : Type 0 where
+    passes : Passes service tei c was (standing service tei c was t) time up l t lost next
     quiet_is : (standing service tei c was t).told.frame ≡ None
     count : IsCount (link_of service tei next) (standing service tei c was t).told.count
     stands : IsStanding (link_of service tei next) (standing service tei c was t).busy (standing service tei c was t).rejected
@@ -91,11 +94,11 @@ module _ (service : Service) (tei : ℕ) where
     abbrev Stands : Line → Type 0
     Stands l = IsCount (link_of service tei l) n × IsStanding (link_of service tei l) busy rejected
 
-    idle : (c : Config) (time : Bool) (l : Line) (lost : ℕ) → time ≡ false → Stands l → Moves c was time l [] lost l
-    idle c time l lost none stands = record {
+    idle : (c : Config) (time up : Bool) (l : Line) (lost : ℕ) → time ≡ false → Stands l → Moves c was time up l [] lost l
+    idle c time up l lost none stands = record {
       passes = record {
         only = more (waits service tei l) (due_here service tei c was was time l [] lost l ++ owed_here service tei c was l []);
-        all = λ a b.
+        all = λ up a b.
             subst (λ xs. IsPart (waits service tei l ++ xs) (waits service tei l)) (sym no-due)
             (subst (λ xs. IsPart xs (waits service tei l)) (sym (append-nil (waits service tei l))) (of-itself (waits service tei l)));
       };
@@ -117,25 +120,25 @@ module _ (service : Service) (tei : ℕ) where
     time_of l e b next = differ (state_of service tei l) (state_of service tei next) || (b && option_map_or one_more (expired_of service tei e.what) 0 == 1)
 
     own-line : (m : Card) (e : card.Event) → card_sound.IsSound m → AllHaveTheirTimers m → IsAtLine m e → let l = line_at e.line m in Stands l
-        → let x = line_at e.line (cards.after e m) in Moves m.config was (time_of l e true x) l (seen e.what (cards.answer e m)) (lost_in (cards.answer e m)) x
+        → let x = line_at e.line (cards.after e m) in Moves m.config was (time_of l e true x) (deactivates service tei e.what) l (seen e.what (cards.answer e m)) (lost_in (cards.answer e m)) x
     own-line m e s timely here stands =
         let c = m.config in
         let l = line_at e.line m in
-        by_room (λ ls a. let x = get_or ls e.line (fresh_line c) in Moves c was (time_of l e true x) l (seen e.what a) (lost_in a) x) e m
+        by_room (λ ls a. let x = get_or ls e.line (fresh_line c) in Moves c was (time_of l e true x) (deactivates service tei e.what) l (seen e.what a) (lost_in a) x) e m
         (λ full.
         let takes = (and_parts (lines.takes_slot c e.what l) (is_full m) full).0 in
-        subst (λ t. Moves c was (time_of l e true l) l t 0 l) (sym (nothing-seen c e.what l takes))
-        (idle c (time_of l e true l) l 0
+        subst (λ t. Moves c was (time_of l e true l) (deactivates service tei e.what) l t 0 l) (sym (nothing-seen c e.what l takes))
+        (idle c (time_of l e true l) (deactivates service tei e.what) l 0
         (no-time l (option_map_or one_more (expired_of service tei e.what) 0) (ap (λ o. option_map_or one_more o 0) (none-expires c service tei e.what l takes))) stands))
         (λ room.
         let sound = line_sound m e.line (has_lines m s) here in
         let is = stand-is service tei c e.what l n busy rejected in
         let t = seen e.what (lines.answer c e.what l) in
         let next = lines.after c e.what l in
-        subst (λ (x : Line). Moves c was (time_of l e true x) l t (lost_in (lines.answer c e.what l)) x)
+        subst (λ (x : Line). Moves c was (time_of l e true x) (deactivates service tei e.what) l t (lost_in (lines.answer c e.what l)) x)
         (sym (get_or-set_same m.lines e.line next (fresh_line c) (omega (arith, s.count, here))))
         (record {
-          passes = subst (λ w. Passes service tei c was w (time_of l e true next) l t (lost_in (lines.answer c e.what l)) next) (sym is)
+          passes = subst (λ w. Passes service tei c was w (time_of l e true next) (deactivates service tei e.what) l t (lost_in (lines.answer c e.what l)) next) (sym is)
               (event-passes service tei c s.config e.what l sound (timely.lines e.line here) n busy rejected stands.0 stands.1);
           quiet_is = ap (λ (w : Standing). w.told.frame) is;
           count = subst (λ (w : Standing). IsCount (link_of service tei next) w.told.count) (sym is) (event-counts service tei c s.config l sound e.what n stands.0 busy rejected stands.1);
@@ -146,15 +149,15 @@ module _ (service : Service) (tei : ℕ) where
     Moment-moves m e number b =
         let l = line_at number m in
         let x = line_at number (cards.after e m) in
-        Moves m.config was (time_of l e b x) l (cond b (seen e.what (cards.answer e m)) []) (lost_in (cards.answer e m)) x
+        Moves m.config was (time_of l e b x) (b && deactivates service tei e.what) l (cond b (seen e.what (cards.answer e m)) []) (lost_in (cards.answer e m)) x
 
     moment : (m : Card) (e : card.Event) (number : ℕ) → card_sound.IsSound m → AllHaveTheirTimers m → IsAtLine m e → Stands (line_at number m)
         → (b : Bool) → (e.line == number) ≡ b → Moment-moves m e number b
     moment m e number s timely at-line stands false other =
         let l = line_at number m in
         let lost = lost_in (cards.answer e m) in
-        subst (λ (x : Line). Moves m.config was (time_of l e false x) l [] lost x) (sym (apart m e number (λ same. true≢false (sym (eq-eqb e.line number (sym same)) ∙ other))))
-        (idle m.config (time_of l e false l) l lost (no-time l 0 refl) stands)
+        subst (λ (x : Line). Moves m.config was (time_of l e false x) false l [] lost x) (sym (apart m e number (λ same. true≢false (sym (eq-eqb e.line number (sym same)) ∙ other))))
+        (idle m.config (time_of l e false l) false l lost (no-time l 0 refl) stands)
     moment m e number s timely at-line stands true is =
         let same = eqb-true e.line number is in
         subst (λ i. Moment-moves m e i true) same (own-line m e s timely at-line (subst (λ i. Stands (line_at i m)) (sym same) stands))
@@ -184,13 +187,13 @@ module _ (service : Service) (tei : ℕ) where
       (sym (as-calm w x.quiet_is)) then))
 
   run-all : (m : Card) (events : List card.Event) (number n : ℕ) (busy rejected : Bool) → card_sound.IsSound m → AllHaveTheirTimers m → AreAtLines m events
-      → Stands n busy rejected (line_at number m) → StaysOn number tei m events
+      → Stands n busy rejected (line_at number m) → StaysOn number tei m events → IsNotDeactivated number service tei events
       → IsPart (waits service tei (line_at number m) ++ along m.config service tei number (due_in m.config service tei number) (calm n busy rejected) (moments m events))
       (controls_begun m.config service tei (trace number (moments m events)) ++ waits service tei (line_at number (after_all m events)))
   unfolding moments after_all along StaysOn
-  run-all m [] number n busy rejected s timely all stands on =
+  run-all m [] number n busy rejected s timely all stands on up =
       subst (λ xs. IsPart xs (waits service tei (line_at number m))) (sym (append-nil (waits service tei (line_at number m)))) (of-itself (waits service tei (line_at number m)))
-  run-all m (e ∷ events) number n busy rejected s timely all stands on =
+  run-all m (e ∷ events) number n busy rejected s timely all stands on up =
       let c = m.config in
       let at-line = All-head (IsAtLine m) e events all in
       let later = cards.after e m in
@@ -198,13 +201,14 @@ module _ (service : Service) (tei : ℕ) where
       let rest = trace number (moments later events) in
       let x = moment n busy rejected m e number s timely at-line stands (e.line == number) refl in
       let w = standing service tei c (calm n busy rejected) first in
-      let then = run-all later events number w.told.count w.busy w.rejected (after_is_sound m e s at-line) (timely-after m e s timely at-line) (All-tail (IsAtLine m) e events all) (x.count, x.stands) on.1 in
+      let then = run-all later events number w.told.count w.busy w.rejected (after_is_sound m e s at-line) (timely-after m e s timely at-line) (All-tail (IsAtLine m) e events all) (x.count, x.stands) on.1
+      (All-tail (λ e. is_deactivated_at number service tei e ≡ false) e events up) in
       let now = due_in c service tei number (calm n busy rejected) w (moment-of m e) in
       let last = waits service tei (line_at number (after_all later events)) in
       let behind = along c service tei number (due_in c service tei number) w (moments later events) in
       subst (λ xs. IsPart (waits service tei (line_at number m) ++ (now ++ behind)) (xs ++ last)) (sym (flat_map-append (controls_at c service tei) first rest))
       (chain-back (controls_begun c service tei first) (controls_begun c service tei rest) (waits service tei (line_at number m)) (waits service tei (line_at number later)) last now behind
-      (x.passes.all on.0 (first-on tei number later events on.1))
+      (x.passes.all (All-head (λ e. is_deactivated_at number service tei e ≡ false) e events up) on.0 (first-on tei number later events on.1))
       (subst (λ (v : Standing). IsPart (waits service tei (line_at number later) ++ along c service tei number (due_in c service tei number) v (moments later events)) (controls_begun c service tei rest ++ last))
       (sym (as-calm w x.quiet_is)) then))
 
@@ -259,8 +263,17 @@ only-due-go c events number ranged all within service tei before since split awa
     none-where-away l None off away = ap (λ (k : Link). controls k.waiting) (off-fresh service tei l off)
     none-where-away l (Some place) on away = absurd (true≢false (sym (on-line l tei place on) ∙ away))
 
+-- Calls deactivate no link.
+not-deactivated : (number : ℕ) (service : Service) (tei : ℕ) (calls : List card.Event) → AreTakesAt number calls → IsNotDeactivated number service tei calls
+not-deactivated number service tei calls only =
+    All-weaker (λ (e : card.Event). e.line ≡ number → e.what ≡ line_event.next) (λ e. is_deactivated_at number service tei e ≡ false) (λ e is. one e is (e.line == number) refl) calls only
+  where
+    one : (e : card.Event) → (e.line ≡ number → e.what ≡ line_event.next) → (b : Bool) → (e.line == number) ≡ b → (b && deactivates service tei e.what) ≡ false
+    one e is true same = ap (deactivates service tei) (is (eqb-true e.line number same))
+    one e is false other = refl
+
 pub all-due-go : Always AllDueGo
-all-due-go c events number ranged all within service tei before meanwhile calls split only enough on =
+all-due-go c events number ranged all within service tei before meanwhile calls split only enough on up =
     let whole = subst (AreAtLines (fresh c)) split all in
     let m = after_all (fresh c) before in
     let same-config : m.config ≡ c = config-stays (fresh c) before in
@@ -273,9 +286,10 @@ all-due-go c events number ranged all within service tei before meanwhile calls 
     let then-sound = always_sound m meanwhile sound (all-left (IsAtLine m) meanwhile calls later) in
     let then-at : AreAtLines then calls = subst (λ (c : Config). All (λ (e : card.Event). e.line < c.lines) calls) (sym (config-stays m meanwhile)) (all-right (IsAtLine m) meanwhile calls later) in
     let stays = then-on tei m meanwhile calls number on (calls-keep tei then calls number then-sound then-at only) in
+    let none = All-append (λ (e : card.Event). is_deactivated_at number service tei e ≡ false) meanwhile calls up (not-deactivated number service tei calls only) in
     let known = run-stands c before number ranged first within service tei in
     let w = fold (stand c service tei) at_first (trace_of c before number) in
-    let ran = subst (Ran m w) same-config (run-all service tei m (meanwhile ++ calls) number w.told.count w.busy w.rejected sound timely later (known.2, known.3) stays) in
+    let ran = subst (Ran m w) same-config (run-all service tei m (meanwhile ++ calls) number w.told.count w.busy w.rejected sound timely later (known.2, known.3) stays none) in
     let due = along c service tei number (due_in c service tei number) w (moments m (meanwhile ++ calls)) in
     let due-known : along c service tei number (due_in c service tei number) (calm w.told.count w.busy w.rejected) (moments m (meanwhile ++ calls)) ≡ due =
     ap (λ v. along c service tei number (due_in c service tei number) v (moments m (meanwhile ++ calls))) (sym (as-calm w known.1)) in

@@ -31,6 +31,7 @@ use Rattle.model_line.proofs.LinksSound.{sound_in}
 use Rattle.model_line.proofs.Ranges.{terms_in_range}
 use Rattle.laws_line.specs.Frames.{lost_in}
 use Rattle.laws_line.specs.Heard.{notes_of, is_data_of}
+use Rattle.laws_line.specs.Requests.{deactivates}
 use Rattle.laws_line.specs.Steady.{IsBy}
 use Rattle.laws_line.specs.Timers.{HaveTheirTimers}
 use Rattle.laws_trace.specs.ControlFrames.{receipt, changed, command_of, acknowledged_at, IsPart}
@@ -44,10 +45,10 @@ use Rattle.laws_trace.proofs.ControlsDue.{controls, answers_of, put_by}
 use Rattle.laws_trace.proofs.ControlsOfLink.{IsNumbered, puts, both-up}
 use Rattle.laws_trace.proofs.ControlsSeen.{begun_of, controls_begun, owed_of, answers_seen, IsOwed, begun-is, all-foreign, by-owed, offered, offer-serves, event-answers, none-answered}
 use Rattle.laws_trace.proofs.DeliveriesRun.{IsCount, data-noted}
-use Rattle.laws_trace.proofs.LinkLed.{none-ticks, one-ticks}
+use Rattle.laws_trace.proofs.LinkLed.{none-ticks, one-ticks, own-is}
 use Rattle.laws_trace.proofs.LinksMove.{differs}
 use Rattle.laws_trace.proofs.MovesOfLink.{ticks}
-use Rattle.laws_trace.proofs.OneLink.{frames_given, HasOne, HasNone, Goes, event-goes}
+use Rattle.laws_trace.proofs.OneLink.{frames_given, HasOne, HasNone, Goes, event-goes, IsGivenUp}
 use Rattle.laws_trace.proofs.Parts.{of-itself, of-nothing, both, more, through}
 use Rattle.laws_trace.proofs.ReceiptsNumbered.{taken-is}
 use Rattle.laws_trace.proofs.Standing.{behind, stand-is, one-restarts, busy-is, rejected-is, event-stands, begun-stand}
@@ -96,9 +97,9 @@ module _ (service : Service) (tei : ℕ) where
   owed_here c now l t = option_map_or (λ state. flat_map (acknowledged_at c service tei now state) t) (state_of service tei l) []
 
   -- What that is to those that wait before it and behind it.
-  pub record Passes (c : Config) (was now : Standing) (time : Bool) (l : Line) (t : List Seen) (lost : ℕ) (new : Line) : Type 0 where
+  pub record Passes (c : Config) (was now : Standing) (time up : Bool) (l : Line) (t : List Seen) (lost : ℕ) (new : Line) : Type 0 where
     pub only : IsPart (controls_begun c service tei t ++ waits new) (waits l ++ (due_here c was now time l t lost new ++ owed_here c now l t))
-    pub all : has_tei tei l ≡ true → has_tei tei new ≡ true → IsPart (waits l ++ due_here c was now time l t lost new) (controls_begun c service tei t ++ waits new)
+    pub all : up ≡ false → has_tei tei l ≡ true → has_tei tei new ≡ true → IsPart (waits l ++ due_here c was now time l t lost new) (controls_begun c service tei t ++ waits new)
 
   -- One event of a line.
   module _ (c : Config) (ranged : IsInRange c) (e : Event) (l : Line) (s : IsSound c l) (timed : HaveTheirTimers l) (m : ℕ) (busy rejected : Bool)
@@ -134,7 +135,7 @@ module _ (service : Service) (tei : ℕ) where
     begins = controls_begun c service tei shown
 
     abbrev Here : Type 0
-    Here = Passes c was now (time_at l e new) l shown (lost_in a) new
+    Here = Passes c was now (time_at l e new) (deactivates service tei e) l shown (lost_in a) new
 
     time-is : (there here : ℕ) (n : ℕ) → place_in l tei ≡ Some here → place_in new tei ≡ Some there → option_map_or one_more (expired_of service tei e) 0 ≡ n
         → time_at l e new ≡ (moves own.state (link_of service tei new).state || n == 1)
@@ -260,7 +261,7 @@ module _ (service : Service) (tei : ℕ) where
       begins-is = begun-is c service tei e l ∙ ap (flat_map (begun_of c service tei)) x.begins
 
       quiet : IsNoOther x.event → frames_given c t x.event own ≡ [] → Here
-      quiet other none = record { only = only (place_in new tei) refl; all = λ was-on is-on. let there = at-some-place new tei is-on in all there.0 there.1 }
+      quiet other none = record { only = only (place_in new tei) refl; all = λ up was-on is-on. let there = at-some-place new tei is-on in all there.0 there.1 }
         where
           none-begins : begins ≡ []
           none-begins = begins-is ∙ ap (flat_map (begun_of c service tei)) none
@@ -284,7 +285,7 @@ module _ (service : Service) (tei : ℕ) where
               (subst (λ (k : Link). IsPart (controls k.waiting) (waits l ++ (Due ++ Owed))) (sym (off-fresh service tei new off)) (of-nothing (waits l ++ (Due ++ Owed))))
 
       given-here : x.event ≡ link.offer → e ≡ next → Here
-      given-here offer is = record { only = only; all = λ was-on is-on. let there = at-some-place new tei is-on in all there.0 there.1 }
+      given-here offer is = record { only = only; all = λ up was-on is-on. let there = at-some-place new tei is-on in all there.0 there.1 }
         where
           given : List (List ℕ)
           given = map (frame_of c t) (option_to_list (links.given t own))
@@ -347,9 +348,20 @@ module _ (service : Service) (tei : ℕ) where
       by-event link.offer is by = given-here is by
       by-event link.cleared is by = absurd by
 
+    -- Its deactivation.
+    module _ (x : IsGivenUp c service tei e l new a) where
+      ended-asked : deactivates service tei e ≡ true
+      ended-asked = ap (deactivates service tei) x.by.0 ∙ own-is service tei
+
+      ended-only : IsPart (begins ++ waits new) (waits l ++ (Due ++ Owed))
+      ended-only =
+          subst (λ xs. IsPart (xs ++ waits new) (waits l ++ (Due ++ Owed))) (sym (begun-is c service tei e l ∙ ap (flat_map (begun_of c service tei)) x.begins))
+          (subst (λ (k : Link). IsPart (controls k.waiting) (waits l ++ (Due ++ Owed))) (sym x.is) (of-nothing (waits l ++ (Due ++ Owed))))
+
     pub event-passes : Here
     event-passes = go (event-goes c e l service tei s)
       where
         go : Goes c service tei e l new a → Here
-        go (inl x) = record { only = none-only x; all = none-all x }
-        go (inr x) = by-event x x.event refl x.by
+        go (inl x) = record { only = none-only x; all = λ up. none-all x }
+        go (inr (inl x)) = by-event x x.event refl x.by
+        go (inr (inr x)) = record { only = ended-only x; all = λ up. absurd (true≢false (sym (ended-asked x) ∙ up)) }

@@ -28,7 +28,7 @@ use Rattle.laws_link.specs.Waiting.{receipt_as, as_response, as_command, is_next
 use Rattle.laws_link.proofs.Follows.{event-follows}
 use Rattle.laws_trace.specs.ControlFrames.{control_in, receipt, polled, to_information, while_up, answer_to, changed, command_of}
 use Rattle.laws_trace.specs.Deliveries.{Standing}
-use Rattle.laws_trace.proofs.CommandsCaused.{enquiry, leads, IsNoOther, caused}
+use Rattle.laws_trace.proofs.CommandsCaused.{enquires, IsNoOther, none-heard, none-asked}
 use Rattle.laws_trace.proofs.ControlsDue.{controls, answers_of, put_by, IsControl, all-put, all-controls}
 use Rattle.laws_trace.proofs.MovesOfLink.{ticks}
 use Rattle.laws_trace.proofs.StandingOfLink.{calm, rejected_behind}
@@ -198,14 +198,14 @@ module _ (t : Terms) (l : Link) (m : ℕ) (busy rejected : Bool) (n : ℕ) (busy
   answers-are cleared other h = absurd other
 
   -- Commands: those of a state that awaits an answer, where T200 expires, or the link comes there.
-  never-other : (e : Event) → IsNoOther e → let to = state_after t e l in (moves l.state to || waiting.is_time e l) ≡ true → leads enquiry to ≡ true → (timer : LinkTimer) × (e ≡ expired timer)
+  never-other : (e : Event) → IsNoOther e → let to = state_after t e l in (moves l.state to || waiting.is_time e l) ≡ true → enquires to ≡ true → (timer : LinkTimer) × (e ≡ expired timer)
   never-other (expired timer) other move lead = (timer, refl)
-  never-other (received what) other move lead = absurd (true≢false (sym (caused enquiry t (received what) l tt move lead)))
-  never-other (requested r full) other move lead = absurd (true≢false (sym (caused enquiry t (requested r full) l tt move lead)))
+  never-other (received what) other move lead = absurd (none-heard t what l move lead)
+  never-other (requested r full) other move lead = absurd (none-asked t r full l move lead)
   never-other offer other move lead = absurd other
   never-other cleared other move lead = absurd other
 
-  by-expiry-up : (s : State) (timer : LinkTimer) (ran again : Bool) → leads enquiry (cond ran (by_expiry s timer again) s) ≡ true → is_multiple_frame s ≡ true
+  by-expiry-up : (s : State) (timer : LinkTimer) (ran again : Bool) → enquires (cond ran (by_expiry s timer again) s) ≡ true → is_multiple_frame s ≡ true
   by-expiry-up Established timer ran again up = refl
   by-expiry-up TimerRecovery timer ran again up = refl
   by-expiry-up TeiAssigned timer true again up = absurd (true≢false (sym up))
@@ -219,19 +219,19 @@ module _ (t : Terms) (l : Link) (m : ℕ) (busy rejected : Bool) (n : ℕ) (busy
   by-expiry-up AwaitingRelease T203 true again up = absurd (true≢false (sym up))
   by-expiry-up AwaitingRelease timer false again up = absurd (true≢false (sym up))
 
-  command-is : (to : State) → (leads enquiry to ≡ true → as_command (receipt_as l.own_busy l.r true) ≡ as_command (receipt now true)) → command_in to l ≡ command_of now (Some (state_number to))
+  command-is : (to : State) → (enquires to ≡ true → as_command (receipt_as l.own_busy l.r true) ≡ as_command (receipt now true)) → command_in to l ≡ command_of now (Some (state_number to))
   command-is TeiAssigned h = refl
   command-is AwaitingEstablishment h = refl
   command-is AwaitingRelease h = refl
   command-is Established h = refl
   command-is TimerRecovery h = h refl
 
-  enquired : (e : Event) (timer : LinkTimer) → e ≡ expired timer → Seen e → leads enquiry (state_after t e l) ≡ true
+  enquired : (e : Event) (timer : LinkTimer) → e ≡ expired timer → Seen e → enquires (state_after t e l) ≡ true
       → as_command (receipt_as l.own_busy l.r true) ≡ as_command (receipt now true)
   enquired e timer is h lead =
       let seen : Seen (expired timer) = subst Seen is h in
       as-seen (expired timer) (λ was now. as_command (receipt now true)) (as_command (receipt_as l.own_busy l.r true)) seen
-      (by-expiry-up l.state timer (runs timer l.running) (may_repeat t l) (subst (λ e. leads enquiry (state_after t e l) ≡ true) is lead))
+      (by-expiry-up l.state timer (runs timer l.running) (may_repeat t l) (subst (λ e. enquires (state_after t e l) ≡ true) is lead))
       (goes-on (expired timer) (λ is. establishes t l (expired timer) is)) refl
 
   abbrev Timed : Event → Type 0
@@ -256,7 +256,7 @@ module _ (t : Terms) (l : Link) (m : ℕ) (busy rejected : Bool) (n : ℕ) (busy
 
       go : (b : Bool) → (moves l.state to || waiting.is_time (received what) l) ≡ b → cond b (command_in to l) [] ≡ cond b (command_of now (Some (state_number to))) []
       go false move = refl
-      go true move = command-is to (λ lead. absurd (true≢false (sym (caused enquiry t (received what) l tt move lead))))
+      go true move = command-is to (λ lead. absurd (none-heard t what l move lead))
 
   heard-times : (e : Event) → IsNoOther e → Seen e → Timed (as_heard t e)
   heard-times (received (frame f)) other h = received-times (cond (is_overlong t f.control f.info) overlong (frame f))

@@ -183,7 +183,8 @@ module _ (service : Service) (tei : ℕ) where
       where
         go : Goes c service tei next l new (answer c next l) → Goes-on
         go (inl x) = none-goes x
-        go (inr x) = one-goes x
+        go (inr (inl x)) = one-goes x
+        go (inr (inr x)) = absurd (cc x.by.0)
 
   -- A run of calls.
   module _ (number : ℕ) where

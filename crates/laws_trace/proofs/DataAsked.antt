@@ -16,7 +16,7 @@ use Rattle.model_line.specs.Event.{Event, hears, request, next, Answer}
 use Rattle.model_line.specs.Line.{Line, has_tei, place_in}
 use Rattle.model_line.specs.Machine.{aim_of, answer, unless_refused}
 use Rattle.model_line.specs.Refusal.{refusal, bad_tei, no_link, wrong_state, too_long, queue_full, pool_full}
-use Rattle.model_line.specs.Request.{Request, Establish, Release, Data, Assign, Remove, Check, SetBusy, ClearBusy}
+use Rattle.model_line.specs.Request.{Request, Establish, Release, Data, Assign, Remove, Check, SetBusy, ClearBusy, Deactivate}
 use Rattle.model_line.specs.Requested.{at_requested}
 use Rattle.laws_line.specs.Requests.{of_link}
 use Rattle.laws_line.specs.Share.{is_granted}
@@ -104,3 +104,4 @@ module _ (c : Config) (l : Line) (service : Service) (tei : ℕ) where
   elsewhere (Check by) g away = refl
   elsewhere (SetBusy its by) g away = refl
   elsewhere (ClearBusy its by) g away = refl
+  elsewhere (Deactivate its by) g away = refl

@@ -27,7 +27,7 @@ use Rattle.model_line.specs.Line.{Line, fresh_line, link_in, link_of, place_in, 
 use Rattle.model_line.specs.Machine.{aim_of, after, answer, unless_refused, of_heard}
 use Rattle.model_line.specs.Taken.{taken, frame_of, next_of}
 use Rattle.model_line.specs.Refusal.{refusal}
-use Rattle.model_line.specs.Request.{Request, Data}
+use Rattle.model_line.specs.Request.{Request, Data, Deactivate}
 use Rattle.model_line.specs.Requested.{at_requested}
 use Rattle.model_line.specs.Sound.{IsInRange, IsSound}
 use Rattle.model_line.proofs.LinksSound.{sound_in}
@@ -102,9 +102,6 @@ module _ (c : Config) (ranged : IsInRange c) (l : Line) (s : IsSound c l) (servi
     chosen-one : HasOne c service tei e l (after c e l) (answer c e l) → Chosen e
     chosen-one x = go (restarts t x.event k) refl
       where
-        sound : link_sound.IsSound t k
-        sound = own-sound x.place x.placed
-
         begins-is : anew e ≡ restarts t x.event k
         begins-is = ap (begins service tei (frame_by c e)) x.notes ∙ one-begins c e (answer c e l) service tei x.event x.by k
 
@@ -113,7 +110,7 @@ module _ (c : Config) (ranged : IsInRange c) (l : Line) (s : IsSound c l) (servi
 
         go : (b : Bool) → restarts t x.event k ≡ b → Chosen e
         go true is =
-            let y = begins-anew t k sound x.event all gone known is in
+            let y = begins-anew t k (own-sound x.place x.placed) x.event all gone known is in
             record {
               n = y.0;
               may = subst (λ ns. ((y.0 ≤ gone) × (list_any (is_indicated service tei) ns ≡ false)) ⊎ (length all ≤ y.0)) (sym x.notes) y.1;
@@ -122,7 +119,7 @@ module _ (c : Config) (ranged : IsInRange c) (l : Line) (s : IsSound c l) (servi
                   (subst (λ k. Knows k (drop y.0 all) 0) (sym x.is) y.2);
             }
         go false is =
-            let y = goes-on-so t k sound x.event all gone known is bare.1 in
+            let y = goes-on-so t k (own-sound x.place x.placed) x.event all gone known is bare.1 in
             let same : all ++ accepted t x.event k ≡ all = ap (λ xs. all ++ xs) bare.0 ∙ append-nil all in
             record {
               n = length all;
@@ -163,7 +160,8 @@ module _ (c : Config) (ranged : IsInRange c) (l : Line) (s : IsSound c l) (servi
       where
         go : Goes c service tei e l (after c e l) (answer c e l) → Chosen e
         go (inl x) = chosen-none x
-        go (inr x) = chosen-one x
+        go (inr (inl x)) = chosen-one x
+        go (inr (inr x)) = absurd (no-request (Deactivate service tei) x.by.0)
 
   counts-on : (e : Event) → IsCount (link_of service tei (after c e l)) (counted service tei (record { frame = frame_by c e; count = m }) (notes_of (answer c e l)))
   counts-on e = (event-told c ranged l s e service tei m count).1
@@ -248,7 +246,8 @@ module _ (c : Config) (ranged : IsInRange c) (l : Line) (s : IsSound c l) (servi
     where
       go : Goes c service tei (request r) l (after c (request r) l) (answer c (request r) l) → Added r
       go (inl x) = added-none r x
-      go (inr x) = added-one r x
+      go (inr (inl x)) = added-one r x
+      go (inr (inr x)) = record { knows = fresh-known (link_of service tei (after c (request r) l)) (cond (is_granted (answer c (request r) l)) (all ++ data_asked service tei r) all) gone x.is }
 
   -- A call for the next frame.
   record Gave : Type 0 where
@@ -315,7 +314,8 @@ module _ (c : Config) (ranged : IsInRange c) (l : Line) (s : IsSound c l) (servi
     where
       go : Goes c service tei next l (after c next l) (answer c next l) → Gave
       go (inl x) = gave-none x
-      go (inr x) = gave-one x
+      go (inr (inl x)) = gave-one x
+      go (inr (inr x)) = absurd (cc x.by.0)
 
   expiry-shown : (e : Event) → frame_by c e ≡ None → Chosen e → Reaches c service tei (quiet m all gone) (seen e (answer c e l))
       (quiet (counted service tei (record { frame = None; count = m }) (notes_of (answer c e l))) all gone) → Shown e

@@ -2,6 +2,7 @@
 use Rattle.std.proofs.Common.{◌≡◌, ℕ, ◌+◌, ◌%◌, ◌<◌, ◌&&◌, ◌||◌, Bool, true, false, cond, List, [], ◌∷◌, ◌++◌, map, Option, Some, None, option_map, refl, sym, ap, ◌∙◌, subst, eqb-true, eq-eqb, ◌==◌, Result, Ok, Err, true≢false, ◌⊎◌, inl, inr}
 use Rattle.std.specs.Prelude.{fold, is_some}
 use Rattle.lapd_frame.specs.declared.notes.Note.{Note}
+use Rattle.lapd_frame.specs.declared.notes.Note.TheVariants as notes
 use Rattle.std.specs.List.{list_any}
 use Rattle.std.specs.Option.{option_or, option_map_or}
 use Rattle.std.proofs.lemmas.List.{get_or-replicate}
@@ -55,8 +56,9 @@ use Rattle.laws_trace.specs.LinkFrames.{parts_of, frame_of, is_for}
 use Rattle.laws_trace.specs.Units.{is_ui}
 use Rattle.laws_trace.proofs.Begins.{unless, up-before}
 use Rattle.laws_trace.proofs.Deliveries.{frame_by, data-tells, unit-tells, data-own, unit-own, none-noted, one-begins, data-of, unit-of, group-notes}
-use Rattle.laws_trace.proofs.OneLink.{HasOne, HasNone, Goes, is_at_link, event-goes}
+use Rattle.laws_trace.proofs.OneLink.{HasOne, HasNone, Goes, is_at_link, event-goes, IsGivenUp}
 use Rattle.laws_trace.proofs.Runs.{run-shows}
+use Rattle.laws_trace.proofs.ClearedTells.{ends-alone}
 
 -- V(R) is what was counted, while the link is up.
 abbrev pub IsCount : Link → ℕ → Type 0
@@ -74,7 +76,7 @@ its-aim c l service tei place on (Ok g) f is for =
     (addressed-is l g.address service tei place (link.frame g) (message_of g.control g.info) (eqb-true g.address.sapi (sapi_of service) parts.0) (eqb-true g.address.tei tei parts.1) on))
     ∙ ap (λ b. b && tei == tei) (service-same service) ∙ eq-eqb tei tei refl
 
-heard-aims-at : (c : Config) (l : Line) (service : Service) (tei place : ℕ) → place_in l tei ≡ Some place → (e : stream.Event) (f : Parts)
+pub heard-aims-at : (c : Config) (l : Line) (service : Service) (tei place : ℕ) → place_in l tei ≡ Some place → (e : stream.Event) (f : Parts)
     → frame_of c e ≡ Some f → is_for service tei f.address ≡ true → is_at_link service tei (aim_of_heard c l e) ≡ true
 heard-aims-at c l service tei place on (stream.frame octets) f is for = its-aim c l service tei place on (reading (heard_side c) octets) f is for
 heard-aims-at c l service tei place on (stream.overlong head) f is for = absurd (none-some f is)
@@ -232,6 +234,11 @@ module _ (c : Config) (ranged : IsInRange c) (l : Line) (s : IsSound c l) (e : E
             ∙ ap (λ d. cond (begins service tei (frame_by c e) (notes_of a)) 0 (cond d (n + 1) n)) (unless _ no-data)
         go (inr new) = absurd (true≢false (sym up ∙ ap (λ (y : Link). is_multiple_frame y.state) new))
 
+  -- Its deactivation.
+  pub ended-notes : (q : Note → Bool) → ((s : Service) (n : ℕ) → q (notes.ReleaseIndication s n) ≡ false) → ((s : Service) (n : ℕ) → q (notes.ReleaseConfirm s n) ≡ false)
+      → IsGivenUp c service tei e l (after c e l) a → list_any q (notes_of a) ≡ false
+  ended-notes q indication confirm x = ap (list_any q) x.notes ∙ ends-alone q indication confirm (terms c service tei) (link_of service tei l)
+
   -- So of every event.
   pub event-told : IsHeard service tei w (notes_of a) (contents_in a) × IsCount (link_of service tei (after c e l)) (counted service tei w (notes_of a))
   event-told = go (event-goes c e l service tei s)
@@ -241,7 +248,15 @@ module _ (c : Config) (ranged : IsInRange c) (l : Line) (s : IsSound c l) (e : E
         record { data_is = λ some. absurd (no-data x some); unit_is = λ some. group-told x some; once = told-once c e l ranged s },
         none-counts x,
       )
-      go (inr x) = (
+      go (inr (inr x)) = (
+        record {
+          data_is = λ some. absurd (true≢false (sym some ∙ ended-notes (is_data_of service tei) (λ s n. refl) (λ s n. refl) x));
+          unit_is = λ some. absurd (true≢false (sym some ∙ ended-notes (is_unit_of service tei) (λ s n. refl) (λ s n. refl) x));
+          once = told-once c e l ranged s;
+        },
+        λ up. absurd (true≢false (sym up ∙ ap (λ (y : Link). is_multiple_frame y.state) x.is)),
+      )
+      go (inr (inl x)) = (
         record { data_is = one-data x; unit_is = one-unit x; once = told-once c e l ranged s },
         one-counts x,
       )

@@ -1,57 +1,199 @@
 -- What an event of a link leaves of the contents that it keeps, and how far V(A) goes on.
-use Rattle.std.proofs.Common.{◌≡◌, ℕ, ◌+◌, ◌-◌, ◌%◌, ◌≤◌, Bool, true, false, cond, List, [], ◌∷◌, ◌++◌, ◌&&◌, ◌||◌, ◌==◌, length, drop, refl, sym, ap, ◌∙◌, arith, eq-eqb, length-append, length-drop}
-use Rattle.std.specs.Prelude.{All}
+use Rattle.std.proofs.Common.{◌≡◌, ℕ, ◌+◌, ◌-◌, ◌%◌, ◌≤◌, Bool, true, false, cond, not, List, [], ◌∷◌, ◌++◌, ◌&&◌, ◌||◌, ◌==◌, length, drop, Option, Some, None, is_some, refl, sym, ap, ◌∙◌, subst, arith, eq-eqb, true≢false, length-append, length-drop}
+use Rattle.std.specs.Prelude.{All, nat_lt}
 use Rattle.std.specs.List.{list_any}
+use Rattle.std.specs.Option.{option_map_or}
 use Rattle.std.proofs.lemmas.List.Elements.{All-head, All-tail}
+use Rattle.std.proofs.lemmas.Option.{none-some}
 use Rattle.lapd_frame.specs.declared.controls.Control.{Control}
 use Rattle.lapd_frame.specs.declared.controls.Control.TheVariants.{Information, ReceiveReady, ReceiveNotReady, Reject, Sabme, Disc, Ui, Ua, Dm, Frmr, Xid}
 use Rattle.lapd_frame.specs.declared.notes.Note.{Note}
 use Rattle.lapd_frame.specs.declared.notes.Note.TheVariants as notes
 use Rattle.lapd_frame.specs.declared.services.Service.{Service}
+use Rattle.lapd_frame.specs.Grammar.{Parts}
 use Rattle.lapd_frame.specs.Services.{same_service}
+use Rattle.lapd_seq.specs.declared.numbers.Seq.{Seq}
+use Rattle.lapd_seq.specs.Circle.{named}
+use Rattle.model_link.specs.declared.states.State.{State}
+use Rattle.model_link.specs.declared.states.State.TheVariants.{TeiAssigned, AwaitingEstablishment, AwaitingRelease, Established, TimerRecovery}
 use Rattle.model_link.specs.declared.terms.Terms.{Terms}
 use Rattle.model_link.specs.Deliveries.{restarts, MayEstablish}
 use Rattle.model_link.specs.Events.{Event, received, frame, undefined, wrong_size, overlong, expired, requested, offer, cleared}
-use Rattle.model_link.specs.Link.{Link, queue_of}
-use Rattle.model_link.specs.Machine.{after}
+use Rattle.model_link.specs.Link.{Link, is_multiple_frame, queue_of, state_number}
+use Rattle.model_link.specs.Machine.{after, frame_in, told}
 use Rattle.model_link.specs.Notes.{IsOwn}
 use Rattle.model_link.specs.Sound.{IsSound}
-use Rattle.laws_link.specs.Accepted.{accepted, acknowledged, acknowledged_by, number_of, empties, is_loss}
+use Rattle.model_link.specs.Steps.{begun}
+use Rattle.laws_link.specs.Accepted.{accepted, acknowledged, acknowledged_by, beyond, number_of, number_received, ends, empties, is_loss, tells_loss}
 use Rattle.laws_link.specs.History.{with_share}
+use Rattle.laws_link.specs.States.{as_heard, by_frame, is_faulty, is_invalid, is_overlong, receipt_of, state_after}
+use Rattle.laws_link.proofs.Follows.{event-follows}
 use Rattle.laws_link.proofs.Keeping.{event-done}
 use Rattle.laws_link.proofs.Restarts.{establishes}
 use Rattle.laws_line.specs.Loss.{is_loss_of}
 use Rattle.laws_line.proofs.Obeyed.{service-same}
+use Rattle.laws_trace.specs.News.{is_sabme}
+use Rattle.laws_trace.specs.Observer.{steps}
+use Rattle.laws_trace.specs.Trace.{is_up}
 use Rattle.laws_trace.proofs.DataOfLink.{acknowledged-went}
+use Rattle.laws_trace.proofs.NewsRows.{sabme_of}
+use Rattle.laws_trace.proofs.SeenAs.{up-number}
 
--- A frame with which the numbers begin acknowledges nothing.
+-- In states 7 and 8, and behind what leaves a link there, V(A) goes on by what is acknowledged; otherwise nothing is.
+keeps-up : (here : State) (command : Bool) (ct : Control) (nr : Seq) → receipt_of ct ≡ Some nr → is_multiple_frame here ≡ true → is_multiple_frame (by_frame here command ct) ≡ true
+keeps-up TeiAssigned command ct nr is up = absurd (true≢false (sym up))
+keeps-up AwaitingEstablishment command ct nr is up = absurd (true≢false (sym up))
+keeps-up AwaitingRelease command ct nr is up = absurd (true≢false (sym up))
+keeps-up Established command (Information ns n p) nr is up = refl
+keeps-up Established command (ReceiveReady n pf) nr is up = refl
+keeps-up Established command (ReceiveNotReady n pf) nr is up = refl
+keeps-up Established command (Reject n pf) nr is up = refl
+keeps-up TimerRecovery command (Information ns n p) nr is up = refl
+keeps-up TimerRecovery true (ReceiveReady n pf) nr is up = refl
+keeps-up TimerRecovery false (ReceiveReady n true) nr is up = refl
+keeps-up TimerRecovery false (ReceiveReady n false) nr is up = refl
+keeps-up TimerRecovery true (ReceiveNotReady n pf) nr is up = refl
+keeps-up TimerRecovery false (ReceiveNotReady n true) nr is up = refl
+keeps-up TimerRecovery false (ReceiveNotReady n false) nr is up = refl
+keeps-up TimerRecovery true (Reject n pf) nr is up = refl
+keeps-up TimerRecovery false (Reject n true) nr is up = refl
+keeps-up TimerRecovery false (Reject n false) nr is up = refl
+keeps-up here command (Sabme p) nr is up = absurd (none-some nr is)
+keeps-up here command (Disc p) nr is up = absurd (none-some nr is)
+keeps-up here command (Ui p) nr is up = absurd (none-some nr is)
+keeps-up here command (Ua f) nr is up = absurd (none-some nr is)
+keeps-up here command (Dm f) nr is up = absurd (none-some nr is)
+keeps-up here command (Frmr f) nr is up = absurd (none-some nr is)
+keeps-up here command (Xid pf) nr is up = absurd (none-some nr is)
+
+ua-goes-on : (t : Terms) (k : Link) (here : State) → is_multiple_frame here ≡ true → (command f : Bool) (info : List ℕ) → (frame_in here t command info (Ua f) (begun k)).zeroed ≡ true → ⊥
+ua-goes-on t k Established up command true info e = true≢false (sym e)
+ua-goes-on t k Established up command false info e = true≢false (sym e)
+ua-goes-on t k TimerRecovery up command true info e = true≢false (sym e)
+ua-goes-on t k TimerRecovery up command false info e = true≢false (sym e)
+ua-goes-on t k TeiAssigned up command f info e = true≢false (sym up)
+ua-goes-on t k AwaitingEstablishment up command f info e = true≢false (sym up)
+ua-goes-on t k AwaitingRelease up command f info e = true≢false (sym up)
+
 module _ (t : Terms) (k : Link) where
-  may-acked : (control : Control) (info : List ℕ) → MayEstablish control → acknowledged_by (number_of t control info) k ≡ 0
-  may-acked (Sabme p) info may = refl
-  may-acked (Ua f) info may = refl
-  may-acked (Information ns nr p) info may = absurd may
-  may-acked (ReceiveReady nr pf) info may = absurd may
-  may-acked (ReceiveNotReady nr pf) info may = absurd may
-  may-acked (Reject nr pf) info may = absurd may
-  may-acked (Disc p) info may = refl
-  may-acked (Ui p) info may = refl
-  may-acked (Dm f) info may = refl
-  may-acked (Frmr f) info may = refl
-  may-acked (Xid pf) info may = refl
+  -- where the link was down
+  down-acked : (e : Event) → is_multiple_frame k.state ≡ false → acknowledged t e k ≡ 0
+  down-acked (received r) down = go (number_received t r)
+    where
+      go : (o : Option Seq) → acknowledged_by o k ≡ 0
+      go None = refl
+      go (Some nr) = ap (λ b. cond b (option_map_or (beyond k.a) (named k.a k.s nr) 0) 0) down
+  down-acked (expired timer) down = refl
+  down-acked (requested request full) down = refl
+  down-acked offer down = refl
+  down-acked cleared down = refl
 
-  none-acked : (e : Event) → restarts t e k ≡ true → acknowledged t e k ≡ 0
-  none-acked (received (frame f)) anew = may-acked f.control f.info (establishes t k (received (frame f)) anew).by
-  none-acked (received undefined) anew = refl
-  none-acked (received wrong_size) anew = refl
-  none-acked (received overlong) anew = refl
-  none-acked (expired timer) anew = refl
-  none-acked (requested request full) anew = refl
-  none-acked offer anew = refl
-  none-acked cleared anew = refl
+  -- where it goes down
+  module _ (f : Parts) (goes : is_multiple_frame (after t (received (frame f)) k).state ≡ false) where
+    by-number : (ct : Control) → f.control ≡ ct → (nr : Seq) → receipt_of ct ≡ Some nr → as_heard t (received (frame f)) ≡ received (frame f) → acknowledged_by (Some nr) k ≡ 0
+    by-number ct is nr its heard = go (is_multiple_frame k.state) refl (named k.a k.s nr) refl
+      where
+        leads : is_multiple_frame k.state ≡ true → (n : ℕ) → named k.a k.s nr ≡ Some n → (after t (received (frame f)) k).state ≡ by_frame k.state f.address.command ct
+        leads up n names =
+            (event-follows t (received (frame f)) k).leaves.state ∙ ap (λ e. state_after t e k) heard
+            ∙ ap (λ b. cond (b && is_faulty (frame f) k) AwaitingEstablishment (by_frame k.state f.address.command f.control)) up
+            ∙ ap (λ ct. cond (is_invalid k (receipt_of ct)) AwaitingEstablishment (by_frame k.state f.address.command ct)) is
+            ∙ ap (λ o. cond (is_invalid k o) AwaitingEstablishment (by_frame k.state f.address.command ct)) its
+            ∙ ap (λ (o : Option ℕ). cond (not (is_some o)) AwaitingEstablishment (by_frame k.state f.address.command ct)) names
+
+        go : (u : Bool) → is_multiple_frame k.state ≡ u → (o : Option ℕ) → named k.a k.s nr ≡ o → cond u (option_map_or (beyond k.a) o 0) 0 ≡ 0
+        go false down o names = refl
+        go true up None names = refl
+        go true up (Some n) names =
+            absurd (true≢false (sym (ap is_multiple_frame (leads up n names) ∙ keeps-up k.state f.address.command ct nr its up) ∙ goes))
+
+    supervised : (ct : Control) → f.control ≡ ct → is_overlong t ct f.info ≡ false → (nr : Seq) → receipt_of ct ≡ Some nr → acknowledged_by (Some nr) k ≡ 0
+    supervised ct is short nr its =
+        by-number ct is nr its
+        (ap (λ ct. received (cond (is_overlong t ct f.info) overlong (frame f))) is ∙ ap (λ b. received (cond b overlong (frame f))) short)
+
+    frame-acked : (ct : Control) → f.control ≡ ct → acknowledged_by (number_of t ct f.info) k ≡ 0
+    frame-acked (Information ns nr p) is = go (nat_lt t.n201 (length f.info)) refl
+      where
+        go : (b : Bool) → nat_lt t.n201 (length f.info) ≡ b → acknowledged_by (cond b None (Some nr)) k ≡ 0
+        go true long = refl
+        go false short = supervised (Information ns nr p) is short nr refl
+    frame-acked (ReceiveReady nr pf) is = supervised (ReceiveReady nr pf) is refl nr refl
+    frame-acked (ReceiveNotReady nr pf) is = supervised (ReceiveNotReady nr pf) is refl nr refl
+    frame-acked (Reject nr pf) is = supervised (Reject nr pf) is refl nr refl
+    frame-acked (Sabme p) is = refl
+    frame-acked (Disc p) is = refl
+    frame-acked (Ui p) is = refl
+    frame-acked (Ua b) is = refl
+    frame-acked (Dm b) is = refl
+    frame-acked (Frmr b) is = refl
+    frame-acked (Xid pf) is = refl
+
+  going-acked : (e : Event) → is_multiple_frame (after t e k).state ≡ false → acknowledged t e k ≡ 0
+  going-acked (received (frame f)) goes = frame-acked f goes f.control refl
+  going-acked (received undefined) goes = refl
+  going-acked (received wrong_size) goes = refl
+  going-acked (received overlong) goes = refl
+  going-acked (expired timer) goes = refl
+  going-acked (requested request full) goes = refl
+  going-acked offer goes = refl
+  going-acked cleared goes = refl
+
+  -- by SABME
+  anew-acked : (e : Event) → sabme_of e ≡ true → acknowledged t e k ≡ 0
+  anew-acked (received (frame f)) anew = go f.control anew
+    where
+      go : (ct : Control) → is_sabme ct ≡ true → acknowledged_by (number_of t ct f.info) k ≡ 0
+      go (Sabme p) is = refl
+      go (Information ns nr p) is = absurd (true≢false (sym is))
+      go (ReceiveReady nr pf) is = absurd (true≢false (sym is))
+      go (ReceiveNotReady nr pf) is = absurd (true≢false (sym is))
+      go (Reject nr pf) is = absurd (true≢false (sym is))
+      go (Disc p) is = refl
+      go (Ui p) is = refl
+      go (Ua b) is = refl
+      go (Dm b) is = refl
+      go (Frmr b) is = refl
+      go (Xid pf) is = refl
+  anew-acked (received undefined) anew = refl
+  anew-acked (received wrong_size) anew = refl
+  anew-acked (received overlong) anew = refl
+  anew-acked (expired timer) anew = refl
+  anew-acked (requested request full) anew = refl
+  anew-acked offer anew = refl
+  anew-acked cleared anew = refl
+
+  -- and in states 7 and 8 the numbers begin anew by SABME alone
+  frame-goes-on : (f : Parts) (ct : Control) → f.control ≡ ct → is_multiple_frame k.state ≡ true → is_sabme ct ≡ false → restarts t (received (frame f)) k ≡ true → ⊥
+  frame-goes-on f (Sabme p) is up none anew = true≢false none
+  frame-goes-on f (Ua b) is up none anew =
+      ua-goes-on t k k.state up f.address.command b f.info (subst (λ ct. (frame_in k.state t f.address.command f.info ct (begun k)).zeroed ≡ true) is anew)
+  frame-goes-on f (Information ns nr p) is up none anew = subst MayEstablish is (establishes t k (received (frame f)) anew).by
+  frame-goes-on f (ReceiveReady nr pf) is up none anew = subst MayEstablish is (establishes t k (received (frame f)) anew).by
+  frame-goes-on f (ReceiveNotReady nr pf) is up none anew = subst MayEstablish is (establishes t k (received (frame f)) anew).by
+  frame-goes-on f (Reject nr pf) is up none anew = subst MayEstablish is (establishes t k (received (frame f)) anew).by
+  frame-goes-on f (Disc p) is up none anew = subst MayEstablish is (establishes t k (received (frame f)) anew).by
+  frame-goes-on f (Ui p) is up none anew = subst MayEstablish is (establishes t k (received (frame f)) anew).by
+  frame-goes-on f (Dm b) is up none anew = subst MayEstablish is (establishes t k (received (frame f)) anew).by
+  frame-goes-on f (Frmr b) is up none anew = subst MayEstablish is (establishes t k (received (frame f)) anew).by
+  frame-goes-on f (Xid pf) is up none anew = subst MayEstablish is (establishes t k (received (frame f)) anew).by
+
+  goes-on : (e : Event) → is_multiple_frame k.state ≡ true → sabme_of e ≡ false → ends t e k ≡ false → restarts t e k ≡ true → ⊥
+  goes-on (received (frame f)) up none stays anew = frame-goes-on f f.control refl up none anew
+  goes-on (received undefined) up none stays anew = establishes t k (received undefined) anew
+  goes-on (received wrong_size) up none stays anew = establishes t k (received wrong_size) anew
+  goes-on (received overlong) up none stays anew = establishes t k (received overlong) anew
+  goes-on (expired timer) up none stays anew = establishes t k (expired timer) anew
+  goes-on (requested request full) up none stays anew = establishes t k (requested request full) anew
+  goes-on offer up none stays anew = establishes t k offer anew
+  goes-on cleared up none stays anew = true≢false stays
 
 -- V(A) goes on by what is acknowledged.
-went-on : (a n more : ℕ) → n ≡ a + more → more ≤ 127 → (n % 128 + 128 - a % 128) % 128 ≡ more
-went-on a n more is few = omega (arith, is, few)
+abbrev pub went_by : Bool → Link → Link → ℕ
+went_by anew k x = cond (is_up (state_number k.state) && is_up (state_number x.state) && not anew) (steps (k.a % 128) (x.a % 128)) 0
+
+stepped : (a n more : ℕ) → n ≡ a + more → more ≤ 127 → (128 + n % 128 - a % 128) % 128 ≡ more
+stepped a n more is few = omega (arith, is, few)
 
 module _ (t : Terms) (k : Link) (s : IsSound t k) (small : t.k ≤ 127) (e : Event) where
   abbrev next : Link
@@ -80,21 +222,31 @@ module _ (t : Terms) (k : Link) (s : IsSound t k) (small : t.k ≤ 127) (e : Eve
       ∙ ap (λ z. (with_share (record { accepted = k.contents; acknowledged = k.a }) (record { restarts = z; empties = empties t e k; accepted = more; acknowledged = gone })).acknowledged) on
       ∙ ap (λ b. (with_share (record { accepted = k.contents; acknowledged = k.a }) (record { restarts = false; empties = b; accepted = more; acknowledged = gone })).acknowledged) some
 
-  pub moved : (z : Bool) → restarts t e k ≡ z → empties t e k ≡ false
-      → length (queue_of next) + cond {A = ℕ} z 0 ((next.a % 128 + 128 - k.a % 128) % 128) ≡ length (queue_of k) + length more
-  moved true anew some =
-      let none : gone ≡ 0 = none-acked t k e anew in
-      let left = some-left some in
-      omega (arith, none, left)
-  moved false on some =
-      let left = some-left some in
-      let went : k.a + gone ≤ k.s = acknowledged-went t e k s.ordered in
-      let low : k.a ≤ k.s = s.ordered in
-      let window : k.s ≤ k.a + t.k = s.within in
-      let sent : k.s ≤ length k.contents = s.accepted in
-      let queue : length (queue_of k) ≡ length k.contents - k.a = length-drop k.a k.contents in
-      let step : (next.a % 128 + 128 - k.a % 128) % 128 ≡ gone = went-on k.a next.a gone (a-is on some) (omega (arith, went, window, small)) in
-      omega (arith, left, went, sent, queue, step)
+  stays : ends t e k ≡ false → empties t e k ≡ false → (u : Bool) → is_up (state_number k.state) ≡ u → (v : Bool) → is_up (state_number next.state) ≡ v → (z : Bool) → sabme_of e ≡ z
+      → (length (queue_of next) + cond {A = ℕ} (u && v && not z) (steps (k.a % 128) (next.a % 128)) 0 ≡ length (queue_of k) + length more)
+  stays same some false down v to z anew = let left = some-left some in omega (arith, left, down-acked t k e (sym (up-number k.state) ∙ down))
+  stays same some true up false goes z anew = let left = some-left some in omega (arith, left, going-acked t k e (sym (up-number next.state) ∙ goes))
+  stays same some true up true to true anew = let left = some-left some in omega (arith, left, anew-acked t k e anew)
+  stays same some true up true to false on = by-bit (restarts t e k) refl
+    where
+      by-bit : (b : Bool) → restarts t e k ≡ b → length (queue_of next) + steps (k.a % 128) (next.a % 128) ≡ length (queue_of k) + length more
+      by-bit true anew = absurd (goes-on t k e (sym (up-number k.state) ∙ up) on same anew)
+      by-bit false numbers =
+          let left = some-left some in
+          let went : k.a + gone ≤ k.s = acknowledged-went t e k s.ordered in
+          let low : k.a ≤ k.s = s.ordered in
+          let window : k.s ≤ k.a + t.k = s.within in
+          let sent : k.s ≤ length k.contents = s.accepted in
+          let queue : length (queue_of k) ≡ length k.contents - k.a = length-drop k.a k.contents in
+          let step : (128 + next.a % 128 - k.a % 128) % 128 ≡ gone = stepped k.a next.a gone (a-is numbers some) (omega (arith, went, window, small)) in
+          omega (arith, left, went, sent, queue, step)
+
+  pub moved : empties t e k ≡ false → length (queue_of next) + went_by (sabme_of e) k next ≡ length (queue_of k) + length more
+  moved some = stays (neither (ends t e k) (tells_loss (told t e k).notes) some) some (is_up (state_number k.state)) refl (is_up (state_number next.state)) refl (sabme_of e) refl
+    where
+      neither : (b c : Bool) → (b || c) ≡ false → b ≡ false
+      neither true c none = none
+      neither false c none = refl
 
 -- A note of a link of a loss is one of this link.
 module _ (t : Terms) where

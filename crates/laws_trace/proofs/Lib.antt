@@ -2,7 +2,6 @@
 pub mod TimersWatched
 pub mod MovesWatched
 pub mod NewsWatched
-pub mod ErrorsWatched
 pub mod AgainWatched
 pub mod ObservedMoves
 pub mod Observed
@@ -42,8 +41,9 @@ pub mod DataGoesOut
 pub mod DataAsked
 pub mod DataRun
 pub mod AllDataGoesOut
+pub mod ClearedTells
+pub mod FramesGiven
 pub mod CommandsCaused
-pub mod ErrorsAreNoted
 pub mod ReceiptsNumbered
 pub mod StandingOfLink
 pub mod Standing
@@ -81,6 +81,7 @@ pub mod NewsRows
 pub mod NewsOfLink
 pub mod NewsOfOthers
 pub mod NewsSeen
+pub mod ErrorsSeen
 pub mod NewsOfLeaving
 pub mod OwedOfEvent
 pub mod NewsOfEvent
@@ -97,5 +98,8 @@ pub mod WindowsAreKept
 pub mod RoomsAreTold
 pub mod UnitsAreTold
 pub mod CountersCount
+pub mod SeenAs
 pub mod KeptOfLink
+pub mod PlacesSeen
 pub mod PlacesAreKept
+pub mod DataIsForLinks

@@ -1,12 +1,14 @@
 -- Which state a link moves to: one event of a line, by what is seen of it.
 use Rattle.std.proofs.Common.{◌≡◌, ℕ, ◌==◌, ◌&&◌, Bool, true, false, cond, List, [], ◌∷◌, ◌++◌, length, map, Option, Some, None, Result, Ok, Err, refl, sym, ap, ◌∙◌, eqb-true, eq-eqb, true≢false, ◌⊎◌, inl, inr}
-use Rattle.std.specs.Prelude.{fold, nat_lt}
+use Rattle.std.specs.Prelude.{fold, is_some, nat_lt}
 use Rattle.std.specs.Option.{option_map_or}
 use Rattle.model_bits.specs.Stream as stream
 use Rattle.model_bits.specs.declared.heard.Cause.TheVariants.{Unserved}
 use Rattle.lapd_frame.specs.declared.addresses.Address.{Address}
 use Rattle.lapd_frame.specs.declared.faults.ReadFault.{ReadFault}
 use Rattle.lapd_frame.specs.declared.faults.ReadFault.TheVariants.{BadExtension, Undefined, WrongSize, Short}
+use Rattle.lapd_frame.specs.declared.notes.ErrorCode.{ErrorCode}
+use Rattle.lapd_frame.specs.declared.notes.ErrorCode.TheVariants.{L, N, O}
 use Rattle.lapd_frame.specs.declared.overlong.Long.{Long}
 use Rattle.lapd_frame.specs.declared.overlong.Long.TheVariants as long
 use Rattle.lapd_frame.specs.declared.refusals.Refusal.{Refusal}
@@ -28,16 +30,16 @@ use Rattle.model_line.specs.Line.{Line, has_tei, place_in, terms}
 use Rattle.model_line.specs.Machine.{aim_of, answer, unless_refused, unless_refused_told, of_request}
 use Rattle.model_line.specs.Heard.{heard_side, addressed, aim_of_heard, aim_of_reading, aim_of_long, drop_for, message_of}
 use Rattle.model_line.specs.Refusal.{refusal}
-use Rattle.model_line.specs.Request.{Request, Establish, Release, Data, Assign, Remove, Check, SetBusy, ClearBusy}
-use Rattle.model_line.specs.Requested.{aim_of_request, at_requested}
+use Rattle.model_line.specs.Request.{Request, Establish, Release, Data, Assign, Remove, Check, SetBusy, ClearBusy, Deactivate}
+use Rattle.model_line.specs.Requested.{aim_of_request, at_requested, at_deactivated}
 use Rattle.model_line.specs.Sides.{at_side}
 use Rattle.laws_line.specs.Requests as requests
 use Rattle.laws_line.specs.Heard.{IsMalformed, IsTooLong}
 use Rattle.laws_line.specs.Share.{is_granted}
-use Rattle.laws_line.specs.Steady.{IsBy, BringsMalformed, timer_of}
+use Rattle.laws_line.specs.Steady.{IsBy, BringsMalformed, timer_of, IsDeactivated}
 use Rattle.laws_line.proofs.Hearing.{addressed-is, sapi-is}
 use Rattle.laws_line.proofs.Obeyed.{service-same, both-true}
-use Rattle.laws_trace.specs.LinkFrames.{parts_of, is_for, is_faulty, is_faulty_long}
+use Rattle.laws_trace.specs.LinkFrames.{parts_of, is_for, faulty, faulty_long}
 use Rattle.laws_trace.proofs.MovesWatched.{by_frame, by_parts, by_request, by_seen, by_expiry, led}
 use Rattle.laws_trace.specs.States.{expired_of, one_more}
 use Rattle.laws_trace.proofs.TimersWatched.{Known}
@@ -99,24 +101,24 @@ module _ (c : Config) (service : Service) (tei : ℕ) (k : Known) where
 
   -- a frame as it is read, and one that was too long to keep
   abbrev by_reading : ℕ → Result Parts ReadFault → ℕ
-  by_reading x r = cond (is_up x && is_faulty service tei r) 5 (by_parts c service tei k x (parts_of r))
+  by_reading x r = cond (is_up x && is_some (faulty service tei r)) 5 (by_parts c service tei k x (parts_of r))
 
   abbrev by_long : ℕ → Result Long ReadFault → ℕ
-  by_long x r = cond (is_up x && is_faulty_long service tei r) 5 x
+  by_long x r = cond (is_up x && is_some (faulty_long service tei r)) 5 x
 
-  no-fault : (x y : ℕ) (b : Bool) → b ≡ false → cond (is_up x && b) 5 y ≡ y
-  no-fault x y b none = ap (λ b. cond (is_up x && b) 5 y) none ∙ ap (λ b. cond b 5 y) (and-false (is_up x))
+  no-fault : (x y : ℕ) (b : Bool) (code : ErrorCode) → b ≡ false → cond (is_up x && is_some (cond b (Some code) None)) 5 y ≡ y
+  no-fault x y b code none = ap (λ b. cond (is_up x && is_some (cond b (Some code) None)) 5 y) none ∙ ap (λ b. cond b 5 y) (and-false (is_up x))
 
-  a-fault : (x y : ℕ) (b : Bool) → b ≡ true → cond (is_up x && b) 5 y ≡ cond (is_up x) 5 y
-  a-fault x y b some = ap (λ b. cond (is_up x && b) 5 y) some ∙ ap (λ b. cond b 5 y) (and-true (is_up x))
+  a-fault : (x y : ℕ) (b : Bool) (code : ErrorCode) → b ≡ true → cond (is_up x && is_some (cond b (Some code) None)) 5 y ≡ cond (is_up x) 5 y
+  a-fault x y b code some = ap (λ b. cond (is_up x && is_some (cond b (Some code) None)) 5 y) some ∙ ap (λ b. cond b 5 y) (and-true (is_up x))
 
   own-frame : (x : ℕ) (f : Parts) → is_for service tei f.address ≡ true → by_reading x (Ok f) ≡ by_frame k x f.address.command (nat_lt c.n201 (length f.info)) f.control
   own-frame x f for =
-      no-fault x (by_parts c service tei k x (Some f)) false refl ∙ ap (λ b. cond b (by_frame k x f.address.command (nat_lt c.n201 (length f.info)) f.control) x) for
+      no-fault x (by_parts c service tei k x (Some f)) false L refl ∙ ap (λ b. cond b (by_frame k x f.address.command (nat_lt c.n201 (length f.info)) f.control) x) for
 
   -- No event of the link.
   module _ (l : Line) (place : ℕ) (on : place_in l tei ≡ Some place) where
-    addressed-none : (address : Address) (what : link.Received) (m : Aim) → is_at_link service tei (addressed l address what m) ≡ false → is_for service tei address ≡ false
+    pub addressed-none : (address : Address) (what : link.Received) (m : Aim) → is_at_link service tei (addressed l address what m) ≡ false → is_for service tei address ≡ false
     addressed-none address what m aims = go (is_for service tei address) refl
       where
         go : (b : Bool) → is_for service tei address ≡ b → b ≡ false
@@ -127,12 +129,12 @@ module _ (c : Config) (service : Service) (tei : ℕ) (k : Known) where
             absurd (true≢false (sym (own-is service tei) ∙ sym (ap (is_at_link service tei) is) ∙ aims))
 
     read-none : (x : ℕ) (r : Result Parts ReadFault) → is_at_link service tei (aim_of_reading c l r) ≡ false → by_reading x r ≡ x
-    read-none x (Err BadExtension) aims = no-fault x x false refl
-    read-none x (Err Short) aims = no-fault x x false refl
-    read-none x (Err (Undefined address)) aims = no-fault x x (is_for service tei address) (addressed-none address link.undefined (drop_for Unserved) aims)
-    read-none x (Err (WrongSize address)) aims = no-fault x x (is_for service tei address) (addressed-none address link.wrong_size (drop_for Unserved) aims)
+    read-none x (Err BadExtension) aims = no-fault x x false L refl
+    read-none x (Err Short) aims = no-fault x x false L refl
+    read-none x (Err (Undefined address)) aims = no-fault x x (is_for service tei address) L (addressed-none address link.undefined (drop_for Unserved) aims)
+    read-none x (Err (WrongSize address)) aims = no-fault x x (is_for service tei address) N (addressed-none address link.wrong_size (drop_for Unserved) aims)
     read-none x (Ok f) aims =
-        no-fault x (by_parts c service tei k x (Some f)) false refl
+        no-fault x (by_parts c service tei k x (Some f)) false L refl
         ∙ ap (λ b. cond b (by_frame k x f.address.command (nat_lt c.n201 (length f.info)) f.control) x) (go (is_for service tei f.address) refl)
       where
         go : (b : Bool) → is_for service tei f.address ≡ b → b ≡ false
@@ -143,17 +145,17 @@ module _ (c : Config) (service : Service) (tei : ℕ) (k : Known) where
             absurd (true≢false (sym (own-is service tei) ∙ sym (ap (λ aim. is_at_link service tei (at_side c f aim)) is) ∙ aims))
 
     long-none : (x : ℕ) (r : Result Long ReadFault) → is_at_link service tei (aim_of_long l r) ≡ false → by_long x r ≡ x
-    long-none x (Err BadExtension) aims = no-fault x x false refl
-    long-none x (Err Short) aims = no-fault x x false refl
-    long-none x (Err (Undefined address)) aims = no-fault x x (is_for service tei address) (addressed-none address link.undefined (drop_for Unserved) aims)
-    long-none x (Err (WrongSize address)) aims = no-fault x x (is_for service tei address) (addressed-none address link.wrong_size (drop_for Unserved) aims)
-    long-none x (Ok (long.Information address)) aims = no-fault x x (is_for service tei address) (addressed-none address link.overlong (drop_for Unserved) aims)
-    long-none x (Ok (long.Unnumbered address)) aims = no-fault x x false refl
+    long-none x (Err BadExtension) aims = no-fault x x false L refl
+    long-none x (Err Short) aims = no-fault x x false L refl
+    long-none x (Err (Undefined address)) aims = no-fault x x (is_for service tei address) L (addressed-none address link.undefined (drop_for Unserved) aims)
+    long-none x (Err (WrongSize address)) aims = no-fault x x (is_for service tei address) N (addressed-none address link.wrong_size (drop_for Unserved) aims)
+    long-none x (Ok (long.Information address)) aims = no-fault x x (is_for service tei address) O (addressed-none address link.overlong (drop_for Unserved) aims)
+    long-none x (Ok (long.Unnumbered address)) aims = no-fault x x false L refl
 
     heard-none : (x : ℕ) (e : stream.Event) → is_at_link service tei (aim_of_heard c l e) ≡ false → by_heard x e ≡ x
     heard-none x (stream.frame octets) aims = read-none x (reading (heard_side c) octets) aims
     heard-none x (stream.overlong head) aims = long-none x (long_reading (heard_side c) head) aims
-    heard-none x (stream.dropped cause) aims = no-fault x x false refl
+    heard-none x (stream.dropped cause) aims = no-fault x x false L refl
 
     -- an expiry, or a request, of another link
     pub elsewhere : (its : Service) (by : ℕ) (what : link.Event) (to : Option ℕ → Aim) → ((p : ℕ) → to (Some p) ≡ at_link its by p what)
@@ -185,6 +187,8 @@ module _ (c : Config) (service : Service) (tei : ℕ) (k : Known) where
     none-asked x (Check by) aims = refl
     none-asked x (SetBusy its by) aims = refl
     none-asked x (ClearBusy its by) aims = refl
+    none-asked x (Deactivate its by) aims =
+        ap (λ b. cond b 4 x) (elsewhere its by link.cleared (at_deactivated its by) (λ p. refl) aims)
 
     pub none-ticks : (e : Event) → is_at_link service tei (aim_of c e l) ≡ false → expired_of service tei e ≡ None
     none-ticks (hears what) aims = refl
@@ -208,7 +212,12 @@ module _ (c : Config) (service : Service) (tei : ℕ) (k : Known) where
 
   -- One event of the link.
   module _ (a : Answer) where
-    own-address : (address : Address) → service_of address.sapi ≡ Some service → address.tei ≡ tei → is_for service tei address ≡ true
+    -- its deactivation
+    pub ended-leads : (n x : ℕ) (e : Event) → IsDeactivated e a service tei → led c service tei k n e (seen e a) x ≡ 4
+    ended-leads n x e by =
+        ap (λ e. led c service tei k n e (seen e a) x) by.0 ∙ granted-leads x (Deactivate service tei) a by.1 ∙ ap (λ b. cond b 4 x) (own-is service tei)
+
+    pub own-address : (address : Address) → service_of address.sapi ≡ Some service → address.tei ≡ tei → is_for service tei address ≡ true
     own-address address sapi is =
         ap (λ b. b && address.tei == tei) (eq-eqb address.sapi (sapi_of service) (sapi-is address.sapi service sapi)) ∙ eq-eqb address.tei tei is
 
@@ -219,17 +228,17 @@ module _ (c : Config) (service : Service) (tei : ℕ) (k : Known) where
         ap (λ e. led c service tei k n e (seen e a) x) y.0 ∙ told-leads (by_heard x (stream.frame octets)) a ∙ go what y.1
       where
         go : (what : link.Received) → IsMalformed c address octets what → by_reading x (reading (heard_side c) octets) ≡ cond (is_up x) 5 x
-        go link.undefined is = ap (by_reading x) is ∙ a-fault x x (is_for service tei address) for
-        go link.wrong_size is = ap (by_reading x) is ∙ a-fault x x (is_for service tei address) for
+        go link.undefined is = ap (by_reading x) is ∙ a-fault x x (is_for service tei address) L for
+        go link.wrong_size is = ap (by_reading x) is ∙ a-fault x x (is_for service tei address) N for
         go link.overlong is = absurd is
         go (link.frame f) is = absurd is
     malformed-leads n x e address octets what for (inr y) =
         ap (λ e. led c service tei k n e (seen e a) x) y.0 ∙ told-leads (by_heard x (stream.overlong octets)) a ∙ go what y.1
       where
         go : (what : link.Received) → IsTooLong c address octets what → by_long x (long_reading (heard_side c) octets) ≡ cond (is_up x) 5 x
-        go link.undefined is = ap (by_long x) is ∙ a-fault x x (is_for service tei address) for
-        go link.wrong_size is = ap (by_long x) is ∙ a-fault x x (is_for service tei address) for
-        go link.overlong is = ap (by_long x) is ∙ a-fault x x (is_for service tei address) for
+        go link.undefined is = ap (by_long x) is ∙ a-fault x x (is_for service tei address) L for
+        go link.wrong_size is = ap (by_long x) is ∙ a-fault x x (is_for service tei address) N for
+        go link.overlong is = ap (by_long x) is ∙ a-fault x x (is_for service tei address) O for
         go (link.frame f) is = absurd is
 
     abbrev Leads : ℕ → ℕ → Event → link.Event → Type 0

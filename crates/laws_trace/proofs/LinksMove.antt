@@ -37,7 +37,7 @@ use Rattle.laws_trace.proofs.MovesWatched.{by_expiry, repeated, led, LinksMove}
 use Rattle.laws_trace.specs.States.{expired_of, one_more, differ}
 use Rattle.laws_trace.proofs.TimersWatched.{Known, nothing_yet, watch}
 use Rattle.laws_trace.specs.Trace.{seen, Always}
-use Rattle.laws_trace.proofs.LinkLed.{on-line, none-led, none-ticks, one-led, one-ticks}
+use Rattle.laws_trace.proofs.LinkLed.{on-line, none-led, none-ticks, one-led, one-ticks, ended-leads}
 use Rattle.laws_trace.proofs.MovesOfLink.{Counts, event-leads, event-counted}
 use Rattle.laws_trace.proofs.OneLink.{HasOne, HasNone, Goes, event-goes}
 use Rattle.laws_trace.proofs.CallRuns.{apart}
@@ -124,7 +124,8 @@ module _ (c : Config) (ranged : IsInRange c) (l : Line) (s : IsSound c l) (timed
       where
         go : Goes c service tei e l (lines.after c e l) a → Leads
         go (inl x) = none-leads x
-        go (inr x) = one-leads x
+        go (inr (inl x)) = one-leads x
+        go (inr (inr x)) = ap (λ (y : Link). state_number y.state) x.is ∙ sym (ended-leads c service tei k a n (state_number own.state) e x.by)
 
     none-counted : HasNone c service tei e l (lines.after c e l) a → Counts next.state (counted (told_state own.state) (told_state next.state)) next.repeats
     none-counted x =
@@ -148,14 +149,16 @@ module _ (c : Config) (ranged : IsInRange c) (l : Line) (s : IsSound c l) (timed
       where
         go : Goes c service tei e l (lines.after c e l) a → Counts next.state (counted (told_state own.state) (told_state next.state)) next.repeats
         go (inl x) = none-counted x
-        go (inr x) = one-counted x
+        go (inr (inl x)) = one-counted x
+        go (inr (inr x)) = subst (λ (y : Link). Counts y.state (counted (told_state own.state) (told_state y.state)) y.repeats) (sym x.is) tt
 
   -- a TEI that comes
   comes : place_in l tei ≡ None → next ≡ fresh_link
   comes off = go (event-goes c e l service tei s)
     where
       go : Goes c service tei e l (lines.after c e l) a → next ≡ fresh_link
-      go (inr x) = absurd (none-some x.place (sym off ∙ x.placed))
+      go (inr (inl x)) = absurd (none-some x.place (sym off ∙ x.placed))
+      go (inr (inr x)) = x.is
       go (inl x) = either x.is
         where
           either : (next ≡ own) ⊎ (next ≡ fresh_link) → next ≡ fresh_link

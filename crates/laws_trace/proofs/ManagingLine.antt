@@ -34,8 +34,8 @@ use Rattle.model_line.specs.Machine.{after, answer, unless_refused, unless_refus
 use Rattle.model_line.specs.Heard.{aim_of_heard, management_sapi}
 use Rattle.model_line.specs.Taken.{Taken, taken, next_of, line_of}
 use Rattle.model_line.specs.Refusal.{refusal, wrong_side, bad_tei, no_link, tei_taken, table_full, check_running, control_full}
-use Rattle.model_line.specs.Request.{Request, Establish, Release, Data, Unit, Assign, Remove, Check, SetBusy, ClearBusy}
-use Rattle.model_line.specs.Requested.{at_requested, aim_of_request}
+use Rattle.model_line.specs.Request.{Request, Establish, Release, Data, Unit, Assign, Remove, Check, SetBusy, ClearBusy, Deactivate}
+use Rattle.model_line.specs.Requested.{at_requested, at_deactivated, aim_of_request}
 use Rattle.model_line.specs.Sides.{group_told}
 use Rattle.model_line.specs.Sound.{IsSound}
 use Rattle.model_line.proofs.ProperAims.{heard_aims}
@@ -123,6 +123,10 @@ module _ (c : Config) (l : Line) where
   asked-aims : (service : Service) (tei : ℕ) (asked : link.Request) (o : Option ℕ) → IsUnmanaged c l (at_requested service tei asked o)
   asked-aims service tei asked None = none-aims nothing refl
   asked-aims service tei asked (Some place) = link-aims service tei place (link.requested asked false)
+
+  deactivated-aims : (service : Service) (tei : ℕ) (o : Option ℕ) → IsUnmanaged c l (at_deactivated service tei o)
+  deactivated-aims service tei None = none-aims nothing refl
+  deactivated-aims service tei (Some place) = link-aims service tei place link.cleared
 
 -- A moment's messages: those that wait before it and behind it, and those that it owes.
 pub record Moves (c : Config) (w : Managed) (before new : Management) (e : Event) (a : Answer) (t : List Seen) : Type 0 where
@@ -267,6 +271,7 @@ module _ (c : Config) (l : Line) (s : IsSound c l) (w : Managed) (h : Knows (hea
   grants (Unit service tei contents) none = (tt, link-granted (Unit service tei contents) (record { stays = refl; others = All-nil IsOther }))
   grants (SetBusy service tei) none = (tt, link-granted (SetBusy service tei) (asked-aims c l service tei link.SetBusy (place_in l tei)))
   grants (ClearBusy service tei) none = (tt, link-granted (ClearBusy service tei) (asked-aims c l service tei link.ClearBusy (place_in l tei)))
+  grants (Deactivate service tei) none = (tt, link-granted (Deactivate service tei) (deactivated-aims c l service tei (place_in l tei)))
   grants (Assign tei) none =
       let bad = passed (bad_tei tei) (tei_taken tei l ∷ table_full l ∷ []) none in
       let taken = passed (tei_taken tei l) (table_full l ∷ []) bad.1 in

@@ -1,5 +1,5 @@
 -- Which state a link moves to, by its numbers and by how often T200 expired: a part of what an observer knows.
-use Rattle.std.specs.Prelude.{◌≡◌, ℕ, ◌+◌, ◌==◌, ◌&&◌, ◌||◌, not, nat_lt, Bool, List, ◌∷◌, ◌++◌, length, fold, Option, Some, None, IfSome, if◌then◌else◌}
+use Rattle.std.specs.Prelude.{◌≡◌, ℕ, ◌+◌, ◌==◌, ◌&&◌, ◌||◌, not, nat_lt, Bool, List, ◌∷◌, ◌++◌, length, fold, Option, Some, None, IfSome, is_some, if◌then◌else◌}
 use Rattle.std.specs.Option.{option_map_or}
 use Rattle.lapd_frame.specs.declared.controls.Control.{Control}
 use Rattle.lapd_frame.specs.declared.controls.Control.TheVariants.{Information, ReceiveReady, ReceiveNotReady, Reject, Sabme, Disc, Ua, Dm, Frmr}
@@ -11,12 +11,12 @@ use Rattle.model_link.specs.declared.timers.LinkTimer.TheVariants.{T200, T203}
 use Rattle.model_line.specs.declared.config.Config.{Config}
 use Rattle.model_line.specs.Event as line_event
 use Rattle.model_line.specs.Event.{expiry}
-use Rattle.model_line.specs.Request.{Request, Establish, Release}
+use Rattle.model_line.specs.Request.{Request, Establish, Release, Deactivate}
 use Rattle.model_card.specs.Card.{fresh}
 use Rattle.model_card.specs.Event.{Event, at}
 use Rattle.model_card.specs.Machine.{answer}
 use Rattle.model_card.specs.Run.{Moment, moments, after_all}
-use Rattle.laws_trace.specs.LinkFrames.{is_for, frame_of, is_malformed}
+use Rattle.laws_trace.specs.LinkFrames.{is_for, frame_of, malformed}
 use Rattle.laws_trace.proofs.TimersWatched.{Known, nothing_yet, watch, awaits}
 use Rattle.laws_trace.specs.States.{state_before, state_after, differ, expired_of, one_more}
 use Rattle.laws_trace.specs.Observer.{steps}
@@ -59,15 +59,16 @@ by_parts c service tei k state (Some f) =
     if is_for service tei f.address then by_frame k state f.address.command (nat_lt c.n201 (length f.info)) f.control else state
 
 -- Layer 3 asks for the establishment of a link that is down, or for the release of one that is up (clauses 5.5.1.1 and
--- 5.5.3.2).
+-- 5.5.3.2); or the link is deactivated (annex B).
 abbrev pub by_request : Service → ℕ → ℕ → Request → ℕ
 by_request service tei state (Establish of by) = if is_own service tei of by && state == 4 then 5 else state
 by_request service tei state (Release of by) = if is_own service tei of by && is_up state then 6 else state
+by_request service tei state (Deactivate of by) = if is_own service tei of by then 4 else state
 by_request service tei state other = state
 
 abbrev pub by_seen : Config → Service → ℕ → Known → ℕ → Seen → ℕ
 by_seen c service tei k state (heard e) =
-    if is_up state && is_malformed c service tei e then 5 else by_parts c service tei k state (frame_of c e)
+    if is_up state && is_some (malformed c service tei e) then 5 else by_parts c service tei k state (frame_of c e)
 by_seen c service tei k state (granted r) = by_request service tei state r
 by_seen c service tei k state other = state
 

@@ -1,5 +1,5 @@
 -- What layer 3 is told of establishments and releases: the law.
-use Rattle.std.proofs.Common.{◌≡◌, ℕ, ◌<◌, ◌==◌, ◌&&◌, not, Bool, true, false, cond, List, [], ◌∷◌, get_or, set, Option, Some, refl, sym, ap, ◌∙◌, subst, arith, eqb-true, eq-eqb, true≢false}
+use Rattle.std.proofs.Common.{◌≡◌, ℕ, ◌<◌, ◌==◌, ◌&&◌, not, Bool, true, false, cond, List, [], ◌∷◌, get_or, set, Option, Some, None, refl, sym, ap, ◌∙◌, subst, arith, eqb-true, eq-eqb, true≢false}
 use Rattle.std.specs.Prelude.{fold, filter}
 use Rattle.std.specs.List.{list_any}
 use Rattle.std.specs.Option.{option_map_or, unwrap_or}
@@ -14,7 +14,8 @@ use Rattle.model_line.specs.Event as line_event
 use Rattle.model_line.specs.Event.{hears, expiry, request, next, Answer, refused}
 use Rattle.model_line.specs.Line.{Line, fresh_line, link_of, link_in, state_of}
 use Rattle.model_line.specs.Machine as lines
-use Rattle.model_line.specs.Request.{Request, Establish, Release, Data, Assign, Remove, Check, SetBusy, ClearBusy}
+use Rattle.model_line.specs.Sound.{IsInRange}
+use Rattle.model_line.specs.Request.{Request, Establish, Release, Data, Assign, Remove, Check, SetBusy, ClearBusy, Deactivate}
 use Rattle.model_card.specs.Card.{Card, fresh, line_at, is_full}
 use Rattle.model_card.specs.Event.{Event, at}
 use Rattle.model_card.specs.Machine.{after, answer}
@@ -26,18 +27,19 @@ use Rattle.laws_card.specs.Timers.{AllHaveTheirTimers}
 use Rattle.laws_card.proofs.TimersRun.{timely-after, begins-timely-card}
 use Rattle.laws_line.specs.Heard.{notes_of}
 use Rattle.laws_line.proofs.TimersFollow.{nowhere}
-use Rattle.laws_trace.specs.News.{is_news, is_sabme, is_xid, releases}
+use Rattle.laws_trace.specs.News.{is_news, is_sabme, is_xid, releases, wrong}
 use Rattle.laws_trace.proofs.NewsWatched.{establishes, asked, Owing, none_owed, owing, due, NewsIsTold}
 use Rattle.laws_trace.proofs.TimersWatched.{brings, Known, watch}
 use Rattle.laws_trace.specs.States.{is_state, differ}
+use Rattle.laws_trace.specs.Observer.{moment_of}
 use Rattle.laws_trace.specs.Trace.{seen, Always}
 use Rattle.laws_trace.proofs.LinksMove.{differ-self}
 use Rattle.laws_trace.proofs.NewsOfLink.{Asks}
 use Rattle.laws_trace.proofs.CallRuns.{apart}
 use Rattle.laws_trace.proofs.OwedOfEvent.{IsOwed, known-owes, five-owes}
-use Rattle.laws_trace.proofs.TimersAreTimely.{moment-known, begins-true, sound-now, config-now, front-at, itself}
+use Rattle.laws_trace.proofs.TimersAreTimely.{moment-known, begins-true, sound-now, timely-now, config-now, front-at, itself}
 use Rattle.laws_trace.proofs.TimersOfEvent.{IsTrueOf}
-use Rattle.laws_trace.proofs.NewsOfEvent.{IsAskedOf, event-asks, event-due}
+use Rattle.laws_trace.proofs.NewsOfEvent.{IsAskedOf, event-asks, event-due, off-due}
 
 module _ (service : Service) (tei number : ℕ) where
   -- One event of a card.
@@ -74,15 +76,16 @@ module _ (service : Service) (tei number : ℕ) where
     IsDue x b =
         (from : ℕ) → state_of service tei l ≡ Some from →
         filter (is_news service tei) (notes_of b)
-        ≡ due service tei was (list_any (brings is_xid card.config service tei) (seen e.what b)) (list_any (brings is_sabme card.config service tei) (seen e.what b)) (releases service tei e.what b) outstanding from (unwrap_or (state_of service tei x) 4)
+        ≡ due service tei (wrong card.config service tei e.what from (unwrap_or (state_of service tei x) 1)) was
+        (list_any (brings is_xid card.config service tei) (seen e.what b)) (list_any (brings is_sabme card.config service tei) (seen e.what b)) (releases service tei e.what b) outstanding from (unwrap_or (state_of service tei x) 4)
 
-    refused-due : (what : line_event.Event) → lines.takes_slot card.config what l ≡ true → (from to : ℕ) → from ≡ to
-        → [] ≡ due service tei was (list_any (brings is_xid card.config service tei) (seen what (refused PoolFull))) (list_any (brings is_sabme card.config service tei) (seen what (refused PoolFull))) (releases service tei what (refused PoolFull)) outstanding from to
+    refused-due : (what : line_event.Event) → lines.takes_slot card.config what l ≡ true → (from to seen_to : ℕ) → from ≡ to
+        → [] ≡ due service tei (wrong card.config service tei what from seen_to) was (list_any (brings is_xid card.config service tei) (seen what (refused PoolFull))) (list_any (brings is_sabme card.config service tei) (seen what (refused PoolFull))) (releases service tei what (refused PoolFull)) outstanding from to
     unfolding lines.takes_slot
-    refused-due (hears what) takes from to same = absurd (true≢false (sym takes))
-    refused-due (expiry timer) takes from to same = absurd (true≢false (sym takes))
-    refused-due (request r) takes from to same =
-        sym (ap (λ b. due service tei was false false b outstanding from to) (no-release r) ∙ ap (λ n. due service tei was false false false outstanding n to) same ∙ nothing-due to)
+    refused-due (hears what) takes from to seen_to same = absurd (true≢false (sym takes))
+    refused-due (expiry timer) takes from to seen_to same = absurd (true≢false (sym takes))
+    refused-due (request r) takes from to seen_to same =
+        sym (ap (λ b. due service tei [] was false false b outstanding from to) (no-release r) ∙ ap (λ n. due service tei [] was false false false outstanding n to) same ∙ nothing-due to)
       where
         no-release : (r : Request) → releases service tei (request r) (refused PoolFull) ≡ false
         no-release (Establish its by) = refl
@@ -94,24 +97,31 @@ module _ (service : Service) (tei number : ℕ) where
         no-release (Check by) = refl
         no-release (SetBusy its by) = refl
         no-release (ClearBusy its by) = refl
+        no-release (Deactivate its by) = refl
 
-        nothing-due : (n : ℕ) → due service tei was false false false outstanding n n ≡ []
+        nothing-due : (n : ℕ) → due service tei [] was false false false outstanding n n ≡ []
         nothing-due n = go (n == 7) refl (n == 4) refl
           where
-            go : (x : Bool) → (n == 7) ≡ x → (y : Bool) → (n == 4) ≡ y → due service tei was false false false outstanding n n ≡ []
-            go true is y other = subst (λ n. due service tei was false false false outstanding n n ≡ []) (sym (eqb-true n 7 is)) refl
-            go false is true other = subst (λ n. due service tei was false false false outstanding n n ≡ []) (sym (eqb-true n 4 other)) refl
+            go : (x : Bool) → (n == 7) ≡ x → (y : Bool) → (n == 4) ≡ y → due service tei [] was false false false outstanding n n ≡ []
+            go true is y other = subst (λ n. due service tei [] was false false false outstanding n n ≡ []) (sym (eqb-true n 7 is)) refl
+            go false is true other = subst (λ n. due service tei [] was false false false outstanding n n ≡ []) (sym (eqb-true n 4 other)) refl
             go false is false other = rw (is, other) refl
-    refused-due next takes from to same = absurd (true≢false (sym takes))
+    refused-due next takes from to seen_to same = absurd (true≢false (sym takes))
 
     pub own-due : IsDue (line_at e.line (after e card)) (answer e card)
     own-due =
         by_room (λ ls b. IsDue (get_or ls e.line (fresh_line card.config)) b) e card
         (λ full from was-in.
-        refused-due e.what (and_parts (lines.takes_slot card.config e.what l) (is_full card) full).0 from (unwrap_or (state_of service tei l) 4) (sym (ap (λ o. unwrap_or o 4) was-in)))
+        refused-due e.what (and_parts (lines.takes_slot card.config e.what l) (is_full card) full).0 from (unwrap_or (state_of service tei l) 4) (unwrap_or (state_of service tei l) 1)
+        (sym (ap (λ o. unwrap_or o 4) was-in)))
         (λ room.
         subst (λ x. IsDue x (lines.answer card.config e.what l)) (sym now)
         (event-due card.config l (line_sound card e.line (has_lines card s) here) service tei was asks outstanding owes e.what))
+
+    pub own-silent : state_of service tei l ≡ None → filter (is_news service tei) (notes_of (answer e card)) ≡ []
+    own-silent none =
+        by_room (λ ls b. filter (is_news service tei) (notes_of b) ≡ []) e card (λ full. refl)
+        (λ room. off-due card.config l (line_sound card e.line (has_lines card s) here) service tei was asks outstanding owes e.what none)
 
   -- Over a run.
   abbrev Stands : Bool → Owing → Line → Type 0
@@ -187,6 +197,35 @@ module _ (service : Service) (tei number : ℕ) where
       run-stands (after e card) events (after_is_sound card e s here) (timely-after card e s timely here) (All-tail (IsAtLine card) e events all) within
       (asked service tei number was m) (owing card.config service tei number w m) (moment-stands card s timely e here within was w h)
 
+-- From a fresh card on.
+module _ (c : Config) (events : List Event) (number : ℕ) (ranged : IsInRange c) (all : AreAtLines (fresh c) events) (within : number < c.lines) (service : Service) (tei : ℕ) where
+  abbrev was_asked : Bool
+  was_asked = fold (asked service tei number) false (moments (fresh c) events)
+
+  abbrev owes_now : Owing
+  owes_now = fold (owing c service tei number) none_owed (moments (fresh c) events)
+
+  stands-now : Stands service tei number was_asked owes_now (line_at number (after_all (fresh c) events))
+  stands-now =
+      let start : line_at number (fresh c) ≡ fresh_line c = get_or-replicate c.lines number (fresh_line c) (fresh_line c) within in
+      let off : link_of service tei (line_at number (fresh c)) ≡ fresh_link =
+      ap (link_of service tei) start ∙ ap (λ o. option_map_or (link_in (fresh_line c) service) o fresh_link) (nowhere c tei) in
+      let begun : Stands service tei number false none_owed (line_at number (fresh c)) =
+      (subst (λ (y : Link). Asks y.state false y.asked) (sym off) tt, begins-true c events number ranged all within service tei, sym (ap (λ (y : Link). not (y.s == y.a)) off)) in
+      run-stands service tei number (fresh c) events (fresh_is_sound c ranged) (begins-timely-card c) all within false none_owed begun
+
+  pub asked-now : IsAskedOf service tei was_asked (line_at number (after_all (fresh c) events))
+  asked-now = stands-now.0
+
+  -- and behind an event more
+  pub asked-behind : (what : line_event.Event)
+      → IsAskedOf service tei (asked service tei number was_asked (moment_of c events number what)) (line_at number (after (at number what) (after_all (fresh c) events)))
+  asked-behind what =
+      let card = after_all (fresh c) events in
+      let here : number < card.config.lines = subst (λ (d : Config). number < d.lines) (sym (config-now c events number ranged all within service tei)) within in
+      moment-asked service tei number card (sound-now c events number ranged all within service tei) (timely-now c events number ranged all within service tei) (at number what) here here
+      was_asked stands-now.0 owes_now.outstanding stands-now.2
+
 pub news-is-told : Always NewsIsTold
 news-is-told c events number ranged all within service tei before what behind is from was_in =
     let front = front-at (fresh c) before (at number what) behind (subst (AreAtLines (fresh c)) is all) in
@@ -196,17 +235,21 @@ news-is-told c events number ranged all within service tei before what behind is
     let w = fold (owing c service tei number) none_owed (moments (fresh c) before) in
     let kept = config-now c before number ranged front within service tei in
     let here : number < card.config.lines = subst (λ (c : Config). number < c.lines) (sym kept) within in
-    let start : line_at number (fresh c) ≡ fresh_line c = get_or-replicate c.lines number (fresh_line c) (fresh_line c) within in
-    let off : link_of service tei (line_at number (fresh c)) ≡ fresh_link =
-    ap (link_of service tei) start ∙ ap (λ o. option_map_or (link_in (fresh_line c) service) o fresh_link) (nowhere c tei) in
-    let begun : Stands service tei number false none_owed (line_at number (fresh c)) =
-    (subst (λ (y : Link). Asks y.state false y.asked) (sym off) tt, begins-true c before number ranged front within service tei, sym (ap (λ (y : Link). not (y.s == y.a)) off)) in
-    let h = run-stands service tei number (fresh c) before (fresh_is_sound c ranged) (begins-timely-card c) front within false none_owed begun in
+    let h = stands-now c before number ranged front within service tei in
     subst (λ b. filter (is_news service tei) (notes_of (answer e card))
-    ≡ due service tei was (list_any (brings is_xid c service tei) (cond b (seen what (answer e card)) []))
+    ≡ due service tei (wrong c service tei what from (unwrap_or (state_of service tei (line_at number (after e card))) 1)) was (list_any (brings is_xid c service tei) (cond b (seen what (answer e card)) []))
     (list_any (brings is_sabme c service tei) (cond b (seen what (answer e card)) [])) (releases service tei what (answer e card)) w.outstanding from (unwrap_or (state_of service tei (line_at number (after e card))) 4))
     (sym (itself number))
     (subst (λ (d : Config). filter (is_news service tei) (notes_of (answer e card))
-    ≡ due service tei was (list_any (brings is_xid d service tei) (seen what (answer e card)))
+    ≡ due service tei (wrong d service tei what from (unwrap_or (state_of service tei (line_at number (after e card))) 1)) was (list_any (brings is_xid d service tei) (seen what (answer e card)))
     (list_any (brings is_sabme d service tei) (seen what (answer e card))) (releases service tei what (answer e card)) w.outstanding from (unwrap_or (state_of service tei (line_at number (after e card))) 4)) kept
     (own-due service tei number card (sound-now c before number ranged front within service tei) e here was h.0 w.outstanding h.2 from was_in))
+
+pub none-is-told : (c : Config) (before : List Event) (number : ℕ) (ranged : IsInRange c) (all : AreAtLines (fresh c) before) (within : number < c.lines) (service : Service) (tei : ℕ) (what : line_event.Event)
+    → state_of service tei (line_at number (after_all (fresh c) before)) ≡ None → filter (is_news service tei) (notes_of (answer (at number what) (after_all (fresh c) before))) ≡ []
+none-is-told c before number ranged all within service tei what none =
+    let card = after_all (fresh c) before in
+    let here : number < card.config.lines = subst (λ (c : Config). number < c.lines) (sym (config-now c before number ranged all within service tei)) within in
+    let h = stands-now c before number ranged all within service tei in
+    own-silent service tei number card (sound-now c before number ranged all within service tei) (at number what) here
+    (was_asked c before number ranged all within service tei) h.0 (owes_now c before number ranged all within service tei).outstanding h.2 none

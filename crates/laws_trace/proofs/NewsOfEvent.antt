@@ -1,10 +1,11 @@
 -- What layer 3 is told of the establishment and release of a link: one event of its line.
-use Rattle.std.proofs.Common.{◌≡◌, ℕ, ◌==◌, ◌&&◌, Bool, true, false, cond, [], Option, Some, None, refl, sym, ap, ◌∙◌, subst, true≢false, ◌⊎◌, inl, inr}
+use Rattle.std.proofs.Common.{◌≡◌, ℕ, ◌==◌, ◌&&◌, Bool, true, false, cond, List, [], Option, Some, None, refl, sym, ap, ◌∙◌, subst, true≢false, ◌⊎◌, inl, inr}
 use Rattle.std.specs.Prelude.{filter}
 use Rattle.std.specs.List.{list_any}
-use Rattle.std.specs.Option.{unwrap_or}
+use Rattle.std.specs.Option.{option_map_or, unwrap_or}
 use Rattle.std.proofs.lemmas.Option.{none-some}
 use Rattle.lapd_frame.specs.declared.controls.Control.{Control}
+use Rattle.lapd_frame.specs.declared.notes.ErrorCode.{ErrorCode}
 use Rattle.lapd_frame.specs.declared.services.Service.{Service}
 use Rattle.model_link.specs.declared.states.State.{State}
 use Rattle.model_link.specs.declared.states.State.TheVariants.{TeiAssigned, AwaitingEstablishment, AwaitingRelease, Established, TimerRecovery}
@@ -21,22 +22,25 @@ use Rattle.model_line.specs.Sound.{IsSound}
 use Rattle.laws_line.specs.Heard.{notes_of}
 use Rattle.laws_line.proofs.Places.{is-off}
 use Rattle.laws_link.specs.States.{moves}
-use Rattle.laws_trace.specs.News.{is_news, is_sabme, is_xid, releases}
+use Rattle.laws_trace.specs.News.{is_news, is_sabme, is_xid, releases, wrong}
 use Rattle.laws_trace.proofs.NewsWatched.{establishes, due}
-use Rattle.laws_trace.proofs.TimersWatched.{brings}
+use Rattle.laws_trace.proofs.TimersWatched.{brings, control_in}
 use Rattle.laws_trace.specs.States.{is_state, differ}
 use Rattle.laws_trace.specs.Trace.{seen}
+use Rattle.laws_trace.proofs.ErrorsSeen.{none-wrong, one-wrong}
 use Rattle.laws_trace.proofs.LinkLed.{on-line}
 use Rattle.laws_trace.proofs.LinksMove.{differs, no-event}
-use Rattle.laws_trace.proofs.NewsOfLeaving.{leaving-due, none-released, one-stays}
+use Rattle.laws_trace.proofs.NewsOfLeaving.{leaving-due, none-released, one-stays, cleared-due}
 use Rattle.laws_trace.proofs.NewsOfOthers.{none-filtered, others-silent}
-use Rattle.laws_trace.proofs.NewsRows.{sabme_of, xid_of, released_of}
+use Rattle.laws_trace.proofs.NewsRows.{errors_of, sabme_of, xid_of, released_of}
 use Rattle.laws_trace.proofs.NewsOfLink.{event-news, Asks, event-asking}
 use Rattle.laws_trace.proofs.OwedOfEvent.{IsOwed}
-use Rattle.laws_trace.proofs.OneLink.{HasOne, HasNone, Goes, event-goes}
+use Rattle.laws_trace.proofs.OneLink.{HasOne, HasNone, Goes, event-goes, IsGivenUp}
 use Rattle.laws_trace.proofs.TimerClaims.{told_state}
 use Rattle.laws_trace.proofs.TimersOfEvent.{state-on, off-fresh, off-state}
 use Rattle.laws_trace.proofs.NewsSeen.{one-begins, one-releases, one-establishes, none-begins, none-releases}
+use Rattle.laws_trace.proofs.TimersOfLine.{seen-brings}
+use Rattle.laws_trace.proofs.Deliveries.{frame_by}
 
 abbrev pub IsAskedOf : Service → ℕ → Bool → Line → Type 0
 IsAskedOf service tei was l = let x = link_of service tei l in Asks x.state was x.asked
@@ -57,7 +61,7 @@ module _ (c : Config) (l : Line) (s : IsSound c l) (service : Service) (tei : �
   next = link_of service tei (lines.after c e l)
 
   -- nothing is due where the link stays in its state
-  unmoved : (state : State) (outstanding : Bool) → due service tei was false false false outstanding (state_number state) (state_number state) ≡ []
+  unmoved : (state : State) (outstanding : Bool) → due service tei [] was false false false outstanding (state_number state) (state_number state) ≡ []
   unmoved TeiAssigned outstanding = refl
   unmoved AwaitingEstablishment outstanding = refl
   unmoved AwaitingRelease outstanding = refl
@@ -80,10 +84,19 @@ module _ (c : Config) (l : Line) (s : IsSound c l) (service : Service) (tei : �
   abbrev heard : (Control → Bool) → Bool
   heard which = list_any (brings which c service tei) (seen e a)
 
-  abbrev Due : ℕ → ℕ → Type 0
-  Due from to =
+  -- a deactivation brings no frame
+  ended-heard : (which : Control → Bool) → IsGivenUp c service tei e l (lines.after c e l) a → heard which ≡ false
+  ended-heard which x =
+      seen-brings c service tei which e a ∙ ap (λ e. option_map_or which (control_in service tei (frame_by c e)) false) x.by.0
+
+  abbrev Errors : ℕ → ℕ → List ErrorCode
+  Errors from seen = wrong c service tei e from seen
+
+  -- it comes to a state, which is told where its TEI stays on the line
+  abbrev Due : ℕ → ℕ → ℕ → Type 0
+  Due from to seen =
       filter (is_news service tei) (notes_of a)
-      ≡ due service tei was (heard is_xid) (heard is_sabme) (releases service tei e a) outstanding from to
+      ≡ due service tei (Errors from seen) was (heard is_xid) (heard is_sabme) (releases service tei e a) outstanding from to
 
   module _ (place there : ℕ) (on : place_in l tei ≡ Some place) (still : place_in (lines.after c e l) tei ≡ Some there) where
     -- no event of the link
@@ -97,13 +110,15 @@ module _ (c : Config) (l : Line) (s : IsSound c l) (service : Service) (tei : �
       no-release : releases service tei e a ≡ false
       no-release = none-releases c service tei is_sabme l place on e x.aims
 
-      none-due : Due (state_number own.state) (state_number next.state)
+      none-due : Due (state_number own.state) (state_number next.state) (state_number next.state)
       none-due =
-          none-filtered service tei (notes_of a) (others-silent service tei c e l s x.aims (on-line (lines.after c e l) tei there still))
-          ∙ sym (ap (λ (y : Link). due service tei was (heard is_xid) (heard is_sabme) (releases service tei e a) outstanding (state_number own.state) (state_number y.state)) same
-          ∙ ap (λ b. due service tei was b (heard is_sabme) (releases service tei e a) outstanding (state_number own.state) (state_number own.state)) (none-heard is_xid)
-          ∙ ap (λ b. due service tei was false b (releases service tei e a) outstanding (state_number own.state) (state_number own.state)) (none-heard is_sabme)
-          ∙ ap (λ b. due service tei was false false b outstanding (state_number own.state) (state_number own.state)) no-release
+          none-filtered service tei (notes_of a) (others-silent service tei c e l s x.aims (inr (on-line (lines.after c e l) tei there still)))
+          ∙ sym (ap (λ (y : Link). due service tei (Errors (state_number own.state) (state_number y.state)) was (heard is_xid) (heard is_sabme) (releases service tei e a) outstanding (state_number own.state) (state_number y.state)) same
+          ∙ ap (λ errors. due service tei errors was (heard is_xid) (heard is_sabme) (releases service tei e a) outstanding (state_number own.state) (state_number own.state))
+          (none-wrong c service tei l place on e x.aims (state_number own.state) (state_number own.state) (inl refl))
+          ∙ ap (λ b. due service tei [] was b (heard is_sabme) (releases service tei e a) outstanding (state_number own.state) (state_number own.state)) (none-heard is_xid)
+          ∙ ap (λ b. due service tei [] was false b (releases service tei e a) outstanding (state_number own.state) (state_number own.state)) (none-heard is_sabme)
+          ∙ ap (λ b. due service tei [] was false false b outstanding (state_number own.state) (state_number own.state)) no-release
           ∙ unmoved own.state outstanding)
 
       none-asked : Asks next.state (then_asked (told_state own.state) (told_state next.state)) next.asked
@@ -121,25 +136,27 @@ module _ (c : Config) (l : Line) (s : IsSound c l) (service : Service) (tei : �
       some : x.event ≡ link.cleared → ⊥
       some = no-event x.event c e a service tei x.by
 
-      asked-now : (state : State) → Asks state was own.asked → (xid sabme released outstanding : Bool) (to : ℕ)
-          → due service tei own.asked xid sabme released outstanding (state_number state) to ≡ due service tei was xid sabme released outstanding (state_number state) to
-      asked-now AwaitingEstablishment is xid sabme released outstanding to = ap (λ b. due service tei b xid sabme released outstanding 5 to) (sym is)
-      asked-now TeiAssigned is xid sabme released outstanding to = refl
-      asked-now AwaitingRelease is xid sabme released outstanding to = refl
-      asked-now Established is xid sabme released outstanding to = refl
-      asked-now TimerRecovery is xid sabme released outstanding to = refl
+      asked-now : (state : State) → Asks state was own.asked → (errors : List ErrorCode) (xid sabme released outstanding : Bool) (to : ℕ)
+          → due service tei errors own.asked xid sabme released outstanding (state_number state) to ≡ due service tei errors was xid sabme released outstanding (state_number state) to
+      asked-now AwaitingEstablishment is errors xid sabme released outstanding to = ap (λ b. due service tei errors b xid sabme released outstanding 5 to) (sym is)
+      asked-now TeiAssigned is errors xid sabme released outstanding to = refl
+      asked-now AwaitingRelease is errors xid sabme released outstanding to = refl
+      asked-now Established is errors xid sabme released outstanding to = refl
+      asked-now TimerRecovery is errors xid sabme released outstanding to = refl
 
-      one-due : Due (state_number own.state) (state_number next.state)
+      one-due : Due (state_number own.state) (state_number next.state) (state_number next.state)
       one-due =
-          let ns = (links.told t x.event own).notes in
           let later = links.after t x.event own in
+          let its = errors_of t x.event (state_number own.state) (state_number later.state) in
           ap (filter (is_news service tei)) x.notes ∙ event-news t own x.event some
-          ∙ ap (λ b. due service tei own.asked (xid_of x.event) (sabme_of x.event) (released_of x.event) b (state_number own.state) (state_number later.state)) (sym owes)
-          ∙ asked-now own.state asks (xid_of x.event) (sabme_of x.event) (released_of x.event) outstanding (state_number later.state)
-          ∙ ap (λ b. due service tei was b (sabme_of x.event) (released_of x.event) outstanding (state_number own.state) (state_number later.state)) (sym (one-begins c service tei is_xid e a x.event x.by))
-          ∙ ap (λ b. due service tei was (heard is_xid) b (released_of x.event) outstanding (state_number own.state) (state_number later.state)) (sym (one-begins c service tei is_sabme e a x.event x.by))
-          ∙ ap (λ b. due service tei was (heard is_xid) (heard is_sabme) b outstanding (state_number own.state) (state_number later.state)) (sym (one-releases c service tei is_sabme e a x.event x.by))
-          ∙ ap (λ (y : Link). due service tei was (heard is_xid) (heard is_sabme) (releases service tei e a) outstanding (state_number own.state) (state_number y.state)) (sym x.is)
+          ∙ ap (λ b. due service tei its own.asked (xid_of x.event) (sabme_of x.event) (released_of x.event) b (state_number own.state) (state_number later.state)) (sym owes)
+          ∙ asked-now own.state asks its (xid_of x.event) (sabme_of x.event) (released_of x.event) outstanding (state_number later.state)
+          ∙ ap (λ b. due service tei its was b (sabme_of x.event) (released_of x.event) outstanding (state_number own.state) (state_number later.state)) (sym (one-begins c service tei is_xid e a x.event x.by))
+          ∙ ap (λ b. due service tei its was (heard is_xid) b (released_of x.event) outstanding (state_number own.state) (state_number later.state)) (sym (one-begins c service tei is_sabme e a x.event x.by))
+          ∙ ap (λ b. due service tei its was (heard is_xid) (heard is_sabme) b outstanding (state_number own.state) (state_number later.state)) (sym (one-releases c service tei is_sabme e a x.event x.by))
+          ∙ ap (λ errors. due service tei errors was (heard is_xid) (heard is_sabme) (releases service tei e a) outstanding (state_number own.state) (state_number later.state))
+          (sym (one-wrong c service tei e a (state_number own.state) (state_number later.state) x.event x.by))
+          ∙ ap (λ (y : Link). due service tei (Errors (state_number own.state) (state_number y.state)) was (heard is_xid) (heard is_sabme) (releases service tei e a) outstanding (state_number own.state) (state_number y.state)) (sym x.is)
 
       one-asked : Asks next.state (then_asked (told_state own.state) (told_state next.state)) next.asked
       one-asked =
@@ -149,19 +166,31 @@ module _ (c : Config) (l : Line) (s : IsSound c l) (service : Service) (tei : �
           (sym (asked-in own.state y.state ∙ ap (λ b. cond ((state_number y.state == 5) && moves own.state y.state) b was) (one-establishes c service tei is_sabme e a x.event x.by)))
           (event-asking t own was x.event some asks))
 
-    stays-due : Due (state_number own.state) (state_number next.state)
+    -- its deactivation
+    ended-due : IsGivenUp c service tei e l (lines.after c e l) a → Due (state_number own.state) (state_number next.state) (state_number next.state)
+    ended-due x =
+        ap (filter (is_news service tei)) x.notes ∙ cleared-due t own was outstanding
+        ∙ sym (ap (λ (y : Link). due service tei (Errors (state_number own.state) (state_number y.state)) was (heard is_xid) (heard is_sabme) (releases service tei e a) outstanding (state_number own.state) (state_number y.state)) x.is
+        ∙ ap (λ asked. due service tei (wrong c service tei asked (state_number own.state) 4) was (heard is_xid) (heard is_sabme) (releases service tei e a) outstanding (state_number own.state) 4) x.by.0
+        ∙ ap (λ b. due service tei [] was b (heard is_sabme) (releases service tei e a) outstanding (state_number own.state) 4) (ended-heard is_xid x)
+        ∙ ap (λ b. due service tei [] was false b (releases service tei e a) outstanding (state_number own.state) 4) (ended-heard is_sabme x)
+        ∙ ap (λ e. due service tei [] was false false (releases service tei e a) outstanding (state_number own.state) 4) x.by.0)
+
+    stays-due : Due (state_number own.state) (state_number next.state) (state_number next.state)
     stays-due = go (event-goes c e l service tei s)
       where
-        go : Goes c service tei e l (lines.after c e l) a → Due (state_number own.state) (state_number next.state)
+        go : Goes c service tei e l (lines.after c e l) a → Due (state_number own.state) (state_number next.state) (state_number next.state)
         go (inl x) = none-due x
-        go (inr x) = one-due x
+        go (inr (inl x)) = one-due x
+        go (inr (inr x)) = ended-due x
 
     stays-asked : Asks next.state (then_asked (told_state own.state) (told_state next.state)) next.asked
     stays-asked = go (event-goes c e l service tei s)
       where
         go : Goes c service tei e l (lines.after c e l) a → Asks next.state (then_asked (told_state own.state) (told_state next.state)) next.asked
         go (inl x) = none-asked x
-        go (inr x) = one-asked x
+        go (inr (inl x)) = one-asked x
+        go (inr (inr x)) = subst (λ (y : Link). Asks y.state (then_asked (told_state own.state) (told_state next.state)) y.asked) (sym x.is) tt
 
   begins-asked : (b : Bool) → next ≡ fresh_link → Asks next.state b next.asked
   begins-asked b is = subst (λ (y : Link). Asks y.state b y.asked) (sym is) tt
@@ -170,7 +199,8 @@ module _ (c : Config) (l : Line) (s : IsSound c l) (service : Service) (tei : �
   comes off = go (event-goes c e l service tei s)
     where
       go : Goes c service tei e l (lines.after c e l) a → next ≡ fresh_link
-      go (inr x) = absurd (none-some x.place (sym off ∙ x.placed))
+      go (inr (inl x)) = absurd (none-some x.place (sym off ∙ x.placed))
+      go (inr (inr x)) = x.is
       go (inl x) = either x.is
         where
           either : (next ≡ own) ⊎ (next ≡ fresh_link) → next ≡ fresh_link
@@ -192,33 +222,40 @@ module _ (c : Config) (l : Line) (s : IsSound c l) (service : Service) (tei : �
           ∙ ap (λ o. then_asked (told_state own.state) o) (state-on service tei (lines.after c e l) there still)))
           (stays-asked place there on still)
 
-  both-due : (from to : ℕ) → state_of service tei l ≡ Some from → state_of service tei (lines.after c e l) ≡ Some to → Due from to
+  both-due : (from to : ℕ) → state_of service tei l ≡ Some from → state_of service tei (lines.after c e l) ≡ Some to → Due from to to
   both-due from to was-in is-in = go (place_in l tei) refl (place_in (lines.after c e l) tei) refl
     where
       number : (n m : ℕ) → Some n ≡ Some m → n ≡ m
       number n m is = cc is
 
-      go : (o : Option ℕ) → place_in l tei ≡ o → (p : Option ℕ) → place_in (lines.after c e l) tei ≡ p → Due from to
+      go : (o : Option ℕ) → place_in l tei ≡ o → (p : Option ℕ) → place_in (lines.after c e l) tei ≡ p → Due from to to
       go None off p q = absurd (none-some from (sym (off-state service tei l off) ∙ was-in))
       go (Some place) on None off = absurd (none-some to (sym (off-state service tei (lines.after c e l) off) ∙ is-in))
       go (Some place) on (Some there) still =
-          subst (λ n. Due n to) (number (state_number own.state) from (sym (state-on service tei l place on) ∙ was-in))
-          (subst (λ n. Due (state_number own.state) n) (number (state_number next.state) to (sym (state-on service tei (lines.after c e l) there still) ∙ is-in))
+          subst (λ n. Due n to to) (number (state_number own.state) from (sym (state-on service tei l place on) ∙ was-in))
+          (subst (λ n. Due (state_number own.state) n n) (number (state_number next.state) to (sym (state-on service tei (lines.after c e l) there still) ∙ is-in))
           (stays-due place there on still))
 
   -- where the TEI leaves, it comes to state 4
-  gone-due : (place : ℕ) → place_in l tei ≡ Some place → place_in (lines.after c e l) tei ≡ None → Due (state_number own.state) 4
+  gone-due : (place : ℕ) → place_in l tei ≡ Some place → place_in (lines.after c e l) tei ≡ None → Due (state_number own.state) 4 1
   gone-due place on gone =
       let off : has_tei tei (lines.after c e l) ≡ false = is-off (lines.after c e l).management.places tei gone in
       leaving-due service tei c e l s place on off was outstanding
-      ∙ ap (λ b. due service tei was b (heard is_sabme) false outstanding (state_number own.state) 4) (sym (none-brought off (event-goes c e l service tei s)))
-      ∙ ap (λ b. due service tei was (heard is_xid) (heard is_sabme) b outstanding (state_number own.state) 4) (sym (none-released service tei c e l (on-line l tei place on) off a))
+      ∙ ap (λ b. due service tei [] was b (heard is_sabme) false outstanding (state_number own.state) 4) (sym (none-brought off (event-goes c e l service tei s)))
+      ∙ ap (λ b. due service tei [] was (heard is_xid) (heard is_sabme) b outstanding (state_number own.state) 4) (sym (none-released service tei c e l (on-line l tei place on) off a))
+      ∙ ap (λ errors. due service tei errors was (heard is_xid) (heard is_sabme) (releases service tei e a) outstanding (state_number own.state) 4) (sym (no-error off (event-goes c e l service tei s)))
     where
       none-brought : has_tei tei (lines.after c e l) ≡ false → Goes c service tei e l (lines.after c e l) a → heard is_xid ≡ false
       none-brought off (inl x) = none-begins c service tei is_xid l place on e x.aims a
-      none-brought off (inr x) = absurd (true≢false (sym (one-stays service tei c e l s (on-line l tei place on) x.place x.event x.aimed) ∙ off))
+      none-brought off (inr (inr x)) = ended-heard is_xid x
+      none-brought off (inr (inl x)) = absurd (true≢false (sym (one-stays service tei c e l s (on-line l tei place on) x.place x.event x.aimed) ∙ off))
 
-  pub event-due : (from : ℕ) → state_of service tei l ≡ Some from → Due from (unwrap_or (state_of service tei (lines.after c e l)) 4)
+      no-error : has_tei tei (lines.after c e l) ≡ false → Goes c service tei e l (lines.after c e l) a → Errors (state_number own.state) 1 ≡ []
+      no-error off (inl x) = none-wrong c service tei l place on e x.aims (state_number own.state) 1 (inr refl)
+      no-error off (inr (inr x)) = ap (λ e. wrong c service tei e (state_number own.state) 1) x.by.0
+      no-error off (inr (inl x)) = absurd (true≢false (sym (one-stays service tei c e l s (on-line l tei place on) x.place x.event x.aimed) ∙ off))
+
+  pub event-due : (from : ℕ) → state_of service tei l ≡ Some from → Due from (unwrap_or (state_of service tei (lines.after c e l)) 4) (unwrap_or (state_of service tei (lines.after c e l)) 1)
   event-due from was-in = go (state_of service tei (lines.after c e l)) refl
     where
       number : (n m : ℕ) → Some n ≡ Some m → n ≡ m
@@ -228,12 +265,25 @@ module _ (c : Config) (l : Line) (s : IsSound c l) (service : Service) (tei : �
       left-line None off none = off
       left-line (Some there) still none = absurd (none-some (state_number next.state) (sym none ∙ state-on service tei (lines.after c e l) there still))
 
-      by-place : (o : Option ℕ) → place_in l tei ≡ o → state_of service tei (lines.after c e l) ≡ None → Due from 4
+      by-place : (o : Option ℕ) → place_in l tei ≡ o → state_of service tei (lines.after c e l) ≡ None → Due from 4 1
       by-place None off none = absurd (none-some from (sym (off-state service tei l off) ∙ was-in))
       by-place (Some place) on none =
-          subst (λ n. Due n 4) (number (state_number own.state) from (sym (state-on service tei l place on) ∙ was-in))
+          subst (λ n. Due n 4 1) (number (state_number own.state) from (sym (state-on service tei l place on) ∙ was-in))
           (gone-due place on (left-line (place_in (lines.after c e l) tei) refl none))
 
-      go : (o : Option ℕ) → state_of service tei (lines.after c e l) ≡ o → Due from (unwrap_or o 4)
+      go : (o : Option ℕ) → state_of service tei (lines.after c e l) ≡ o → Due from (unwrap_or o 4) (unwrap_or o 1)
       go (Some to) is-in = both-due from to was-in is-in
       go None none = by-place (place_in l tei) refl none
+
+  -- and where its TEI is not on the line, nothing is told
+  pub off-due : state_of service tei l ≡ None → filter (is_news service tei) (notes_of a) ≡ []
+  off-due none = go (place_in l tei) refl
+    where
+      go : (o : Option ℕ) → place_in l tei ≡ o → filter (is_news service tei) (notes_of a) ≡ []
+      go (Some place) on = absurd (none-some (state_number own.state) (sym none ∙ state-on service tei l place on))
+      go None off = by-part (event-goes c e l service tei s)
+        where
+          by-part : Goes c service tei e l (lines.after c e l) a → filter (is_news service tei) (notes_of a) ≡ []
+          by-part (inl x) = none-filtered service tei (notes_of a) (others-silent service tei c e l s x.aims (inl (is-off l.management.places tei off)))
+          by-part (inr (inl x)) = absurd (none-some x.place (sym off ∙ x.placed))
+          by-part (inr (inr x)) = absurd (none-some x.place (sym off ∙ x.placed))

@@ -38,8 +38,8 @@ use Rattle.model_line.specs.Line.{Line, has_tei, link_in, link_of, link_number, 
 use Rattle.model_line.specs.Machine.{aim_of, after, answer, unless_refused, unless_refused_told}
 use Rattle.model_line.specs.Heard.{aim_of_heard}
 use Rattle.model_line.specs.Refusal.{refusal}
-use Rattle.model_line.specs.Request.{Request, Establish, Release, Data, Assign, Remove, Check, SetBusy, ClearBusy}
-use Rattle.model_line.specs.Requested.{at_requested, aim_of_request}
+use Rattle.model_line.specs.Request.{Request, Establish, Release, Data, Assign, Remove, Check, SetBusy, ClearBusy, Deactivate}
+use Rattle.model_line.specs.Requested.{at_requested, at_deactivated, aim_of_request}
 use Rattle.model_line.specs.Sides.{group_told}
 use Rattle.model_line.specs.Sound.{IsSound}
 use Rattle.model_line.proofs.AimsSound.{IsProper}
@@ -55,11 +55,11 @@ use Rattle.laws_trace.proofs.NewsOfOthers.{none-filtered, tei-note, other-link}
 use Rattle.laws_trace.proofs.StaysOn.{next-keeps}
 
 -- What the end of a TEI tells of its link is due as the link would come to state 4.
-cleared-due : (t : Terms) (l : Link) (was outstanding : Bool)
-    → filter (is_news t.service t.tei) (links.told t link.cleared l).notes ≡ due t.service t.tei was false false false outstanding (state_number l.state) 4
+pub cleared-due : (t : Terms) (l : Link) (was outstanding : Bool)
+    → filter (is_news t.service t.tei) (links.told t link.cleared l).notes ≡ due t.service t.tei [] was false false false outstanding (state_number l.state) 4
 cleared-due t l was outstanding = ap (filter (is_news t.service t.tei)) (event-follows t link.cleared l).leaves.tells ∙ by-state l.state
   where
-    by-state : (here : State) → filter (is_news t.service t.tei) (told_cleared here t) ≡ due t.service t.tei was false false false outstanding (state_number here) 4
+    by-state : (here : State) → filter (is_news t.service t.tei) (told_cleared here t) ≡ due t.service t.tei [] was false false false outstanding (state_number here) 4
     by-state TeiAssigned = refl
     by-state AwaitingEstablishment = rw (own-is t.service t.tei) refl
     by-state AwaitingRelease = rw (own-is t.service t.tei) refl
@@ -176,6 +176,10 @@ module _ (service : Service) (tei : ℕ) (c : Config) (l : Line) (s : IsSound c 
   asked-gone its by what None = stays (at_requested its by what None) refl
   asked-gone its by what (Some place') = stays (at_requested its by what (Some place')) refl
 
+  deactivated-gone : (its : Service) (by : ℕ) (o : Option ℕ) → Gone (at_deactivated its by o)
+  deactivated-gone its by None = stays (at_deactivated its by None) refl
+  deactivated-gone its by (Some place') = stays (at_deactivated its by (Some place')) refl
+
   pub heard-gone : (e : stream.Event) → Gone (aim_of_heard c l e)
   heard-gone e =
       heard_aims c l Gone (λ cause. stays (at_none (dropped cause)) refl) (λ its by place' what at. stays (at_link its by place' (link.received what)) refl) (λ info. managed (teis.message info) tt)
@@ -196,6 +200,7 @@ module _ (service : Service) (tei : ℕ) (c : Config) (l : Line) (s : IsSound c 
   request-gone (Check by) proper = managed (teis.check by) proper
   request-gone (SetBusy its by) proper = asked-gone its by link.SetBusy (place_in l by)
   request-gone (ClearBusy its by) proper = asked-gone its by link.ClearBusy (place_in l by)
+  request-gone (Deactivate its by) proper = deactivated-gone its by (place_in l by)
 
 -- Any event of a line.
 leaves : (service : Service) (tei : ℕ) (c : Config) (e : Event) (l : Line) → IsSound c l → (place : ℕ) → place_in l tei ≡ Some place → has_tei tei (after c e l) ≡ false
@@ -214,7 +219,7 @@ leaves service tei c next l s place on off =
     absurd (true≢false (sym (next-keeps tei c l s (is_on-at l.management.places place tei (place_of-is l.management.places tei place on).1)) ∙ off))
 
 pub leaving-due : (service : Service) (tei : ℕ) (c : Config) (e : Event) (l : Line) → IsSound c l → (place : ℕ) → place_in l tei ≡ Some place → has_tei tei (after c e l) ≡ false
-    → (was outstanding : Bool) → filter (is_news service tei) (notes_of (answer c e l)) ≡ due service tei was false false false outstanding (state_number (link_of service tei l).state) 4
+    → (was outstanding : Bool) → filter (is_news service tei) (notes_of (answer c e l)) ≡ due service tei [] was false false false outstanding (state_number (link_of service tei l).state) 4
 leaving-due service tei c e l s place on off was outstanding =
     leaves service tei c e l s place on off ∙ cleared-due (terms c service tei) (link_of service tei l) was outstanding
 
@@ -232,6 +237,7 @@ none-released service tei c (request (Remove by)) l on off a = refl
 none-released service tei c (request (Check by)) l on off a = refl
 none-released service tei c (request (SetBusy its by)) l on off a = refl
 none-released service tei c (request (ClearBusy its by)) l on off a = refl
+none-released service tei c (request (Deactivate its by)) l on off a = refl
 none-released service tei c (request (Release its by)) l on off a = go (refusal c false (Release its by) l) (place_in l by) off
   where
     go : (why : Option Refusal) (o : Option ℕ) → has_tei tei (of_aim c (unless_refused why (at_requested its by link.Release o)) l).line ≡ false → releases service tei (request (Release its by)) a ≡ false

@@ -1,5 +1,5 @@
 -- What a link tells of establishments and releases: each event of it; and who asked for the establishment that it awaits.
-use Rattle.std.proofs.Common.{◌≡◌, ◌==◌, ◌&&◌, not, Bool, true, false, cond, [], refl, sym, ◌∙◌, subst}
+use Rattle.std.proofs.Common.{◌≡◌, ◌==◌, ◌&&◌, not, Bool, true, false, cond, List, [], refl, sym, ◌∙◌, subst}
 use Rattle.std.specs.Prelude.{filter}
 use Rattle.lapd_frame.specs.Grammar.{Parts}
 use Rattle.model_link.specs.declared.states.State.{State}
@@ -16,9 +16,10 @@ use Rattle.laws_link.specs.Flags.{asked_left, asks_establishment}
 use Rattle.laws_link.specs.States.{as_heard, state_after, moves, by_expiry}
 use Rattle.laws_link.specs.Telling.{told_by, told_expired}
 use Rattle.laws_link.proofs.Follows.{event-follows}
-use Rattle.laws_trace.specs.News.{is_news}
+use Rattle.lapd_frame.specs.declared.notes.Note.{Note}
+use Rattle.laws_trace.specs.News.{is_news, given_up}
 use Rattle.laws_trace.proofs.NewsWatched.{due}
-use Rattle.laws_trace.proofs.NewsRows.{all-news, xid_of, sabme_of, released_of, Fits, Told, nothing-fits, by-control}
+use Rattle.laws_trace.proofs.NewsRows.{all-news, errors_of, xid_of, sabme_of, released_of, Fits, Told, nothing-fits, by-control}
 
 module _ (t : Terms) (l : Link) where
   malformed : (here : State) (what : Received) → ((f : Parts) → what ≡ frame f → ⊥) → Told t l here (received what)
@@ -40,7 +41,7 @@ module _ (t : Terms) (l : Link) where
   malformed TimerRecovery overlong none = refl
 
   abbrev Expires : State → LinkTimer → Bool → Bool → Type 0
-  Expires here timer runs again = let to = cond runs (by_expiry here timer again) here in Fits t l false false false here to (told_expired here t to)
+  Expires here timer runs again = let to = cond runs (by_expiry here timer again) here in Fits t l (given_up (state_number here) (state_number to)) false false false here to (told_expired here t to)
 
   expires : (here : State) (timer : LinkTimer) (runs again : Bool) → Expires here timer runs again
   expires TeiAssigned T200 true true = refl
@@ -112,7 +113,7 @@ module _ (t : Terms) (l : Link) where
   asks TimerRecovery ClearBusy full = refl
 
   told : (e : Event) → (e ≡ cleared → ⊥) → let to = state_after t (as_heard t e) l in
-      Fits t l (xid_of e) (sabme_of e) (released_of e) l.state to (told_by t (as_heard t e) l to)
+      Fits t l (errors_of t e (state_number l.state) (state_number to)) (xid_of e) (sabme_of e) (released_of e) l.state to (told_by t (as_heard t e) l to)
   told (received (frame f)) some = by-control t l l.state f.address f.control f.info
   told (received undefined) some = malformed l.state undefined (λ f same. cc same)
   told (received wrong_size) some = malformed l.state wrong_size (λ f same. cc same)
@@ -123,16 +124,15 @@ module _ (t : Terms) (l : Link) where
   told cleared some = absurd (some refl)
 
   -- The notes of an event of a link.
-  pub event-news : (e : Event) → (e ≡ cleared → ⊥) → let ns = (links.told t e l).notes in
+  pub event-news : (e : Event) → (e ≡ cleared → ⊥) → let ns = (links.told t e l).notes in let to = (links.after t e l).state in
       filter (is_news t.service t.tei) ns
-      ≡ due t.service t.tei l.asked (xid_of e) (sabme_of e) (released_of e) (not (l.s == l.a)) (state_number l.state) (state_number (links.after t e l).state)
+      ≡ due t.service t.tei (errors_of t e (state_number l.state) (state_number to)) l.asked (xid_of e) (sabme_of e) (released_of e) (not (l.s == l.a)) (state_number l.state) (state_number to)
   event-news e some =
       let leaves = (event-follows t e l).leaves in
       let ns = (links.told t e l).notes in
-      let fits : Fits t l (xid_of e) (sabme_of e) (released_of e) l.state (links.after t e l).state ns =
-      subst (λ ns. Fits t l (xid_of e) (sabme_of e) (released_of e) l.state (links.after t e l).state ns) (sym leaves.tells)
-      (subst (λ to. Fits t l (xid_of e) (sabme_of e) (released_of e) l.state to (told_by t (as_heard t e) l to)) (sym leaves.state) (told e some)) in
-      all-news t ns (notes-own t e l) ∙ fits
+      let its : State → List Note → Type 0 = λ to ns. Fits t l (errors_of t e (state_number l.state) (state_number to)) (xid_of e) (sabme_of e) (released_of e) l.state to ns in
+      all-news t ns (notes-own t e l)
+      ∙ subst (λ ns. its (links.after t e l).state ns) (sym leaves.tells) (subst (λ to. its to (told_by t (as_heard t e) l to)) (sym leaves.state) (told e some))
 
 -- Who asked for the establishment that is awaited.
 abbrev pub Asks : State → Bool → Bool → Type 0

@@ -1,5 +1,5 @@
 -- Where no event is one of a link, and its TEI stays on the line, nothing is told of its establishment or its release.
-use Rattle.std.proofs.Common.{◌≡◌, ℕ, ◌==◌, ◌&&◌, Bool, true, false, cond, List, [], ◌∷◌, ◌++◌, Option, Some, None, refl, sym, ap, ◌∙◌, subst, eqb-true, true≢false}
+use Rattle.std.proofs.Common.{◌≡◌, ℕ, ◌==◌, ◌&&◌, Bool, true, false, cond, List, [], ◌∷◌, ◌++◌, Option, Some, None, refl, sym, ap, ◌∙◌, subst, eqb-true, true≢false, ◌⊎◌, inl, inr}
 use Rattle.std.specs.Prelude.{All, filter}
 use Rattle.std.proofs.lemmas.List.Elements.{All-nil, All-cons, All-append, All-head, All-tail, All-weaker}
 use Rattle.model_bits.specs.Stream as stream
@@ -13,9 +13,10 @@ use Rattle.lapd_frame.specs.declared.timers.Timer.TheVariants.{T200, T203, T201}
 use Rattle.lapd_frame.specs.Services.{same_service}
 use Rattle.lapd_tei.specs.Events as teis
 use Rattle.lapd_tei.proofs.LawLemmas as tei_lemmas
+use Rattle.lapd_tei.proofs.Tables.{is_on-at}
 use Rattle.lapd_tei.specs.Laws as tei_laws
 use Rattle.lapd_tei.specs.Machine.{Management}
-use Rattle.lapd_tei.specs.Sound.{IsSoundTable}
+use Rattle.lapd_tei.specs.Sound.{IsAt, IsSoundTable}
 use Rattle.lapd_tei.specs.declared.outcome.Change.{Change}
 use Rattle.lapd_tei.specs.declared.outcome.Change.TheVariants.{Gained, Left}
 use Rattle.model_link.specs.declared.terms.Terms.{Terms}
@@ -34,8 +35,8 @@ use Rattle.model_line.specs.Line.{Line, has_tei, link_in, place_in, terms}
 use Rattle.model_line.specs.Machine.{aim_of, after, answer, unless_refused, unless_refused_told}
 use Rattle.model_line.specs.Heard.{aim_of_heard, group_tei}
 use Rattle.model_line.specs.Refusal.{refusal}
-use Rattle.model_line.specs.Request.{Request, Establish, Release, Data, Assign, Remove, Check, SetBusy, ClearBusy}
-use Rattle.model_line.specs.Requested.{at_requested, aim_of_request}
+use Rattle.model_line.specs.Request.{Request, Establish, Release, Data, Assign, Remove, Check, SetBusy, ClearBusy, Deactivate}
+use Rattle.model_line.specs.Requested.{at_requested, at_deactivated, aim_of_request}
 use Rattle.model_line.specs.Sound.{IsSound}
 use Rattle.model_line.proofs.AimsSound.{IsProper}
 use Rattle.model_line.proofs.ProperAims.{heard_aims, request_proper}
@@ -66,7 +67,7 @@ module _ (service : Service) (tei : ℕ) where
   other-note t other (notes.ReleaseConfirm s n) own = away t other s n own
   other-note t other (notes.Data s n) own = refl
   other-note t other (notes.Unit s n) own = refl
-  other-note t other (notes.Error s n k) own = refl
+  other-note t other (notes.Error s n k) own = away t other s n own
   other-note t other (notes.Assigned n) own = refl
   other-note t other (notes.Removed n) own = refl
   other-note t other (notes.Doubled n) own = refl
@@ -89,8 +90,12 @@ module _ (service : Service) (tei : ℕ) where
   tei-note (teis.check asked) (Some (Left by place)) ns is = absurd is
 
   module _ (c : Config) (l : Line) (s : IsSound c l) where
+    -- its TEI was not on the line, or stays on it
+    abbrev pub Stays : Line → Type 0
+    Stays x = (has_tei tei l ≡ false) ⊎ (has_tei tei x ≡ true)
+
     abbrev Silent : Aim → Type 0
-    Silent aim = is_at_link service tei aim ≡ false → has_tei tei (of_aim c aim l).line ≡ true → All No (of_aim c aim l).told.notes
+    Silent aim = is_at_link service tei aim ≡ false → Stays (of_aim c aim l).line → All No (of_aim c aim l).told.notes
 
     -- An event of TEI management: links of another TEI are cleared.
     module _ (me : teis.Event) (fits : tei_laws.IsInRange me) where
@@ -109,19 +114,25 @@ module _ (service : Service) (tei : ℕ) where
       abbrev itself : Link → Link
       itself x = x
 
-      gone-off : (by place : ℕ) → tei_laws.HasLeft l.management.places m.places by place → (b : Bool) → (by == tei) ≡ b → has_tei tei at ≡ true → b ≡ false
+      gone-off : (by place : ℕ) → tei_laws.HasLeft l.management.places m.places by place → (b : Bool) → (by == tei) ≡ b → Stays at → b ≡ false
       gone-off by place gone false other there = refl
-      gone-off by place gone true same there =
-          let was-there = gone.was_there ∙ ap Some (eqb-true by tei same) in
-          absurd (true≢false (sym there
-          ∙ is-off m.places tei (has-no-place m.places tei (read.emptied fresh itself refl c l s m table place None gone.is_free gone.within tei refl was-there))))
+      gone-off by place gone true same there = go there
+        where
+          was-there : IsAt l.management.places place tei
+          was-there = gone.was_there ∙ ap Some (eqb-true by tei same)
+
+          go : Stays at → true ≡ false
+          go (inl off) = absurd (true≢false (sym (is_on-at l.management.places place tei was-there) ∙ off))
+          go (inr there) =
+              absurd (true≢false (sym there
+              ∙ is-off m.places tei (has-no-place m.places tei (read.emptied fresh itself refl c l s m table place None gone.is_free gone.within tei refl was-there))))
 
       and-none : (a b : Bool) → b ≡ false → (a && b) ≡ false
       and-none true b none = none
       and-none false b none = refl
 
       changed : (o : Option Change) → tei_laws.Moves l.management.places o m.places → ByChange me o ns
-          → has_tei tei (of_change c o (told_of_management (teis.told me l.management)) at).line ≡ true → All No (of_change c o (told_of_management (teis.told me l.management)) at).told.notes
+          → Stays (of_change c o (told_of_management (teis.told me l.management)) at).line → All No (of_change c o (told_of_management (teis.told me l.management)) at).told.notes
       changed None moves is there = tei-note me None ns is
       changed (Some (Gained by place)) moves is there = tei-note me (Some (Gained by place)) ns is
       changed (Some (Left by place)) gone is there =
@@ -148,6 +159,10 @@ module _ (service : Service) (tei : ℕ) where
     asked-silent its by what None aims there = All-nil No
     asked-silent its by what (Some place) aims there = of-link its by place (link.requested what false) aims there
 
+    deactivated-silent : (its : Service) (by : ℕ) (o : Option ℕ) → Silent (at_deactivated its by o)
+    deactivated-silent its by None aims there = All-nil No
+    deactivated-silent its by (Some place) aims there = of-link its by place link.cleared aims there
+
     pub heard-silent : (e : stream.Event) → Silent (aim_of_heard c l e)
     heard-silent e =
         heard_aims c l Silent (λ cause aims there. All-nil No) (λ its by place what on. of-link its by place (link.received what)) (λ info. managed (teis.message info) tt)
@@ -168,16 +183,17 @@ module _ (service : Service) (tei : ℕ) where
     request-silent (Check by) proper = managed (teis.check by) proper
     request-silent (SetBusy its by) proper = asked-silent its by link.SetBusy (place_in l by)
     request-silent (ClearBusy its by) proper = asked-silent its by link.ClearBusy (place_in l by)
+    request-silent (Deactivate its by) proper = deactivated-silent its by (place_in l by)
 
   -- Any event of a line.
-  pub others-silent : (c : Config) (e : Event) (l : Line) → IsSound c l → is_at_link service tei (aim_of c e l) ≡ false → has_tei tei (after c e l) ≡ true → All No (notes_of (answer c e l))
+  pub others-silent : (c : Config) (e : Event) (l : Line) → IsSound c l → is_at_link service tei (aim_of c e l) ≡ false → (has_tei tei l ≡ false) ⊎ (has_tei tei (after c e l) ≡ true) → All No (notes_of (answer c e l))
   unfolding after answer
   others-silent c (hears what) l s aims there = heard-silent c l s what aims there
   others-silent c (expiry timer) l s aims there = expiry-silent c l s timer aims there
   others-silent c (request r) l s aims there = go (refusal c false r l) (request_proper c l r) aims there
     where
       go : (o : Option Refusal) → IsProper c l (unless_refused o (aim_of_request r l)) → is_at_link service tei (unless_refused o (aim_of_request r l)) ≡ false
-          → has_tei tei (of_aim c (unless_refused o (aim_of_request r l)) l).line ≡ true
+          → (has_tei tei l ≡ false) ⊎ (has_tei tei (of_aim c (unless_refused o (aim_of_request r l)) l).line ≡ true)
           → All No (notes_of (unless_refused_told o (of_aim c (unless_refused o (aim_of_request r l)) l)))
       go None proper aims there = request-silent c l s r proper aims there
       go (Some why) proper aims there = All-nil No

@@ -1,10 +1,11 @@
--- What a link tells of establishments and releases, by each frame that it hears.
+-- What a link tells of establishments, releases and errors, by each frame that it hears.
 use Rattle.std.proofs.Common.{◌≡◌, ℕ, ◌==◌, ◌&&◌, not, Bool, true, false, cond, List, [], ◌∷◌, ◌++◌, length, refl, sym, ap, ◌∙◌}
 use Rattle.std.specs.Prelude.{All, filter, nat_lt, is_some}
 use Rattle.std.proofs.lemmas.List.Elements.{All-head, All-tail}
 use Rattle.lapd_frame.specs.declared.addresses.Address.{Address}
 use Rattle.lapd_frame.specs.declared.controls.Control.{Control}
 use Rattle.lapd_frame.specs.declared.controls.Control.TheVariants.{Information, ReceiveReady, ReceiveNotReady, Reject, Sabme, Disc, Ui, Ua, Dm, Frmr, Xid}
+use Rattle.lapd_frame.specs.declared.notes.ErrorCode.{ErrorCode}
 use Rattle.lapd_frame.specs.declared.notes.ErrorCode.TheVariants as code
 use Rattle.lapd_frame.specs.declared.notes.Note.{Note}
 use Rattle.lapd_frame.specs.declared.notes.Note.TheVariants as notes
@@ -14,14 +15,14 @@ use Rattle.lapd_seq.specs.Circle.{named}
 use Rattle.model_link.specs.declared.states.State.{State}
 use Rattle.model_link.specs.declared.states.State.TheVariants.{TeiAssigned, AwaitingEstablishment, AwaitingRelease, Established, TimerRecovery}
 use Rattle.model_link.specs.declared.terms.Terms.{Terms}
-use Rattle.model_link.specs.Events.{Event, frame, overlong, Release, received, requested}
+use Rattle.model_link.specs.Events.{Event, frame, undefined, wrong_size, overlong, Release, received, expired, requested, offer, cleared}
 use Rattle.model_link.specs.Notes.{IsOwn}
 use Rattle.model_link.specs.Link.{Link, state_number}
 use Rattle.laws_link.specs.Flags.{takes_contents}
 use Rattle.laws_link.specs.States.{as_heard, state_after, by_frame}
 use Rattle.laws_link.specs.Telling.{told_by, numbered_as, final_as}
-use Rattle.laws_trace.specs.Trace.{is_own}
-use Rattle.laws_trace.specs.News.{is_news, is_sabme, is_xid}
+use Rattle.laws_trace.specs.Trace.{is_own, is_up}
+use Rattle.laws_trace.specs.News.{is_news, is_sabme, is_xid, wrong_number, wrong_frame, given_up}
 use Rattle.laws_trace.proofs.NewsWatched.{due}
 use Rattle.laws_trace.proofs.LinkLed.{own-is}
 use Rattle.laws_trace.proofs.TimerRows.{in_state}
@@ -33,6 +34,7 @@ is_kind (notes.EstablishConfirm s n) = true
 is_kind (notes.ReleaseIndication s n) = true
 is_kind (notes.ReleaseConfirm s n) = true
 is_kind (notes.Xid s n) = true
+is_kind (notes.Error s n k) = true
 is_kind other = false
 
 its : (t : Terms) (s : Service) (n : ℕ) → (s ≡ t.service) × (n ≡ t.tei) → is_own t.service t.tei s n ≡ true
@@ -45,7 +47,7 @@ own-news t (notes.ReleaseIndication s n) own = its t s n own
 own-news t (notes.ReleaseConfirm s n) own = its t s n own
 own-news t (notes.Data s n) own = refl
 own-news t (notes.Unit s n) own = refl
-own-news t (notes.Error s n k) own = refl
+own-news t (notes.Error s n k) own = its t s n own
 own-news t (notes.Assigned n) own = refl
 own-news t (notes.Removed n) own = refl
 own-news t (notes.Doubled n) own = refl
@@ -67,69 +69,80 @@ sabme_of e = heard_of is_sabme e
 abbrev pub xid_of : Event → Bool
 xid_of e = heard_of is_xid e
 
+-- The errors of an event of a link.
+abbrev pub errors_of : Terms → Event → ℕ → ℕ → List ErrorCode
+errors_of t (received (frame f)) from to = wrong_frame (nat_lt t.n201 (length f.info)) f.address.command f.control from to
+errors_of t (received undefined) from to = cond (is_up from) (code.L ∷ []) []
+errors_of t (received wrong_size) from to = cond (is_up from) (code.N ∷ []) []
+errors_of t (received overlong) from to = cond (is_up from) (code.O ∷ []) []
+errors_of t (expired timer) from to = given_up from to
+errors_of t (requested request full) from to = []
+errors_of t offer from to = []
+errors_of t cleared from to = []
+
 abbrev pub released_of : Event → Bool
 released_of (requested Release full) = true
 released_of other = false
 
 module _ (t : Terms) (l : Link) where
   -- What is told, and what is due.
-  abbrev pub Fits : Bool → Bool → Bool → State → State → List Note → Type 0
-  Fits xid sabme released from to ns = filter is_kind ns ≡ due t.service t.tei l.asked xid sabme released (not (l.s == l.a)) (state_number from) (state_number to)
+  abbrev pub Fits : List ErrorCode → Bool → Bool → Bool → State → State → List Note → Type 0
+  Fits errors xid sabme released from to ns = filter is_kind ns ≡ due t.service t.tei errors l.asked xid sabme released (not (l.s == l.a)) (state_number from) (state_number to)
 
-  stays : (here : State) (outstanding : Bool) → due t.service t.tei l.asked false false false outstanding (state_number here) (state_number here) ≡ []
+  stays : (here : State) (outstanding : Bool) → due t.service t.tei [] l.asked false false false outstanding (state_number here) (state_number here) ≡ []
   stays TeiAssigned outstanding = refl
   stays AwaitingEstablishment outstanding = refl
   stays AwaitingRelease outstanding = refl
   stays Established outstanding = refl
   stays TimerRecovery outstanding = refl
 
-  pub nothing-fits : (here : State) (ns : List Note) → filter is_kind ns ≡ [] → Fits false false false here here ns
+  pub nothing-fits : (here : State) (ns : List Note) → filter is_kind ns ≡ [] → Fits [] false false false here here ns
   nothing-fits here ns none = none ∙ sym (stays here (not (l.s == l.a)))
 
-  unit-fits : (here : State) (long : Bool) → Fits false false false here here (cond long [] (notes.Unit t.service t.tei ∷ []))
+  unit-fits : (here : State) (long : Bool) → Fits [] false false false here here (cond long [] (notes.Unit t.service t.tei ∷ []))
   unit-fits here true = nothing-fits here [] refl
   unit-fits here false = nothing-fits here (notes.Unit t.service t.tei ∷ []) refl
 
   -- An N(R) in state 7 or 8, behind what else is told.
   information-7 : (invalid taken : Bool) → let to = cond invalid AwaitingEstablishment Established in
-      Fits false false false Established to (cond taken (notes.Data t.service t.tei ∷ []) [] ++ numbered_as t to)
+      Fits (wrong_number false 7 (state_number to)) false false false Established to (cond taken (notes.Data t.service t.tei ∷ []) [] ++ numbered_as t to)
   information-7 true true = refl
   information-7 true false = refl
   information-7 false true = refl
   information-7 false false = refl
 
   information-8 : (invalid taken : Bool) → let to = cond invalid AwaitingEstablishment TimerRecovery in
-      Fits false false false TimerRecovery to (cond taken (notes.Data t.service t.tei ∷ []) [] ++ numbered_as t to)
+      Fits (wrong_number false 8 (state_number to)) false false false TimerRecovery to (cond taken (notes.Data t.service t.tei ∷ []) [] ++ numbered_as t to)
   information-8 true true = refl
   information-8 true false = refl
   information-8 false true = refl
   information-8 false false = refl
 
   final-7 : (invalid final : Bool) → let to = cond invalid AwaitingEstablishment Established in
-      Fits false false false Established to (final_as t false final ++ numbered_as t to)
+      Fits (wrong_number final 7 (state_number to)) false false false Established to (final_as t false final ++ numbered_as t to)
   final-7 true true = refl
   final-7 true false = refl
   final-7 false true = refl
   final-7 false false = refl
 
   final-8 : (invalid ends : Bool) → let to = cond invalid AwaitingEstablishment (cond ends Established TimerRecovery) in
-      Fits false false false TimerRecovery to (numbered_as t to)
+      Fits (wrong_number false 8 (state_number to)) false false false TimerRecovery to (numbered_as t to)
   final-8 true true = refl
   final-8 true false = refl
   final-8 false true = refl
   final-8 false false = refl
 
   -- SABME in states 7 and 8, and UA with F=1 in state 5, by whether contents are outstanding.
-  anew-7 : (none : Bool) → filter is_kind (notes.Error t.service t.tei code.F ∷ cond none [] (notes.EstablishIndication t.service t.tei ∷ [])) ≡ due t.service t.tei l.asked false true false (not none) 7 7
+  anew-7 : (none : Bool) → filter is_kind (notes.Error t.service t.tei code.F ∷ cond none [] (notes.EstablishIndication t.service t.tei ∷ [])) ≡ due t.service t.tei (code.F ∷ []) l.asked false true false (not none) 7 7
   anew-7 true = refl
   anew-7 false = refl
 
-  anew-8 : (none : Bool) → filter is_kind (notes.Error t.service t.tei code.F ∷ cond none [] (notes.EstablishIndication t.service t.tei ∷ [])) ≡ due t.service t.tei l.asked false true false (not none) 8 7
+  anew-8 : (none : Bool) → filter is_kind (notes.Error t.service t.tei code.F ∷ cond none [] (notes.EstablishIndication t.service t.tei ∷ [])) ≡ due t.service t.tei (code.F ∷ []) l.asked false true false (not none) 8 7
   anew-8 true = refl
   anew-8 false = refl
 
   agreed : (asked none : Bool) → let ns = cond asked (notes.EstablishConfirm t.service t.tei ∷ []) (cond none [] (notes.EstablishIndication t.service t.tei ∷ [])) in
-      filter is_kind ns ≡ due t.service t.tei asked false false false (not none) 5 7
+      filter is_kind ns ≡ due t.service t.tei [] asked false false false (not none) 5 7
   agreed true true = refl
   agreed true false = refl
   agreed false true = refl
@@ -138,7 +151,7 @@ module _ (t : Terms) (l : Link) where
   abbrev pub Told : State → Event → Type 0
   Told here e =
       let to = state_after t (as_heard t e) (in_state here l) in
-      Fits (xid_of e) (sabme_of e) (released_of e) here to (told_by t (as_heard t e) (in_state here l) to)
+      Fits (errors_of t e (state_number here) (state_number to)) (xid_of e) (sabme_of e) (released_of e) here to (told_by t (as_heard t e) (in_state here l) to)
 
   abbrev part : Address → Control → List ℕ → Event
   part address control info = received (frame (record { address = address; control = control; info = info }))
@@ -146,7 +159,8 @@ module _ (t : Terms) (l : Link) where
   abbrev Informed : State → Bool → Address → Seq → Seq → Bool → List ℕ → Type 0
   Informed here too_long address ns nr p info =
       let e : Event = received (cond too_long overlong (frame (record { address = address; control = Information ns nr p; info = info }))) in
-      let to = state_after t e (in_state here l) in Fits false false false here to (told_by t e (in_state here l) to)
+      let to = state_after t e (in_state here l) in
+      Fits (wrong_frame too_long address.command (Information ns nr p) (state_number here) (state_number to)) false false false here to (told_by t e (in_state here l) to)
 
   information : (here : State) (too_long : Bool) (address : Address) (ns nr : Seq) (p : Bool) (info : List ℕ) → Informed here too_long address ns nr p info
   information TeiAssigned true address ns nr p info = refl
@@ -163,21 +177,21 @@ module _ (t : Terms) (l : Link) where
       information-8 (not (is_some (named l.a l.s nr))) (takes_contents (part address (Information ns nr p) info) (in_state TimerRecovery l))
 
   by-ReceiveReady : (command f : Bool) (nr : Seq) → let to = cond (not (is_some (named l.a l.s nr))) AwaitingEstablishment (by_frame TimerRecovery command (ReceiveReady nr f)) in
-      Fits false false false TimerRecovery to (final_as t true (not command && f) ++ numbered_as t to)
+      Fits (wrong_number (not command && f) 8 (state_number to)) false false false TimerRecovery to (final_as t true (not command && f) ++ numbered_as t to)
   by-ReceiveReady true true nr = final-8 (not (is_some (named l.a l.s nr))) false
   by-ReceiveReady true false nr = final-8 (not (is_some (named l.a l.s nr))) false
   by-ReceiveReady false true nr = final-8 (not (is_some (named l.a l.s nr))) true
   by-ReceiveReady false false nr = final-8 (not (is_some (named l.a l.s nr))) false
 
   by-ReceiveNotReady : (command f : Bool) (nr : Seq) → let to = cond (not (is_some (named l.a l.s nr))) AwaitingEstablishment (by_frame TimerRecovery command (ReceiveNotReady nr f)) in
-      Fits false false false TimerRecovery to (final_as t true (not command && f) ++ numbered_as t to)
+      Fits (wrong_number (not command && f) 8 (state_number to)) false false false TimerRecovery to (final_as t true (not command && f) ++ numbered_as t to)
   by-ReceiveNotReady true true nr = final-8 (not (is_some (named l.a l.s nr))) false
   by-ReceiveNotReady true false nr = final-8 (not (is_some (named l.a l.s nr))) false
   by-ReceiveNotReady false true nr = final-8 (not (is_some (named l.a l.s nr))) true
   by-ReceiveNotReady false false nr = final-8 (not (is_some (named l.a l.s nr))) false
 
   by-Reject : (command f : Bool) (nr : Seq) → let to = cond (not (is_some (named l.a l.s nr))) AwaitingEstablishment (by_frame TimerRecovery command (Reject nr f)) in
-      Fits false false false TimerRecovery to (final_as t true (not command && f) ++ numbered_as t to)
+      Fits (wrong_number (not command && f) 8 (state_number to)) false false false TimerRecovery to (final_as t true (not command && f) ++ numbered_as t to)
   by-Reject true true nr = final-8 (not (is_some (named l.a l.s nr))) false
   by-Reject true false nr = final-8 (not (is_some (named l.a l.s nr))) false
   by-Reject false true nr = final-8 (not (is_some (named l.a l.s nr))) true

@@ -11,7 +11,7 @@ use Rattle.model_line.specs.Event as line_event
 use Rattle.model_line.specs.Event.{hears, expiry, request, next, Answer}
 use Rattle.model_line.specs.Line.{Line, place_in}
 use Rattle.model_line.specs.Machine as lines
-use Rattle.model_line.specs.Request.{Request, Establish, Release, Data, Assign, Remove, Check, SetBusy, ClearBusy}
+use Rattle.model_line.specs.Request.{Request, Establish, Release, Data, Assign, Remove, Check, SetBusy, ClearBusy, Deactivate}
 use Rattle.model_line.specs.Requested.{at_requested, aim_of_request}
 use Rattle.laws_line.specs.Share.{is_granted}
 use Rattle.laws_line.specs.Steady.{IsBy}
@@ -107,6 +107,7 @@ module _ (c : Config) (service : Service) (tei : ℕ) (which : Control → Bool)
     not-granted (Check by) a none = refl
     not-granted (SetBusy its by) a none = refl
     not-granted (ClearBusy its by) a none = refl
+    not-granted (Deactivate its by) a none = refl
 
     not-own : (r : Request) (a : Answer) → is_at_link service tei (aim_of_request r l) ≡ false → releases service tei (request r) a ≡ false
     not-own (Establish its by) a aims = refl
@@ -119,6 +120,7 @@ module _ (c : Config) (service : Service) (tei : ℕ) (which : Control → Bool)
     not-own (Check by) a aims = refl
     not-own (SetBusy its by) a aims = refl
     not-own (ClearBusy its by) a aims = refl
+    not-own (Deactivate its by) a aims = refl
 
     pub none-releases : (e : line_event.Event) → is_at_link service tei (lines.aim_of c e l) ≡ false → releases service tei e (lines.answer c e l) ≡ false
     none-releases (hears what) aims = refl

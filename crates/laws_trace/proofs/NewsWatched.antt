@@ -1,9 +1,10 @@
 -- Whether layer 3 asked, and whether I-frames are outstanding: a part of what an observer knows; and by it the news.
-use Rattle.std.specs.Prelude.{◌≡◌, ℕ, ◌==◌, ◌&&◌, ◌||◌, not, Bool, false, List, [], ◌∷◌, ◌++◌, fold, filter, Some, if◌then◌else◌}
+use Rattle.std.specs.Prelude.{◌≡◌, ℕ, ◌==◌, ◌&&◌, ◌||◌, not, Bool, false, List, [], ◌∷◌, ◌++◌, fold, map, filter, Some, if◌then◌else◌}
 use Rattle.std.specs.List.{list_any}
 use Rattle.std.specs.Option.{unwrap_or}
+use Rattle.lapd_frame.specs.declared.notes.ErrorCode.{ErrorCode}
 use Rattle.lapd_frame.specs.declared.notes.Note.{Note}
-use Rattle.lapd_frame.specs.declared.notes.Note.TheVariants.{EstablishIndication, EstablishConfirm, ReleaseIndication, ReleaseConfirm, Xid}
+use Rattle.lapd_frame.specs.declared.notes.Note.TheVariants.{EstablishIndication, EstablishConfirm, ReleaseIndication, ReleaseConfirm, Xid, Error}
 use Rattle.lapd_frame.specs.declared.services.Service.{Service}
 use Rattle.model_line.specs.declared.config.Config.{Config}
 use Rattle.model_line.specs.Event as line_event
@@ -15,7 +16,7 @@ use Rattle.model_card.specs.Card.{fresh}
 use Rattle.model_card.specs.Event.{Event, at}
 use Rattle.model_card.specs.Machine.{answer}
 use Rattle.model_card.specs.Run.{Moment, moments, after_all}
-use Rattle.laws_trace.specs.News.{is_news, is_sabme, is_xid, releases}
+use Rattle.laws_trace.specs.News.{is_news, is_sabme, is_xid, releases, wrong}
 use Rattle.laws_trace.proofs.TimersWatched.{Known, nothing_yet, watch, brings}
 use Rattle.laws_trace.specs.States.{is_state, state_before, state_after, differ}
 use Rattle.laws_trace.specs.Trace.{is_own, seen_in}
@@ -50,16 +51,16 @@ owing c service tei number w m =
 -- the terminal establishes a link anew by SABME, an indication where I-frames are outstanding, or nothing (clauses
 -- 5.5.1.2 and 5.7). Where it comes to state 4 from state 6, and where layer 3 releases a link in state 4, that is a
 -- confirm, and from other states an indication (clauses 5.5.1.2, 5.5.1.3, 5.5.3.2 and 5.5.3.3). XID is told, and moves
--- nothing (profile).
-abbrev pub due : Service → ℕ → Bool → Bool → Bool → Bool → Bool → ℕ → ℕ → List Note
-due service tei was_asked xid sabme released outstanding from to =
-    if xid then Xid service tei ∷ []
+-- nothing (profile). Errors go first.
+abbrev pub due : Service → ℕ → List ErrorCode → Bool → Bool → Bool → Bool → Bool → ℕ → ℕ → List Note
+due service tei errors was_asked xid sabme released outstanding from to =
+    map (Error service tei) errors ++ (if xid then Xid service tei ∷ []
     else if to == 7 then
     (if from == 4 then EstablishIndication service tei ∷ [] else if from == 5 && was_asked then EstablishConfirm service tei ∷ []
     else if (from == 5 || sabme) && outstanding then EstablishIndication service tei ∷ [] else [])
     else if to == 4 then
     (if from == 6 || (from == 4 && released) then ReleaseConfirm service tei ∷ [] else if from == 4 then [] else ReleaseIndication service tei ∷ [])
-    else []
+    else [])
 
 -- So the notes of a link, of these kinds, in the answer to an event at the line are exactly what is due, where its TEI
 -- is on the line before it. A link whose TEI leaves comes to state 4 (clause 5.3.4).
@@ -74,5 +75,5 @@ NewsIsTold c events number =
     (from : ℕ) → state_before service tei number m ≡ Some from →
     let now = seen_in number m in
     filter (is_news service tei) (notes_of m.answer)
-    ≡ due service tei was_asked (list_any (brings is_xid c service tei) now) (list_any (brings is_sabme c service tei) now) (releases service tei what m.answer)
+    ≡ due service tei (wrong c service tei what from (unwrap_or (state_after service tei number m) 1)) was_asked (list_any (brings is_xid c service tei) now) (list_any (brings is_sabme c service tei) now) (releases service tei what m.answer)
     w.outstanding from (unwrap_or (state_after service tei number m) 4)

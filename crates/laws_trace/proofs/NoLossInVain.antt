@@ -30,8 +30,8 @@ use Rattle.model_line.specs.Machine as lines
 use Rattle.model_line.specs.Machine.{aim_of, unless_refused, unless_refused_told}
 use Rattle.model_line.specs.Heard.{aim_of_heard}
 use Rattle.model_line.specs.Refusal.{refusal}
-use Rattle.model_line.specs.Request.{Request, Establish, Release, Data, Assign, Remove, Check as Checking, SetBusy, ClearBusy}
-use Rattle.model_line.specs.Requested.{at_requested, aim_of_request}
+use Rattle.model_line.specs.Request.{Request, Establish, Release, Data, Assign, Remove, Check as Checking, SetBusy, ClearBusy, Deactivate}
+use Rattle.model_line.specs.Requested.{at_requested, at_deactivated, aim_of_request}
 use Rattle.model_line.specs.Sound.{IsInRange, IsSound}
 use Rattle.model_line.proofs.LinksSound.{sound_in}
 use Rattle.model_line.proofs.ProperAims.{heard_aims}
@@ -81,6 +81,10 @@ module _ (c : Config) (l : Line) where
   asked-none its by asked None = refl
   asked-none its by asked (Some place) = tt
 
+  deactivated-none : (its : Service) (by : ℕ) (o : Option ℕ) → NoLoss (at_deactivated its by o)
+  deactivated-none its by None = refl
+  deactivated-none its by (Some place) = tt
+
   request-none : (r : Request) → NoLoss (aim_of_request r l)
   request-none (Establish its by) = asked-none its by link.Establish (place_in l by)
   request-none (Release its by) = asked-none its by link.Release (place_in l by)
@@ -91,6 +95,7 @@ module _ (c : Config) (l : Line) where
   request-none (Checking by) = tt
   request-none (SetBusy its by) = asked-none its by link.SetBusy (place_in l by)
   request-none (ClearBusy its by) = asked-none its by link.ClearBusy (place_in l by)
+  request-none (Deactivate its by) = deactivated-none its by (place_in l by)
 
 no-next : (c : Config) (e : Event) (a : Answer) (service : Service) (tei : ℕ) (le : link.Event) → (e ≡ next → ⊥) → IsBy c e a service tei le → IsNoOther le
 no-next c e a service tei (link.received (link.frame f)) other by = tt
@@ -115,7 +120,8 @@ module _ (c : Config) (ranged : IsInRange c) (l : Line) (s : IsSound c l) (e : E
     where
       go : Goes c service tei e l then a → IsFull c then
       go (inl x) = absurd (true≢false (sym at ∙ x.aims))
-      go (inr x) =
+      go (inr (inr x)) = let none : lost_in a ≡ 0 = x.lost in absurd (omega (arith, some, none))
+      go (inr (inl x)) =
           let t = terms c service tei in
           let own = link_of service tei l in
           let sound : link_sound.IsSound t own =

@@ -14,7 +14,6 @@ use Rattle.model_line.specs.Event as line_event
 use Rattle.model_line.specs.Event.{hears, expiry, request, next}
 use Rattle.model_line.specs.Line.{Line, state_of}
 use Rattle.laws_trace.specs.LinkFrames.{frame_of, its_frame, is_for}
-use Rattle.laws_trace.specs.News.{NewsIsTold}
 use Rattle.laws_trace.specs.Observer.{Observed, View, in_state, is_outstanding, awaits}
 use Rattle.laws_trace.specs.Trace.{seen}
 use Rattle.laws_trace.proofs.Deliveries.{frame_by}
@@ -24,7 +23,7 @@ use Rattle.laws_trace.proofs.Observed.{IsObserved, IsSeen}
 use Rattle.laws_trace.proofs.ObservedMoves.{When, known_of}
 use Rattle.laws_trace.proofs.ObservedRun.{Holds, IsFrom, from-is}
 use Rattle.laws_trace.proofs.TimersOfLine.{seen-brings}
-use Rattle.laws_trace.proofs.TimersWatched.{Known, nothing_yet, watch}
+use Rattle.laws_trace.proofs.TimersWatched.{Known, nothing_yet}
 use Rattle.laws_trace.specs.States.{is_state, differ}
 use Rattle.laws_trace.specs.News as now_news
 use Rattle.laws_trace.proofs.TimersWatched as known
@@ -97,6 +96,10 @@ module _ (st : Option ℕ) (k : Known) (asked owed : Bool) (n : ℕ) (o : Observ
   pub up-is : Facts st k asked owed n o → (o.state == 7) ≡ (unwrap_or st 4 == 7)
   up-is (inl y) = ap (λ (o : Observed). o.state == 7) y.2 ∙ sym (ap (λ st. unwrap_or st 4 == 7) y.0)
   up-is (inr y) = ap (λ s. s == 7) y.2.state_is ∙ sym (ap (λ st. unwrap_or st 4 == 7) y.1)
+
+  pub seen-is : Facts st k asked owed n o → o.state ≡ unwrap_or st 1
+  seen-is (inl y) = ap (λ (o : Observed). o.state) y.2 ∙ sym (ap (λ st. unwrap_or st 1) y.0)
+  seen-is (inr y) = y.2.state_is ∙ sym (ap (λ st. unwrap_or st 1) y.1)
 
 -- From one state to another.
 pub differs-is : (st to : Option ℕ) (k l : Known) (asked anew owed owing : Bool) (n m : ℕ) (o p : Observed) → Facts st k asked owed n o → Facts to l anew owing m p

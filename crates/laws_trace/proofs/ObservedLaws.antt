@@ -1,19 +1,19 @@
 -- What the observer knows of a link gives the laws of it, by what follows its parts.
-use Rattle.std.proofs.Common.{◌≡◌, ℕ, ◌+◌, ◌-◌, ◌%◌, ◌<◌, ◌==◌, ◌&&◌, ◌||◌, inl, inr, not, Bool, true, false, cond, List, [], ◌∷◌, ◌++◌, Option, Some, None, is_some, refl, sym, ap, ◌∙◌, subst, eqb-true, eq-eqb, true≢false}
+use Rattle.std.proofs.Common.{◌≡◌, ℕ, ◌+◌, ◌-◌, ◌%◌, ◌<◌, ◌==◌, ◌&&◌, ◌||◌, inl, inr, not, Bool, false, cond, List, [], ◌∷◌, ◌++◌, map, Option, Some, None, is_some, refl, sym, ap, ◌∙◌, subst, eqb-true, eq-eqb, true≢false}
 use Rattle.std.specs.Prelude.{fold, filter, nat_le, IfSome, All, if◌then◌else◌}
 use Rattle.std.specs.List.{list_any}
 use Rattle.std.specs.Option.{unwrap_or}
-use Rattle.std.proofs.lemmas.Option.{none-some}
 use Rattle.lapd_frame.specs.declared.notes.Note.{Note}
-use Rattle.lapd_frame.specs.declared.notes.Note.TheVariants.{EstablishIndication, EstablishConfirm, ReleaseIndication, ReleaseConfirm, Xid}
+use Rattle.lapd_frame.specs.declared.notes.Note.TheVariants.{EstablishIndication, EstablishConfirm, ReleaseIndication, ReleaseConfirm, Xid, Error}
 use Rattle.lapd_frame.specs.declared.services.Service.{Service}
 use Rattle.lapd_frame.specs.Reading.{reading}
 use Rattle.model_link.specs.declared.states.State.{State}
+use Rattle.model_link.specs.declared.states.State.TheVariants.{TeiAssigned, AwaitingEstablishment, AwaitingRelease, Established, TimerRecovery}
 use Rattle.model_link.specs.declared.timers.LinkTimer.{LinkTimer}
 use Rattle.model_link.specs.Link.{state_number}
 use Rattle.model_line.specs.declared.config.Config.{Config}
 use Rattle.model_line.specs.Event as line_event
-use Rattle.model_line.specs.Event.{hears, expiry, request, next}
+use Rattle.model_line.specs.Event.{next}
 use Rattle.model_line.specs.Laws.{orders_in}
 use Rattle.model_line.specs.Line.{Line, state_of, window}
 use Rattle.model_line.specs.Sound.{IsInRange}
@@ -27,7 +27,6 @@ use Rattle.model_card.specs.Event.{Event, at}
 use Rattle.model_card.specs.Machine.{after, answer}
 use Rattle.model_card.specs.Run.{Moment, moments, after_all, AreAtLines}
 use Rattle.laws_trace.specs.AllGoesAgain.{AllGoesAgain, NextGoes}
-use Rattle.laws_trace.specs.ErrorsAreNoted.{ErrorsAreNoted}
 use Rattle.laws_trace.specs.LinkFrames.{Sent, sent_in}
 use Rattle.laws_trace.specs.LinksMove.{LinksMove}
 use Rattle.laws_trace.specs.Managing.{is_on}
@@ -38,16 +37,15 @@ use Rattle.laws_trace.specs.Trace.{Seen, seen, frame_in, Always}
 use Rattle.laws_trace.proofs.MovesWatched.{repeated}
 use Rattle.laws_trace.proofs.NewsWatched.{Owing, none_owed, owing}
 use Rattle.laws_trace.proofs.Observed.{IsObserved}
-use Rattle.laws_trace.proofs.ObservedFacts.{Facts, facts, told-so, numbers-are, state-is, awaits-are, owed-is, asked-is, down-is, up-is, differs-is, brings-is}
+use Rattle.laws_trace.proofs.ObservedFacts.{Facts, facts, told-so, numbers-are, state-is, awaits-are, owed-is, asked-is, down-is, up-is, seen-is, differs-is, brings-is}
 use Rattle.laws_trace.proofs.ObservedMoves.{known_of}
 use Rattle.laws_trace.proofs.ObservedRun.{Holds, on-is, holds-now, holds-behind}
-use Rattle.laws_trace.proofs.TimersAreTimely.{sound-now, timely-now, config-now, front-at, itself}
+use Rattle.laws_trace.proofs.TimersAreTimely.{front-at, itself}
 use Rattle.laws_trace.proofs.TimersWatched.{Known, nothing_yet, watch}
 use Rattle.laws_trace.specs.States.{is_state, differ}
 use Rattle.laws_trace.specs.News as now_news
 use Rattle.laws_trace.specs.TimersAreTimely as timely
 use Rattle.laws_trace.proofs.AllGoesAgain as old_again
-use Rattle.laws_trace.proofs.ErrorsAreNoted as old_errors
 use Rattle.laws_trace.proofs.News as old_news
 use Rattle.laws_trace.proofs.NewsWatched as news
 use Rattle.laws_trace.proofs.TimersAreTimely as old
@@ -183,26 +181,29 @@ module _ (c : Config) (before : List Event) (number : ℕ) (ranged : IsInRange c
       ∙ ap (λ b. differ from to || (is_state 7 from && b)) (sym (brings-is c service tei (known.renews timer its_numbers) what its_moment.answer))
 
   -- what is due of news
-  abbrev Due : Bool → Bool → Bool → Bool → List Note
-  Due up down asked outstanding =
+  abbrev Due : ℕ → Bool → Bool → Bool → Bool → List Note
+  Due seen up down asked outstanding =
       let xid = now_news.brings now_news.is_xid c service tei what in
       let sabme = now_news.brings now_news.is_sabme c service tei what in
       let released = now_news.releases service tei what its_moment.answer in
-      if xid then Xid service tei ∷ []
+      map (Error service tei) (now_news.wrong c service tei what was.state seen)
+      ++ (if xid then Xid service tei ∷ []
       else if up then
       (if was.state == 4 then EstablishIndication service tei ∷ [] else if asked then EstablishConfirm service tei ∷ []
       else if (was.state == 5 || sabme) && outstanding then EstablishIndication service tei ∷ [] else [])
       else if down then
       (if was.state == 6 || (was.state == 4 && released) then ReleaseConfirm service tei ∷ [] else if was.state == 4 then [] else ReleaseIndication service tei ∷ [])
-      else []
+      else [])
 
   abbrev old_due : List Seen → List Note
   old_due t =
-      news.due service tei its_asked (list_any (known.brings now_news.is_xid c service tei) t) (list_any (known.brings now_news.is_sabme c service tei) t)
+      news.due service tei (now_news.wrong c service tei what was.state (unwrap_or to 1)) its_asked
+      (list_any (known.brings now_news.is_xid c service tei) t) (list_any (known.brings now_news.is_sabme c service tei) t)
       (now_news.releases service tei what its_moment.answer) its_owed was.state (unwrap_or to 4)
 
   pub due-is : (x : State) → IsObserved (state_number x) its_numbers its_asked its_owed its_count was
-      → now_news.due service tei (now_news.brings now_news.is_xid c service tei what) (now_news.brings now_news.is_sabme c service tei what) (now_news.releases service tei what its_moment.answer) was now.state
+      → map (Error service tei) (now_news.wrong c service tei what was.state now.state)
+      ++ now_news.due service tei (now_news.brings now_news.is_xid c service tei what) (now_news.brings now_news.is_sabme c service tei what) (now_news.releases service tei what its_moment.answer) was now.state
       ≡ old_due (seen what its_moment.answer)
   due-is x h =
       let z = known-then c before number ranged all within service tei what in
@@ -210,13 +211,15 @@ module _ (c : Config) (before : List Event) (number : ℕ) (ranged : IsInRange c
       let asked = news.asked service tei number its_asked its_moment in
       let owed = (owing c service tei number (fold (owing c service tei number) none_owed (moments (fresh c) before)) its_moment).outstanding in
       let n = repeated service tei number its_count its_moment in
-      ap (λ up. Due up (nat_le now.state 4) (was.state == 5 && was.asked) (is_outstanding was)) (up-is to l asked owed n now z)
-      ∙ ap (λ down. Due (unwrap_or to 4 == 7) down (was.state == 5 && was.asked) (is_outstanding was)) (down-is to l asked owed n now z)
-      ∙ ap (λ b. Due (unwrap_or to 4 == 7) (unwrap_or to 4 == 4) b (is_outstanding was)) (asked-is from its_numbers its_asked its_owed its_count was x h)
-      ∙ ap (λ b. Due (unwrap_or to 4 == 7) (unwrap_or to 4 == 4) (was.state == 5 && its_asked) b) (owed-is from its_numbers its_asked its_owed its_count was x h)
-      ∙ ap (λ b. news.due service tei its_asked b (now_news.brings now_news.is_sabme c service tei what) (now_news.releases service tei what its_moment.answer) its_owed was.state (unwrap_or to 4))
+      let errors = now_news.wrong c service tei what was.state (unwrap_or to 1) in
+      ap (λ s. Due s (now.state == 7) (nat_le now.state 4) (was.state == 5 && was.asked) (is_outstanding was)) (seen-is to l asked owed n now z)
+      ∙ ap (λ up. Due (unwrap_or to 1) up (nat_le now.state 4) (was.state == 5 && was.asked) (is_outstanding was)) (up-is to l asked owed n now z)
+      ∙ ap (λ down. Due (unwrap_or to 1) (unwrap_or to 4 == 7) down (was.state == 5 && was.asked) (is_outstanding was)) (down-is to l asked owed n now z)
+      ∙ ap (λ b. Due (unwrap_or to 1) (unwrap_or to 4 == 7) (unwrap_or to 4 == 4) b (is_outstanding was)) (asked-is from its_numbers its_asked its_owed its_count was x h)
+      ∙ ap (λ b. Due (unwrap_or to 1) (unwrap_or to 4 == 7) (unwrap_or to 4 == 4) (was.state == 5 && its_asked) b) (owed-is from its_numbers its_asked its_owed its_count was x h)
+      ∙ ap (λ b. news.due service tei errors its_asked b (now_news.brings now_news.is_sabme c service tei what) (now_news.releases service tei what its_moment.answer) its_owed was.state (unwrap_or to 4))
       (sym (brings-is c service tei now_news.is_xid what its_moment.answer))
-      ∙ ap (λ b. news.due service tei its_asked (list_any (known.brings now_news.is_xid c service tei) (seen what its_moment.answer)) b (now_news.releases service tei what its_moment.answer) its_owed was.state (unwrap_or to 4))
+      ∙ ap (λ b. news.due service tei errors its_asked (list_any (known.brings now_news.is_xid c service tei) (seen what its_moment.answer)) b (now_news.releases service tei what its_moment.answer) its_owed was.state (unwrap_or to 4))
       (sym (brings-is c service tei now_news.is_sabme what its_moment.answer))
 
 pub timers-are-started-so : Always TimersAreStarted
@@ -234,54 +237,42 @@ module _ (c : Config) (events : List Event) (number : ℕ) (ranged : IsInRange c
   front : AreAtLines (fresh c) before
   front = front-at (fresh c) before (at number what) behind (subst (AreAtLines (fresh c)) is all)
 
-  told-state : is_on tei (view_of c service tei number before).teis ≡ true → state_of service tei (line_at number (after_all (fresh c) before)) ≡ Some (view_of c service tei number before).link.state
-  told-state on = moved-so c before number ranged front within service tei ∙ ap (λ b. cond b (Some (view_of c service tei number before).link.state) None) on
+  abbrev its_state : Option ℕ
+  its_state = state_of service tei (line_at number (after_all (fresh c) before))
 
-  abbrev IsTold : Type 0
-  IsTold =
-      let o = (view_of c service tei number before).link in
+  abbrev o : Observed
+  o = (view_of c service tei number before).link
+
+  abbrev IsDue : Bool → Type 0
+  IsDue off =
       let a = (moment_of c before number what).answer in
+      let to = (view_behind c service tei number before what).link.state in
       filter (now_news.is_news service tei) (notes_of a)
-      ≡ now_news.due service tei (now_news.brings now_news.is_xid c service tei what) (now_news.brings now_news.is_sabme c service tei what) (now_news.releases service tei what a) o
-      (view_behind c service tei number before what).link.state
+      ≡ cond off [] (map (Error service tei) (now_news.wrong c service tei what o.state to)
+      ++ now_news.due service tei (now_news.brings now_news.is_xid c service tei what) (now_news.brings now_news.is_sabme c service tei what) (now_news.releases service tei what a) o to)
 
-  news-so : is_on tei (view_of c service tei number before).teis ≡ true → IsTold
-  news-so on = go (known-now c before number ranged front within service tei)
+  news-so : Facts (state_of service tei (line_at number (after_all (fresh c) before))) (fold (watch c service tei number) nothing_yet (moments (fresh c) before))
+      (fold (news.asked service tei number) false (moments (fresh c) before)) (fold (owing c service tei number) none_owed (moments (fresh c) before)).outstanding
+      (fold (repeated service tei number) 0 (moments (fresh c) before)) (view_of c service tei number before).link → IsDue (o.state == 1)
+  news-so (inl y) =
+      subst IsDue (sym (ap (λ (o : Observed). o.state == 1) y.2)) (old_news.none-is-told c before number ranged front within service tei what y.0)
+  news-so (inr y) =
+      subst IsDue (sym (ap (λ s. s == 1) y.2.state_is ∙ not-one' y.0))
+      (old_news.news-is-told c events number ranged all within service tei before what behind is o.state (y.1 ∙ ap (λ s. Some s) (sym y.2.state_is))
+      ∙ ap (λ b. old_due c before number ranged front within service tei what (cond b (seen what (moment_of c before number what).answer) [])) (itself number)
+      ∙ sym (due-is c before number ranged front within service tei what y.0 y.2))
     where
-      go : Facts (state_of service tei (line_at number (after_all (fresh c) before))) (fold (watch c service tei number) nothing_yet (moments (fresh c) before))
-          (fold (news.asked service tei number) false (moments (fresh c) before)) (fold (owing c service tei number) none_owed (moments (fresh c) before)).outstanding
-          (fold (repeated service tei number) 0 (moments (fresh c) before)) (view_of c service tei number before).link → IsTold
-      go (inl y) = absurd (none-some (view_of c service tei number before).link.state (sym y.0 ∙ told-state on))
-      go (inr y) =
-          old_news.news-is-told c events number ranged all within service tei before what behind is (view_of c service tei number before).link.state (told-state on)
-          ∙ ap (λ b. old_due c before number ranged front within service tei what (cond b (seen what (moment_of c before number what).answer) [])) (itself number)
-          ∙ sym (due-is c before number ranged front within service tei what y.0 y.2)
+      not-one' : (x : State) → (state_number x == 1) ≡ false
+      not-one' TeiAssigned = refl
+      not-one' AwaitingEstablishment = refl
+      not-one' AwaitingRelease = refl
+      not-one' Established = refl
+      not-one' TimerRecovery = refl
 
 pub news-is-told-so : Always NewsIsTold
-news-is-told-so c events number ranged all within service tei before what behind is on = news-so c events number ranged all within service tei before what behind is on
-
-pub errors-are-noted-so : Always ErrorsAreNoted
-errors-are-noted-so c events number ranged all within service tei before heard behind is not_5 is_5 =
-    let front = front-at (fresh c) before (at number (hears heard)) behind (subst (AreAtLines (fresh c)) is all) in
-    let what = hears heard in
-    let o = (view_of c service tei number before).link in
-    let p = (view_behind c service tei number before (hears heard)).link in
-    let from = state_of service tei (line_at number (after_all (fresh c) before)) in
-    let to = state_of service tei (line_at number (after (at number (hears heard)) (after_all (fresh c) before))) in
-    let z = known-then c before number ranged front within service tei (hears heard) in
-    let m = moment_of c before number (hears heard) in
-    let l = watch c service tei number (fold (watch c service tei number) nothing_yet (moments (fresh c) before)) m in
-    let asked = news.asked service tei number (fold (news.asked service tei number) false (moments (fresh c) before)) m in
-    let owed = (owing c service tei number (fold (owing c service tei number) none_owed (moments (fresh c) before)) m).outstanding in
-    let n = repeated service tei number (fold (repeated service tei number) 0 (moments (fresh c) before)) m in
-    let comes : is_state 5 to ≡ true = sym (state-is to l asked owed n p 5 refl z) ∙ eq-eqb p.state 5 is_5 in
-    let moves : differ from to ≡ true =
-    sym (moves-so c before number ranged front within service tei (hears heard)) ∙ ap (λ s. not (o.state == s)) is_5 ∙ ap not (unequal (o.state == 5) refl) in
-    old_errors.errors-are-noted c events number ranged all within service tei before heard behind is (ap (λ b. b && is_state 5 to) moves ∙ comes)
-  where
-    unequal : (b : Bool) → ((view_of c service tei number before).link.state == 5) ≡ b → ((view_of c service tei number before).link.state == 5) ≡ false
-    unequal false other = other
-    unequal true same = absurd (not_5 (eqb-true (view_of c service tei number before).link.state 5 same))
+news-is-told-so c events number ranged all within service tei before what behind is =
+    news-so c events number ranged all within service tei before what behind is
+    (known-now c before number ranged (front-at (fresh c) before (at number what) behind (subst (AreAtLines (fresh c)) is all)) within service tei)
 
 pub next-goes-so : Always NextGoes
 next-goes-so c events number ranged all within service tei before behind is =

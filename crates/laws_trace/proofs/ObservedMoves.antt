@@ -1,7 +1,7 @@
 -- How an event of a line moves what an observer knows of a link: as the parts of it that follow the state, the numbers, what
 -- layer 3 asked and how often T200 expired.
 use Rattle.std.proofs.Common.{◌≡◌, ℕ, ◌+◌, ◌==◌, ◌&&◌, ◌||◌, not, Bool, true, false, cond, length, Option, Some, None, refl, sym, subst}
-use Rattle.std.specs.Prelude.{nat_lt}
+use Rattle.std.specs.Prelude.{is_some, nat_lt}
 use Rattle.std.specs.Option.{option_map_or}
 use Rattle.lapd_frame.specs.declared.controls.Control.{Control}
 use Rattle.lapd_frame.specs.declared.controls.Control.TheVariants.{Information, ReceiveReady, ReceiveNotReady, Reject, Sabme, Disc, Ui, Ua, Dm, Frmr, Xid}
@@ -18,8 +18,8 @@ use Rattle.model_link.specs.declared.timers.LinkTimer.TheVariants.{T200, T203}
 use Rattle.model_link.specs.Link.{state_number}
 use Rattle.model_line.specs.declared.config.Config.{Config}
 use Rattle.model_line.specs.Event.{Event, hears, expiry, request, next, Answer, LineTold, told, refused, gave}
-use Rattle.model_line.specs.Request.{Request, Establish, Release, Data, Assign, Remove, Check, SetBusy, ClearBusy}
-use Rattle.laws_trace.specs.LinkFrames.{frame_of, its_frame, is_for, is_malformed, Sent, sent_in}
+use Rattle.model_line.specs.Request.{Request, Establish, Release, Data, Assign, Remove, Check, SetBusy, ClearBusy, Deactivate}
+use Rattle.laws_trace.specs.LinkFrames.{frame_of, its_frame, is_for, malformed, Sent, sent_in}
 use Rattle.laws_trace.specs.Observer.{Observed, in_state, awaits, anew, while_up, while_down, by_frame, by_t200, by_expiry, enquires, sends, by_event}
 use Rattle.laws_trace.specs.States as states
 use Rattle.laws_trace.specs.Trace.{is_own, is_up, seen}
@@ -358,9 +358,15 @@ module _ (c : Config) (service : Service) (tei : ℕ) where
   release Established k shape o true = record { state_is = refl; known_is = refl; asks = tt; owes = tt; counts = refl }
   release TimerRecovery k shape o true = record { state_is = refl; known_is = refl; asks = tt; owes = tt; counts = refl }
 
+  deactivate : (x : State) (k : Known) → Shape x k → (o : Observed) (b : Bool) → let s = state_number x in let p = at_state s k o in
+      Asked x k false (cond {A = ℕ} b 4 s) p (cond b (in_state 4) p)
+  deactivate x k shape o false = stays x k shape false o
+  deactivate x k shape o true = record { state_is = refl; known_is = refl; asks = tt; owes = tt; counts = tt }
+
   asked-moves : (x : State) (k : Known) → Shape x k → (o : Observed) (r : Request) (t : LineTold) → EventMoves x k o (request r) (told t)
   asked-moves x k shape o (Establish of by) t = establish x k shape o (is_own service tei of by)
   asked-moves x k shape o (Release of by) t = release x k shape o (is_own service tei of by)
+  asked-moves x k shape o (Deactivate of by) t = deactivate x k shape o (is_own service tei of by)
   asked-moves x k shape o (SetBusy of by) t = stays x k shape false o
   asked-moves x k shape o (ClearBusy of by) t = stays x k shape false o
   asked-moves x k shape o (Data of by contents) t = stays x k shape false o
@@ -380,9 +386,9 @@ module _ (c : Config) (service : Service) (tei : ℕ) where
   sent-moves TimerRecovery k shape o (Some sent) = record { state_is = refl; known_is = refl; asks = tt; owes = tt; counts = refl }
 
   pub event-moves : (x : State) (k : Known) → Shape x k → (o : Observed) (what : Event) (a : Answer) → EventMoves x k o what a
-  event-moves x k shape o (hears e) (told t) = heard-moves x k shape o (is_malformed c service tei e) (frame_of c e)
-  event-moves x k shape o (hears e) (refused why) = heard-moves x k shape o (is_malformed c service tei e) (frame_of c e)
-  event-moves x k shape o (hears e) (gave given) = heard-moves x k shape o (is_malformed c service tei e) (frame_of c e)
+  event-moves x k shape o (hears e) (told t) = heard-moves x k shape o (is_some (malformed c service tei e)) (frame_of c e)
+  event-moves x k shape o (hears e) (refused why) = heard-moves x k shape o (is_some (malformed c service tei e)) (frame_of c e)
+  event-moves x k shape o (hears e) (gave given) = heard-moves x k shape o (is_some (malformed c service tei e)) (frame_of c e)
   event-moves x k shape o (expiry timer) (told t) = timer-moves x k shape o timer
   event-moves x k shape o (expiry timer) (refused why) = timer-moves x k shape o timer
   event-moves x k shape o (expiry timer) (gave given) = timer-moves x k shape o timer

@@ -201,7 +201,8 @@ module _ (c : Config) (e : Event) (l : Line) (s : IsSound c l) (ranged : IsInRan
 
   link-after : Goes c service tei e l (after c e l) (answer c e l) → All AreOctets (queue_of (link_of service tei (after c e l)))
   link-after (inl x) = stays x.is
-  link-after (inr x) =
+  link-after (inr (inr x)) = stays (inr x.is)
+  link-after (inr (inl x)) =
       let t = terms c service tei in
       subst (λ (y : Link). All AreOctets (queue_of y)) (sym x.is)
       (subst (All AreOctets) (sym (kept-after t x.event own (sound x.place x.placed)))
@@ -218,6 +219,7 @@ asked-exact (asked.Remove tei) h = All-nil IsUnit
 asked-exact (asked.Check tei) h = All-nil IsUnit
 asked-exact (asked.SetBusy service tei) h = All-nil IsUnit
 asked-exact (asked.ClearBusy service tei) h = All-nil IsUnit
+asked-exact (asked.Deactivate service tei) h = All-nil IsUnit
 
 by-grant : (r : Request) (a : Answer) → All GivesOctets (traces.seen_granted r a ++ seen_told a) → All IsUnit (units_asked (request r) a)
 by-grant r (told t) h = asked-exact r (granted-seen r (told t) refl h)

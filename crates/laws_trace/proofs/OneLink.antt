@@ -1,6 +1,6 @@
 -- What an event of a line is to the link of a service with a TEI, at whatever place the TEI is: one event of this link,
--- or none.
-use Rattle.std.proofs.Common.{◌≡◌, ℕ, ◌==◌, ◌&&◌, Bool, true, false, List, [], ◌∷◌, map, slice_get, Option, Some, None, IfSome, option_map, refl, sym, ap, ◌∙◌, subst, eqb-true, ◌⊎◌, inl, inr}
+-- its deactivation, or none.
+use Rattle.std.proofs.Common.{◌≡◌, ℕ, ◌==◌, ◌&&◌, Bool, true, false, List, [], ◌∷◌, map, slice_get, Option, Some, None, IfSome, option_map, refl, sym, ap, ◌∙◌, subst, eqb-true, ◌⊎◌, inl, inr, ⊎_elim}
 use Rattle.std.specs.Prelude.{All, option_to_list}
 use Rattle.std.specs.Option.{option_or, option_map_or}
 use Rattle.std.proofs.lemmas.List.Elements.{All-nil, All-cons}
@@ -34,15 +34,16 @@ use Rattle.model_line.specs.Machine.{aim_of, after, answer, unless_refused, unle
 use Rattle.model_line.specs.Heard.{aim_of_heard}
 use Rattle.model_line.specs.Taken.{Taken, taken, with_message, with_unit, unit_frame, with_given_frame, frame_of, first_taken, round, next_of, line_of}
 use Rattle.model_line.specs.Refusal.{refusal}
-use Rattle.model_line.specs.Request.{Request, Establish, Release, Data, Assign, Remove, Check, SetBusy, ClearBusy}
-use Rattle.model_line.specs.Requested.{at_requested, aim_of_request}
+use Rattle.model_line.specs.Request.{Request, Establish, Release, Data, Assign, Remove, Check, SetBusy, ClearBusy, Deactivate}
+use Rattle.model_line.specs.Requested.{at_requested, at_deactivated, aim_of_request}
 use Rattle.model_line.specs.Sound.{IsSound}
 use Rattle.model_line.proofs.AimsSound.{IsProper}
 use Rattle.model_line.proofs.ProperAims.{heard_aims, heard_proper, expiry_proper, request_proper}
 use Rattle.model_line.proofs.TakenWalk.{round_below}
 use Rattle.laws_line.specs.Frames.{lost_in}
 use Rattle.laws_line.specs.Heard.{notes_of, contents_in}
-use Rattle.laws_line.specs.Steady.{IsBy}
+use Rattle.laws_line.specs.Steady.{IsBy, IsDeactivated, IsOf}
+use Rattle.laws_line.proofs.Happening.{by-or-down}
 use Rattle.laws_line.proofs.LinkMoves.{OfLink, of-links}
 use Rattle.laws_line.proofs.Obeyed.{services-equal, both-true}
 use Rattle.laws_line.proofs.Places.{has-place}
@@ -50,17 +51,12 @@ use Rattle.laws_line.proofs.Readings as read
 use Rattle.laws_line.proofs.Tied.{Ties, heard-ties, expiry-ties, request-ties}
 use Rattle.laws_line.proofs.TimersFollow.{number-is}
 use Rattle.laws_trace.specs.Trace.{frame_in}
+use Rattle.laws_trace.proofs.ClearedTells.{none-delivered, none-lost}
+pub use Rattle.laws_trace.proofs.FramesGiven.{frames_given}
+use Rattle.laws_trace.proofs.FramesGiven.{Silent, heard-silent, expiry-silent, request-silent}
 use Rattle.laws_trace.proofs.ManagedLink.{alike, Remains, managed, starts-none}
 use Rattle.laws_trace.proofs.OfferTells.{offer-tells_nothing}
 use Rattle.laws_trace.proofs.OrdersOfLink.{StartNone, none-ordered, other-starts-none}
-
--- The frame that an offer of a link gives; no other event gives one.
-abbrev pub frames_given : Config → Terms → link.Event → Link → List (List ℕ)
-frames_given c t link.offer x = map (frame_of c t) (option_to_list (links.given t x))
-frames_given c t (link.received what) x = []
-frames_given c t (link.expired timer) x = []
-frames_given c t (link.requested asked full) x = []
-frames_given c t link.cleared x = []
 
 -- Whether an event of the line is one at this link.
 abbrev pub is_at_link : Service → ℕ → Aim → Bool
@@ -97,46 +93,24 @@ pub record HasNone (c : Config) (service : Service) (tei : ℕ) (e : Event) (bef
   pub orders : StartNone service tei (orders_in a)
   pub begins : All (IsForeign c service tei) (frame_in a)
 
+-- The link is deactivated: it is as one that begins, and tells what one tells whose TEI leaves the line.
+pub record IsGivenUp (c : Config) (service : Service) (tei : ℕ) (e : Event) (before after : Line) (a : Answer) : Type 0 where
+  pub place : ℕ
+  pub placed : place_in before tei ≡ Some place
+  pub by : IsDeactivated e a service tei
+  pub is : link_of service tei after ≡ fresh
+  pub notes : notes_of a ≡ (links.told (terms c service tei) link.cleared (link_of service tei before)).notes
+  pub contents : contents_in a ≡ None
+  pub lost : lost_in a ≡ 0
+  pub orders : orders_in a ≡ (links.told (terms c service tei) link.cleared (link_of service tei before)).orders
+  pub begins : frame_in a ≡ []
+
 abbrev pub Goes : Config → Service → ℕ → Event → Line → Line → Answer → Type 0
-Goes c service tei e before after a = HasNone c service tei e before after a ⊎ HasOne c service tei e before after a
+Goes c service tei e before after a =
+    HasNone c service tei e before after a ⊎ HasOne c service tei e before after a ⊎ IsGivenUp c service tei e before after a
 
 abbrev pub itself : Link → Link
 itself x = x
-
--- No other event gives a frame; and what concerns no part orders nothing.
-module _ (c : Config) (l : Line) where
-  abbrev Silent : Aim → Type 0
-  Silent (at_link its by place event) = frames_given c (terms c its by) event (link_of its by l) ≡ []
-  Silent (at_none what) = what.orders ≡ []
-  Silent (at_management me) = Unit {0}
-  Silent (at_units unit) = Unit {0}
-
-  heard-silent : (what : stream.Event) → Silent (aim_of_heard c l what)
-  heard-silent what = heard_aims c l Silent (λ cause. refl) (λ its by place what at. refl) (λ info. tt) (λ parts service to. refl) what
-
-  timer-silent : (its : Service) (by : ℕ) (k : LinkTimer) (o : Option ℕ) → Silent (at_timer its by k o)
-  timer-silent its by k None = refl
-  timer-silent its by k (Some place) = refl
-
-  expiry-silent : (timer : Timer) → Silent (aim_of_expiry timer l)
-  expiry-silent (timers.T200 its by) = timer-silent its by link_timer.T200 (place_in l by)
-  expiry-silent (timers.T203 its by) = timer-silent its by link_timer.T203 (place_in l by)
-  expiry-silent timers.T201 = tt
-
-  asked-silent : (its : Service) (by : ℕ) (asked : link.Request) (o : Option ℕ) → Silent (at_requested its by asked o)
-  asked-silent its by asked None = refl
-  asked-silent its by asked (Some place) = refl
-
-  request-silent : (r : Request) → Silent (aim_of_request r l)
-  request-silent (Establish its by) = asked-silent its by link.Establish (place_in l by)
-  request-silent (Release its by) = asked-silent its by link.Release (place_in l by)
-  request-silent (Data its by contents) = asked-silent its by (link.Data contents) (place_in l by)
-  request-silent (Request.Unit its by contents) = tt
-  request-silent (Assign by) = tt
-  request-silent (Remove by) = tt
-  request-silent (Check by) = tt
-  request-silent (SetBusy its by) = asked-silent its by link.SetBusy (place_in l by)
-  request-silent (ClearBusy its by) = asked-silent its by link.ClearBusy (place_in l by)
 
 module _ (c : Config) (l : Line) (s : IsSound c l) (service : Service) (tei : ℕ) where
   -- An event of one link, by whether it is this one.
@@ -184,7 +158,7 @@ module _ (c : Config) (l : Line) (s : IsSound c l) (service : Service) (tei : �
     none-started aim tells h = subst (StartNone service tei) (sym tells.3) h
 
     at-one : (its : Service) (by place : ℕ) (event : link.Event) → aim_of c e l ≡ at_link its by place event → IsAt l.management.places place by
-        → IsBy c e a its by event → Tells (at_link its by place event) → frames_given c (terms c its by) event (link_of its by l) ≡ []
+        → IsOf c e a its by event → Tells (at_link its by place event) → frames_given c (terms c its by) event (link_of its by l) ≡ []
         → (b : Bool) → (same_service its service && by == tei) ≡ b → Goes c service tei e l (of_aim c (at_link its by place event) l).line a
     at-one its by place event is at ties tells silent false other =
         stays (at_link its by place event) is other
@@ -195,16 +169,36 @@ module _ (c : Config) (l : Line) (s : IsSound c l) (service : Service) (tei : �
     at-one its by place event is at ties tells silent true same =
         let parts = both-true (same_service its service) (by == tei) same in
         subst (λ z. Goes c z tei e l (of_aim c (at_link its by place event) l).line a) (services-equal its service parts.0)
-        (subst (λ n. Goes c its n e l (of_aim c (at_link its by place event) l).line a) (eqb-true by tei parts.1) (inr one))
+        (subst (λ n. Goes c its n e l (of_aim c (at_link its by place event) l).line a) (eqb-true by tei parts.1)
+        (⊎_elim (λ own. inr (inl (one own))) (λ x. inr (inr (ended x.0 x.1))) (by-or-down c e a its by event ties)))
       where
-        one : HasOne c its by e l (of_aim c (at_link its by place event) l).line a
-        one =
+        ended : event ≡ link.cleared → IsDeactivated e a its by → IsGivenUp c its by e l (of_aim c (at_link its by place event) l).line a
+        ended cleared down =
+            let before = sym (own-before its by place event at) in
+            record {
+              place = place;
+              placed = has-place l.management.places by place s.management.table at;
+              by = down;
+              is = read.same-read fresh itself its by (with_link (link_number place its) (y its by place event at) l) (of_aim c (at_link its by place event) l).line refl refl
+                  ∙ own-after its by place event at ∙ ap (λ le. links.after (terms c its by) le (link_of its by l)) cleared;
+              notes = tells.0 ∙ ap (λ le. (links.told (terms c its by) le (x its by place event at)).notes) cleared
+                  ∙ ap (λ x. (links.told (terms c its by) link.cleared x).notes) before;
+              contents = tells.1 ∙ ap (λ le. option_or (links.told (terms c its by) le (x its by place event at)).delivered (links.told (terms c its by) le (x its by place event at)).unit) cleared
+                  ∙ none-delivered (terms c its by) (x its by place event at);
+              lost = tells.2 ∙ ap (λ le. (links.told (terms c its by) le (x its by place event at)).lost) cleared ∙ none-lost (terms c its by) (x its by place event at);
+              orders = tells.3 ∙ ap (λ le. (links.told (terms c its by) le (x its by place event at)).orders) cleared
+                  ∙ ap (λ x. (links.told (terms c its by) link.cleared x).orders) before;
+              begins = none_begins;
+            }
+
+        one : IsBy c e a its by event → HasOne c its by e l (of_aim c (at_link its by place event) l).line a
+        one own =
             let before = sym (own-before its by place event at) in
             record {
               place = place;
               placed = has-place l.management.places by place s.management.table at;
               event = event;
-              by = ties;
+              by = own;
               aimed = inr is;
               is = read.same-read fresh itself its by (with_link (link_number place its) (y its by place event at) l) (of_aim c (at_link its by place event) l).line refl refl
                   ∙ own-after its by place event at;
@@ -329,7 +323,7 @@ module _ (c : Config) (l : Line) (s : IsSound c l) (service : Service) (tei : �
       go (inl x) = inl (record { is = inl x.0; stays = λ was there. x.0; aims = refl; orders = x.2; begins = x.1 })
       go (inr x) =
           let q = offer-tells_nothing Own (link_of service tei l) in
-          inr (record {
+          inr (inl (record {
             place = x.0;
             placed = x.1;
             event = link.offer;
@@ -341,7 +335,7 @@ module _ (c : Config) (l : Line) (s : IsSound c l) (service : Service) (tei : �
             lost = sym q.3;
             orders = x.4;
             begins = x.3;
-          })
+          }))
 
 pub event-goes : (c : Config) (e : Event) (l : Line) (service : Service) (tei : ℕ) → IsSound c l → Goes c service tei e l (after c e l) (answer c e l)
 unfolding after answer

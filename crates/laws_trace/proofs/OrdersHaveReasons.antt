@@ -43,8 +43,8 @@ use Rattle.model_line.specs.Machine.{after, answer, unless_refused, unless_refus
 use Rattle.model_line.specs.Heard.{aim_of_heard}
 use Rattle.model_line.specs.Taken.{Taken, taken, next_of}
 use Rattle.model_line.specs.Refusal.{refusal}
-use Rattle.model_line.specs.Request.{Request, Establish, Release, Data, Unit, Assign, Remove, Check as check_tei, SetBusy, ClearBusy}
-use Rattle.model_line.specs.Requested.{at_requested, aim_of_request}
+use Rattle.model_line.specs.Request.{Request, Establish, Release, Data, Unit, Assign, Remove, Check as check_tei, SetBusy, ClearBusy, Deactivate}
+use Rattle.model_line.specs.Requested.{at_requested, at_deactivated, aim_of_request}
 use Rattle.model_line.specs.Sound.{IsSound}
 use Rattle.model_line.proofs.AimsSound.{IsProper}
 use Rattle.model_line.proofs.ProperAims.{heard_aims, request_proper}
@@ -227,6 +227,10 @@ module _ (c : Config) (l : Line) (s : IsSound c l) (ran : Timer → Bool) (same 
   asked service tei asks None off = All-nil R
   asked service tei asks (Some place) at = link-due service tei place at (link.requested asks false)
 
+  deactivated : (service : Service) (tei : ℕ) (o : Option ℕ) → place_in l tei ≡ o → All R (of_aim c (at_deactivated service tei o) l).told.orders
+  deactivated service tei None off = All-nil R
+  deactivated service tei (Some place) at = link-due service tei place at link.cleared
+
   pub asked-due : (r : Request) → IsProper c l (aim_of_request r l) → All R (of_aim c (aim_of_request r l) l).told.orders
   asked-due (Establish service tei) proper = asked service tei link.Establish (place_in l tei) refl
   asked-due (Release service tei) proper = asked service tei link.Release (place_in l tei) refl
@@ -237,6 +241,7 @@ module _ (c : Config) (l : Line) (s : IsSound c l) (ran : Timer → Bool) (same 
   asked-due (check_tei tei) proper = management-due (teis.check tei) proper (λ e. cc e)
   asked-due (SetBusy service tei) proper = asked service tei link.SetBusy (place_in l tei) refl
   asked-due (ClearBusy service tei) proper = asked service tei link.ClearBusy (place_in l tei) refl
+  asked-due (Deactivate service tei) proper = deactivated service tei (place_in l tei) refl
 
   pub expired-due : (service : Service) (tei : ℕ) (k : LinkTimer) (o : Option ℕ) → place_in l tei ≡ o → All R (of_aim c (at_timer service tei k o) l).told.orders
   expired-due service tei k None off = All-nil R

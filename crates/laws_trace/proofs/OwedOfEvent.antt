@@ -125,7 +125,8 @@ module _ (c : Config) (ranged : IsInRange c) (l : Line) (s : IsSound c l) (timed
               (shape (links.after t link.offer was).state (timing (links.course t link.offer was)) (events.offers c ranged l s timed service tei k agrees e x).kept))))
 
           by-goes : Goes c service tei e l (after c e l) (answer c e l) → Same next
-          by-goes (inr x) = by-one x
+          by-goes (inr (inl x)) = by-one x
+          by-goes (inr (inr x)) = absurd (true≢false (sym now ∙ ap (λ (y : Link). is_state 5 (told_state y.state)) x.is))
           by-goes (inl x) = either x.is
             where
               either : (next ≡ was) ⊎ (next ≡ fresh) → Same next

@@ -1,19 +1,18 @@
 -- What a link keeps takes places of its queue: the law.
-use Rattle.std.proofs.Common.{◌≡◌, ℕ, ◌+◌, ◌-◌, ◌%◌, ◌≤◌, ◌<◌, Bool, true, false, cond, not, List, [], ◌++◌, ◌&&◌, ◌||◌, ◌==◌, length, map, get_or, Option, Some, None, refl, sym, ap, ◌∙◌, subst, arith, eq-eqb, true≢false, ◌⊎◌, inl, inr, append-nil}
-use Rattle.std.specs.Prelude.{Ok, flat_map, is_some, nat_lt}
+use Rattle.std.proofs.Common.{◌≡◌, ℕ, ◌+◌, ◌-◌, ◌%◌, ◌≤◌, ◌<◌, Bool, true, false, cond, not, List, [], ◌&&◌, ◌||◌, length, get_or, Some, None, refl, sym, ap, ◌∙◌, subst, arith, true≢false, ◌⊎◌, inl, inr}
+use Rattle.std.specs.Prelude.{Ok, is_some, nat_lt}
 use Rattle.std.specs.List.{list_any}
 use Rattle.std.specs.Option.{option_map_or}
 use Rattle.std.proofs.lemmas.Bool.{and_parts}
 use Rattle.std.proofs.lemmas.List.{get_or-set_same}
-use Rattle.lapd_frame.specs.declared.refusals.Refusal.TheVariants.{BadTei, NoLink, PoolFull}
+use Rattle.lapd_frame.specs.declared.refusals.Refusal.TheVariants.{PoolFull}
 use Rattle.lapd_frame.specs.declared.services.Service.{Service}
 use Rattle.lapd_tei.proofs.Tables.{place_of-is, is_on-at}
 use Rattle.laws_link.specs.Accepted.{accepted, ends, is_release, tells_loss, empties}
 use Rattle.model_link.specs.declared.rooms.Room.{Room}
 use Rattle.model_link.specs.declared.terms.Terms.{Terms}
-use Rattle.model_link.specs.Deliveries.{restarts}
 use Rattle.model_link.specs.Events as link
-use Rattle.model_link.specs.Link.{Link, fresh as fresh_link, queue_of}
+use Rattle.model_link.specs.Link.{Link, fresh as fresh_link, queue_of, state_number}
 use Rattle.model_link.specs.Machine as links
 use Rattle.model_link.specs.Requests as requests
 use Rattle.model_link.specs.Room.{room_of}
@@ -22,14 +21,13 @@ use Rattle.model_link.proofs.OwnNotes.{notes-own}
 use Rattle.model_line.specs.declared.config.Config.{Config}
 use Rattle.model_line.specs.Effect.{at_link}
 use Rattle.model_line.specs.Event as line_event
-use Rattle.model_line.specs.Event.{Answer, hears, expiry, request, next, told, refused, gave}
+use Rattle.model_line.specs.Event.{Answer, hears, expiry, request, next, told, refused}
 use Rattle.model_line.specs.Line.{Line, fresh_line, has_tei, link_in, link_of, place_in, terms}
 use Rattle.model_line.specs.Machine as lines
 use Rattle.model_line.specs.Machine.{aim_of, unless_refused}
 use Rattle.model_line.specs.Refusal.{refusal}
 use Rattle.model_line.specs.Request.{Request, Data}
 use Rattle.model_line.specs.Requested.{at_requested}
-use Rattle.model_line.specs.Room.{unless}
 use Rattle.model_line.specs.Sound.{IsInRange, IsSound}
 use Rattle.model_line.proofs.Ranges.{terms_in_range}
 use Rattle.model_card.specs.Card.{Card, fresh, line_at, is_full}
@@ -47,72 +45,24 @@ use Rattle.laws_line.specs.Share.{is_granted}
 use Rattle.laws_line.specs.Steady.{IsBy}
 use Rattle.laws_line.proofs.Asked.{link-grants}
 use Rattle.laws_line.proofs.Granting.{not-refused}
-use Rattle.laws_line.proofs.Obeyed.{service-same}
-use Rattle.laws_line.proofs.Places.{is-off}
 use Rattle.laws_trace.specs.DataGoesOut.{data_asked}
-use Rattle.laws_trace.specs.Deliveries.{begins}
-use Rattle.laws_trace.specs.PlacesAreKept.{frame_heard, data_granted, shows_loss, gone_on, PlacesAreKept}
-use Rattle.laws_trace.specs.Trace as traces
-use Rattle.laws_trace.specs.Trace.{seen, seen_told, seen_granted, frame_in, Always}
+use Rattle.laws_trace.specs.News.{brings, is_sabme}
+use Rattle.laws_trace.specs.Observer.{Observed, steps, view_of, view_behind}
+use Rattle.laws_trace.specs.PlacesAreKept.{went_on, PlacesAreKept}
+use Rattle.laws_trace.specs.Trace.{seen, is_up, Always}
 use Rattle.laws_trace.proofs.AllDataGoesOut.{link-at-end}
 use Rattle.laws_trace.proofs.DataAsked.{no-data, only-requested, only-offered, granted-data, elsewhere}
-use Rattle.laws_trace.proofs.Deliveries.{frame_by, one-begins}
-use Rattle.laws_trace.proofs.KeptOfLink.{none-left, moved, own-losses}
+use Rattle.laws_trace.proofs.KeptOfLink.{went_by, none-left, moved, own-losses}
+use Rattle.laws_trace.proofs.NewsRows.{sabme_of}
+use Rattle.laws_trace.proofs.NewsSeen.{one-begins}
+use Rattle.laws_trace.proofs.ObservedFacts.{brings-is}
 use Rattle.laws_trace.proofs.OfferTells.{offer-tells_nothing}
 use Rattle.laws_trace.proofs.OneLink.{HasOne, HasNone, Goes, event-goes}
+use Rattle.laws_trace.proofs.PlacesSeen.{granted_in, lost_in, told-grants, begun-grants, asked-grants, from-notes, own-release, own-deactivation}
+use Rattle.laws_trace.proofs.RoomsAreTold.{its-room, on-place}
 use Rattle.laws_trace.proofs.Runs.{nothing-seen}
+use Rattle.laws_trace.proofs.SeenAs.{up-number, IsSeenAs, seen-before, seen-behind}
 use Rattle.laws_trace.proofs.TimersAreTimely.{front-at, config-now, sound-now}
-
--- What is granted with an event.
-module _ (service : Service) (tei : ℕ) where
-  abbrev granted_in : List traces.Seen → List (List ℕ)
-  granted_in t = flat_map (data_granted service tei) t
-
-  abbrev lost_in : List traces.Seen → Bool
-  lost_in t = list_any (shows_loss service tei) t
-
-  told-grants : (a : Answer) → granted_in (seen_told a) ≡ []
-  told-grants (told t) = refl
-  told-grants (refused why) = refl
-  told-grants (gave frame) = refl
-
-  begun-grants : (a : Answer) → granted_in (map traces.begun (frame_in a)) ≡ []
-  begun-grants (told t) = refl
-  begun-grants (refused why) = refl
-  begun-grants (gave None) = refl
-  begun-grants (gave (Some f)) = refl
-
-  asked-grants : (r : Request) (a : Answer) → granted_in (seen_granted r a ++ seen_told a) ≡ cond (is_granted a) (data_asked service tei r) []
-  asked-grants r (told t) = append-nil (data_asked service tei r)
-  asked-grants r (refused why) = refl
-  asked-grants r (gave frame) = refl
-
-  -- A note of a loss is seen, and so is a release that is granted.
-  shown : (b c : Bool) → b ≡ true → (c || (b || (false || false))) ≡ true
-  shown true true is = refl
-  shown true false is = refl
-  shown false c is = absurd (true≢false (sym is))
-
-  from-notes : (e : line_event.Event) (a : Answer) → (e ≡ next → ⊥) → list_any (is_loss_of service tei) (notes_of a) ≡ true → lost_in (seen e a) ≡ true
-  from-notes (hears what) (told t) never is = shown (list_any (is_loss_of service tei) t.notes) false is
-  from-notes (expiry timer) (told t) never is = shown (list_any (is_loss_of service tei) t.notes) false is
-  from-notes (request r) (told t) never is = shown (list_any (is_loss_of service tei) t.notes) (shows_loss service tei (traces.granted r)) is
-  from-notes next a never is = absurd (never refl)
-  from-notes e (refused why) never is = absurd (true≢false (sym is))
-  from-notes e (gave frame) never is = absurd (true≢false (sym is))
-
-  own-release : (a : Answer) → is_granted a ≡ true → lost_in (seen (request (of_link service tei link.Release)) a) ≡ true
-  own-release (told t) is =
-      ap (λ b. b || (list_any (is_loss_of service tei) t.notes || (false || false)))
-      (ap (λ b. b && tei == tei) (service-same service) ∙ eq-eqb tei tei refl)
-  own-release (refused why) is = absurd (true≢false (sym is))
-  own-release (gave frame) is = absurd (true≢false (sym is))
-
-heard-same : (c : Config) (e : line_event.Event) → frame_heard c e ≡ frame_by c e
-heard-same c (hears what) = refl
-heard-same c (expiry timer) = refl
-heard-same c (request r) = refl
-heard-same c next = refl
 
 either-false : (b : Bool) → cond b false false ≡ false
 either-false true = refl
@@ -122,9 +72,12 @@ or-else : (a b : Bool) → a ≡ false → (a || b) ≡ true → b ≡ true
 or-else true b none is = absurd (true≢false none)
 or-else false b none is = is
 
-still : (a : ℕ) (b : Bool) → cond {A = ℕ} b 0 ((a % 128 + 128 - a % 128) % 128) ≡ 0
-still a true = refl
-still a false = omega arith
+still : (anew : Bool) (k : Link) → went_by anew k k ≡ 0
+still anew k = go (is_up (state_number k.state) && is_up (state_number k.state) && not anew)
+  where
+    go : (b : Bool) → cond b (steps (k.a % 128) (k.a % 128)) 0 ≡ 0
+    go true = omega arith
+    go false = refl
 
 -- What an event of the link accepts is what is granted, and where it leaves nothing layer 3 learns it.
 module _ (c : Config) (ranged : IsInRange c) (l : Line) (s : IsSound c l) (service : Service) (tei : ℕ) where
@@ -245,12 +198,12 @@ module _ (c : Config) (ranged : IsInRange c) (l : Line) (s : IsSound c l) (servi
   k' = link_of service tei (lines.after c e l)
 
   abbrev anew : Bool
-  anew = begins service tei (frame_heard c e) (notes_of a)
+  anew = brings is_sabme c service tei e
 
   abbrev Left : Link → Bool → Type 0
   Left x b =
       ((length (queue_of x) ≡ 0) × (lost_in service tei (seen e a) ≡ true))
-      ⊎ (length (queue_of x) + cond {A = ℕ} b 0 ((x.a % 128 + 128 - k.a % 128) % 128) ≡ length (queue_of k) + length (granted_in service tei (seen e a)))
+      ⊎ (length (queue_of x) + went_by b k x ≡ length (queue_of k) + length (granted_in service tei (seen e a)))
 
   on-there : (m : Line) (place : ℕ) → place_in m tei ≡ Some place → has_tei tei m ≡ true
   on-there m place on = is_on-at m.management.places place tei (place_of-is m.management.places tei place on).1
@@ -260,7 +213,7 @@ module _ (c : Config) (ranged : IsInRange c) (l : Line) (s : IsSound c l) (servi
   none-left-so x p q on there =
       let same = x.stays (on-there l p on) (on-there new q there) in
       let bare : length (granted_in service tei (seen e a)) ≡ 0 = ap length (none-granted c ranged l s service tei e x) in
-      let rests : cond {A = ℕ} anew 0 ((k.a % 128 + 128 - k.a % 128) % 128) ≡ 0 = still k.a anew in
+      let rests : went_by anew k k ≡ 0 = still anew k in
       subst (λ y. Left y anew) (sym same) (inr (omega (arith, bare, rests)))
 
   -- One event of it.
@@ -271,10 +224,8 @@ module _ (c : Config) (ranged : IsInRange c) (l : Line) (s : IsSound c l) (servi
     range : link_sound.IsInRange t
     range = terms_in_range c ranged service tei (s.management.table.range x.place tei (place_of-is l.management.places tei x.place x.placed).1)
 
-    anew-is : anew ≡ restarts t x.event k
-    anew-is =
-        ap (λ o. begins service tei o (notes_of a)) (heard-same c e) ∙ ap (begins service tei (frame_by c e)) x.notes
-        ∙ one-begins c e a service tei x.event x.by k
+    anew-is : anew ≡ sabme_of x.event
+    anew-is = sym (brings-is c service tei is_sabme e a) ∙ one-begins c service tei is_sabme e a x.event x.by
 
     accepts : length (accepted t x.event k) ≡ length (granted_in service tei (seen e a))
     accepts = ap length (accepted-asked c ranged l s service tei e x)
@@ -282,10 +233,10 @@ module _ (c : Config) (ranged : IsInRange c) (l : Line) (s : IsSound c l) (servi
     one-left : Left k' anew
     one-left = subst (λ y. Left y anew) (sym x.is) (subst (Left (links.after t x.event k)) (sym anew-is) (go (empties t x.event k) refl))
       where
-        go : (b : Bool) → empties t x.event k ≡ b → Left (links.after t x.event k) (restarts t x.event k)
+        go : (b : Bool) → empties t x.event k ≡ b → Left (links.after t x.event k) (sabme_of x.event)
         go true all = inl (none-left t k sound range.k_high x.event all, lost c ranged l s service tei e x all)
         go false some =
-            let kept = moved t k sound range.k_high x.event (restarts t x.event k) refl some in
+            let kept = moved t k sound range.k_high x.event some in
             let more = accepts in
             inr (omega (arith, kept, more))
 
@@ -294,17 +245,11 @@ module _ (c : Config) (ranged : IsInRange c) (l : Line) (s : IsSound c l) (servi
     where
       go : Goes c service tei e l new a → Left k' anew
       go (inl x) = none-left-so x p q on there
-      go (inr x) = one-left x
-
--- Where there is a room, there is a link, and the room is its.
-its-room : (bad on : Bool) (x r : Room) → unless (cond bad (Some BadTei) (cond (not on) (Some NoLink) None)) x ≡ Ok r → (on ≡ true) × (x ≡ r)
-its-room true on x r e = absurd (cc)
-its-room false false x r e = absurd (cc)
-its-room false true x r e = (refl, cc)
-
-on-place : (l : Line) (tei : ℕ) → has_tei tei l ≡ true → (o : Option ℕ) → place_in l tei ≡ o → (place : ℕ) × (place_in l tei ≡ Some place)
-on-place l tei on (Some place) is = (place, is)
-on-place l tei on None off = absurd (true≢false (sym on ∙ is-off l.management.places tei off))
+      go (inr (inl x)) = one-left x
+      go (inr (inr x)) = inl (
+        ap (λ (y : Link). length (queue_of y)) x.is,
+        subst (λ e. lost_in service tei (seen e a) ≡ true) (sym x.by.0) (own-deactivation service tei a x.by.1),
+      )
 
 module _ (card : Card) (number : ℕ) (what : line_event.Event) (s : card_sound.IsSound card) (here : number < card.config.lines) (service : Service) (tei : ℕ) where
   abbrev e : Event
@@ -322,8 +267,7 @@ module _ (card : Card) (number : ℕ) (what : line_event.Event) (s : card_sound.
       (p q : ℕ) → place_in l tei ≡ Some p → place_in m tei ≡ Some q →
       let x = link_of service tei m in
       ((length (queue_of x) ≡ 0) × (lost_in service tei (seen what a) ≡ true))
-      ⊎ (length (queue_of x) + cond {A = ℕ} (begins service tei (frame_heard card.config what) (notes_of a)) 0 ((x.a % 128 + 128 - own_now.a % 128) % 128)
-      ≡ length (queue_of own_now) + length (granted_in service tei (seen what a)))
+      ⊎ (length (queue_of x) + went_by (brings is_sabme card.config service tei what) own_now x ≡ length (queue_of own_now) + length (granted_in service tei (seen what a)))
 
   goes : Goes-so (line_at number (after (at number what) card)) (answer (at number what) card)
   goes =
@@ -331,7 +275,7 @@ module _ (card : Card) (number : ℕ) (what : line_event.Event) (s : card_sound.
       (λ full p q on there.
       let none = nothing-seen card.config what l (and_parts (lines.takes_slot card.config what l) (is_full card) full).0 in
       let bare : length (granted_in service tei (seen what (refused PoolFull))) ≡ 0 = ap (λ t. length (granted_in service tei t)) none in
-      let rests = still own_now.a (begins service tei (frame_heard card.config what) []) in
+      let rests = still (brings is_sabme card.config service tei what) own_now in
       inr (omega (arith, bare, rests)))
       (λ room.
       subst (λ (m : Line). Goes-so m (lines.answer card.config what l))
@@ -348,51 +292,85 @@ module _ (card : Card) (number : ℕ) (what : line_event.Event) (s : card_sound.
   abbrev its_answer : Answer
   its_answer = answer (at number what) card
 
-  abbrev begins_anew : Bool
-  begins_anew = begins service tei (frame_heard card.config what) (notes_of (answer (at number what) card))
+  abbrev went : ℕ
+  went = went_by (brings is_sabme card.config service tei what) own_now link_behind
 
-  pub keeps : (was left : Room) → room number service tei card ≡ Ok was → room number service tei (after (at number what) card) ≡ Ok left →
-      let a = answer (at number what) card in
-      ((left.queue ≡ card.config.queue) × (lost_in service tei (seen what a) ≡ true))
-      ⊎ (left.queue + length (granted_in service tei (seen what a))
-      ≡ was.queue + gone_on (begins service tei (frame_heard card.config what) (notes_of a)) was left)
-  keeps was left before behind =
-      let c = card.config in
-      let next_card = after (at number what) card in
-      let m = line_at number next_card in
-      let x = link_of service tei m in
-      let next_sound = after_is_sound card (at number what) s here in
-      let first = its-room (nat_lt 126 tei) (has_tei tei l) (room_of (terms c service tei) (free card) own_now) was before in
-      let second = its-room (nat_lt 126 tei) (has_tei tei m) (room_of (terms c service tei) (free next_card) x) left behind in
-      let on = on-place l tei first.0 (place_in l tei) refl in
-      let there = on-place m tei second.0 (place_in m tei) refl in
-      let few : length (queue_of own_now) ≤ c.queue = (link-at-end c l s.config (line_sound card number (has_lines card s) here) service tei on.0 on.1).queue in
-      let few' : length (queue_of x) ≤ c.queue = (link-at-end c m s.config (line_sound next_card number (has_lines next_card next_sound) here) service tei there.0 there.1).queue in
-      let was_is : was.queue ≡ c.queue - length (queue_of own_now) = ap (λ (r : Room). r.queue) (sym first.1) in
-      let left_is : left.queue ≡ c.queue - length (queue_of x) = ap (λ (r : Room). r.queue) (sym second.1) in
-      go was_is left_is few few' (ap (λ (r : Room). r.va) first.1) (ap (λ (r : Room). r.va) second.1) (goes on.0 there.0 on.1 there.1)
-    where
-      go : was.queue ≡ card.config.queue - length (queue_of own_now) → left.queue ≡ card.config.queue - length (queue_of link_behind) → length (queue_of own_now) ≤ card.config.queue → length (queue_of link_behind) ≤ card.config.queue
-          → own_now.a % 128 ≡ was.va → link_behind.a % 128 ≡ left.va
-          → ((length (queue_of link_behind) ≡ 0) × (lost_in service tei (seen what its_answer) ≡ true))
-          ⊎ (length (queue_of link_behind) + cond {A = ℕ} begins_anew 0 ((link_behind.a % 128 + 128 - own_now.a % 128) % 128) ≡ length (queue_of own_now) + length (granted_in service tei (seen what its_answer)))
-          → ((left.queue ≡ card.config.queue) × (lost_in service tei (seen what its_answer) ≡ true))
-          ⊎ (left.queue + length (granted_in service tei (seen what its_answer)) ≡ was.queue + gone_on begins_anew was left)
-      go was_is left_is few few' va va' (inl y) = let none : length (queue_of link_behind) ≡ 0 = y.0 in inl (omega (arith, left_is, none), y.1)
-      go was_is left_is few few' va va' (inr is) =
-          inr
-          (places card.config.queue (length (queue_of own_now)) (length (queue_of link_behind)) was.queue left.queue (gone_on begins_anew was left) (length (granted_in service tei (seen what its_answer))) was_is left_is few few'
-          (ap (λ n. length (queue_of link_behind) + cond {A = ℕ} begins_anew 0 ((n + 128 - was.va) % 128)) (sym va')
-          ∙ ap (λ n. length (queue_of link_behind) + cond {A = ℕ} begins_anew 0 ((link_behind.a % 128 + 128 - n) % 128)) (sym va) ∙ is))
+  abbrev Keeps : Room → Room → ℕ → Type 0
+  Keeps was left more =
+      ((left.queue ≡ card.config.queue) × (lost_in service tei (seen what its_answer) ≡ true))
+      ⊎ (left.queue + length (granted_in service tei (seen what its_answer)) ≡ was.queue + more)
+
+  module _ (was left : Room) (before : room number service tei card ≡ Ok was) (behind : room number service tei (after (at number what) card) ≡ Ok left) where
+    there-before : (has_tei tei l ≡ true) × (room_of (terms card.config service tei) (free card) own_now ≡ was)
+    there-before = its-room (nat_lt 126 tei) (has_tei tei l) (room_of (terms card.config service tei) (free card) own_now) was before
+
+    there-behind : (has_tei tei (line_at number (after (at number what) card)) ≡ true)
+        × (room_of (terms card.config service tei) (free (after (at number what) card)) link_behind ≡ left)
+    there-behind =
+        its-room (nat_lt 126 tei) (has_tei tei (line_at number (after (at number what) card)))
+        (room_of (terms card.config service tei) (free (after (at number what) card)) link_behind) left behind
+
+    pub place-before : (place : ℕ) × (place_in l tei ≡ Some place)
+    place-before = on-place l tei there-before.0 (place_in l tei) refl
+
+    pub place-behind : (place : ℕ) × (place_in (line_at number (after (at number what) card)) tei ≡ Some place)
+    place-behind = on-place (line_at number (after (at number what) card)) tei there-behind.0 (place_in (line_at number (after (at number what) card)) tei) refl
+
+    pub keeps : Keeps was left went
+    keeps =
+        let c = card.config in
+        let next_card = after (at number what) card in
+        let m = line_at number next_card in
+        let next_sound = after_is_sound card (at number what) s here in
+        let on = place-before in
+        let there = place-behind in
+        go (ap (λ (r : Room). r.queue) (sym there-before.1)) (ap (λ (r : Room). r.queue) (sym there-behind.1))
+        (link-at-end c l s.config (line_sound card number (has_lines card s) here) service tei on.0 on.1).queue
+        (link-at-end c m s.config (line_sound next_card number (has_lines next_card next_sound) here) service tei there.0 there.1).queue
+        (goes on.0 there.0 on.1 there.1)
+      where
+        go : was.queue ≡ card.config.queue - length (queue_of own_now) → left.queue ≡ card.config.queue - length (queue_of link_behind)
+            → length (queue_of own_now) ≤ card.config.queue → length (queue_of link_behind) ≤ card.config.queue
+            → ((length (queue_of link_behind) ≡ 0) × (lost_in service tei (seen what its_answer) ≡ true))
+            ⊎ (length (queue_of link_behind) + went ≡ length (queue_of own_now) + length (granted_in service tei (seen what its_answer)))
+            → Keeps was left went
+        go was_is left_is few few' (inl y) = let none : length (queue_of link_behind) ≡ 0 = y.0 in inl (omega (arith, left_is, none), y.1)
+        go was_is left_is few few' (inr is) =
+            inr
+            (places card.config.queue (length (queue_of own_now)) (length (queue_of link_behind)) was.queue left.queue went (length (granted_in service tei (seen what its_answer))) was_is left_is few few' is)
+
+-- The observer has it so.
+went-as : (anew : Bool) (k x : Link) (o p : Observed) → IsSeenAs k o → IsSeenAs x p → went_by anew k x ≡ went_on anew o p
+went-as anew k x o p was now =
+    go (is_up (state_number k.state)) refl (is_up (state_number x.state)) refl
+    ∙ ap (λ s. cond (is_up s && is_up (state_number x.state) && not anew) (steps o.acknowledged p.acknowledged) 0) (sym was.state_is)
+    ∙ ap (λ s. cond (is_up o.state && is_up s && not anew) (steps o.acknowledged p.acknowledged) 0) (sym now.state_is)
+  where
+    go : (u : Bool) → is_up (state_number k.state) ≡ u → (v : Bool) → is_up (state_number x.state) ≡ v
+        → cond (u && v && not anew) (steps (k.a % 128) (x.a % 128)) 0 ≡ cond (u && v && not anew) (steps o.acknowledged p.acknowledged) 0
+    go false down v to = refl
+    go true up false to = refl
+    go true up true to =
+        ap (λ n. cond (not anew) (steps n (x.a % 128)) 0) (sym (was.acknowledged_is (sym (up-number k.state) ∙ up)))
+        ∙ ap (λ n. cond (not anew) (steps o.acknowledged n) 0) (sym (now.acknowledged_is (sym (up-number x.state) ∙ to)))
 
 pub places-are-kept : Always PlacesAreKept
 places-are-kept c events number ranged all within service tei before behind what was left split first second =
-    let whole = subst (AreAtLines (fresh c)) split all in
-    let front = front-at (fresh c) before (at number what) behind whole in
+    let front = front-at (fresh c) before (at number what) behind (subst (AreAtLines (fresh c)) split all) in
     let card = after_all (fresh c) before in
+    let next_line = line_at number (after (at number what) (after_all (fresh c) before)) in
     let same : card.config ≡ c = config-now c before number ranged front within service tei in
     let s = sound-now c before number ranged front within service tei in
+    let here = subst (λ (d : Config). number < d.lines) (sym same) within in
+    let on = place-before card number what s here service tei was left first second in
+    let there = place-behind card number what s here service tei was left first second in
+    let o = (view_of c service tei number before).link in
+    let p = (view_behind c service tei number before what).link in
+    let now = seen-before c before number ranged front within service tei on.0 on.1 in
+    let later = seen-behind c before number ranged front within service tei what there.0 there.1 in
+    let went = went-as (brings is_sabme c service tei what) (link_of service tei (line_at number card)) (link_of service tei next_line) o p now later in
     let a = answer (at number what) card in
-    subst (λ (d : Config). ((left.queue ≡ d.queue) × (lost_in service tei (seen what a) ≡ true))
-    ⊎ (left.queue + length (granted_in service tei (seen what a)) ≡ was.queue + gone_on (begins service tei (frame_heard d what) (notes_of a)) was left)) same
-    (keeps card number what s (subst (λ (d : Config). number < d.lines) (sym same) within) service tei was left first second)
+    subst (λ m. ((left.queue ≡ c.queue) × (lost_in service tei (seen what a) ≡ true)) ⊎ (left.queue + length (granted_in service tei (seen what a)) ≡ was.queue + m)) went
+    (subst (λ (d : Config). ((left.queue ≡ d.queue) × (lost_in service tei (seen what a) ≡ true))
+    ⊎ (left.queue + length (granted_in service tei (seen what a)) ≡ was.queue + went_by (brings is_sabme d service tei what) (link_of service tei (line_at number card)) (link_of service tei next_line))) same
+    (keeps card number what s here service tei was left first second))

@@ -1,5 +1,5 @@
 -- What is told of the room of a link: the law.
-use Rattle.std.proofs.Common.{◌≡◌, ℕ, ◌+◌, ◌-◌, ◌%◌, ◌≤◌, Bool, true, false, not, cond, length, Option, Some, None, Ok, refl, sym, ap, ◌∙◌, subst, arith, true≢false, length-drop}
+use Rattle.std.proofs.Common.{◌≡◌, ℕ, ◌==◌, ◌&&◌, ◌||◌, ◌+◌, ◌-◌, ◌%◌, ◌≤◌, Bool, true, false, not, cond, length, Option, Some, None, Ok, refl, sym, ap, ◌∙◌, subst, arith, true≢false, length-drop}
 use Rattle.std.specs.Prelude.{fold, nat_lt}
 use Rattle.std.specs.Option.{option_map_or}
 use Rattle.std.proofs.lemmas.Bool.{le-ltb}
@@ -9,8 +9,9 @@ use Rattle.lapd_tei.proofs.Tables.{place_of-is, is_on-at}
 use Rattle.model_link.specs.declared.rooms.Room.{Room}
 use Rattle.model_link.specs.declared.states.State.{State}
 use Rattle.model_link.specs.declared.states.State.TheVariants.{TeiAssigned, AwaitingEstablishment, AwaitingRelease, Established, TimerRecovery}
-use Rattle.model_link.specs.Link.{queue_of, is_multiple_frame}
+use Rattle.model_link.specs.Link.{Link, queue_of, is_multiple_frame, state_number}
 use Rattle.model_link.specs.Room.{room_of}
+use Rattle.model_link.specs.Sound.{IsSettledIn}
 use Rattle.model_line.specs.declared.config.Config.{Config}
 use Rattle.model_line.specs.Effect.{Effect}
 use Rattle.model_line.specs.Line.{Line, link_of, place_in, terms, has_tei}
@@ -25,7 +26,8 @@ use Rattle.model_card.specs.Run.{moments, after_all}
 use Rattle.model_card.proofs.Refusals.{answer_is}
 use Rattle.model_card.proofs.Rooms.{refuses_by}
 use Rattle.laws_trace.specs.DataGoesOut.{Going, none_yet, Reaches}
-use Rattle.laws_trace.specs.RoomsAreTold.{refusal_in, IsRoom, RoomsAreTold}
+use Rattle.laws_line.proofs.Places.{is-off}
+use Rattle.laws_trace.specs.RoomsAreTold.{refusal_in, IsRoom, RoomsAreTold, keeps_nothing, AllPlacesAreLeft}
 use Rattle.laws_trace.specs.Observer.{Observed, view_of}
 use Rattle.laws_trace.specs.Trace.{Always, is_up, trace_of}
 use Rattle.laws_trace.proofs.AllDataGoesOut.{line-at-end, link-at-end}
@@ -33,7 +35,7 @@ use Rattle.laws_trace.proofs.DataGoesOut.{quiet}
 use Rattle.laws_trace.proofs.Deliveries.{up-is}
 use Rattle.laws_trace.proofs.DataRun.{AtEnd, at-end}
 use Rattle.laws_trace.proofs.ObservedLaws.{numbers-now}
-use Rattle.laws_trace.proofs.TimerClaims.{Agrees, IsKnown}
+use Rattle.laws_trace.proofs.SeenAs.{known-up, IsSeenAs, seen-before}
 use Rattle.laws_trace.proofs.TimersAreTimely.{config-now, true-now}
 use Rattle.laws_trace.proofs.TimersOfEvent.{off-state}
 use Rattle.laws_trace.proofs.TimersWatched.{Known, nothing_yet, watch}
@@ -42,14 +44,6 @@ use Rattle.laws_trace.proofs.TimersWatched.{Known, nothing_yet, watch}
 refused-so : (o : Option Refusal) (outcome : Effect) → refusal_in (unless_refused_told o outcome) ≡ o
 refused-so None outcome = refl
 refused-so (Some why) outcome = refl
-
--- In states 7 and 8 it is known how far a link is.
-known-up : (state : State) (k : Known) (a s : ℕ) (busy : Bool) → is_multiple_frame state ≡ true → Agrees state k a s busy → IsKnown k a s busy
-known-up TeiAssigned k a s busy up h = absurd (true≢false (sym up))
-known-up AwaitingEstablishment k a s busy up h = absurd (true≢false (sym up))
-known-up AwaitingRelease k a s busy up h = absurd (true≢false (sym up))
-known-up Established k a s busy up h = h
-known-up TimerRecovery k a s busy up h = h
 
 -- The places of a queue are those that are left, and those of what is kept.
 places-add : (places kept all a gone acknowledged : ℕ) → kept ≡ all - a → kept ≤ places → a ≤ gone → gone ≤ a + 127 → gone ≤ all → acknowledged ≡ a % 128
@@ -118,3 +112,41 @@ rooms-are-told c events number ranged all within service tei up = go (place_in l
         × IsRoom c (after_all (fresh c) events) number service tei (view_of c service tei number events).link end
     go None off = absurd (true≢false (sym up ∙ ap (λ o. option_map_or is_up o false) (off-state service tei l off)))
     go (Some place) on = (quiet x.told_count x.contents x.gone, x.reaches, told place on)
+
+-- A TEI whose link has a room is on the line, and the room is its link's.
+pub its-room : (bad on : Bool) (x r : Room) → unless (cond bad (Some BadTei) (cond (not on) (Some NoLink) None)) x ≡ Ok r → (on ≡ true) × (x ≡ r)
+its-room true on x r e = absurd (cc)
+its-room false false x r e = absurd (cc)
+its-room false true x r e = (refl, cc)
+
+pub on-place : (l : Line) (tei : ℕ) → has_tei tei l ≡ true → (o : Option ℕ) → place_in l tei ≡ o → (place : ℕ) × (place_in l tei ≡ Some place)
+on-place l tei on (Some place) is = (place, is)
+on-place l tei on None off = absurd (true≢false (sym on ∙ is-off l.management.places tei off))
+
+-- Where a link keeps nothing.
+none-kept : (k : Link) (o : Observed) → IsSeenAs k o → IsSettledIn k.state k → keeps_nothing o ≡ true → length (queue_of k) ≡ 0
+none-kept k o seen settled none =
+    let all : length k.contents ≡ k.a = by-state k.state settled seen.asked_is (sym (ap (λ s. s == 4 || s == 6 || (s == 5 && o.asked)) seen.state_is) ∙ none) in
+    let kept : length (queue_of k) ≡ length k.contents - k.a = length-drop k.a k.contents in
+    omega (arith, all, kept)
+  where
+    by-state : (here : State) → IsSettledIn here k → ((state_number here == 5) ≡ true → o.asked ≡ k.asked)
+        → (state_number here == 4 || state_number here == 6 || (state_number here == 5 && o.asked)) ≡ true → length k.contents ≡ k.a
+    by-state TeiAssigned settled asked is = settled
+    by-state AwaitingEstablishment settled asked is = settled (sym (asked refl) ∙ is)
+    by-state AwaitingRelease settled asked is = settled
+    by-state Established settled asked is = absurd (true≢false (sym is))
+    by-state TimerRecovery settled asked is = absurd (true≢false (sym is))
+
+pub all-places-are-left : Always AllPlacesAreLeft
+all-places-are-left c events number ranged all within service tei left is none =
+    let card = after_all (fresh c) events in
+    let l = line_at number (after_all (fresh c) events) in
+    let own = link_of service tei l in
+    let its = its-room (nat_lt 126 tei) (has_tei tei l) (room_of (terms card.config service tei) (free card) own) left is in
+    let on = on-place l tei its.0 (place_in l tei) refl in
+    let s = link-at-end c l ranged (line-at-end c events number ranged all within) service tei on.0 on.1 in
+    let nothing = none-kept own (view_of c service tei number events).link (seen-before c events number ranged all within service tei on.0 on.1) s.settled none in
+    let same : card.config.queue ≡ c.queue = ap (λ (d : Config). d.queue) (config-now c events number ranged all within service tei) in
+    let left_is : left.queue ≡ card.config.queue - length (queue_of own) = ap (λ (r : Room). r.queue) (sym its.1) in
+    omega (arith, nothing, same, left_is)

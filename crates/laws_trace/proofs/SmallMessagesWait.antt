@@ -37,7 +37,7 @@ use Rattle.model_line.specs.Taken.{Taken, taken, line_of}
 use Rattle.model_line.specs.Refusal.{refusal}
 use Rattle.model_line.specs.Request as asked
 use Rattle.model_line.specs.Request.{Request}
-use Rattle.model_line.specs.Requested.{aim_of_request, at_requested}
+use Rattle.model_line.specs.Requested.{aim_of_request, at_requested, at_deactivated}
 use Rattle.model_line.specs.Sound.{IsSound}
 use Rattle.model_line.proofs.Sides.{side_aims}
 use Rattle.laws_line.proofs.LinkMoves.{IsOne, taken-one}
@@ -138,6 +138,10 @@ at-asked : (service : Service) (tei : ℕ) (what : link.Request) (o : Option ℕ
 at-asked service tei what None = tt
 at-asked service tei what (Some place) = tt
 
+at-down : (service : Service) (tei : ℕ) (o : Option ℕ) → IsOfOctetsAt (at_deactivated service tei o)
+at-down service tei None = tt
+at-down service tei (Some place) = tt
+
 asked-aims : (l : Line) (r : Request) → IsOfOctetsAt (aim_of_request r l)
 asked-aims l (asked.Establish service tei) = at-asked service tei link.Establish (place_in l tei)
 asked-aims l (asked.Release service tei) = at-asked service tei link.Release (place_in l tei)
@@ -148,6 +152,7 @@ asked-aims l (asked.Remove tei) = tt
 asked-aims l (asked.Check tei) = tt
 asked-aims l (asked.SetBusy service tei) = at-asked service tei link.SetBusy (place_in l tei)
 asked-aims l (asked.ClearBusy service tei) = at-asked service tei link.ClearBusy (place_in l tei)
+asked-aims l (asked.Deactivate service tei) = at-down service tei (place_in l tei)
 
 request-aims : (l : Line) (r : Request) (o : Option Refusal) → IsOfOctetsAt (unless_refused o (aim_of_request r l))
 request-aims l r None = asked-aims l r

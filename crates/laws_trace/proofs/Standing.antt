@@ -18,7 +18,7 @@ use Rattle.model_line.specs.declared.config.Config.{Config}
 use Rattle.model_line.specs.Event.{Event, hears, expiry, request, next, Answer, LineTold, told, refused, gave}
 use Rattle.model_line.specs.Line.{Line, place_in, link_in, link_of, terms}
 use Rattle.model_line.specs.Machine.{aim_of, after, answer, unless_refused, of_heard}
-use Rattle.model_line.specs.Request.{Request, Establish, Release, Data, Assign, Remove, Check, SetBusy, ClearBusy}
+use Rattle.model_line.specs.Request.{Request, Establish, Release, Data, Assign, Remove, Check, SetBusy, ClearBusy, Deactivate}
 use Rattle.model_line.specs.Requested.{at_requested}
 use Rattle.model_line.specs.Sound.{IsInRange, IsSound}
 use Rattle.laws_line.specs.Heard.{notes_of, is_data_of}
@@ -32,7 +32,7 @@ use Rattle.laws_trace.specs.Deliveries.{Standing, busy_asked, is_information, br
 use Rattle.laws_trace.specs.LinkFrames.{frame_of, is_for}
 use Rattle.laws_trace.proofs.CommandsCaused.{same-itself}
 use Rattle.laws_trace.proofs.Deliveries.{frame_by, brings-frame, brings-none, one-begins, heard-by}
-use Rattle.laws_trace.proofs.DeliveriesRun.{IsCount, event-aims, data-noted, event-told, no-data}
+use Rattle.laws_trace.proofs.DeliveriesRun.{IsCount, event-aims, data-noted, event-told, no-data, ended-notes}
 use Rattle.laws_trace.proofs.OneLink.{HasOne, HasNone, Goes, is_at_link, event-goes}
 use Rattle.laws_trace.proofs.StandingOfLink.{quiet, calm, IsStanding, brings, busy_behind, rejected_behind, link-stands, delivers-free}
 
@@ -164,6 +164,7 @@ module _ (service : Service) (tei : ℕ) where
     busy-elsewhere (Assign by) busy g away = refl
     busy-elsewhere (Remove by) busy g away = refl
     busy-elsewhere (Check by) busy g away = refl
+    busy-elsewhere (Deactivate its by) busy g away = refl
     busy-elsewhere (SetBusy its by) busy g away =
         ap (λ b. b || busy)
         (aimed (SetBusy its by) its by link.SetBusy (ap (λ o. unless_refused o (at_requested its by link.SetBusy (place_in l by))) (sym (not-refused c (SetBusy its by) l g))) away)
@@ -238,6 +239,18 @@ module _ (service : Service) (tei : ℕ) where
               let y = delivers-free t own busy x.event contents is in
               asked-is c e a x.event busy x.by ∙ y.2 ∙ sym (stands.busy_is y.0) ∙ y.1
 
+    anew-stands : link_of service tei (after c e l) ≡ fresh → Stands (link_of service tei (after c e l))
+    anew-stands new =
+        subst Stands (sym new)
+        (record {
+          busy_is = λ up. no up;
+          rejected_is = λ up. no up;
+          not_busy = λ at. no at;
+          not_rejecting = λ at. no at;
+          pends_up = λ is. no is;
+          pends_free = λ is. no is;
+        })
+
     module _ (x : HasNone c service tei e l (after c e l) a) where
       on-line : (o : Option ℕ) → place_in l tei ≡ o → is_multiple_frame own.state ≡ true → (place : ℕ) × (place_in l tei ≡ Some place)
       on-line (Some place) on up = (place, on)
@@ -287,16 +300,7 @@ module _ (service : Service) (tei : ℕ) where
                 pends_up = stands.pends_up;
                 pends_free = stands.pends_free;
               })
-          go (inr new) =
-              subst Stands (sym new)
-              (record {
-                busy_is = λ up. no up;
-                rejected_is = λ up. no up;
-                not_busy = λ at. no at;
-                not_rejecting = λ at. no at;
-                pends_up = λ is. no is;
-                pends_free = λ is. no is;
-              })
+          go (inr new) = anew-stands new
 
     -- So of every event.
     pub event-stands : Stands (link_of service tei (after c e l)) × (list_any (is_data_of service tei) (notes_of a) ≡ true → asked_busy e a busy ≡ false)
@@ -304,7 +308,11 @@ module _ (service : Service) (tei : ℕ) where
       where
         go : Goes c service tei e l (after c e l) a → Stands (link_of service tei (after c e l)) × (list_any (is_data_of service tei) (notes_of a) ≡ true → asked_busy e a busy ≡ false)
         go (inl x) = (none-stands x, λ some. absurd (no-data c ranged l s e service tei m count x some))
-        go (inr x) = (one-stands x, one-free x)
+        go (inr (inl x)) = (one-stands x, one-free x)
+        go (inr (inr x)) = (
+          anew-stands x.is,
+          λ some. absurd (true≢false (sym some ∙ ended-notes c ranged l s e service tei m count (is_data_of service tei) (λ s n. refl) (λ s n. refl) x)),
+        )
 
     pub event-counts : IsCount (link_of service tei (after c e l)) now.told.count
     event-counts = (event-told c ranged l s e service tei m count).1

@@ -344,7 +344,12 @@ module _ (c : Config) (ranged : IsInRange c) (l : Line) (s : IsSound c l) (timed
     where
       go : Goes c service tei e l (after c e l) a → IsTrueOf service tei now_known (after c e l)
       go (inl x) = none-known x
-      go (inr x) = one-known x
+      go (inr (inl x)) = one-known x
+      go (inr (inr x)) = ended (place_in (after c e l) tei) refl
+        where
+          ended : (o : Option ℕ) → place_in (after c e l) tei ≡ o → IsTrueOf service tei now_known (after c e l)
+          ended None off = off-known off
+          ended (Some there) on = fresh-known there on x.is
 
   -- What goes is what goes next.
   pub next-goes : IfSome (sent_at c service tei k e l) (is_next k)
@@ -355,7 +360,8 @@ module _ (c : Config) (ranged : IsInRange c) (l : Line) (s : IsSound c l) (timed
 
       go : Goes c service tei e l (after c e l) a → IfSome (sent_at c service tei k e l) (is_next k)
       go (inl x) = nothing (sent_at c service tei k e l) (none-goes x e x.begins)
-      go (inr x) =
+      go (inr (inr x)) = nothing (sent_at c service tei k e l) (ap (λ e. sent_at c service tei k e l) x.by.0)
+      go (inr (inl x)) =
           either x (λ o. nothing (sent_at c service tei k e l) o.sent)
           (λ is offered. subst (λ o. IfSome o (is_next k)) (sym (sent-is x is offered)) (offers x).next)
 

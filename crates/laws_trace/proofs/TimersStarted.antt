@@ -38,6 +38,7 @@ use Rattle.laws_trace.proofs.TimerOffers.{Offered, given_sent, told-starts}
 use Rattle.laws_trace.proofs.TimersOfLine.{seen-brings}
 use Rattle.laws_trace.proofs.TimersOfEvent.{IsTrueOf, state-on, off-fresh, needed-is}
 use Rattle.laws_trace.proofs.TimersOfEvent as events
+use Rattle.laws_trace.proofs.OrdersOfLink.{cleared-starts-none}
 
 and-true : (b : Bool) → (b && true) ≡ b
 and-true true = refl
@@ -171,7 +172,9 @@ module _ (c : Config) (ranged : IsInRange c) (l : Line) (s : IsSound c l) (timed
       where
         go : Goes c service tei e l (after c e l) a → Started
         go (inl x) = none-started x
-        go (inr x) = one-started x
+        go (inr (inl x)) = one-started x
+        go (inr (inr x)) = λ ran runs_on.
+            absurd (true≢false (sym runs_on ∙ needed-is service tei (after c e l) next_timed timer ∙ ap (λ (y : Link). runs timer y.running) x.is))
 
     -- where it does not run afterwards, it is not started
     never-started : was ≡ true → is_needed its (after c e l) ≡ false → obeyed its false (orders_in a) ≡ false
@@ -183,7 +186,8 @@ module _ (c : Config) (ranged : IsInRange c) (l : Line) (s : IsSound c l) (timed
 
         go : Goes c service tei e l (after c e l) a → obeyed its false (orders_in a) ≡ false
         go (inl x) = x.orders timer
-        go (inr x) =
+        go (inr (inr x)) = ap (obeyed its false) x.orders ∙ cleared-starts-none t own service tei timer
+        go (inr (inl x)) =
             ap (obeyed its false) x.orders ∙ ap (λ u. obeyed u false (links.told t x.event own).orders) (at-own timer) ∙ told-starts t x.event own timer
             ∙ ap (λ b. runs timer (links.course t x.event own).started && b)
             (ap (λ (y : Link). runs timer y.running) (sym x.is) ∙ sym (needed-is service tei (after c e l) next_timed timer) ∙ off)

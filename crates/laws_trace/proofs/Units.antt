@@ -95,6 +95,7 @@ of-request c (asked.Remove tei) = refl
 of-request c (asked.Check tei) = refl
 of-request c (asked.SetBusy service tei) = refl
 of-request c (asked.ClearBusy service tei) = refl
+of-request c (asked.Deactivate service tei) = refl
 
 asked-is : (c : Config) (r : Request) (a : Answer) → map (unit_frame c) (units_asked (request r) a) ≡ units_granted c (seen_granted r a ++ seen_told a)
 asked-is c r (told t) = of-request c r ∙ sym (append-nil (units.unit_asked c r))

@@ -137,7 +137,8 @@ module _ (c : Config) (ranged : IsInRange c) (l : Line) (s : IsSound c l) (servi
       go (inl x) =
           let there = on-line on (place_in l tei) refl in
           absurd (true≢false (sym (event-aims c l service tei there.0 there.1 e f (ap parts_of read) for) ∙ x.aims))
-      go (inr x) = one x
+      go (inr (inl x)) = one x
+      go (inr (inr x)) = absurd (cc x.by.0)
 
 pub units-are-told : Always UnitsAreTold
 unfolding lines.takes_slot

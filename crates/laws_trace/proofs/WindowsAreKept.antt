@@ -75,7 +75,8 @@ module _ (c : Config) (ranged : IsInRange c) (l : Line) (s : IsSound c l) (servi
   goes-open (Some f) is (inl x) =
       unless-sent (sent_of c service tei f.octets)
       (foreign c service tei f.octets (All-head (IsForeign c service tei) f.octets [] (subst (λ o. All (IsForeign c service tei) (frame_in (gave o))) is x.begins)))
-  goes-open (Some f) is (inr x) = given (links.given t k) refl (ap (λ o. frame_in (gave o)) (sym is) ∙ x.begins ∙ ap (λ e. frames_given c t e k) (only-offered c (line_answer c next l) service tei x.event x.by))
+  goes-open (Some f) is (inr (inr x)) = absurd (cc x.by.0)
+  goes-open (Some f) is (inr (inl x)) = given (links.given t k) refl (ap (λ o. frame_in (gave o)) (sym is) ∙ x.begins ∙ ap (λ e. frames_given c t e k) (only-offered c (line_answer c next l) service tei x.event x.by))
     where
       placed : place_in l tei ≡ Some x.place
       placed = x.placed

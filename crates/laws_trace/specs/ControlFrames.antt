@@ -1,5 +1,5 @@
 -- The control frames of a link that go are those that are due.
-use Rattle.std.specs.Prelude.{◌≡◌, ◌≤◌, ℕ, ◌-◌, ◌==◌, ◌&&◌, ◌||◌, not, Bool, true, false, List, [], ◌∷◌, ◌++◌, length, take, fold, flat_map, Option, Result, Ok, Err, nat_lt, if◌then◌else◌}
+use Rattle.std.specs.Prelude.{◌≡◌, ◌≤◌, ℕ, ◌-◌, ◌==◌, ◌&&◌, ◌||◌, not, Bool, true, false, List, [], ◌∷◌, ◌++◌, length, take, fold, flat_map, All, Option, Result, Ok, Err, nat_lt, if◌then◌else◌}
 use Rattle.std.specs.Option.{option_map_or}
 use Rattle.model_bits.specs.Stream as stream
 use Rattle.lapd_seq.specs.Numbers.{seq}
@@ -17,6 +17,7 @@ use Rattle.model_line.specs.Heard.{heard_side}
 use Rattle.laws_link.specs.Waiting.{as_response, as_command}
 use Rattle.laws_line.specs.Drains.{most_frames}
 use Rattle.laws_line.specs.Frames.{lost_in}
+use Rattle.laws_line.specs.Requests.{deactivates}
 use Rattle.model_card.specs.Card.{Card, fresh, line_at}
 use Rattle.model_card.specs.Event.{Event}
 use Rattle.model_card.specs.Machine.{after}
@@ -153,14 +154,21 @@ unfoldable pub StaysOn : ℕ → ℕ → Card → List Event → Type 0
 StaysOn number tei card [] = has_tei tei (line_at number card) ≡ true
 StaysOn number tei card (e ∷ events) = (has_tei tei (line_at number card) ≡ true) × StaysOn number tei (after e card) events
 
--- While it stays, after whatever happened before, each that is due goes: it has begun once the line was only called for its
--- next frame, as often as the configuration says, in their order.
+-- None of these events deactivates the link of a service with a TEI.
+abbrev pub is_deactivated_at : ℕ → Service → ℕ → Event → Bool
+is_deactivated_at number service tei e = e.line == number && deactivates service tei e.what
+
+abbrev pub IsNotDeactivated : ℕ → Service → ℕ → List Event → Type 0
+IsNotDeactivated number service tei events = All (λ e. is_deactivated_at number service tei e ≡ false) events
+
+-- While it stays, and the link is not deactivated, after whatever happened before, each that is due goes: it has begun
+-- once the line was only called for its next frame, as often as the configuration says, in their order.
 abbrev pub AllDueGo : Config → List Event → ℕ → Type 0
 AllDueGo c events number =
     (service : Service) (tei : ℕ) (before meanwhile calls : List Event) → events ≡ before ++ (meanwhile ++ calls) →
     AreTakesAt number calls → most_frames c ≤ takes_at number calls →
     let card = after_all (fresh c) before in
     let w = fold (stand c service tei) at_first (trace_of c before number) in
-    StaysOn number tei card meanwhile →
+    StaysOn number tei card meanwhile → IsNotDeactivated number service tei meanwhile →
     IsPart (along c service tei number (due_in c service tei number) w (moments card meanwhile))
     (flat_map (controls_at c service tei) (trace number (moments card (meanwhile ++ calls))))

@@ -13,7 +13,6 @@ pub mod TurnsMeanwhile
 pub mod MessagesComeFirst
 pub mod ControlFrames
 pub mod WaitedBegins
-pub mod ErrorsAreNoted
 pub mod AllAreAcknowledged
 pub mod Managing
 pub mod MessagesAreOwed
@@ -49,6 +48,7 @@ pub mod RoomsAreTold
 pub mod WorkedRooms
 pub mod UnitsAreSpelled
 pub mod UnitsAreTold
+pub mod DataIsForLinks
 pub mod WorkedUnitsTold
 pub mod CountersCount
 pub mod WorkedCounters

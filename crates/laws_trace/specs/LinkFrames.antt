@@ -1,11 +1,13 @@
 -- The frames of a link, as an observer of its line reads them.
-use Rattle.std.specs.Prelude.{ℕ, ◌==◌, ◌&&◌, Bool, false, List, Option, Some, None, Result, Ok, Err, if◌then◌else◌}
+use Rattle.std.specs.Prelude.{ℕ, ◌==◌, ◌&&◌, Bool, List, Option, Some, None, Result, Ok, Err, if◌then◌else◌}
 use Rattle.model_bits.specs.Stream as stream
 use Rattle.lapd_frame.specs.declared.addresses.Address.{Address}
 use Rattle.lapd_frame.specs.declared.controls.Control.{Control}
 use Rattle.lapd_frame.specs.declared.controls.Control.TheVariants.{Information}
 use Rattle.lapd_frame.specs.declared.faults.ReadFault.{ReadFault}
 use Rattle.lapd_frame.specs.declared.faults.ReadFault.TheVariants.{Undefined, WrongSize}
+use Rattle.lapd_frame.specs.declared.notes.ErrorCode.{ErrorCode}
+use Rattle.lapd_frame.specs.declared.notes.ErrorCode.TheVariants.{L, N, O}
 use Rattle.lapd_frame.specs.declared.overlong.Long.{Long}
 use Rattle.lapd_frame.specs.declared.overlong.Long.TheVariants as long
 use Rattle.lapd_frame.specs.declared.services.Service.{Service}
@@ -32,26 +34,26 @@ abbrev pub its_frame : Service → ℕ → Option Parts → Option Parts
 its_frame service tei None = None
 its_frame service tei (Some f) = if is_for service tei f.address then Some f else None
 
--- A malformed one: a frame that the grammar does not have, one of wrong size, and an I-frame that was too long to keep
--- (clause 5.8.5).
-abbrev pub fault_is_for : Service → ℕ → ReadFault → Bool
-fault_is_for service tei (Undefined address) = is_for service tei address
-fault_is_for service tei (WrongSize address) = is_for service tei address
-fault_is_for service tei other = false
+-- A malformed one, by the letter of its error: a frame that the grammar does not have, one of wrong size, and an I-frame that
+-- was too long to keep (clause 5.8.5 and appendix II).
+abbrev pub fault_of : Service → ℕ → ReadFault → Option ErrorCode
+fault_of service tei (Undefined address) = if is_for service tei address then Some L else None
+fault_of service tei (WrongSize address) = if is_for service tei address then Some N else None
+fault_of service tei other = None
 
-abbrev pub is_faulty : Service → ℕ → Result Parts ReadFault → Bool
-is_faulty service tei (Ok frame) = false
-is_faulty service tei (Err fault) = fault_is_for service tei fault
+abbrev pub faulty : Service → ℕ → Result Parts ReadFault → Option ErrorCode
+faulty service tei (Ok frame) = None
+faulty service tei (Err fault) = fault_of service tei fault
 
-abbrev pub is_faulty_long : Service → ℕ → Result Long ReadFault → Bool
-is_faulty_long service tei (Ok (long.Information address)) = is_for service tei address
-is_faulty_long service tei (Ok (long.Unnumbered address)) = false
-is_faulty_long service tei (Err fault) = fault_is_for service tei fault
+abbrev pub faulty_long : Service → ℕ → Result Long ReadFault → Option ErrorCode
+faulty_long service tei (Ok (long.Information address)) = if is_for service tei address then Some O else None
+faulty_long service tei (Ok (long.Unnumbered address)) = None
+faulty_long service tei (Err fault) = fault_of service tei fault
 
-abbrev pub is_malformed : Config → Service → ℕ → stream.Event → Bool
-is_malformed c service tei (stream.frame octets) = is_faulty service tei (reading (heard_side c) octets)
-is_malformed c service tei (stream.overlong head) = is_faulty_long service tei (long_reading (heard_side c) head)
-is_malformed c service tei (stream.dropped cause) = false
+abbrev pub malformed : Config → Service → ℕ → stream.Event → Option ErrorCode
+malformed c service tei (stream.frame octets) = faulty service tei (reading (heard_side c) octets)
+malformed c service tei (stream.overlong head) = faulty_long service tei (long_reading (heard_side c) head)
+malformed c service tei (stream.dropped cause) = None
 
 -- An I-frame of the link that begins.
 pub record Sent : Type 0 where

@@ -1,32 +1,34 @@
--- What layer 3 is told of establishments and releases.
-use Rattle.std.specs.Prelude.{◌≡◌, ℕ, ◌==◌, ◌&&◌, ◌||◌, nat_le, Bool, true, false, List, [], ◌∷◌, ◌++◌, filter, if◌then◌else◌}
+-- What layer 3 and layer management are told of a link, but for data and unit data.
+use Rattle.std.specs.Prelude.{◌≡◌, ℕ, ◌==◌, ◌&&◌, ◌||◌, not, nat_le, nat_lt, Bool, true, false, List, [], ◌∷◌, ◌++◌, length, map, filter, option_to_list, if◌then◌else◌}
 use Rattle.std.specs.Option.{option_map_or}
 use Rattle.lapd_frame.specs.declared.controls.Control.{Control}
 use Rattle.lapd_frame.specs.declared.controls.Control.TheVariants as control
-use Rattle.lapd_frame.specs.declared.controls.Control.TheVariants.{Sabme}
+use Rattle.lapd_frame.specs.declared.controls.Control.TheVariants.{Information, ReceiveReady, ReceiveNotReady, Reject, Sabme, Ua, Dm, Frmr}
+use Rattle.lapd_frame.specs.declared.notes.ErrorCode.{ErrorCode}
+use Rattle.lapd_frame.specs.declared.notes.ErrorCode.TheVariants.{A, B, C, D, E, F, G, H, I, J, K, O}
 use Rattle.lapd_frame.specs.declared.notes.Note.{Note}
-use Rattle.lapd_frame.specs.declared.notes.Note.TheVariants.{EstablishIndication, EstablishConfirm, ReleaseIndication, ReleaseConfirm, Xid}
+use Rattle.lapd_frame.specs.declared.notes.Note.TheVariants.{EstablishIndication, EstablishConfirm, ReleaseIndication, ReleaseConfirm, Xid, Error}
 use Rattle.lapd_frame.specs.declared.services.Service.{Service}
 use Rattle.lapd_frame.specs.Grammar.{Parts}
 use Rattle.model_line.specs.declared.config.Config.{Config}
 use Rattle.model_line.specs.Event as line_event
-use Rattle.model_line.specs.Event.{hears, request, Answer}
+use Rattle.model_line.specs.Event.{hears, expiry, request, Answer}
 use Rattle.model_line.specs.Request.{Release}
 use Rattle.laws_line.specs.Heard.{notes_of}
 use Rattle.laws_line.specs.Share.{is_granted}
 use Rattle.model_card.specs.Event.{Event, at}
-use Rattle.laws_trace.specs.LinkFrames.{frame_of, its_frame}
-use Rattle.laws_trace.specs.Managing.{is_on}
+use Rattle.laws_trace.specs.LinkFrames.{frame_of, its_frame, malformed}
 use Rattle.laws_trace.specs.Observer.{Observed, is_outstanding, view_of, moment_of, view_behind}
-use Rattle.laws_trace.specs.Trace.{is_own}
+use Rattle.laws_trace.specs.Trace.{is_own, is_up}
 
--- The notes that say that a link is up, or down, or that XID came (Q.921 clauses 4.1.1.1 and 4.1.1.2).
+-- The notes that say that a link is up, or down, that XID came, and of errors (Q.921 clauses 4.1.1.1, 4.1.1.2 and 4.1.1.7).
 abbrev pub is_news : Service → ℕ → Note → Bool
 is_news service tei (EstablishIndication of by) = is_own service tei of by
 is_news service tei (EstablishConfirm of by) = is_own service tei of by
 is_news service tei (ReleaseIndication of by) = is_own service tei of by
 is_news service tei (ReleaseConfirm of by) = is_own service tei of by
 is_news service tei (Xid of by) = is_own service tei of by
+is_news service tei (Error of by code) = is_own service tei of by
 is_news service tei other = false
 
 -- The terminal sends SABME, or XID; and layer 3 asks for the release.
@@ -62,14 +64,45 @@ due service tei xid sabme released was to =
     (if was.state == 6 || (was.state == 4 && released) then ReleaseConfirm service tei ∷ [] else if was.state == 4 then [] else ReleaseIndication service tei ∷ [])
     else []
 
--- So the notes of a link, of these kinds, in the answer to an event at the line are exactly what is due, where its TEI
--- is on the line before it.
+-- The errors of a link, by the state before and the one to which it comes (appendix II). In states 7 and 8 an N(R) that leads to
+-- state 5 is invalid, and in state 7 no enquiry asked for a response with F=1 (clauses 5.8.2 and 5.8.7);
+abbrev pub wrong_number : Bool → ℕ → ℕ → List ErrorCode
+wrong_number final was to = (if was == 7 && final then A ∷ [] else []) ++ (if is_up was && to == 5 then J ∷ [] else [])
+
+-- clauses 5.7.1 and 5.8.5 to 5.8.7: the first bit says that the information is longer than N201, the second that it is a command;
+abbrev pub wrong_frame : Bool → Bool → Control → ℕ → ℕ → List ErrorCode
+wrong_frame long command (Information ns nr p) was to = if long && is_up was then O ∷ [] else wrong_number false was to
+wrong_frame long command (ReceiveReady nr pf) was to = wrong_number (not command && pf) was to
+wrong_frame long command (ReceiveNotReady nr pf) was to = wrong_number (not command && pf) was to
+wrong_frame long command (Reject nr pf) was to = wrong_number (not command && pf) was to
+wrong_frame long command (Sabme p) was to = if is_up was then F ∷ [] else []
+wrong_frame long command (Dm f) was to = if not (is_up was) then [] else if f then B ∷ [] else E ∷ []
+wrong_frame long command (Frmr f) was to = if is_up was then K ∷ [] else []
+wrong_frame long command (Ua f) was to = if not f then D ∷ [] else if was == 5 || was == 6 then [] else C ∷ []
+wrong_frame long command other was to = []
+
+-- and where T200 gives a state up (clauses 5.5.1.3, 5.5.3.3 and 5.6.7).
+abbrev pub given_up : ℕ → ℕ → List ErrorCode
+given_up was to = if was == 5 && to == 4 then G ∷ [] else if was == 6 && to == 4 then H ∷ [] else if was == 8 && to == 5 then I ∷ [] else []
+
+abbrev pub wrong_parts : Config → ℕ → ℕ → Parts → List ErrorCode
+wrong_parts c was to f = wrong_frame (nat_lt c.n201 (length f.info)) f.address.command f.control was to
+
+abbrev pub wrong : Config → Service → ℕ → line_event.Event → ℕ → ℕ → List ErrorCode
+wrong c service tei (hears e) was to =
+    (if is_up was then option_to_list (malformed c service tei e) else []) ++ option_map_or (wrong_parts c was to) (its_frame service tei (frame_of c e)) []
+wrong c service tei (expiry timer) was to = given_up was to
+wrong c service tei other was to = []
+
+-- So the notes of a link, of these kinds, in the answer to an event at the line are exactly what is due, errors first; and
+-- none are where its TEI was not on the line.
 abbrev pub NewsIsTold : Config → List Event → ℕ → Type 0
 NewsIsTold c events number =
     (service : Service) (tei : ℕ) (before : List Event) (what : line_event.Event) (behind : List Event) →
     events ≡ before ++ at number what ∷ behind →
     let a = (moment_of c before number what).answer in
-    let was = view_of c service tei number before in
-    is_on tei was.teis ≡ true →
+    let was = (view_of c service tei number before).link in
+    let to = (view_behind c service tei number before what).link.state in
     filter (is_news service tei) (notes_of a)
-    ≡ due service tei (brings is_xid c service tei what) (brings is_sabme c service tei what) (releases service tei what a) was.link (view_behind c service tei number before what).link.state
+    ≡ (if was.state == 1 then [] else map (Error service tei) (wrong c service tei what was.state to)
+    ++ due service tei (brings is_xid c service tei what) (brings is_sabme c service tei what) (releases service tei what a) was to)

@@ -1,6 +1,6 @@
 -- What an observer of a line knows of a link, by the procedures of Q.921: what the link hears, what layer 3 asks, what
 -- runs out, and what it sends.
-use Rattle.std.specs.Prelude.{ℕ, ◌+◌, ◌-◌, ◌%◌, ◌==◌, ◌&&◌, ◌||◌, not, nat_lt, Bool, true, false, List, length, fold, if◌then◌else◌}
+use Rattle.std.specs.Prelude.{ℕ, ◌+◌, ◌-◌, ◌%◌, ◌==◌, ◌&&◌, ◌||◌, not, nat_lt, Bool, true, false, List, length, fold, is_some, if◌then◌else◌}
 use Rattle.std.specs.Option.{option_map_or}
 use Rattle.model_bits.specs.Stream as stream
 use Rattle.lapd_frame.specs.declared.controls.Control.{Control}
@@ -14,13 +14,13 @@ use Rattle.lapd_seq.specs.declared.numbers.Seq.{Seq}
 use Rattle.model_line.specs.declared.config.Config.{Config}
 use Rattle.model_line.specs.Event as line_event
 use Rattle.model_line.specs.Event.{hears, expiry, request, Answer}
-use Rattle.model_line.specs.Request.{Request, Establish, Release}
+use Rattle.model_line.specs.Request.{Request, Establish, Release, Deactivate}
 use Rattle.laws_line.specs.Share.{is_granted}
 use Rattle.model_card.specs.Card.{fresh}
 use Rattle.model_card.specs.Event.{Event, at}
 use Rattle.model_card.specs.Machine.{answer}
 use Rattle.model_card.specs.Run.{Moment, moments, after_all}
-use Rattle.laws_trace.specs.LinkFrames.{frame_of, its_frame, is_malformed, Sent, sent_in}
+use Rattle.laws_trace.specs.LinkFrames.{frame_of, its_frame, malformed, Sent, sent_in}
 use Rattle.laws_trace.specs.Managing.{Managed, none_on, is_on}
 use Rattle.laws_trace.specs.MessagesAreOwed.{led}
 use Rattle.laws_trace.specs.Trace.{is_own, is_up, frame_in}
@@ -112,12 +112,14 @@ by_frame c o f =
 
 abbrev pub by_heard : Config → Service → ℕ → stream.Event → Observed → Observed
 by_heard c service tei e o =
-    if is_up o.state && is_malformed c service tei e then anew o else option_map_or (by_frame c o) (its_frame service tei (frame_of c e)) o
+    if is_up o.state && is_some (malformed c service tei e) then anew o else option_map_or (by_frame c o) (its_frame service tei (frame_of c e)) o
 
--- What layer 3 asks, and is granted: that the link is established, or released (clauses 5.5.1.1 and 5.5.3.1).
+-- What layer 3 asks, and is granted: that the link is established, or released (clauses 5.5.1.1 and 5.5.3.1); or, as its line
+-- is down, deactivated (annex B).
 abbrev pub by_request : Service → ℕ → Request → Observed → Observed
 by_request service tei (Establish of by) o = if is_own service tei of by && o.state == 4 then record (in_state 5) { asked = true } else o
 by_request service tei (Release of by) o = if is_own service tei of by && is_up o.state then in_state 6 else o
+by_request service tei (Deactivate of by) o = if is_own service tei of by then in_state 4 else o
 by_request service tei other o = o
 
 -- What runs out. The timer that runs in state 7 leads to an enquiry, in state 8 (clauses 5.6.7 and 5.10.3). In states 5,

@@ -1,5 +1,5 @@
 -- What `Card::room` tells of a link.
-use Rattle.std.specs.Prelude.{◌≡◌, ◌≤◌, ℕ, ◌+◌, ◌-◌, ◌%◌, true, false, List, length, Option, Some, None, Ok}
+use Rattle.std.specs.Prelude.{◌≡◌, ◌≤◌, ℕ, ◌+◌, ◌-◌, ◌%◌, ◌==◌, ◌&&◌, ◌||◌, Bool, true, false, List, length, Option, Some, None, Ok}
 use Rattle.std.specs.Option.{option_map_or}
 use Rattle.lapd_frame.specs.declared.refusals.Refusal.{Refusal}
 use Rattle.lapd_frame.specs.declared.services.Service.{Service}
@@ -41,3 +41,13 @@ RoomsAreTold c events number =
     let o = (view_of c service tei number events).link in
     option_map_or is_up (state_of service tei (line_at number card)) false ≡ true →
     (end : Going) × Reaches c service tei none_yet (trace_of c events number) end × IsRoom c card number service tei o end
+
+-- In states 4 and 6, and in state 5 where layer 3 asked for the establishment, a link keeps nothing: all places of its queue
+-- are left (clauses 5.5.1.1, 5.5.3.1 and 5.7).
+abbrev pub keeps_nothing : Observed → Bool
+keeps_nothing o = o.state == 4 || o.state == 6 || (o.state == 5 && o.asked)
+
+abbrev pub AllPlacesAreLeft : Config → List Event → ℕ → Type 0
+AllPlacesAreLeft c events number =
+    (service : Service) (tei : ℕ) (left : Room) → room number service tei (after_all (fresh c) events) ≡ Ok left →
+    keeps_nothing (view_of c service tei number events).link ≡ true → left.queue ≡ c.queue

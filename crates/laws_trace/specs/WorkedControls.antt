@@ -14,7 +14,7 @@ use Rattle.laws_link.specs.Waiting.{as_response, as_command}
 use Rattle.model_link.specs.declared.frames.ControlFrame.{ControlFrame}
 use Rattle.model_line.specs.Event.{expiry}
 use Rattle.model_line.specs.Machine as lines
-use Rattle.model_line.specs.Request.{Assign, Remove, Establish, Release, SetBusy, ClearBusy}
+use Rattle.model_line.specs.Request.{Assign, Remove, Establish, Release, SetBusy, ClearBusy, Deactivate}
 use Rattle.model_card.specs.Card.{fresh}
 use Rattle.model_card.specs.Event.{Event, at}
 use Rattle.model_card.specs.Run.{moments}
@@ -51,6 +51,11 @@ none_of_another = refl
 gone_with_its_tei : gone (up ++ (on_0 (Remove 64) ∷ on_0 (Assign 64) ∷ calls 3)) ≡ []
 unfolding moments lines.after lines.answer lines.takes_slot teis.course teis.refusal reading header_of control_of unnumbered_of
 gone_with_its_tei = refl
+
+-- Nor does it where the line is down.
+gone_with_its_line : gone (up ++ (on_0 (Deactivate Call 64) ∷ calls 3)) ≡ []
+unfolding moments lines.after lines.answer lines.takes_slot teis.course teis.refusal reading header_of control_of unnumbered_of
+gone_with_its_line = refl
 
 -- In state 6 SABME is answered by DM, and in state 4 DISC; XID by nothing.
 by_dm : answer_to at_first at_first 6 true false (Sabme true) ++ answer_to at_first at_first 4 true false (Disc false) ≡ as_response (Dm true) ++ as_response (Dm false)

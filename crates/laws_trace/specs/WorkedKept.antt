@@ -1,5 +1,5 @@
 -- Worked values: data that is granted takes a place; and a link that loses what had not gone, and tells nobody, which breaks the law.
-use Rattle.std.specs.Prelude.{◌≡◌, ◌⊎◌, ℕ, ◌+◌, true, false, [], ◌∷◌, ◌++◌, length, flat_map, None, Ok, refl}
+use Rattle.std.specs.Prelude.{◌≡◌, ◌⊎◌, ℕ, ◌+◌, true, false, List, [], ◌∷◌, ◌++◌, length, flat_map, None, Ok, refl}
 use Rattle.std.specs.List.{list_any}
 use Rattle.std.proofs.Common.{inl, inr}
 use Rattle.lapd_frame.specs.declared.notes.ErrorCode.TheVariants.{F}
@@ -13,10 +13,13 @@ use Rattle.model_line.specs.Machine as lines
 use Rattle.model_line.specs.Request.{Data}
 use Rattle.model_card.specs.Card.{fresh}
 use Rattle.model_card.specs.Room.{room}
-use Rattle.model_card.specs.Run.{after_all}
+use Rattle.model_card.specs.Event.{Event}
+use Rattle.model_card.specs.Run.{moments, after_all}
 use Rattle.laws_card.specs.Worked.{usual, on_0, up}
-use Rattle.laws_trace.specs.PlacesAreKept.{data_granted, shows_loss}
+use Rattle.laws_trace.specs.PlacesAreKept.{data_granted, shows_loss, went_on}
 use Rattle.laws_trace.specs.Trace.{noted, granted}
+use Rattle.laws_trace.specs.WorkedObserver.{link_after}
+use Rattle.laws_trace.specs.WorkedUnits.{calls, comes}
 
 -- SABME of TEI 64, and data: one place of eight is taken;
 one_taken : room 0 Call 64 (after_all (fresh usual) (up ++ on_0 (Data Call 64 (7 ∷ [])) ∷ [])) ≡ Ok (record { queue = 7; pool = 63; va = 0 })
@@ -40,6 +43,21 @@ no_loss = refl
 
 a_loss : list_any (shows_loss Call 64) (noted (ReleaseIndication Call 64 ∷ []) None ∷ []) ≡ true
 a_loss = refl
+
+-- RR 1 behind two I-frames acknowledges one, to the observer; SABME acknowledges none, though V(A) is 0 behind it.
+abbrev two_gone : List Event
+two_gone = up ++ on_0 (Data Call 64 (7 ∷ [])) ∷ on_0 (Data Call 64 (8 ∷ [])) ∷ calls 3
+
+abbrev one_heard : List Event
+one_heard = two_gone ++ comes (0x02 ∷ 0x81 ∷ 0x01 ∷ 0x02 ∷ []) ∷ []
+
+one_more : went_on false (link_after two_gone) (link_after one_heard) ≡ 1
+unfolding moments lines.after lines.answer lines.takes_slot teis.course teis.refusal seq distance_of named reading header_of control_of unnumbered_of supervisory_of
+one_more = refl
+
+none_more : went_on true (link_after one_heard) (link_after (one_heard ++ comes (0x00 ∷ 0x81 ∷ 0x7F ∷ []) ∷ [])) ≡ 0
+unfolding moments lines.after lines.answer lines.takes_slot teis.course teis.refusal seq distance_of named reading header_of control_of unnumbered_of supervisory_of
+none_more = refl
 
 -- Where all places were left behind it, the law would be broken.
 abbrev Same : ℕ → ℕ → Type 0

@@ -14,7 +14,7 @@ use Rattle.model_line.specs.Event as line_event
 use Rattle.model_line.specs.Event.{hears, expiry}
 use Rattle.model_line.specs.Laws.{orders_in}
 use Rattle.model_line.specs.Machine as lines
-use Rattle.model_line.specs.Request.{Assign, Remove, Establish, Data}
+use Rattle.model_line.specs.Request.{Assign, Remove, Establish, Data, Deactivate}
 use Rattle.model_card.specs.Card.{fresh}
 use Rattle.model_card.specs.Event.{Event, at}
 use Rattle.model_card.specs.Machine.{answer}
@@ -41,6 +41,15 @@ comes_up = refl
 has_left : link_after (up ++ on_0 (Remove 64) ∷ []) ≡ in_state 1
 unfolding moments lines.after lines.answer lines.takes_slot teis.course teis.refusal seq reading header_of control_of unnumbered_of supervisory_of
 has_left = refl
+
+-- Where its line is down, the link is in state 4, and one of another TEI stays.
+is_given_up : link_after (up ++ on_0 (Deactivate Call 64) ∷ []) ≡ in_state 4
+unfolding moments lines.after lines.answer lines.takes_slot teis.course teis.refusal seq reading header_of control_of unnumbered_of supervisory_of
+is_given_up = refl
+
+none_of_it : link_after (up ++ on_0 (Deactivate Call 65) ∷ []) ≡ in_state 7
+unfolding moments lines.after lines.answer lines.takes_slot teis.course teis.refusal seq reading header_of control_of unnumbered_of supervisory_of
+none_of_it = refl
 
 -- SABME that layer 3 asks for is repeated three times, N200; with the expiry behind these the link is down.
 abbrev expires : Event

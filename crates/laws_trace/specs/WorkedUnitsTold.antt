@@ -1,5 +1,5 @@
 -- Worked values: unit data that is told, of the group and of a terminal; and one to another TEI, which is told of none.
-use Rattle.std.specs.Prelude.{◌≡◌, ℕ, List, [], ◌∷◌, None, Some, refl}
+use Rattle.std.specs.Prelude.{◌≡◌, ℕ, false, List, [], ◌∷◌, None, Some, refl}
 use Rattle.lapd_frame.specs.declared.addresses.Side.TheVariants.{User}
 use Rattle.lapd_frame.specs.declared.notes.Note.TheVariants.{Unit}
 use Rattle.lapd_frame.specs.declared.services.Service.TheVariants.{Call}
@@ -10,9 +10,12 @@ use Rattle.model_line.specs.Machine as lines
 use Rattle.model_line.specs.Request.{Assign}
 use Rattle.model_card.specs.Card.{fresh}
 use Rattle.model_card.specs.Machine.{answer}
-use Rattle.model_card.specs.Run.{after_all}
+use Rattle.model_card.specs.Run.{moments, after_all}
 use Rattle.laws_line.specs.Heard.{notes_of, contents_in}
 use Rattle.laws_card.specs.Worked.{usual, on_0}
+use Rattle.laws_trace.specs.Managing.{is_on}
+use Rattle.laws_trace.specs.Observer.{view_of}
+use Rattle.laws_trace.specs.Trace.{is_up}
 use Rattle.laws_trace.specs.WorkedUnits.{comes}
 
 abbrev user : Config
@@ -34,3 +37,15 @@ on_line = refl
 off_line : contents_in (answer (comes heard_from_64) (fresh usual)) ≡ None
 unfolding lines.answer lines.takes_slot reading header_of control_of unnumbered_of
 off_line = refl
+
+-- Data of a link in state 4, or, at a card of the network's side, unit data of a TEI that is not on the line would break the law.
+not_up : is_up (view_of usual Call 64 0 (on_0 (Assign 64) ∷ [])).link.state ≡ false
+unfolding moments lines.after lines.answer lines.takes_slot teis.course teis.refusal
+not_up = refl
+
+not_there : is_on 64 (view_of usual Call 64 0 []).teis ≡ false
+unfolding moments
+not_there = refl
+
+not_users : usual.side ≡ User → ⊥
+not_users e = cc e

@@ -4,12 +4,12 @@ ghost use Rattle.laws_trace.specs.Trace.{Always};
 ghost use Rattle.laws_trace.specs.AllAreAcknowledged.{AllAreAcknowledged};
 ghost use Rattle.laws_trace.specs.AllGoesAgain.{AllGoesAgain, NextGoes};
 ghost use Rattle.laws_trace.specs.ControlFrames.{OnlyDueGo, AllDueGo};
-ghost use Rattle.laws_trace.specs.ErrorsAreNoted.{ErrorsAreNoted};
 ghost use Rattle.laws_trace.specs.Configurations.{RangesAreServed};
 ghost use Rattle.laws_trace.specs.CountersCount.{CountersCount};
 ghost use Rattle.laws_trace.specs.OtherSide.{TheOtherSideIsHeard};
 ghost use Rattle.laws_trace.specs.FramesAreRead.{FramesAreRead, FramesAreOctets};
 ghost use Rattle.laws_trace.specs.DataGoesOut.{DataGoesOut};
+ghost use Rattle.laws_trace.specs.DataIsForLinks.{DataIsForLinks};
 ghost use Rattle.laws_trace.specs.Deliveries.{Deliveries, AllAreTold};
 ghost use Rattle.laws_trace.specs.LinksMove.{LinksMove};
 ghost use Rattle.laws_trace.specs.LinksTakeTurns.{LinksTakeTurns};
@@ -18,7 +18,7 @@ ghost use Rattle.laws_trace.specs.MessagesAreOwed.{MessagesAreOwed, AllMessagesG
 ghost use Rattle.laws_trace.specs.News.{NewsIsTold};
 ghost use Rattle.laws_trace.specs.NoLossInVain.{NoLossInVain, QueuesAreFull};
 ghost use Rattle.laws_trace.specs.PlacesAreKept.{PlacesAreKept};
-ghost use Rattle.laws_trace.specs.RoomsAreTold.{RoomsAreTold};
+ghost use Rattle.laws_trace.specs.RoomsAreTold.{RoomsAreTold, AllPlacesAreLeft};
 ghost use Rattle.laws_trace.specs.TeisAgree.{TeisAgree, HeldForOne};
 ghost use Rattle.laws_trace.specs.TeisAreGiven.{TeisAreGiven};
 ghost use Rattle.laws_trace.specs.TimersAreTimely.{TimersRun, TimersAreStarted};
@@ -27,7 +27,6 @@ ghost use Rattle.laws_trace.specs.TurnsMeanwhile.{LinksTakeTurnsMeanwhile};
 ghost use Rattle.laws_trace.specs.UnitsAreSpelled.{UnitsAreSpelled};
 ghost use Rattle.laws_trace.specs.UnitsAreTold.{UnitsAreTold};
 ghost use Rattle.laws_trace.specs.UnitsGoOut.{UnitsGoOut, AllUnitsGoOut};
-ghost use Rattle.laws_trace.specs.WaitedBegins.{AllThatWaitedBegins};
 ghost use Rattle.laws_trace.specs.WindowsAreKept.{WindowsAreKept};
 
 /// Each configuration within the ranges is served: no fault is found in it, so `Card::start` starts a card with it, as
@@ -84,11 +83,13 @@ pub fn messages_come_first()
 /// (`heard`). The numbers of a link begin with SABME that is told, and with UA with F=1 unless it is told as error C,
 /// or as the end of the link. Layer 3 is busy from SetBusy that is granted to ClearBusy that is, or to where the
 /// numbers begin. And the information of each I-frame that a link in state 7 or 8 may take is told, in the moment of
-/// the frame: while layer 3 is not busy, of at most N201 octets, and with the N(S) that is the next (`told`; Q.921
-/// clauses 3.5.2.4 to 3.5.2.6, 5.2.3, 5.5.1.2, 5.6.2, 5.6.6 and 5.7).
+/// the frame: while layer 3 is not busy, of at most N201 octets, and with the N(S) that is the next (`told`). No data is
+/// told of a link that was not up before, and no unit data of a TEI that was not on the line, but for that of the group, TEI 127,
+/// on the user's side (`whose`; Q.921 clauses 3.3.4, 3.5.2.4 to 3.5.2.6, 5.2.2, 5.2.3, 5.5.1.2, 5.6.2, 5.6.6 and 5.7).
 pub fn what_is_told_was_heard()
     ensures heard { Always Deliveries }
     ensures told { Always AllAreTold }
+    ensures whose { Always DataIsForLinks }
 {}
 
 /// Data goes out. Of each link, since its numbers began: the contents of new I-frames that begin are the first of the
@@ -118,21 +119,13 @@ pub fn data_goes_out()
 /// and REJ have the number of contents told of the link since its numbers began, modulo 128, as it was when the frame
 /// was due. From whenever the TEI is not on the line, those that begin are among these, in their order, and none twice;
 /// except that RR with F=0, and the number told, goes by itself too in states 7 and 8, while layer 3 is not busy
-/// (`only`). And while the TEI stays on the line they all go, except the last of a moment, as many as its answer counts
-/// as lost: each has begun once the line was only called for its next frame, as often as the configuration says, in
-/// their order (`all`). So has each control frame that waited on a link before (`waited`; two alike may be one; Q.921
-/// clauses 3.5.1, 3.5.2.4 to 3.5.2.6, 5.5, 5.6, 5.7, 5.8.1 and 5.10.3).
+/// (`only`). And while the TEI stays on the line, and the link is not deactivated, they all go, except the last of a
+/// moment, as many as its answer counts as lost: each has begun once the line was only called for its next frame, as
+/// often as the configuration says, in their order (`all`; Q.921 clauses 3.5.1, 3.5.2.4 to 3.5.2.6, 5.5, 5.6, 5.7, 5.8.1
+/// and 5.10.3).
 pub fn control_frames_go()
     ensures only { Always OnlyDueGo }
     ensures all { Always AllDueGo }
-    ensures waited { Always AllThatWaitedBegins }
-{}
-
-/// Errors are noted. Where a link comes to state 5 by what is heard, where SABME is due, an error of it is noted. So
-/// SABME goes where this is noted, where layer 3 asks for the establishment, or where T200 expires, and nowhere else
-/// (Q.921 clauses 5.6.7, 5.7.1, 5.8.2 and 5.8.5 to 5.8.7).
-pub fn errors_are_noted()
-    ensures { Always ErrorsAreNoted }
 {}
 
 /// All that is told is acknowledged. Of a link in state 7 or 8, once the line was only called for its next frame, as
@@ -197,25 +190,28 @@ pub fn timers_are_timely()
 /// Links move as the procedures lead them. After every list of events `Card::state` tells of a link the state in which
 /// whoever watches the line has it (`Observer` of specs/), and none where its TEI is not on the line. As the TEI comes,
 /// that is 4; and then 7 by SABME in states 4, 7 and 8, by UA with F=1 in state 5, and, in state 8, by RR, RNR or REJ as
-/// a response with F=1 whose N(R) is valid; 4 by DISC in states 7 and 8, by DM with F=1 in states 5 and 6, and by UA
-/// with F=1 in state 6; 5 by a request to establish it in state 4, by DM with F=0 in state 7, and in states 7 and 8 by
-/// FRMR, an invalid N(R), a malformed frame, and an I-frame that is too long, and by any DM in state 8; 6 by a request
-/// to release it in states 7 and 8; 8 by the expiry of the timer that runs in state 7. As T200 expires in states 5, 6
-/// and 8, the link leaves them, for 4, 4 and 5, where it has expired N200 times before since the link came there.
-/// Nothing else moves a link. So a link awaits an answer through N200 expiries, and no more (Q.921 clauses 3.5.2.3, 5.3,
-/// 5.5.1 to 5.5.5, 5.6.7, 5.7, 5.8, 5.9.2 and 5.10.3).
+/// a response with F=1 whose N(R) is valid; 4 by DISC in states 7 and 8, by DM with F=1 in states 5 and 6, by UA with F=1
+/// in state 6, and by a deactivation in any state; 5 by a request to establish it in state 4, by DM with F=0 in state 7,
+/// and in states 7 and 8 by FRMR, an invalid N(R), a malformed frame, and an I-frame that is too long, and by any DM in
+/// state 8; 6 by a request to release it in states 7 and 8; 8 by the expiry of the timer that runs in state 7. As T200
+/// expires in states 5, 6 and 8, the link leaves them, for 4, 4 and 5, where it has expired N200 times before since the
+/// link came there. Nothing else moves a link. So a link awaits an answer through N200 expiries, and no more (Q.921
+/// clauses 3.5.2.3, 5.3, 5.5.1 to 5.5.5, 5.6.7, 5.7, 5.8, 5.9.2 and 5.10.3, and annex B).
 pub fn links_move()
     ensures { Always LinksMove }
 {}
 
-/// News of links is told. Where the TEI of a link is on the line before an event, the answer notes of its establishment
-/// and its release exactly what is due; a link whose TEI leaves comes to state 4: an establish indication where it
-/// comes from state 4 to state 7; from state 5 a confirm, where layer 3 asked for that establishment, and if this side
-/// began it, or the terminal establishes a link anew by SABME, an indication exactly where an I-frame is outstanding,
-/// as [`timers_are_timely`] has it, in state 5 as it was where the link came there; a release confirm where it comes
-/// from state 6 to state 4, or is released in state 4; and a release indication where it comes to state 4 from another
-/// state. And XID that is heard of it is told. So no confirm is told that layer 3 did not ask for, none twice, and no
-/// end of a link goes untold (Q.921 clauses 4.1.1.1, 4.1.1.2, 5.5.1, 5.5.3 and 5.7).
+/// News of links is told, and errors. In the answer to an event the notes of a link, but for data and unit data, are exactly
+/// what is due, errors first; and there is none where its TEI was not on the line. A link whose TEI leaves ends. News is: an
+/// establish indication where the link comes from state 4 to state 7; from state 5 a confirm, where layer 3 asked for that
+/// establishment, and if this side began it, or the terminal establishes a link anew by SABME, an indication exactly where
+/// an I-frame is outstanding, as [`timers_are_timely`] has it, in state 5 as it was where the link came there; a release
+/// confirm where it comes from state 6 to its end or to state 4, or is released in state 4; a release indication where it
+/// comes there from another state; and XID that is heard of it. So no confirm is told that layer 3 did not ask for, none
+/// twice, and no end of a link goes untold. Errors are, by letter, in states 7 and 8: A, a response with F=1 in state 7; B
+/// and E, DM with F=1 and F=0; F, SABME; J, an invalid N(R); K, FRMR; L, N and O, what is malformed, of wrong size or too
+/// long; and C and D, UA with F=1 that no command asked for, and any with F=0; and G, H and I, where T200 gives up states 5,
+/// 6 and 8 (Q.921 clauses 4.1.1.1, 4.1.1.2, 4.1.1.7, 5.5.1, 5.5.3, 5.6.7, 5.7, 5.8 and appendix II).
 pub fn news_is_told()
     ensures { Always NewsIsTold }
 {}
@@ -230,16 +226,19 @@ pub fn windows_are_kept()
 /// Rooms are told as they are. Of a link in state 7 or 8 `Card::room` tells V(A), which is the N(R) that was heard of it last,
 /// and so many places of its queue as are left beside the contents that it keeps: what has not gone, and what has gone and is
 /// not acknowledged. And what is left, of the queue and of the pool, is what the next request for data would be refused for
-/// (Q.921 clause 3.5.2.3 and profile).
+/// (`room`). In states 4 and 6, and in state 5 where layer 3 asked for the establishment, all places of the queue are left
+/// (`empty`; Q.921 clauses 3.5.2.3, 5.5.1.1, 5.5.3.1 and 5.7, and profile).
 pub fn rooms_are_told()
-    ensures { Always RoomsAreTold }
+    ensures room { Always RoomsAreTold }
+    ensures empty { Always AllPlacesAreLeft }
 {}
 
 /// What a link keeps takes places of its queue, and none is lost silently. In a moment, before and after which the TEI of the link
-/// is on the line, the places that are left are those that were, with one for each of the contents that V(A) goes on by, and
-/// without one for data that is granted for it; or all are left, and layer 3 learns it: by a release that is granted, an
-/// indication of an establishment, or an indication or a confirm of a release. V(A) goes on but where the numbers begin (Q.921
-/// clauses 3.5.2.3, 5.5.1.2, 5.5.3.2 and 5.7).
+/// is on the line, the places that are left are those that were, with one for each of the contents that V(A) goes on by, as
+/// whoever watches the link has it (`Observer` of specs/), and without one for data that is granted for it; or all are left, and
+/// layer 3 learns it: by a release or a deactivation that is granted, an indication of an establishment, or an indication or a
+/// confirm of a release. V(A) goes on in states 7 and 8 alone, by the N(R) that is heard, and not where SABME begins the numbers
+/// anew (Q.921 clauses 3.5.2.3, 5.5.1.2, 5.5.3.2 and 5.7).
 pub fn places_are_kept()
     ensures { Always PlacesAreKept }
 {}

@@ -11,15 +11,14 @@
 //!
 //! When messages of TEI management, unit data and control frames go, where other events come between the calls; turns,
 //! where the place of the first link changes; whether the RR that goes by itself is needed; which contents stay where
-//! numbers begin and no indication is told; errors that lead to no SABME; which part of a line is full where a frame is
-//! lost.
+//! numbers begin and no indication is told; which part of a line is full where a frame is lost.
 #![tactic(auto)]
 
 mod laws;
 
 pub use laws::{
-    all_are_acknowledged, control_frames_go, counters_count, data_goes_out, errors_are_noted,
-    frames_are_read, links_move, links_take_turns, links_take_turns_meanwhile, messages_are_owed,
+    all_are_acknowledged, control_frames_go, counters_count, data_goes_out, frames_are_read,
+    links_move, links_take_turns, links_take_turns_meanwhile, messages_are_owed,
     messages_come_first, news_is_told, nothing_is_lost_in_vain, places_are_kept, ranges_are_served,
     rooms_are_told, the_other_side_is_heard, timers_are_timely, units_are_spelled, units_are_told,
     units_go_out, what_is_told_was_heard, windows_are_kept,

@@ -1,5 +1,5 @@
 -- Two cards that face each other deliver what layer 3 hands over.
-use Rattle.std.proofs.Common.{◌≡◌, ℕ, ◌+◌, ◌*◌, ◌≤◌, ◌==◌, ◌&&◌, ◌||◌, false, cond, List, [], ◌∷◌, ◌++◌, map, flat_map, refl, sym, ap, subst, ◌∙◌, append-nil, arith, eq-eqb}
+use Rattle.std.proofs.Common.{◌≡◌, ℕ, ◌+◌, ◌*◌, ◌≤◌, ◌==◌, ◌&&◌, ◌||◌, Bool, true, false, cond, List, [], ◌∷◌, ◌++◌, map, flat_map, refl, sym, ap, subst, ◌∙◌, append-nil, arith, eq-eqb}
 use Rattle.std.specs.Prelude.{All}
 use Rattle.std.specs.Option.{option_map_or}
 use Rattle.std.proofs.lemmas.Grind.{flat_map-append}
@@ -18,7 +18,7 @@ use Rattle.laws_two_links.specs.Rounds.{IsReady, IsTaken}
 use Rattle.laws_two_links.proofs.AnyOrderRuns.{Pair, all-turns}
 use Rattle.laws_two_links.proofs.Waiting.{nothing-to_send}
 use Rattle.laws_wire.specs.Wire.{Station, Wire, Doing, doing_all, turns, IsStill}
-use Rattle.laws_wire.specs.Call.{calling, IsTalk, confirmed, indicated, data_told}
+use Rattle.laws_wire.specs.Call.{calling, IsTalk, confirmed, data_told, told_first, both_call}
 use Rattle.laws_wire.specs.Facing as facing
 use Rattle.laws_wire.specs.Facing.{line_of, data_in, data_of, read_as, end_of, granted_of, Delivers, CardsDeliver, CallsFace}
 use Rattle.laws_wire.proofs.Again.{faces-again}
@@ -129,8 +129,14 @@ note-data service tei c place t s n none h =
     ap (flat_map (data_in service tei)) (all-told c service tei place (t ∷ []) s n h)
     ∙ ap (λ xs. xs ++ flat_map (data_in service tei) (map (data_told service tei) n.delivered)) none ∙ all-data service tei n.delivered
 
+none-in_note : (service : Service) (tei : ℕ) (both : Bool) → data_in service tei (told_first service tei both) ≡ []
+none-in_note service tei true = refl
+none-in_note service tei false = refl
+
 pub calls-face : CallsFace
-calls-face service c d line other tei ds can talk still =
-    let x = still-up service c d line other tei ds can talk still in
-    faces-again service tei c d 0 0 (after_note (confirmed service tei)) (after_note (indicated service tei)) (doing_all ds (calling service tei c line d other)) x.n x.m x.talk still
-    (note-data service tei c 0 (confirmed service tei) _ x.n refl x.talk.near) (note-data service tei d 0 (indicated service tei) _ x.m refl x.talk.far) can.sides can.n201
+calls-face service c d line other tei ds can called still =
+    let w = calling service tei c line d other in
+    let note = told_first service tei (both_call ds w) in
+    let x = still-up service c d line other tei ds can called still in
+    faces-again service tei c d 0 0 (after_note (confirmed service tei)) (after_note note) (doing_all ds w) x.n x.m x.talk still
+    (note-data service tei c 0 (confirmed service tei) _ x.n refl x.talk.near) (note-data service tei d 0 note _ x.m (none-in_note service tei (both_call ds w)) x.talk.far) can.sides can.n201

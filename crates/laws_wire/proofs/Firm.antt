@@ -23,7 +23,7 @@ use Rattle.laws_link.specs.Flags.{busy_asked, flag_left, takes_contents}
 use Rattle.laws_link.specs.States.{as_heard, is_overlong, state_after}
 use Rattle.laws_link.specs.Telling.{numbered_as, final_as, told_up, told_by_frame, told_expired, told_by}
 use Rattle.laws_link.proofs.Follows.{event-follows}
-use Rattle.laws_two_links.specs.Ahead.{IsAhead, CanRepeat, IsMildAct}
+use Rattle.laws_two_links.specs.Ahead.{CanRepeat, IsMildAct}
 use Rattle.laws_two_links.specs.Timely.{IsTimely, IsTimelyAct}
 use Rattle.laws_two_links.proofs.Effects.{is_recovering}
 use Rattle.laws_two_links.proofs.Flow.{Flow, flow-low}
@@ -35,10 +35,11 @@ use Rattle.laws_two_links.proofs.Together.{done-up, same-after}
 use Rattle.laws_two_links.proofs.Trains.{Kind, numbered, enquiry, answer, report, rejection, alien, kind_of, kind_of_ready, kind_of_reject}
 use Rattle.laws_wire.specs.Losing.{is_error}
 use Rattle.laws_wire.proofs.Fair.{HasError, Fine, frame-fair}
+use Rattle.laws_wire.proofs.Tame.{Tame, tame-asks, tame-expires, tame-sends, tame-loses, tame-takes}
 
 -- ---- what is told of a frame
 
-abbrev IsQuiet : Bool → Kind → Type 0
+abbrev pub IsQuiet : Bool → Kind → Type 0
 IsQuiet b (numbered ns) = Unit {0}
 IsQuiet b enquiry = Unit {0}
 IsQuiet b (answer nr) = b ≡ true
@@ -100,7 +101,7 @@ module _ (t : Terms) where
   frame-quiet TimerRecovery is command octets control taken l to up h = up-quiet true command octets taken l to up control h
 
   -- an I-frame over N201 would lead the link out
-  no-error : (l : Link) (f : Parts) → IsTrue (is_multiple_frame l.state) → IsTrue (is_multiple_frame (after t (received (frame f)) l).state)
+  pub no-error : (l : Link) (f : Parts) → IsTrue (is_multiple_frame l.state) → IsTrue (is_multiple_frame (after t (received (frame f)) l).state)
       → IsQuiet (is_recovering l.state) (kind_of f.address.command f.control) → list_any is_error (course t (received (frame f)) l).notes ≡ false
   no-error l f is up h = go (is_overlong t f.control f.info) (event-follows t (received (frame f)) l).leaves.state (event-follows t (received (frame f)) l).leaves.tells
     where
@@ -157,6 +158,8 @@ pub record Firm (n m : End) : Type 0 where
   pub far_sane : Sane m.link
   pub near_free : n.link.own_busy ≡ false
   pub far_free : m.link.own_busy ≡ false
+  pub near_tame : Tame n
+  pub far_tame : Tame m
 
 pub firm-turned : (n m : End) → Firm n m → Firm m n
 firm-turned n m h = record {
@@ -168,6 +171,8 @@ firm-turned n m h = record {
   far_sane = h.near_sane;
   near_free = h.far_free;
   far_free = h.near_free;
+  near_tame = h.far_tame;
+  far_tame = h.near_tame;
 }
 
 pub not-behind : (n m : End) → Flows n m → m.link.r ≤ n.link.s
@@ -191,10 +196,13 @@ module _ (n m : End) (h : Firm n m) where
   far-same receives = refl
   far-same loses = refl
 
-  firm-after : (act : Act) → IsTimelyAct act n m → (acting act e).near.link.own_busy ≡ false → Firm (acting act e).near (acting act e).far
-  firm-after act x own =
-      let ahead : IsAhead e = (not-behind n m h.there, not-behind m n h.back) in
-      let up : IsUp (acting act e) = done-up (at_near act) e h.joined h.same ahead (mild act n m x) in
+  up-after : (act : Act) → IsTimelyAct act n m → IsUp (acting act e)
+  up-after act x = done-up (at_near act) e h.joined h.same (not-behind n m h.there, not-behind m n h.back) (mild act n m x)
+
+  firm-after : (act : Act) → IsTimelyAct act n m → (acting act e).near.link.own_busy ≡ false → Tame (acting act e).near → Tame (acting act e).far
+      → Firm (acting act e).near (acting act e).far
+  firm-after act x own tame tame' =
+      let up : IsUp (acting act e) = up-after act x in
       let flows = acted-flows n m h.joined h.there h.back act x up in
       let sane = sane-doing (at_near act) e (h.near_sane, h.far_sane) in
       record {
@@ -206,23 +214,37 @@ module _ (n m : End) (h : Firm n m) where
         far_sane = sane.1;
         near_free = own;
         far_free = far-same act ∙ h.far_free;
+        near_tame = tame;
+        far_tame = tame';
       }
 
   pub firm-sends : Firm (with_sent n) m
-  firm-sends = firm-after sends tt (free n.terms offer n.link refl h.near_free)
+  firm-sends = firm-after sends tt (free n.terms offer n.link refl h.near_free) (tame-sends n h.near_tame h.near_free (up-after sends tt).0) h.far_tame
 
   pub firm-loses : Firm (with_first_lost n) m
-  firm-loses = firm-after loses tt h.near_free
+  firm-loses = firm-after loses tt h.near_free (tame-loses n h.near_tame h.near_free) h.far_tame
 
   pub firm-asks : (octets : List ℕ) → Firm (with_link (requested (Data octets) false) n) m
-  firm-asks octets = firm-after (asks (Data octets) false) tt (free n.terms (requested (Data octets) false) n.link refl h.near_free)
+  firm-asks octets =
+      firm-after (asks (Data octets) false) tt (free n.terms (requested (Data octets) false) n.link refl h.near_free)
+      (tame-asks n h.near_tame h.near_free octets (up-after (asks (Data octets) false) tt).0) h.far_tame
 
   pub firm-expires : (timer : LinkTimer) → CanRepeat timer n → IsTimely timer n m → Firm (with_link (expired timer) n) m
-  firm-expires timer can timely = firm-after (expires timer) (can, timely) (free n.terms (expired timer) n.link refl h.near_free)
+  firm-expires timer can timely =
+      firm-after (expires timer) (can, timely) (free n.terms (expired timer) n.link refl h.near_free)
+      (tame-expires n h.near_tame h.near_free timer (up-after (expires timer) (can, timely)).0) h.far_tame
 
   pub firm-takes : Firm (with_first_of m.way n) (with_first_lost m)
-  firm-takes = firm-after receives tt (own m.way)
+  firm-takes =
+      firm-after receives tt (own m.way) (tame-takes n h.near_tame h.near_free m.way h.far_tame.way known (up-after receives tt).0) (tame-loses m h.far_tame h.far_free)
     where
+      known : (f : Parts) (fs : List Parts) → m.way ≡ f ∷ fs → NoAlien (kind_of f.address.command f.control)
+      known f fs first =
+          let own_line = line n.terms n.way n.link.waiting in
+          let back : Flow m.link.s n.link.r (is_recovering m.link.state) n.link.rejecting (kind_of f.address.command f.control ∷ line m.terms fs m.link.waiting) own_line =
+          subst (λ way. Flow m.link.s n.link.r (is_recovering m.link.state) n.link.rejecting (line m.terms way m.link.waiting) own_line) first h.back in
+          is-no-alien m.link.s n.link.r (is_recovering m.link.state) n.link.rejecting (kind_of f.address.command f.control) (line m.terms fs m.link.waiting) own_line back
+
       own : (way : List Parts) → (with_first_of way n).link.own_busy ≡ false
       own [] = h.near_free
       own (f ∷ fs) = free n.terms (received (frame f)) n.link refl h.near_free

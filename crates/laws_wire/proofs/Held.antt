@@ -125,7 +125,7 @@ module _ (service : Service) (tei place : ℕ) (past : List LineTold) (c : Confi
   own = subst (λ k. Stands k service tei place s n) (sym h.stands.config) h.stands
 
   -- what it heard by an event
-  heard-then : (s' : Station) (x : Course) → s'.told ≡ s.told ++ said_by x → TellsIt n.terms.service n.terms.tei x
+  pub heard-then : (s' : Station) (x : Course) → s'.told ≡ s.told ++ said_by x → TellsIt n.terms.service n.terms.tei x
       → heard_in s' ≡ past ++ map (data_told service tei) (n.delivered ++ option_to_list x.delivered)
   heard-then s' x told y =
       let z = subst (λ t. TellsIt t.service t.tei x) h.stands.terms y in

@@ -13,7 +13,7 @@ use Rattle.model_line.specs.Event.{LineTold}
 use Rattle.model_line.specs.Machine as lines
 use Rattle.model_line.specs.Request.{Data}
 use Rattle.laws_wire.specs.Wire.{requests, times_out, Doing, at_near, at_far, doing_all, turns, IsStill}
-use Rattle.laws_wire.specs.Call.{CanCall, IsTalk, confirmed, indicated, data_told, all_told, IsBeginningOf}
+use Rattle.laws_wire.specs.Call.{CanCall, IsCall, confirmed, indicated, data_told, all_told, IsBeginningOf}
 use Rattle.laws_wire.specs.Losing.{IsRoughTalk, is_error, heard_in, HasNoError}
 use Rattle.laws_wire.specs.Facing.{Face}
 use Rattle.laws_wire.specs.Worked.{user, network, begins, talks}
@@ -24,18 +24,18 @@ use Rattle.laws_wire.proofs.LossyRun.{calls-are-told_in_order}
 pub can : CanCall user 0 network 0 0
 can = record { near = refl; far = refl; sides = refl; n201 = refl; near_line = omega arith; far_line = omega arith; terminal = omega arith }
 
-abbrev AreTalks : List Doing → Type 0
-AreTalks [] = Unit {0}
-AreTalks (k ∷ ds) = IsTalk Call 0 k × AreTalks ds
+abbrev pub AreCalls : List Doing → Type 0
+AreCalls [] = Unit {0}
+AreCalls (k ∷ ds) = IsCall Call 0 k × AreCalls ds
 
-all-of : (ds : List Doing) → AreTalks ds → All (IsTalk Call 0) ds
-all-of [] h = All-nil (IsTalk Call 0)
-all-of (k ∷ ds) h = All-cons (IsTalk Call 0) k ds h.0 (all-of ds h.1)
+pub all-of : (ds : List Doing) → AreCalls ds → All (IsCall Call 0) ds
+all-of [] h = All-nil (IsCall Call 0)
+all-of (k ∷ ds) h = All-cons (IsCall Call 0) k ds h.0 (all-of ds h.1)
 
-pub talk : All (IsTalk Call 0) talks
+pub talk : All (IsCall Call 0) talks
 talk =
-    let first : IsTalk Call 0 (at_far (requests (Data Call 0 (0xAB ∷ [])))) = (refl, refl) in
-    let second : IsTalk Call 0 (at_near (requests (Data Call 0 (0xCD ∷ 0xEF ∷ [])))) = (refl, refl) in
+    let first : IsCall Call 0 (at_far (requests (Data Call 0 (0xAB ∷ [])))) = (refl, refl) in
+    let second : IsCall Call 0 (at_near (requests (Data Call 0 (0xCD ∷ 0xEF ∷ [])))) = (refl, refl) in
     all-of talks (tt, (tt, (first, (tt, (tt, (tt, (second, (tt, (tt, (tt, (tt, (tt, (tt, (tt, tt))))))))))))))
 
 pub still : IsStill (doing_all talks begins)

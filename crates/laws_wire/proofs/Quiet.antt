@@ -11,7 +11,7 @@ use Rattle.model_link.specs.TwoEnds.{End, frame_given}
 use Rattle.model_link.specs.TwoEnds as two_ends
 use Rattle.model_line.specs.declared.config.Config.{Config}
 use Rattle.model_line.specs.Request as asked
-use Rattle.model_line.specs.Request.{Request, Establish, Release, Data, Assign, Remove, Check, SetBusy, ClearBusy}
+use Rattle.model_line.specs.Request.{Request, Establish, Release, Data, Assign, Remove, Check, SetBusy, ClearBusy, Deactivate}
 use Rattle.model_line.specs.Event.{request, next}
 use Rattle.laws_wire.specs.Wire.{Station, Wire, happens, frames_by, with_first_of, with_first_lost, requests, gives, takes, acting, turned, answered}
 use Rattle.laws_wire.specs.Call.{IsTalkOf}
@@ -106,6 +106,7 @@ module _ (service : Service) (tei : ℕ) where
     for-data P own (Check t) is = absurd is
     for-data P own (SetBusy s t) is = absurd is
     for-data P own (ClearBusy s t) is = absurd is
+    for-data P own (Deactivate s t) is = absurd is
 
     pub quiet-requests : ((octets : List ℕ) → refusal n.terms n.link false (link.Data octets) ≡ None → ⊥) → (r : Request) → IsTalkOf service tei (requests r) → Quiet (acting (requests r) w) 0
     quiet-requests never r is = for-data (λ r. Quiet (acting (requests r) w) 0) (quiet-asks never) r is

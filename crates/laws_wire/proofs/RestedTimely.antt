@@ -12,7 +12,7 @@ use Rattle.laws_wire.proofs.RestedRounds.{doing-append, many, many-rounds, all-r
 use Rattle.laws_wire.proofs.TimelyRun.{what-is-lost-arrives}
 
 -- turns are timely
-many-timely : (n : ℕ) (w : Wire) → StayTimely (many n) w
+pub many-timely : (n : ℕ) (w : Wire) → StayTimely (many n) w
 unfolding many StayTimely
 many-timely zero w = tt
 many-timely (suc n) w = (tt, ((tt, tt), ((tt, tt), (tt, many-timely n _))))

@@ -1,5 +1,5 @@
 -- A whole call: how many turns there are, what layer 3 was told so far, and what it was told where no turn is left.
-use Rattle.std.proofs.Common.{◌≡◌, ℕ, ◌+◌, ◌*◌, ◌≤◌, List, [], ◌∷◌, map, take, None, refl, sym, ap, subst, ◌∙◌, inl, inr, arith}
+use Rattle.std.proofs.Common.{◌≡◌, ℕ, ◌+◌, ◌*◌, ◌≤◌, Bool, true, false, ◌||◌, List, [], ◌∷◌, map, take, None, refl, sym, ap, subst, ◌∙◌, inl, inr, arith}
 use Rattle.std.specs.Prelude.{All, if◌then◌else◌}
 use Rattle.std.proofs.lemmas.List.Elements.{All-head, All-tail}
 use Rattle.lapd_frame.specs.declared.services.Service.{Service}
@@ -15,20 +15,33 @@ use Rattle.model_line.proofs.Ranges.{terms_in_range}
 use Rattle.laws_two_links.specs.Rounds.{HasArrived}
 use Rattle.laws_two_links.proofs.AnyOrderRuns.{Pair, all-there}
 use Rattle.laws_two_links.proofs.Waiting.{nothing-given}
-use Rattle.laws_wire.specs.Wire.{Station, Wire, Doing, doing, doing_all, is_turn, turns, IsStill, answered}
-use Rattle.laws_wire.specs.Call.{calling, IsTalk, confirmed, indicated, data_told, IsBeginningOf, CanCall, ComesThrough, CallsComeThrough}
+use Rattle.laws_wire.specs.Wire.{Station, Wire, Doing, turned, doing, is_turn, IsStill, answered}
+unfoldable use Rattle.laws_wire.specs.Wire.{doing_all, turns}
+use Rattle.laws_wire.specs.Call.{calling, IsCall, calls_back, confirmed, data_told, told_first, IsBeginningOf, CanCall, ComesThrough, CallsComeThrough}
+unfoldable use Rattle.laws_wire.specs.Call.{both_call}
 use Rattle.laws_wire.proofs.Beginning.{calls, answers}
+use Rattle.laws_wire.proofs.BothCrossing as crossed
+use Rattle.laws_wire.proofs.BothCrossing.{waits, under_way, answered_there, returns}
+use Rattle.laws_wire.proofs.BothHalf as half
+use Rattle.laws_wire.proofs.BothPhases.{cost, Goes, step}
 use Rattle.laws_wire.proofs.Calling.{asked, caller, end, with_ua_waiting, with_ua_first}
 use Rattle.laws_wire.proofs.Spelled.{twice-other}
 use Rattle.laws_wire.proofs.SoFar.{at-first, then-data}
 use Rattle.laws_wire.proofs.Standing.{Stands, still-gives-none}
 use Rattle.laws_wire.proofs.Talking.{Face, Past, unheard, after_note, Holds, all-told, none-told}
-use Rattle.laws_wire.proofs.Up.{pair_of, Talk, granted_of}
+use Rattle.laws_wire.proofs.Up.{pair_of, Talk, turned-talk, granted_of}
 use Rattle.laws_wire.proofs.Quiet.{Both}
-use Rattle.laws_wire.proofs.Phases.{IsUp, Goes, Stepped, step}
 
-joined-price : (b k w w1 w2 g g1 g2 : ℕ) → b + w1 + 4 * g ≤ w + 4 * g1 → k + w2 + 4 * g1 ≤ w1 + 4 * g2 → (b + k) + w2 + 4 * g ≤ w + 4 * g2
-joined-price b k w w1 w2 g g1 g2 h i = omega (arith, h, i)
+joined-price : (b k w w1 w2 g g1 g2 x x1 x2 : ℕ) → b + w1 + (4 * g + x) ≤ w + (4 * g1 + x1) → k + w2 + (4 * g1 + x1) ≤ w1 + (4 * g2 + x2) → (b + k) + w2 + (4 * g + x) ≤ w + (4 * g2 + x2)
+joined-price b k w w1 w2 g g1 g2 x x1 x2 h i = omega (arith, h, i)
+
+or-none : (both : Bool) → both ≡ (both || false)
+or-none true = refl
+or-none false = refl
+
+or-both : (a b c : Bool) → ((a || b) || c) ≡ (a || (b || c))
+or-both true b c = refl
+or-both false b c = refl
 
 no-way : (f : Parts → List ℕ) (way : List Parts) → map f way ≡ [] → way ≡ []
 no-way f [] e = refl
@@ -41,6 +54,21 @@ arrived n m p no-n no-m way-n way-m =
     all-there [] (pair_of n m) (pair_of n m) (record { pair = p; bounded = omega arith; near_kept = refl; far_kept = refl })
     (record { near = nothing-given n.terms n.link no-n; far = nothing-given m.terms m.link no-m; near_way = way-n; far_way = way-m })
 
+-- what becomes of a call
+pub record AreUp (service : Service) (tei : ℕ) (c d : Config) (p q : ℕ) (note : LineTold) (w : Wire) : Type 0 where
+  pub n : End
+  pub m : End
+  pub talk : Talk service tei c d p q (after_note (confirmed service tei)) (after_note note) w n m
+
+-- what layer 3 of each was told, where no turn is left, and at any time
+pub record ToldAll (service : Service) (tei : ℕ) (note : LineTold) (w : Wire) : Type 0 where
+  pub near : w.near.told ≡ confirmed service tei ∷ map (data_told service tei) w.far.granted
+  pub far : w.far.told ≡ note ∷ map (data_told service tei) w.near.granted
+
+pub record ToldSoFar (service : Service) (tei : ℕ) (note : LineTold) (w : Wire) : Type 0 where
+  pub near : IsBeginningOf (confirmed service tei ∷ map (data_told service tei) w.far.granted) w.near.told
+  pub far : IsBeginningOf (note ∷ map (data_told service tei) w.near.granted) w.far.told
+
 module _ (service : Service) (tei : ℕ) where
   pub none-given : (k : Config) (place : ℕ) (first : Past) (s : Station) (n : End) → Holds k service tei place first s n → answered next s ≡ gave None → given n.terms n.link ≡ None
   none-given k place first s n h e = still-gives-none service tei place s n (subst (λ k. Stands k service tei place s n) (sym h.stands.config) h.stands) e
@@ -48,88 +76,129 @@ module _ (service : Service) (tei : ℕ) where
   pub way-empty : (k : Config) (place : ℕ) (first : Past) (s : Station) (n : End) → Holds k service tei place first s n → s.way ≡ [] → n.way ≡ []
   way-empty k place first s n h e = no-way (spelling k.side) n.way (sym h.stands.way ∙ e)
 
-  module _ (c d : Config) (p q : ℕ) (face : Face c d) (back : Face d c) (rt : IsInRange (terms c service tei)) (ru : IsInRange (terms d service tei)) where
-    abbrev pub On : Wire → ℕ → Type 0
-    On w k = Goes service tei c d p q face back rt ru w k
+  by-pair : (first : LineTold) (k : Config) (place : ℕ) (other s : Station) (m n : End) → Holds k service tei place (after_note first) s n → other.granted ≡ m.link.contents
+      → n.delivered ≡ take n.link.r m.link.contents → IsBeginningOf (first ∷ map (data_told service tei) other.granted) s.told
+  by-pair first k place other s m n h granted delivered =
+      then-data service tei first n.link.r other.granted s.told
+      (all-told k service tei place (first ∷ []) s n h ∙ ap (λ xs. first ∷ map (data_told service tei) xs) (delivered ∙ ap (take n.link.r) (sym granted)))
 
-    abbrev pub Ran : Wire → Wire → ℕ → ℕ → Type 0
-    Ran w w' k b = Stepped service tei c d p q face back rt ru w w' k b
+  not-yet : (first : LineTold) (k : Config) (place : ℕ) (other s : Station) (n : End) → Holds k service tei place unheard s n → n.delivered ≡ [] → IsBeginningOf (first ∷ map (data_told service tei) other.granted) s.told
+  not-yet first k place other s n h none = at-first service tei first other.granted s.told (none-told k service tei place [] s n h none)
 
-    pub runs : (ds : List Doing) → All (IsTalk service tei) ds → (w : Wire) (k : ℕ) → On w k → Ran w (doing_all ds w) k (turns ds w)
-    unfolding doing_all turns
-    runs [] all w k h = record { weight = k; goes = h; price = omega arith }
-    runs (x ∷ ds) all w k h =
-        let one = step service tei c d p q face back rt ru x (All-head (IsTalk service tei) x ds all) w k h in
-        let rest = runs ds (All-tail (IsTalk service tei) x ds all) (doing x w) one.weight one.goes in
+  up-told : (note : LineTold) (c d : Config) (p q : ℕ) (w : Wire) → AreUp service tei c d p q note w → IsStill w → ToldAll service tei note w
+  up-told note c d p q w h still =
+      let all =
+      arrived h.n h.m h.talk.pair (none-given c p _ w.near h.n h.talk.near still.near) (none-given d q _ w.far h.m h.talk.far still.far)
+      (way-empty c p _ w.near h.n h.talk.near still.near_way) (way-empty d q _ w.far h.m h.talk.far still.far_way) in
+      record {
+        near = all-told c service tei p (confirmed service tei ∷ []) w.near h.n h.talk.near ∙ ap (λ xs. confirmed service tei ∷ map (data_told service tei) xs) (all.1.delivered ∙ sym h.talk.far.granted);
+        far = all-told d service tei q (note ∷ []) w.far h.m h.talk.far ∙ ap (λ xs. note ∷ map (data_told service tei) xs) (all.0.delivered ∙ sym h.talk.near.granted);
+      }
+
+  -- ---- one end is up, or both
+
+  module _ (note : LineTold) (c d : Config) (p q : ℕ) (face : Face c d) (back : Face d c) (rt : IsInRange (terms c service tei)) where
+    abbrev Half : Wire → ℕ → Type 0
+    Half w k = half.Half service tei note c d p q face back rt w k
+
+    half-up : (w : Wire) (k : ℕ) → Half w k → IsStill w → AreUp service tei c d p q note w
+    half-up w k (inl h) still = let no = none-given d q _ w.far _ h.both.far still.far in absurd (cc)
+    half-up w k (inr (inl h)) still = let no = way-empty d q _ w.far _ h.both.far still.far_way in absurd (cc)
+    half-up w k (inr (inr h)) still = record { n = h.n; m = h.m; talk = h.talk }
+
+    half-so_far : (w : Wire) (k : ℕ) → Half w k → ToldSoFar service tei note w
+    half-so_far w k (inl h) = record {
+      near = not-yet (confirmed service tei) c p w.far w.near _ h.both.near refl;
+      far = by-pair note d q w.near w.far (end (terms c service tei) caller []) (with_ua_waiting h.m) h.both.far h.both.near.granted h.pair.there.delivered;
+    }
+    half-so_far w k (inr (inl h)) = record {
+      near = not-yet (confirmed service tei) c p w.far w.near _ h.both.near refl;
+      far = by-pair note d q w.near w.far (end (terms c service tei) caller []) (with_ua_first h.m) h.both.far h.both.near.granted h.pair.there.delivered;
+    }
+    half-so_far w k (inr (inr h)) = record {
+      near = by-pair (confirmed service tei) c p w.far w.near h.m h.n h.talk.near h.talk.far.granted h.talk.pair.back.delivered;
+      far = by-pair note d q w.near w.far h.n h.m h.talk.far h.talk.near.granted h.talk.pair.there.delivered;
+    }
+
+  -- ---- a call
+
+  module _ (few : tei ≤ 126) (c d : Config) (p q : ℕ) (face : Face c d) (back : Face d c) (rt : IsInRange (terms c service tei)) (ru : IsInRange (terms d service tei)) where
+    abbrev pub On : Bool → Wire → ℕ → Type 0
+    On both w k = Goes service tei few c d p q face back rt ru both w k
+
+    pub record Ran (both : Bool) (ds : List Doing) (w : Wire) (before : ℕ) : Type 0 where
+      pub weight : ℕ
+      pub goes : On (both || both_call ds w) (doing_all ds w) weight
+      pub price : turns ds w + weight + (4 * granted_of w + cost both) ≤ before + (4 * granted_of (doing_all ds w) + cost (both || both_call ds w))
+
+    none-done : (x k y : ℕ) → x ≡ k → 0 + y + x ≤ y + k
+    none-done x k y e = omega (arith, e)
+
+    pub runs : (ds : List Doing) → All (IsCall service tei) ds → (both : Bool) (w : Wire) (k : ℕ) → On both w k → Ran both ds w k
+    unfolding doing_all turns both_call
+    runs [] all both w k h = record { weight = k; goes = subst (λ y. On y w k) (or-none both) h; price = none-done _ _ k (ap (λ y. 4 * granted_of w + cost y) (or-none both)) }
+    runs (x ∷ ds) all both w k h =
+        let w1 = doing x w in
+        let one = step service tei few c d p q face back rt ru both x (All-head (IsCall service tei) x ds all) w k h in
+        let both1 = both || calls_back x w in
+        let rest = runs ds (All-tail (IsCall service tei) x ds all) both1 w1 one.weight one.goes in
+        let same = or-both both (calls_back x w) (both_call ds w1) in
         record {
           weight = rest.weight;
-          goes = rest.goes;
+          goes = subst (λ y. On y (doing_all ds w1) rest.weight) same rest.goes;
           price =
-              joined-price (if is_turn x w then 1 else 0) (turns ds (doing x w)) k one.weight rest.weight (granted_of w) (granted_of (doing x w)) (granted_of (doing_all ds (doing x w)))
-              one.price rest.price;
+              subst (λ y. ((if is_turn x w then 1 else 0) + turns ds w1) + rest.weight + (4 * granted_of w + cost both) ≤ k + (4 * granted_of (doing_all ds w1) + cost y)) same
+              (joined-price (if is_turn x w then 1 else 0) (turns ds w1) k one.weight rest.weight (granted_of w) (granted_of w1) (granted_of (doing_all ds w1)) (cost both) (cost both1) (cost (both1 || both_call ds w1))
+              one.price rest.price);
         }
 
-    -- where no turn is left
-    pub record ToldAll (w : Wire) : Type 0 where
-      pub near : w.near.told ≡ confirmed service tei ∷ map (data_told service tei) w.far.granted
-      pub far : w.far.told ≡ indicated service tei ∷ map (data_told service tei) w.near.granted
+    abbrev Crossing : Wire → ℕ → Type 0
+    Crossing w k = crossed.IsCrossing service tei c d p q face back rt ru w k
 
-    -- both are up there
-    pub up-still : (w : Wire) (k : ℕ) → On w k → IsStill w → IsUp service tei c d p q face back rt ru w k
-    up-still w k (inl h) still = let no = none-given c p unheard w.near _ h.both.near still.near in absurd (cc)
-    up-still w k (inr (inl h)) still = let no = way-empty c p unheard w.near _ h.both.near still.near_way in absurd (cc)
-    up-still w k (inr (inr (inl h))) still = let no = none-given d q _ w.far _ h.both.far still.far in absurd (cc)
-    up-still w k (inr (inr (inr (inl h)))) still = let no = way-empty d q _ w.far _ h.both.far still.far_way in absurd (cc)
-    up-still w k (inr (inr (inr (inr h)))) still = h
+    -- where SABMEs cross a turn is left
+    crossing-moves : (own other : crossed.Place) (w : Wire) → Both service tei c d p q unheard unheard w (crossed.crossing (terms c service tei) own other) (crossed.crossing (terms d service tei) other own) → IsStill w → ⊥
+    crossing-moves waits other w h still = let no = none-given c p unheard w.near _ h.near still.near in cc
+    crossing-moves under_way other w h still = let no = way-empty c p unheard w.near _ h.near still.near_way in cc
+    crossing-moves answered_there waits w h still = let no = none-given d q unheard w.far _ h.far still.far in cc
+    crossing-moves answered_there under_way w h still = let no = way-empty d q unheard w.far _ h.far still.far_way in cc
+    crossing-moves answered_there answered_there w h still = let no = none-given c p unheard w.near _ h.near still.near in cc
+    crossing-moves answered_there returns w h still = let no = way-empty c p unheard w.near _ h.near still.near_way in cc
+    crossing-moves returns waits w h still = let no = none-given d q unheard w.far _ h.far still.far in cc
+    crossing-moves returns under_way w h still = let no = way-empty d q unheard w.far _ h.far still.far_way in cc
+    crossing-moves returns answered_there w h still = let no = none-given c p unheard w.near _ h.near still.near in cc
+    crossing-moves returns returns w h still = let no = way-empty c p unheard w.near _ h.near still.near_way in cc
 
-    pub told-all : (w : Wire) (k : ℕ) → IsUp service tei c d p q face back rt ru w k → IsStill w → ToldAll w
-    told-all w k h still =
-        let all =
-        arrived h.n h.m h.talk.pair (none-given c p _ w.near h.n h.talk.near still.near) (none-given d q _ w.far h.m h.talk.far still.far)
-        (way-empty c p _ w.near h.n h.talk.near still.near_way) (way-empty d q _ w.far h.m h.talk.far still.far_way) in
-        record {
-          near = all-told c service tei p (confirmed service tei ∷ []) w.near h.n h.talk.near ∙ ap (λ xs. confirmed service tei ∷ map (data_told service tei) xs) (all.1.delivered ∙ sym h.talk.far.granted);
-          far = all-told d service tei q (indicated service tei ∷ []) w.far h.m h.talk.far ∙ ap (λ xs. indicated service tei ∷ map (data_told service tei) xs) (all.0.delivered ∙ sym h.talk.near.granted);
-        }
+    turned-still : (w : Wire) → IsStill w → IsStill (turned w)
+    turned-still w h = record { near = h.far; far = h.near; near_way = h.far_way; far_way = h.near_way }
 
-    -- at any time
-    by-pair : (first : LineTold) (k : Config) (place : ℕ) (other s : Station) (m n : End) → Holds k service tei place (after_note first) s n → other.granted ≡ m.link.contents
-        → n.delivered ≡ take n.link.r m.link.contents → IsBeginningOf (first ∷ map (data_told service tei) other.granted) s.told
-    by-pair first k place other s m n h granted delivered =
-        then-data service tei first n.link.r other.granted s.told
-        (all-told k service tei place (first ∷ []) s n h ∙ ap (λ xs. first ∷ map (data_told service tei) xs) (delivered ∙ ap (take n.link.r) (sym granted)))
+    -- both are up where no turn is left
+    pub up-still : (both : Bool) (w : Wire) (k : ℕ) → On both w k → IsStill w → AreUp service tei c d p q (told_first service tei both) w
+    up-still false w k (inl h) still = let no = none-given c p unheard w.near _ h.both.near still.near in absurd (cc)
+    up-still false w k (inr (inl h)) still = let no = way-empty c p unheard w.near _ h.both.near still.near_way in absurd (cc)
+    up-still false w k (inr (inr h)) still = half-up (told_first service tei false) c d p q face back rt w k h still
+    up-still true w k (inl h) still = absurd (crossing-moves h.own h.other w h.both still)
+    up-still true w k (inr (inl h)) still = half-up (told_first service tei true) c d p q face back rt w k h still
+    up-still true w k (inr (inr h)) still =
+        let x = half-up (confirmed service tei) d c q p back face ru (turned w) k h (turned-still w still) in
+        record { n = x.m; m = x.n; talk = turned-talk service tei d c q p (after_note (confirmed service tei)) (after_note (confirmed service tei)) (turned w) x.n x.m x.talk }
 
-    pub record ToldSoFar (w : Wire) : Type 0 where
-      pub near : IsBeginningOf (confirmed service tei ∷ map (data_told service tei) w.far.granted) w.near.told
-      pub far : IsBeginningOf (indicated service tei ∷ map (data_told service tei) w.near.granted) w.far.told
+    neither-told : (note : LineTold) (w : Wire) (n m : End) → Both service tei c d p q unheard unheard w n m → n.delivered ≡ [] → m.delivered ≡ [] → ToldSoFar service tei note w
+    neither-told note w n m h none none' = record { near = not-yet (confirmed service tei) c p w.far w.near n h.near none; far = not-yet note d q w.near w.far m h.far none' }
 
-    pub told-so_far : (w : Wire) (k : ℕ) → On w k → ToldSoFar w
-    told-so_far w k (inl h) = record { near = at-first service tei (confirmed service tei) w.far.granted w.near.told (none-told c service tei p [] w.near _ h.both.near refl); far = at-first service tei (indicated service tei) w.near.granted w.far.told (none-told d service tei q [] w.far _ h.both.far refl) }
-    told-so_far w k (inr (inl h)) = record { near = at-first service tei (confirmed service tei) w.far.granted w.near.told (none-told c service tei p [] w.near _ h.both.near refl); far = at-first service tei (indicated service tei) w.near.granted w.far.told (none-told d service tei q [] w.far _ h.both.far refl) }
-    told-so_far w k (inr (inr (inl h))) = record {
-      near = at-first service tei (confirmed service tei) w.far.granted w.near.told (none-told c service tei p [] w.near _ h.both.near refl);
-      far = by-pair (indicated service tei) d q w.near w.far (end (terms c service tei) caller []) (with_ua_waiting h.m) h.both.far h.both.near.granted h.pair.there.delivered;
-    }
-    told-so_far w k (inr (inr (inr (inl h)))) = record {
-      near = at-first service tei (confirmed service tei) w.far.granted w.near.told (none-told c service tei p [] w.near _ h.both.near refl);
-      far = by-pair (indicated service tei) d q w.near w.far (end (terms c service tei) caller []) (with_ua_first h.m) h.both.far h.both.near.granted h.pair.there.delivered;
-    }
-    told-so_far w k (inr (inr (inr (inr h)))) = record {
-      near = by-pair (confirmed service tei) c p w.far w.near h.m h.n h.talk.near h.talk.far.granted h.talk.pair.back.delivered;
-      far = by-pair (indicated service tei) d q w.near w.far h.n h.m h.talk.far h.talk.near.granted h.talk.pair.there.delivered;
-    }
+    pub told-so_far : (both : Bool) (w : Wire) (k : ℕ) → On both w k → ToldSoFar service tei (told_first service tei both) w
+    told-so_far false w k (inl h) = neither-told (told_first service tei false) w _ _ h.both refl refl
+    told-so_far false w k (inr (inl h)) = neither-told (told_first service tei false) w _ _ h.both refl refl
+    told-so_far false w k (inr (inr h)) = half-so_far (told_first service tei false) c d p q face back rt w k h
+    told-so_far true w k (inl h) = neither-told (told_first service tei true) w _ _ h.both refl refl
+    told-so_far true w k (inr (inl h)) = half-so_far (told_first service tei true) c d p q face back rt w k h
+    told-so_far true w k (inr (inr h)) = let x = half-so_far (confirmed service tei) d c q p back face ru (turned w) k h in record { near = x.far; far = x.near }
 
 -- A call from two cards that have just begun.
-few-turns : (b k g g' : ℕ) → b + k + 4 * g ≤ 4 + 4 * g' → b ≤ 4 + 4 * g'
-few-turns b k g g' h = omega (arith, h)
+few-turns : (both : Bool) (b k g g' : ℕ) → b + k + (4 * g + 0) ≤ 4 + (4 * g' + cost both) → b ≤ (if both then 8 else 4) + 4 * g'
+few-turns true b k g g' h = omega (arith, h)
+few-turns false b k g g' h = omega (arith, h)
 
--- what becomes of a call
-pub record AreUp (service : Service) (tei : ℕ) (c d : Config) (w : Wire) : Type 0 where
-  pub n : End
-  pub m : End
-  pub talk : Talk service tei c d 0 0 (after_note (confirmed service tei)) (after_note (indicated service tei)) w n m
-
-module _ (service : Service) (c d : Config) (line other tei : ℕ) (ds : List Doing) (can : CanCall c line d other tei) (talk : All (IsTalk service tei) ds) where
+module _ (service : Service) (c d : Config) (line other tei : ℕ) (ds : List Doing) (can : CanCall c line d other tei) (called : All (IsCall service tei) ds) where
   face : Face c d
   face = record { side = sym can.sides; n201 = can.n201 }
 
@@ -148,28 +217,29 @@ module _ (service : Service) (c d : Config) (line other tei : ℕ) (ds : List Do
   abbrev last : Wire
   last = doing_all ds w
 
-  ran : Ran service tei c d 0 0 face back rt ru w last 4 (turns ds w)
+  abbrev both : Bool
+  both = both_call ds w
+
+  ran : Ran service tei can.terminal c d 0 0 face back rt ru false ds w 4
   ran =
       let begun : Both service tei c d 0 0 unheard unheard w (end (terms c service tei) asked []) (end (terms d service tei) fresh []) =
       record { near = calls service tei c can.near can.terminal line can.near_line; far = answers service tei d can.far can.terminal other can.far_line } in
-      runs service tei c d 0 0 face back rt ru ds talk w 4 (inl (record { both = begun; is = refl }))
+      runs service tei can.terminal c d 0 0 face back rt ru ds called false w 4 (inl (record { both = begun; is = refl }))
 
-  last-up : IsStill last → IsUp service tei c d 0 0 face back rt ru last ran.weight
-  last-up still = up-still service tei c d 0 0 face back rt ru last ran.weight ran.goes still
+  pub still-up : IsStill last → AreUp service tei c d 0 0 (told_first service tei both) last
+  still-up still = up-still service tei can.terminal c d 0 0 face back rt ru both last ran.weight ran.goes still
 
-  pub still-up : IsStill last → AreUp service tei c d last
-  still-up still = let h = last-up still in record { n = h.n; m = h.m; talk = h.talk }
-
-  comes : ComesThrough service tei (turns ds w) last
+  comes : ComesThrough service tei (turns ds w) both last
   comes =
-      let so_far = told-so_far service tei c d 0 0 face back rt ru last ran.weight ran.goes in
+      let so_far = told-so_far service tei can.terminal c d 0 0 face back rt ru both last ran.weight ran.goes in
+      let all = λ (still : IsStill last). up-told service tei (told_first service tei both) c d 0 0 last (still-up still) still in
       record {
-        turns = few-turns (turns ds w) ran.weight (granted_of w) (granted_of last) ran.price;
-        near = λ still. (told-all service tei c d 0 0 face back rt ru last ran.weight (last-up still) still).near;
-        far = λ still. (told-all service tei c d 0 0 face back rt ru last ran.weight (last-up still) still).far;
+        turns = few-turns both (turns ds w) ran.weight (granted_of w) (granted_of last) ran.price;
+        near = λ still. (all still).near;
+        far = λ still. (all still).far;
         near_so_far = so_far.near;
         far_so_far = so_far.far;
       }
 
 pub calls-come-through : CallsComeThrough
-calls-come-through service c d line other tei ds can talk = comes service c d line other tei ds can talk
+calls-come-through service c d line other tei ds can called = comes service c d line other tei ds can called

@@ -16,6 +16,7 @@ use Rattle.laws_two_links.specs.Rounds.{IsReady, IsTaken}
 use Rattle.laws_two_links.proofs.Flow.{Flow}
 use Rattle.laws_wire.specs.Wire.{Station, Wire, happens, with_first_of, with_first_lost, takes, loses, acting}
 use Rattle.laws_wire.proofs.Calling.{end, called, sound-caller, sound-called}
+use Rattle.laws_wire.proofs.Tame.{WaitsSo, IsFreeFrame}
 use Rattle.laws_wire.proofs.Firm.{Firm}
 use Rattle.laws_wire.proofs.Held.{Held, held-given, Grants, held-asked}
 use Rattle.laws_wire.proofs.Ringing.{answered}
@@ -99,6 +100,8 @@ module _ (t u : Terms) (rt : IsInRange t) (ru : IsInRange u) (same : t.n201 ≡ 
     far_sane = record { timed = record { timer = inr (refl, omega arith) }; heeds = record { heeds = λ busy. absurd (true≢false (sym busy)) } };
     near_free = refl;
     far_free = refl;
+    near_tame = record { peer_free = refl; waiting = All-nil WaitsSo; way = All-nil IsFreeFrame };
+    far_tame = record { peer_free = refl; waiting = All-nil WaitsSo; way = All-nil IsFreeFrame };
   }
 
   pub near-ready : IsReady near_end

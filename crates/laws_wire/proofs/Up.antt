@@ -14,7 +14,7 @@ use Rattle.model_link.specs.TwoEnds.{End, Ends, with_link, with_sent, frame_give
 use Rattle.model_link.specs.TwoEnds as two_ends
 use Rattle.model_line.specs.declared.config.Config.{Config}
 use Rattle.model_line.specs.Request as asked
-use Rattle.model_line.specs.Request.{Request, Establish, Release, Data, Assign, Remove, Check, SetBusy, ClearBusy}
+use Rattle.model_line.specs.Request.{Request, Establish, Release, Data, Assign, Remove, Check, SetBusy, ClearBusy, Deactivate}
 use Rattle.model_line.specs.Event.{request, next}
 use Rattle.laws_two_links.specs.AnyOrder.{weight_at}
 use Rattle.laws_two_links.specs.Waits.{HasNothingToSend}
@@ -238,6 +238,7 @@ module _ (service : Service) (tei : ℕ) where
       acts-request (Check t) is = absurd is
       acts-request (SetBusy s t) is = absurd is
       acts-request (ClearBusy s t) is = absurd is
+      acts-request (Deactivate s t) is = absurd is
 
       pub acts : (act : Act) → IsTalkOf service tei act → Acted w (acting act w) n m (if is_turn_of act w then 1 else 0)
       acts (requests r) is = acts-request r is

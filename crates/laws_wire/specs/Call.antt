@@ -1,5 +1,5 @@
 -- A call between two cards: what layer 3 of each asks for, and what it is told.
-use Rattle.std.specs.Prelude.{◌≡◌, ◌≤◌, ◌<◌, ℕ, ◌+◌, ◌*◌, List, [], ◌∷◌, ◌++◌, length, map, All, Some}
+use Rattle.std.specs.Prelude.{◌≡◌, ◌≤◌, ◌<◌, ℕ, ◌+◌, ◌*◌, Bool, false, ◌||◌, List, [], ◌∷◌, ◌++◌, length, map, All, Some, if◌then◌else◌}
 use Rattle.lapd_frame.specs.Grammar.{other_side}
 use Rattle.lapd_frame.specs.declared.notes.Note.TheVariants as notes
 use Rattle.lapd_frame.specs.declared.services.Service.{Service}
@@ -8,7 +8,8 @@ use Rattle.model_line.specs.Event.{request, LineTold, nothing}
 use Rattle.model_line.specs.Request.{Request, Establish, Data, Assign}
 use Rattle.model_line.specs.Sound.{IsInRange}
 use Rattle.model_card.specs.Card.{fresh}
-use Rattle.laws_wire.specs.Wire.{Station, Wire, happens, Act, requests, gives, takes, Doing, at_near, at_far, doing_all, turns, IsStill}
+use Rattle.laws_line.specs.Share.{is_granted}
+use Rattle.laws_wire.specs.Wire.{Station, Wire, happens, answered, Act, requests, gives, takes, Doing, at_near, at_far, doing, doing_all, turns, IsStill}
 
 -- A card that has just begun, at one of its lines; it has the TEI assigned; and two such, of which one is asked to establish.
 abbrev pub station : Config → ℕ → Station
@@ -31,7 +32,28 @@ pub record CanCall (c : Config) (line : ℕ) (d : Config) (other tei : ℕ) : Ty
   pub far_line : other < d.lines
   pub terminal : tei ≤ 126
 
--- What is done in a call: either layer 3 asks to send data, and is granted or refused; and turns.
+-- What is done in a call: either layer 3 asks to establish the link, or to send data, and is granted or refused; and turns.
+abbrev pub IsCallOf : Service → ℕ → Act → Type 0
+IsCallOf service tei (requests (Establish s t)) = (s ≡ service) × (t ≡ tei)
+IsCallOf service tei (requests (Data s t contents)) = (s ≡ service) × (t ≡ tei)
+IsCallOf service tei gives = Unit {0}
+IsCallOf service tei takes = Unit {0}
+IsCallOf service tei other = ⊥
+
+abbrev pub IsCall : Service → ℕ → Doing → Type 0
+IsCall service tei (at_near act) = IsCallOf service tei act
+IsCall service tei (at_far act) = IsCallOf service tei act
+
+-- Whether layer 3 of the far end was granted an establishment, too, before SABME came: then both ends call.
+abbrev pub calls_back : Doing → Wire → Bool
+calls_back (at_far (requests (Establish s t))) w = is_granted (answered (request (Establish s t)) w.far)
+calls_back other w = false
+
+unfoldable pub both_call : List Doing → Wire → Bool
+both_call [] w = false
+both_call (d ∷ ds) w = calls_back d w || both_call ds (doing d w)
+
+-- Data alone is asked for, once the link is established; and turns.
 abbrev pub IsData : Service → ℕ → Request → Type 0
 IsData service tei (Data s t contents) = (s ≡ service) × (t ≡ tei)
 IsData service tei other = ⊥
@@ -63,16 +85,20 @@ all_told service tei first other = first ∷ map (data_told service tei) other.g
 abbrev pub IsBeginningOf : List LineTold → List LineTold → Type 0
 IsBeginningOf all told = (rest : List LineTold) × (told ++ rest ≡ all)
 
+-- What the far end is told first: that the link is established which it asked for, too, or that the other has established it.
+abbrev pub told_first : Service → ℕ → Bool → LineTold
+told_first service tei both = if both then confirmed service tei else indicated service tei
+
 -- At any time layer 3 of each was told a beginning of that, and where no turn is left it was told all; and there are at most
--- four turns for the establishment, and four for each request for data that was granted.
-pub record ComesThrough (service : Service) (tei : ℕ) (taken : ℕ) (w : Wire) : Type 0 where
-  pub turns : taken ≤ 4 + 4 * (length w.near.granted + length w.far.granted)
+-- four turns for each end that calls, and four for each request for data that was granted.
+pub record ComesThrough (service : Service) (tei : ℕ) (taken : ℕ) (both : Bool) (w : Wire) : Type 0 where
+  pub turns : taken ≤ (if both then 8 else 4) + 4 * (length w.near.granted + length w.far.granted)
   pub near : IsStill w → w.near.told ≡ all_told service tei (confirmed service tei) w.far
-  pub far : IsStill w → w.far.told ≡ all_told service tei (indicated service tei) w.near
+  pub far : IsStill w → w.far.told ≡ all_told service tei (told_first service tei both) w.near
   pub near_so_far : IsBeginningOf (all_told service tei (confirmed service tei) w.far) w.near.told
-  pub far_so_far : IsBeginningOf (all_told service tei (indicated service tei) w.near) w.far.told
+  pub far_so_far : IsBeginningOf (all_told service tei (told_first service tei both) w.near) w.far.told
 
 abbrev pub CallsComeThrough : Type 0
 CallsComeThrough =
-    (service : Service) (c d : Config) (line other tei : ℕ) (ds : List Doing) → CanCall c line d other tei → All (IsTalk service tei) ds →
-    let w = calling service tei c line d other in ComesThrough service tei (turns ds w) (doing_all ds w)
+    (service : Service) (c d : Config) (line other tei : ℕ) (ds : List Doing) → CanCall c line d other tei → All (IsCall service tei) ds →
+    let w = calling service tei c line d other in ComesThrough service tei (turns ds w) (both_call ds w) (doing_all ds w)

@@ -18,7 +18,7 @@ use Rattle.laws_two_links.specs.AnyOrder.{weight}
 use Rattle.laws_two_links.specs.Rounds.{IsReady, IsTaken}
 use Rattle.laws_two_links.specs.Waits.{HasNothingToSend}
 use Rattle.laws_wire.specs.Wire.{Station, Wire, Doing, doing_all, turns, IsStill}
-use Rattle.laws_wire.specs.Call.{calling, CanCall, IsTalk, data_told}
+use Rattle.laws_wire.specs.Call.{calling, CanCall, IsTalk, IsCall, data_told}
 
 abbrev pub line_of : Station → Line
 line_of s = line_at s.line s.card
@@ -101,8 +101,8 @@ CardsDeliver =
     (service : Service) (tei : ℕ) (ds : List Doing) (w : Wire) → Face service tei w → All (IsTalk service tei) ds →
     Delivers service tei (turns ds w) w (doing_all ds w)
 
--- So do cards in a call, where no turn is left.
+-- So do cards in a call, where no turn is left, whether one end called or both.
 abbrev pub CallsFace : Type 0
 CallsFace =
-    (service : Service) (c d : Config) (line other tei : ℕ) (ds : List Doing) → CanCall c line d other tei → All (IsTalk service tei) ds →
+    (service : Service) (c d : Config) (line other tei : ℕ) (ds : List Doing) → CanCall c line d other tei → All (IsCall service tei) ds →
     let w = doing_all ds (calling service tei c line d other) in IsStill w → Face service tei w

@@ -7,9 +7,16 @@ pub mod Recovering
 pub mod Counted
 pub mod Facing
 pub mod Resting
+pub mod Arriving
+pub mod Answering
+pub mod Ending
 pub mod Worked
+pub mod BothWorked
 pub mod WorkedLosing
 pub mod WorkedRecovering
 pub mod WorkedCounted
 pub mod WorkedResting
+pub mod WorkedArriving
+pub mod WorkedAnswering
+pub mod WorkedEnding
 pub mod WorkedBroken

@@ -8,12 +8,13 @@ ghost use Rattle.laws_wire.specs.Recovering.{WhatIsLostArrives};
 
 /// A call comes through. Two cards have just begun, one of each side, with configurations in range and the same N201,
 /// and a line of one faces a line of the other; each has the same TEI assigned, 0 to 126, and layer 3 of one asks for
-/// the establishment of a link, of either service. Then data is asked for on this link, at either end, as it is
-/// granted or refused, and turns come, in any order: an end gives its next frame, or takes the first that is on its
-/// way to it. Nothing is lost, and no timer expires. Whatever is done, in whatever order, layer 3 of each is told one
-/// establishment and then the data that the other was granted to send, in order, and nothing else: at any time a
-/// beginning of that, and all of it where no turn is left. And there are at most four turns, and four more for each
-/// request that was granted.
+/// the establishment of a link, of either service. Then layer 3 of either end asks to establish it, too, or to send data
+/// on it, as it is granted or refused, and turns come, in any order: an end gives its next frame, or takes the first that
+/// is on its way to it. So SABMEs may cross (Q.921 clause 5.5.5.1). Nothing is lost, and no timer expires. Whatever is done,
+/// in whatever order, layer 3 of each is told one establishment, by a confirm where it was granted to ask for it and else by an
+/// indication, and then the data that the other was granted to send, in order, and nothing else: at any time a beginning of
+/// that, and all of it where no turn is left. And there are at most four turns for each end that calls, and four more for
+/// each request for data that was granted.
 pub fn a_call_comes_through()
     ensures { CallsComeThrough }
 {}

@@ -3,23 +3,29 @@
 //!
 //! `specs/` has the wire and what can happen at its ends (`Wire`), a call between two cards that have just begun, in
 //! the words of the events and answers of a card alone (`Call`), the same where frames are lost and timers expire
-//! (`Losing`), a T200 that is long enough (`Timely`), what it recovers (`Recovering`) and how often it may expire
-//! (`Counted`), how many turns there are at most (`Resting`), two cards that face each other by links in state 7
-//! (`Facing`), and worked values that compute (`Worked`, `WorkedLosing`, `WorkedRecovering`, `WorkedCounted`,
-//! `WorkedResting`). What a card does at an event is the machine of `model_card`, of frames; the laws of two links are
-//! those of `laws_two_links`.
+//! (`Losing`), a T200 that is long enough (`Timely`), what it recovers (`Recovering`), also under traffic
+//! (`Arriving`), and where UA is lost or an end is busy (`Answering`), the end of such a call (`Ending`), how often
+//! T200 may expire (`Counted`), how many turns there are at most (`Resting`), two cards that face each other by links
+//! in state 7 (`Facing`), and worked values that compute (`Worked`, `WorkedLosing`, `WorkedRecovering`,
+//! `WorkedArriving`, `WorkedAnswering`, `WorkedEnding`, `WorkedCounted`, `WorkedResting`). What a card does at an
+//! event is the machine of `model_card`, of frames; the laws of two links are those of `laws_two_links`.
 //!
 //! # Open
 //!
-//! What is told after an error, so also where a UA was lost, and whether turns come to an end then; a timer of the called
-//! end that expires while its UA waits to go; that a given T200 is long enough; losses in a call whose layer 3 asks for
-//! anything but data (so own busy never comes), where other links or lines are at work, or which begin elsewhere than from
-//! nothing; that both links are in state 7 again, and all is acknowledged, where what was lost has arrived.
+//! What is told after an error, but error F of a lost UA, and whether turns come to an end then; a lost UA where the
+//! end that was called was granted data before; a timer of the called end that expires while its UA waits to go; that
+//! a given T200 is long enough; a release where something waits or is on its way; losses in a call whose layer 3 asks
+//! for anything but data, own busy and its end, where other links or lines are at work, or which begin elsewhere than
+//! from nothing.
 #![tactic(auto)]
 
+mod answering;
+mod arriving;
 mod laws;
 mod resting;
 
+pub use answering::{a_call_ends, a_call_with_losses_comes_through};
+pub use arriving::it_arrives_under_traffic;
 pub use laws::{
     a_call_comes_through, cards_deliver, expiries_are_counted, told_in_order, what_is_lost_arrives,
 };

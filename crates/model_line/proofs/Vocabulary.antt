@@ -58,8 +58,8 @@ unfoldable pub use Rattle.model_line.specs.Machine.{after, answer, takes_slot}
 pub use Rattle.model_line.specs.Heard.{addressed, aim_of_heard, aim_of_long, aim_of_reading, at_place, drop_for, group_tei, heard_side, management_sapi, message_of, to_service, unless_at_link}
 pub use Rattle.model_line.specs.Taken.{first_taken, line_of, link_taken, message_taken, next_of, round, Taken, taken, unit_taken, with_given_frame, with_message, with_unit}
 pub use Rattle.model_line.specs.Refusal.{Row, bad_tei, bad_tei_or_group, first_that_holds, no_link, no_link_nor_group, pool_full, queue_full, refusal, too_long, unit_queue_full, wrong_state}
-pub use Rattle.model_line.specs.Request.{Assign, Check, ClearBusy, Data, Establish, Release, Remove, Request, SetBusy, Unit}
-pub use Rattle.model_line.specs.Requested.{aim_of_request, at_requested, carries_contents}
+pub use Rattle.model_line.specs.Request.{Assign, Check, ClearBusy, Data, Deactivate, Establish, Release, Remove, Request, SetBusy, Unit}
+pub use Rattle.model_line.specs.Requested.{aim_of_request, at_deactivated, at_requested, carries_contents}
 pub use Rattle.model_line.specs.Sides.{IsToGroup, at_side, group_told, last_unit_tei, managed_at, told_at, told_of_group, told_of_ui}
 pub use Rattle.model_line.specs.Sound.{IsInRange, IsSound, IsSoundAt, IsUnitData}
 pub use Rattle.model_line.specs.Stored.{held_by_link, held_in, octets_by_link, slots_by_link, slots_of, stored_in, sum_of_links, total_length, unit_length}

@@ -3,7 +3,7 @@ use Rattle.std.specs.Prelude.{ℕ, Bool, true, false, Option, Some, None}
 use Rattle.lapd_frame.specs.declared.services.Service.{Service}
 use Rattle.model_link.specs.Events as link
 use Rattle.lapd_tei.specs.Events as teis
-use Rattle.model_line.specs.Request.{Request, Establish, Release, Data, Unit, Assign, Remove, Check, SetBusy, ClearBusy}
+use Rattle.model_line.specs.Request.{Request, Establish, Release, Data, Unit, Assign, Remove, Check, SetBusy, ClearBusy, Deactivate}
 use Rattle.model_line.specs.Event.{nothing}
 use Rattle.model_line.specs.Line.{Line, place_in}
 use Rattle.model_line.specs.Effect.{Aim, at_none, at_link, at_management, at_units}
@@ -16,6 +16,12 @@ at_requested service tei request (Some place) = at_link service tei place (link.
 abbrev pub to_link : Service → ℕ → link.Request → Line → Aim
 to_link service tei request l = at_requested service tei request (place_in l tei)
 
+-- The line of that link is down (persistent deactivation, annex B): the link is left as where its TEI leaves the line, but
+-- that the TEI stays.
+abbrev pub at_deactivated : Service → ℕ → Option ℕ → Aim
+at_deactivated service tei None = at_none nothing
+at_deactivated service tei (Some place) = at_link service tei place link.cleared
+
 -- What a request is to the line.
 abbrev pub aim_of_request : Request → Line → Aim
 aim_of_request (Establish service tei) l = to_link service tei link.Establish l
@@ -27,6 +33,7 @@ aim_of_request (Remove tei) l = at_management (teis.remove tei)
 aim_of_request (Check tei) l = at_management (teis.check tei)
 aim_of_request (SetBusy service tei) l = to_link service tei link.SetBusy l
 aim_of_request (ClearBusy service tei) l = to_link service tei link.ClearBusy l
+aim_of_request (Deactivate service tei) l = at_deactivated service tei (place_in l tei)
 
 -- The requests that put contents on the card's shelf.
 abbrev pub carries_contents : Request → Bool

@@ -26,4 +26,6 @@ pub enum Request<'a> {
     SetBusy(Service, u8),
     /// Take I-frames again.
     ClearBusy(Service, u8),
+    /// The line is down: give the link up, with all that waits on it (persistent deactivation, annex B). The TEI stays.
+    Deactivate(Service, u8),
 }

@@ -1,5 +1,5 @@
--- Worked values: octets that come, as a card of frames hears them.
-use Rattle.std.specs.Prelude.{◌≡◌, ℕ, ◌<◌, [], ◌∷◌, map, refl}
+-- Worked values: octets that come, as a card of frames hears them; and the frame that was heard last.
+use Rattle.std.specs.Prelude.{◌≡◌, ℕ, ◌<◌, List, [], ◌∷◌, ◌++◌, map, refl, None, Some}
 use Rattle.std.proofs.Common.{arith}
 use Rattle.std.proofs.lemmas.List.Elements.{All-head}
 use Rattle.model_bits.specs.Bits.{low_bits}
@@ -9,8 +9,9 @@ use Rattle.model_line.specs.Event.{hears}
 use Rattle.model_card.specs.Event as frames
 use Rattle.model_ports.specs.Card.{fresh, after, meant}
 use Rattle.model_ports.specs.Event.{Event, at}
+use Rattle.model_ports.specs.HeadHeard.{head_heard}
 use Rattle.model_ports.specs.HeardOctets.{HasOctets}
-use Rattle.model_ports.specs.Port.{octet}
+use Rattle.model_ports.specs.Port.{Port, fresh_port, octet}
 use Rattle.model_ports.specs.Run.{meant_all}
 
 abbrev comes : ℕ → Event
@@ -25,3 +26,30 @@ ua_is_heard c = refl
 -- Where a frame has a number that is no octet, the law is broken.
 no_octet : HasOctets (frame (300 ∷ 0x81 ∷ 0x73 ∷ [])) → ⊥
 no_octet h = let first : 300 < 256 = All-head (λ octet. octet < 256) 300 (0x81 ∷ 0x73 ∷ []) h in omega (arith, first)
+
+-- A UA, an I-frame's beginning with a bad check behind it, and a frame of 13 octets, at a line for 8 octets of information.
+abbrev ua : List ℕ
+ua = 0x7E ∷ 0x00 ∷ 0x81 ∷ 0x73 ∷ 0xC4 ∷ 0x12 ∷ 0x7E ∷ []
+
+abbrev bad : List ℕ
+bad = 0x02 ∷ 0x81 ∷ 0x00 ∷ 0x00 ∷ 0x12 ∷ 0x34 ∷ 0x7E ∷ []
+
+abbrev long : List ℕ
+long = 0x00 ∷ 0x81 ∷ 0x00 ∷ 0x04 ∷ 0x01 ∷ 0x01 ∷ 0x01 ∷ 0x01 ∷ 0x01 ∷ 0x01 ∷ 0x01 ∷ 0x01 ∷ 0x01 ∷ 0x2C ∷ 0x46 ∷ 0x7E ∷ []
+
+abbrev having : List ℕ → Port
+having octets = record fresh_port { received = octets }
+
+-- Before its closing flag a frame is not heard. Of three octets the fourth is 0. What is dropped leaves the frame before.
+not_yet : head_heard 8 (having (0x7E ∷ 0x00 ∷ 0x81 ∷ 0x73 ∷ 0xC4 ∷ 0x12 ∷ [])) ≡ None
+unfolding low_bits
+not_yet = refl
+
+ua_is_latest : head_heard 8 (having (ua ++ bad)) ≡ Some (record { octets = 0x00 ∷ 0x81 ∷ 0x73 ∷ 0 ∷ []; length = 3 })
+unfolding low_bits
+ua_is_latest = refl
+
+-- A frame that is too long is the latest, too.
+long_is_latest : head_heard 8 (having (ua ++ bad ++ long)) ≡ Some (record { octets = 0x00 ∷ 0x81 ∷ 0x00 ∷ 0x04 ∷ []; length = 13 })
+unfolding low_bits
+long_is_latest = refl

@@ -136,6 +136,7 @@ request_for (asked.Establish service) tei octets = asking.Establish service tei
 request_for (asked.Release service) tei octets = asking.Release service tei
 request_for (asked.SetBusy service) tei octets = asking.SetBusy service tei
 request_for (asked.ClearBusy service) tei octets = asking.ClearBusy service tei
+request_for (asked.Deactivate service) tei octets = asking.Deactivate service tei
 request_for (asked.«Data» service) tei octets = asking.«Data» service tei octets
 request_for (asked.Unit service) tei octets = asking.Unit service tei octets
 

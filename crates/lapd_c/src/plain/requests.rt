@@ -15,7 +15,7 @@ use model_line::Request;
 pub fn request_in(request: u8, service: u8, tei: u8, contents: &[u8]) -> Result<Request<'_>, u32>
     ensures { read_of result ≡ request_in request service tei contents.now }
 {
-    if request == 0 || request > 9 {
+    if request == 0 || request > 10 {
         return Err(WRONG_REQUEST);
     }
     let service = service_in(service)?;
@@ -34,6 +34,7 @@ pub fn request_in(request: u8, service: u8, tei: u8, contents: &[u8]) -> Result<
         6 => Request::Remove(tei),
         7 => Request::Check(tei),
         8 => Request::SetBusy(service, tei),
-        _ => Request::ClearBusy(service, tei),
+        9 => Request::ClearBusy(service, tei),
+        _ => Request::Deactivate(service, tei),
     })
 }

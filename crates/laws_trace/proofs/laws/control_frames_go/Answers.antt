@@ -1,6 +1,5 @@
 -- Hand-written answers for `control_frames_go`.
 use Rattle.laws_trace.proofs.ControlFrames.{only-due-go, all-due-go}
-use Rattle.laws_trace.proofs.WaitedBegins.{all-that-waited-begins}
 use Rattle.laws_trace.proofs.laws.control_frames_go.Goals as goal
 
 pub returns-clause-only : goal.returns-clause-only
@@ -8,6 +7,3 @@ returns-clause-only c = λ config events number ranged all within. only-due-go c
 
 pub returns-clause-all : goal.returns-clause-all
 returns-clause-all c = λ config events number ranged all within. all-due-go config events number ranged all within
-
-pub returns-clause-waited : goal.returns-clause-waited
-returns-clause-waited c = λ config events number ranged all within. all-that-waited-begins config events number ranged all within

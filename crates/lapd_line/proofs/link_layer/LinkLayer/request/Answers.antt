@@ -1,5 +1,5 @@
 -- Hand-written answers for `LinkLayer::request`.
-use Rattle.lapd_line.proofs.Vocabulary.{nat_le, refl, ap, used_slots, request_of}
+use Rattle.lapd_line.proofs.Vocabulary.{nat_le, refl, ap, used_slots, request_of, aim_of_request}
 use Rattle.lapd_line.proofs.LayerRequests.{assign_rows, remove_rows, check_rows}
 use Rattle.lapd_line.proofs.RequestSteps.{refused_as, granted_as, aimed_as, Asks, asks_as, establish_asks, release_asks, data_asks, set_busy_asks, clear_busy_asks}
 use Rattle.lapd_line.proofs.link_layer.LinkLayer.request.Goals as goal
@@ -47,3 +47,12 @@ returns-in-Check-clause-refused g c = refused_as _ _ _ (ap request_of c.in-Check
 
 pub returns-in-Check-clause-granted : goal.returns-in-Check-clause-granted
 returns-in-Check-clause-granted g c = granted_as _ _ _ (ap request_of c.in-Check.is) (check_rows c.args.self.now.config (nat_le c.args.slots (used_slots (g.S.Shelf.store c.args.shelf.now))) c.in-Check.tei) c.manage-in-Check.result c.manage-in-Check.ensures.granted
+
+pub returns-in-Deactivate-clause-refused : goal.returns-in-Deactivate-clause-refused
+returns-in-Deactivate-clause-refused g c = refused_as _ _ _ (ap request_of c.in-Deactivate.is) (λ m. refl) c.deactivate.result c.deactivate.ensures.refused
+
+pub returns-in-Deactivate-clause-granted : goal.returns-in-Deactivate-clause-granted
+returns-in-Deactivate-clause-granted g c = granted_as _ _ _ (ap request_of c.in-Deactivate.is) (λ m. refl) c.deactivate.result c.deactivate.ensures.granted
+
+pub returns-in-Deactivate-clause-served : goal.returns-in-Deactivate-clause-served
+returns-in-Deactivate-clause-served g c = aimed_as (request_of c.args.request) _ _ _ _ c.deactivate.result (ap (λ r. aim_of_request (request_of r)) c.in-Deactivate.is) c.deactivate.ensures.served

@@ -1,0 +1,90 @@
+-- How often a frame is taken: at most half as often as there are turns, since each was given first.
+use Rattle.std.proofs.Common.{◌≡◌, ℕ, ◌+◌, ◌*◌, ◌≤◌, Bool, false, List, [], ◌∷◌, ◌++◌, length, drop, None, Some, refl, ap, arith, length-append}
+use Rattle.std.specs.Prelude.{All, if◌then◌else◌}
+use Rattle.std.proofs.lemmas.List.Elements.{All-head, All-tail}
+use Rattle.lapd_frame.specs.declared.services.Service.{Service}
+use Rattle.model_line.specs.Event as line
+use Rattle.model_line.specs.Event.{Answer}
+use Rattle.laws_wire.specs.Call as call
+use Rattle.laws_wire.specs.Wire as wire
+use Rattle.laws_wire.specs.Wire.{Station, Wire, Act, Doing, frames_by, is_any}
+unfoldable use Rattle.laws_wire.specs.Wire.{doing_all, turns}
+use Rattle.laws_wire.proofs.Answered.{asks-way, takes-way}
+
+abbrev pub is_taking_of : Act → Wire → Bool
+is_taking_of wire.takes f = is_any f.far.way
+is_taking_of (wire.requests r) f = false
+is_taking_of (wire.times_out timer) f = false
+is_taking_of wire.gives f = false
+is_taking_of wire.loses f = false
+
+abbrev pub is_taking : Doing → Wire → Bool
+is_taking (wire.at_near act) f = is_taking_of act f
+is_taking (wire.at_far act) f = is_taking_of act (wire.turned f)
+
+unfoldable pub takings : List Doing → Wire → ℕ
+takings [] f = 0
+takings (d ∷ ds) f = (if is_taking d f then 1 else 0) + takings ds (wire.doing d f)
+
+pub takings-append : (ds es : List Doing) (f : Wire) → takings (ds ++ es) f ≡ takings ds f + takings es (wire.doing_all ds f)
+unfolding takings doing_all
+takings-append [] es f = omega arith
+takings-append (d ∷ ds) es f =
+    let rest : takings (ds ++ es) (wire.doing d f) ≡ takings ds (wire.doing d f) + takings es (wire.doing_all ds (wire.doing d f)) = takings-append ds es (wire.doing d f) in
+    omega (arith, rest)
+
+-- ---- each frame that is taken was given
+
+abbrev pub on_ways : Wire → ℕ
+on_ways f = length f.near.way + length f.far.way
+
+record Paid (taking turn : Bool) (before after : ℕ) : Type 0 where
+  paid : 2 * (if taking then 1 else 0) + after ≤ (if turn then 1 else 0) + before
+
+one-frame : (a : Answer) → length (frames_by a) ≤ (if is_any (frames_by a) then 1 else 0)
+one-frame (line.told t) = omega arith
+one-frame (line.refused why) = omega arith
+one-frame (line.gave None) = omega arith
+one-frame (line.gave (Some f)) = omega arith
+
+first-way : (way : List (List ℕ)) (s : Station) → (wire.with_first_of way s).way ≡ s.way
+first-way [] s = refl
+first-way (octets ∷ more) s = takes-way octets s
+
+one-less : (way : List (List ℕ)) → 2 * (if is_any way then 1 else 0) + length (drop 1 way) ≤ (if is_any way then 1 else 0) + length way
+one-less [] = omega arith
+one-less (x ∷ xs) = omega arith
+
+module _ (service : Service) (tei : ℕ) where
+  act-paid : (act : Act) → call.IsCallOf service tei act → (f : Wire) → Paid (is_taking_of act f) (wire.is_turn_of act f) (on_ways f) (on_ways (wire.acting act f))
+  act-paid (wire.requests r) is f = let same = ap length (asks-way r f.near) in record { paid = omega (arith, same) }
+  act-paid wire.gives is f =
+      let a = wire.answered line.next f.near in
+      let sum = length-append f.near.way (frames_by a) in
+      let few = one-frame a in
+      record { paid = omega (arith, sum, few) }
+  act-paid wire.takes is f = let same = ap length (first-way f.far.way f.near) in let less = one-less f.far.way in record { paid = omega (arith, same, less) }
+  act-paid (wire.times_out timer) is f = absurd is
+  act-paid wire.loses is f = absurd is
+
+  swapped : (t k x y x' y' : ℕ) → 2 * t + (y' + x') ≤ k + (y + x) → 2 * t + (x' + y') ≤ k + (x + y)
+  swapped t k x y x' y' h = omega (arith, h)
+
+  one-paid : (d : Doing) → call.IsCall service tei d → (f : Wire) → Paid (is_taking d f) (wire.is_turn d f) (on_ways f) (on_ways (wire.doing d f))
+  one-paid (wire.at_near act) is f = act-paid act is f
+  one-paid (wire.at_far act) is f =
+      let g = wire.acting act (wire.turned f) in
+      let x = act-paid act is (wire.turned f) in
+      record { paid = swapped (if is_taking_of act (wire.turned f) then 1 else 0) (if wire.is_turn_of act (wire.turned f) then 1 else 0) (length f.near.way) (length f.far.way) (length g.far.way) (length g.near.way) x.paid }
+
+  joined : (t t' k k' a b c : ℕ) → 2 * t + b ≤ k + a → 2 * t' + c ≤ k' + b → 2 * (t + t') + c ≤ (k + k') + a
+  joined t t' k k' a b c h h' = omega (arith, h, h')
+
+  pub all-paid : (ds : List Doing) → All (call.IsCall service tei) ds → (f : Wire) → 2 * takings ds f + on_ways (wire.doing_all ds f) ≤ wire.turns ds f + on_ways f
+  unfolding takings doing_all turns
+  all-paid [] all f = omega arith
+  all-paid (d ∷ ds) all f =
+      let g = wire.doing d f in
+      let one = one-paid d (All-head (call.IsCall service tei) d ds all) f in
+      joined (if is_taking d f then 1 else 0) (takings ds g) (if wire.is_turn d f then 1 else 0) (wire.turns ds g) (on_ways f) (on_ways g) (on_ways (wire.doing_all ds g)) one.paid
+      (all-paid ds (All-tail (call.IsCall service tei) d ds all) g)

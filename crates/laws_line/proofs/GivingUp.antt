@@ -1,0 +1,70 @@
+-- A link that is deactivated is given up.
+use Rattle.std.proofs.Common.{◌≡◌, ℕ, true, false, not, nat_lt, cond, Option, Some, None, refl, ap, ◌∙◌}
+use Rattle.std.proofs.lemmas.Bool.{le-ltb}
+use Rattle.lapd_frame.specs.declared.refusals.Refusal.TheVariants.{BadTei, NoLink}
+use Rattle.lapd_frame.specs.declared.services.Service.{Service}
+use Rattle.model_link.specs.declared.states.State.{State}
+use Rattle.model_link.specs.declared.states.State.TheVariants.{TeiAssigned, AwaitingEstablishment, AwaitingRelease, Established, TimerRecovery}
+use Rattle.model_link.specs.declared.terms.Terms.{Terms}
+use Rattle.model_link.specs.declared.timers.LinkTimer.{LinkTimer}
+use Rattle.model_link.specs.declared.timers.LinkTimer.TheVariants.{T200, T203}
+use Rattle.model_link.specs.Events as link
+use Rattle.model_link.specs.Link.{Link}
+use Rattle.model_link.specs.Machine as links
+use Rattle.model_link.specs.Steps.{begun, ◌then◌}
+use Rattle.model_link.specs.Words.{begin_anew}
+use Rattle.lapd_tei.proofs.Tables.{is_on-at, place_of-is}
+use Rattle.laws_link.specs.Telling.{told_cleared}
+use Rattle.model_line.specs.declared.config.Config.{Config}
+use Rattle.model_line.specs.Event.{LineTold, told, nothing}
+use Rattle.model_line.specs.Effect.{told_of_link, of_aim}
+use Rattle.model_line.specs.Line.{Line, place_in, link_in, has_tei, terms}
+use Rattle.model_line.specs.Machine.{after, answer, unless_refused, unless_refused_told}
+use Rattle.model_line.specs.Refusal.{refusal}
+use Rattle.model_line.specs.Request.{Deactivate}
+use Rattle.model_line.specs.Requested.{at_deactivated}
+use Rattle.model_line.specs.Sound.{IsSound}
+use Rattle.laws_line.specs.Deactivated.{stopped, IsGivenUp, DeactivationsGiveUp}
+
+-- What a link tells that is cleared.
+all-told : (t : Terms) (x : Link) → told_of_link (links.told t link.cleared x) ≡ record nothing { notes = told_cleared x.state t; orders = stopped t x.running }
+all-told t x = by-state x.state x.running
+  where
+    by-state : (here : State) (running : Option LinkTimer)
+        → told_of_link (links.told_of t (record x { running = running }) ((links.told_of_clearing here t then begin_anew) (begun x)))
+        ≡ record nothing { notes = told_cleared here t; orders = stopped t running }
+    by-state TeiAssigned None = refl
+    by-state TeiAssigned (Some T200) = refl
+    by-state TeiAssigned (Some T203) = refl
+    by-state AwaitingEstablishment None = refl
+    by-state AwaitingEstablishment (Some T200) = refl
+    by-state AwaitingEstablishment (Some T203) = refl
+    by-state AwaitingRelease None = refl
+    by-state AwaitingRelease (Some T200) = refl
+    by-state AwaitingRelease (Some T203) = refl
+    by-state Established None = refl
+    by-state Established (Some T200) = refl
+    by-state Established (Some T203) = refl
+    by-state TimerRecovery None = refl
+    by-state TimerRecovery (Some T200) = refl
+    by-state TimerRecovery (Some T203) = refl
+
+-- It is granted wherever its TEI is on the line.
+granted : (c : Config) (l : Line) (service : Service) (tei place : ℕ) → IsSound c l → place_in l tei ≡ Some place → refusal c false (Deactivate service tei) l ≡ None
+granted c l service tei place s on =
+    let at = (place_of-is l.management.places tei place on).1 in
+    ap (λ b. cond b (Some BadTei) (cond (not (has_tei tei l)) (Some NoLink) None)) (le-ltb 126 tei (s.management.table.range place tei at))
+    ∙ ap (λ b. cond (not b) (Some NoLink) None) (is_on-at l.management.places place tei at)
+
+pub deactivations_give_up : DeactivationsGiveUp
+unfolding after answer
+deactivations_give_up c l service tei place s on =
+    let none = granted c l service tei place s on in
+    let aim = ap (λ o. unless_refused o (at_deactivated service tei (place_in l tei))) none ∙ ap (at_deactivated service tei) on in
+    record {
+      line = ap (λ a. (of_aim c a l).line) aim;
+      answer_is =
+          ap (λ o. unless_refused_told o (of_aim c (unless_refused o (at_deactivated service tei (place_in l tei))) l)) none
+          ∙ ap (λ o. told (of_aim c (at_deactivated service tei o) l).told) on
+          ∙ ap told (all-told (terms c service tei) (link_in l service place));
+    }

@@ -1,0 +1,48 @@
+-- What a link tells that is cleared, as its TEI leaves the line or it is deactivated.
+use Rattle.std.proofs.Common.{◌≡◌, ℕ, Bool, false, ◌||◌, Option, None, refl, ap}
+use Rattle.std.specs.List.{list_any}
+use Rattle.std.specs.Option.{option_or}
+use Rattle.lapd_frame.specs.declared.notes.Note.{Note}
+use Rattle.lapd_frame.specs.declared.notes.Note.TheVariants.{ReleaseIndication, ReleaseConfirm}
+use Rattle.lapd_frame.specs.declared.services.Service.{Service}
+use Rattle.model_link.specs.declared.states.State.{State}
+use Rattle.model_link.specs.declared.states.State.TheVariants.{TeiAssigned, AwaitingEstablishment, AwaitingRelease, Established, TimerRecovery}
+use Rattle.model_link.specs.declared.terms.Terms.{Terms}
+use Rattle.model_link.specs.Events as link
+use Rattle.model_link.specs.Link.{Link}
+use Rattle.model_link.specs.Machine as links
+use Rattle.model_link.specs.Steps.{begun, ◌then◌}
+use Rattle.model_link.specs.Words.{begin_anew}
+
+-- It delivers nothing, and loses no frame.
+pub none-delivered : (t : Terms) (x : Link) → option_or (links.told t link.cleared x).delivered (links.told t link.cleared x).unit ≡ None
+none-delivered t x = by-state x.state
+  where
+    by-state : (here : State) → let c = (links.told_of_clearing here t then begin_anew) (begun x) in option_or c.delivered c.unit ≡ None
+    by-state TeiAssigned = refl
+    by-state AwaitingEstablishment = refl
+    by-state AwaitingRelease = refl
+    by-state Established = refl
+    by-state TimerRecovery = refl
+
+pub none-lost : (t : Terms) (x : Link) → (links.told t link.cleared x).lost ≡ 0
+none-lost t x = by-state x.state
+  where
+    by-state : (here : State) → ((links.told_of_clearing here t then begin_anew) (begun x)).lost ≡ 0
+    by-state TeiAssigned = refl
+    by-state AwaitingEstablishment = refl
+    by-state AwaitingRelease = refl
+    by-state Established = refl
+    by-state TimerRecovery = refl
+
+-- It notes no more than the end of the link.
+pub ends-alone : (q : Note → Bool) → ((s : Service) (n : ℕ) → q (ReleaseIndication s n) ≡ false) → ((s : Service) (n : ℕ) → q (ReleaseConfirm s n) ≡ false)
+    → (t : Terms) (x : Link) → list_any q (links.told t link.cleared x).notes ≡ false
+ends-alone q indication confirm t x = by-state x.state
+  where
+    by-state : (here : State) → list_any q ((links.told_of_clearing here t then begin_anew) (begun x)).notes ≡ false
+    by-state TeiAssigned = refl
+    by-state AwaitingEstablishment = ap (λ b. b || false) (indication t.service t.tei)
+    by-state AwaitingRelease = ap (λ b. b || false) (confirm t.service t.tei)
+    by-state Established = ap (λ b. b || false) (indication t.service t.tei)
+    by-state TimerRecovery = ap (λ b. b || false) (indication t.service t.tei)

@@ -1,0 +1,157 @@
+-- What is wrong with what is seen of a link: one event of its line.
+use Rattle.std.proofs.Common.{◌≡◌, ℕ, ◌==◌, ◌&&◌, Bool, true, false, cond, List, [], ◌∷◌, ◌++◌, Option, Some, None, Result, Ok, Err, refl, sym, ap, ◌∙◌, subst, eqb-true, true≢false, ◌⊎◌, inl, inr, append-nil}
+use Rattle.std.specs.Prelude.{option_to_list}
+use Rattle.std.specs.Option.{option_map_or}
+use Rattle.model_bits.specs.Stream as stream
+use Rattle.model_bits.specs.declared.heard.Cause.TheVariants.{Unserved}
+use Rattle.lapd_frame.specs.declared.addresses.Address.{Address}
+use Rattle.lapd_frame.specs.declared.faults.ReadFault.{ReadFault}
+use Rattle.lapd_frame.specs.declared.faults.ReadFault.TheVariants.{BadExtension, Undefined, WrongSize, Short}
+use Rattle.lapd_frame.specs.declared.notes.ErrorCode.{ErrorCode}
+use Rattle.lapd_frame.specs.declared.notes.ErrorCode.TheVariants as code
+use Rattle.lapd_frame.specs.declared.overlong.Long.{Long}
+use Rattle.lapd_frame.specs.declared.overlong.Long.TheVariants as long
+use Rattle.lapd_frame.specs.declared.services.Service.{Service}
+use Rattle.lapd_frame.specs.Grammar.{Parts}
+use Rattle.lapd_frame.specs.Reading.{reading, long_reading}
+use Rattle.model_link.specs.Events as link
+use Rattle.model_line.specs.declared.config.Config.{Config}
+use Rattle.model_line.specs.Event.{Event, hears, expiry, request, next, Answer}
+use Rattle.model_line.specs.Heard.{heard_side, aim_of_heard, aim_of_reading, aim_of_long, drop_for}
+use Rattle.model_line.specs.Line.{Line, place_in, terms}
+use Rattle.model_line.specs.Machine.{aim_of}
+use Rattle.laws_line.specs.Heard.{IsMalformed, IsTooLong}
+use Rattle.laws_line.specs.Steady.{IsBy, BringsMalformed}
+use Rattle.laws_trace.specs.LinkFrames.{parts_of, frame_of, its_frame, is_for, faulty, faulty_long, malformed}
+use Rattle.laws_trace.specs.News.{wrong_parts, given_up, wrong}
+use Rattle.laws_trace.specs.Trace.{is_up}
+use Rattle.laws_trace.proofs.DeliveriesRun.{heard-aims-at}
+use Rattle.laws_trace.proofs.LinkLed.{addressed-none, own-address}
+use Rattle.laws_trace.proofs.NewsRows.{errors_of}
+use Rattle.laws_trace.proofs.OneLink.{is_at_link}
+use Rattle.laws_trace.proofs.TimersWatched.{nothing_yet}
+
+-- Where the state stays, or the TEI has left, T200 gave nothing up.
+none-given-up : (n m : ℕ) → (n ≡ m) ⊎ (m ≡ 1) → given_up n m ≡ []
+none-given-up n m (inr off) = ap (given_up n) off ∙ go (n == 5) (n == 6) (n == 8)
+  where
+    go : (a b c : Bool) → cond (a && false) (code.G ∷ []) (cond (b && false) (code.H ∷ []) (cond (c && false) (code.I ∷ []) [])) ≡ []
+    go true true true = refl
+    go true true false = refl
+    go true false true = refl
+    go true false false = refl
+    go false true true = refl
+    go false true false = refl
+    go false false true = refl
+    go false false false = refl
+none-given-up n m (inl same) = ap (given_up n) (sym same) ∙ go (n == 5) refl (n == 6) refl (n == 8) refl
+  where
+    go : (a : Bool) → (n == 5) ≡ a → (b : Bool) → (n == 6) ≡ b → (c : Bool) → (n == 8) ≡ c → given_up n n ≡ []
+    go true is b other c third = subst (λ n. given_up n n ≡ []) (sym (eqb-true n 5 is)) refl
+    go false is true other c third = subst (λ n. given_up n n ≡ []) (sym (eqb-true n 6 other)) refl
+    go false is false other true third = subst (λ n. given_up n n ≡ []) (sym (eqb-true n 8 third)) refl
+    go false is false other false third = rw (is, other, third) refl
+
+abbrev no-code : Option ErrorCode
+no-code = None
+
+module _ (c : Config) (service : Service) (tei : ℕ) where
+  no-letter : (b : Bool) (letter : ErrorCode) → b ≡ false → cond b (Some letter) None ≡ None
+  no-letter b letter none = ap (λ b. cond b (Some letter) None) none
+
+  -- no event of the link
+  module _ (l : Line) (place : ℕ) (on : place_in l tei ≡ Some place) where
+    no-fault : (r : Result Parts ReadFault) → is_at_link service tei (aim_of_reading c l r) ≡ false → faulty service tei r ≡ None
+    no-fault (Err BadExtension) aims = refl
+    no-fault (Err Short) aims = refl
+    no-fault (Err (Undefined address)) aims = no-letter (is_for service tei address) code.L (addressed-none c service tei nothing_yet l place on address link.undefined (drop_for Unserved) aims)
+    no-fault (Err (WrongSize address)) aims = no-letter (is_for service tei address) code.N (addressed-none c service tei nothing_yet l place on address link.wrong_size (drop_for Unserved) aims)
+    no-fault (Ok f) aims = refl
+
+    no-long : (r : Result Long ReadFault) → is_at_link service tei (aim_of_long l r) ≡ false → faulty_long service tei r ≡ None
+    no-long (Err BadExtension) aims = refl
+    no-long (Err Short) aims = refl
+    no-long (Err (Undefined address)) aims = no-letter (is_for service tei address) code.L (addressed-none c service tei nothing_yet l place on address link.undefined (drop_for Unserved) aims)
+    no-long (Err (WrongSize address)) aims = no-letter (is_for service tei address) code.N (addressed-none c service tei nothing_yet l place on address link.wrong_size (drop_for Unserved) aims)
+    no-long (Ok (long.Information address)) aims = no-letter (is_for service tei address) code.O (addressed-none c service tei nothing_yet l place on address link.overlong (drop_for Unserved) aims)
+    no-long (Ok (long.Unnumbered address)) aims = refl
+
+    none-malformed : (e : stream.Event) → is_at_link service tei (aim_of_heard c l e) ≡ false → malformed c service tei e ≡ None
+    none-malformed (stream.frame octets) aims = no-fault (reading (heard_side c) octets) aims
+    none-malformed (stream.overlong head) aims = no-long (long_reading (heard_side c) head) aims
+    none-malformed (stream.dropped cause) aims = refl
+
+    none-its : (e : stream.Event) → is_at_link service tei (aim_of_heard c l e) ≡ false → its_frame service tei (frame_of c e) ≡ None
+    none-its e aims = go (frame_of c e) refl
+      where
+        go : (o : Option Parts) → frame_of c e ≡ o → its_frame service tei o ≡ None
+        go None is = refl
+        go (Some f) is = by-address (is_for service tei f.address) refl
+          where
+            by-address : (b : Bool) → is_for service tei f.address ≡ b → cond b (Some f) None ≡ None
+            by-address false other = refl
+            by-address true for = absurd (true≢false (sym (heard-aims-at c l service tei place on e f is for) ∙ aims))
+
+    bare : (b : Bool) → cond b (option_to_list no-code) [] ≡ []
+    bare true = refl
+    bare false = refl
+
+    pub none-wrong : (e : Event) → is_at_link service tei (aim_of c e l) ≡ false → (n m : ℕ) → (n ≡ m) ⊎ (m ≡ 1) → wrong c service tei e n m ≡ []
+    none-wrong (hears e) aims n m stays =
+        ap (λ o. cond (is_up n) (option_to_list o) [] ++ option_map_or (wrong_parts c n m) (its_frame service tei (frame_of c e)) []) (none-malformed e aims)
+        ∙ ap (λ o. cond (is_up n) [] [] ++ option_map_or (wrong_parts c n m) o []) (none-its e aims) ∙ ap (λ xs. xs ++ []) (bare (is_up n))
+    none-wrong (expiry timer) aims n m stays = none-given-up n m stays
+    none-wrong (request r) aims n m stays = refl
+    none-wrong next aims n m stays = refl
+
+  -- one event of it
+  module _ (e : Event) (a : Answer) (from to : ℕ) where
+    abbrev Wrong : link.Event → Type 0
+    Wrong event = wrong c service tei e from to ≡ errors_of (terms c service tei) event from to
+
+    by-letter : (b : Bool) (letter : ErrorCode) → b ≡ true → cond (is_up from) (option_to_list (cond b (Some letter) None)) [] ++ [] ≡ cond (is_up from) (letter ∷ []) []
+    by-letter b letter is = ap (λ b. cond (is_up from) (option_to_list (cond b (Some letter) None)) [] ++ []) is ∙ append-nil (cond (is_up from) (letter ∷ []) [])
+
+    abbrev By-reading : Result Parts ReadFault → List ErrorCode
+    By-reading r = cond (is_up from) (option_to_list (faulty service tei r)) [] ++ option_map_or (wrong_parts c from to) (its_frame service tei (parts_of r)) []
+
+    abbrev By-long : Result Long ReadFault → List ErrorCode
+    By-long r = cond (is_up from) (option_to_list (faulty_long service tei r)) [] ++ []
+
+    wrong-malformed : (address : Address) (octets : List ℕ) (what : link.Received) → is_for service tei address ≡ true
+        → ((e ≡ hears (stream.frame octets)) × IsMalformed c address octets what) ⊎ ((e ≡ hears (stream.overlong octets)) × IsTooLong c address octets what) → Wrong (link.received what)
+    wrong-malformed address octets what for (inl y) = ap (λ e. wrong c service tei e from to) y.0 ∙ go what y.1
+      where
+        go : (what : link.Received) → IsMalformed c address octets what → By-reading (reading (heard_side c) octets) ≡ errors_of (terms c service tei) (link.received what) from to
+        go link.undefined is = ap By-reading is ∙ by-letter (is_for service tei address) code.L for
+        go link.wrong_size is = ap By-reading is ∙ by-letter (is_for service tei address) code.N for
+        go link.overlong is = absurd is
+        go (link.frame f) is = absurd is
+    wrong-malformed address octets what for (inr y) = ap (λ e. wrong c service tei e from to) y.0 ∙ go what y.1
+      where
+        go : (what : link.Received) → IsTooLong c address octets what → By-long (long_reading (heard_side c) octets) ≡ errors_of (terms c service tei) (link.received what) from to
+        go link.undefined is = ap By-long is ∙ by-letter (is_for service tei address) code.L for
+        go link.wrong_size is = ap By-long is ∙ by-letter (is_for service tei address) code.N for
+        go link.overlong is = ap By-long is ∙ by-letter (is_for service tei address) code.O for
+        go (link.frame f) is = absurd is
+
+    brings-malformed : (what : link.Received) → BringsMalformed c e service tei what → Wrong (link.received what)
+    brings-malformed what y = wrong-malformed y.address y.octets what (own-address c service tei nothing_yet a y.address y.sapi y.tei_is) y.by
+
+    bare-up : (b : Bool) → cond b (option_to_list no-code) [] ≡ []
+    bare-up true = refl
+    bare-up false = refl
+
+    pub one-wrong : (event : link.Event) → IsBy c e a service tei event → Wrong event
+    one-wrong (link.received (link.frame f)) y =
+        ap (λ e. wrong c service tei e from to) y.by
+        ∙ ap (λ r. cond (is_up from) (option_to_list (faulty service tei r)) [] ++ option_map_or (wrong_parts c from to) (its_frame service tei (parts_of r)) []) y.read
+        ∙ ap (λ xs. xs ++ option_map_or (wrong_parts c from to) (cond (is_for service tei f.address) (Some f) None) []) (bare-up (is_up from))
+        ∙ ap (λ b. option_map_or (wrong_parts c from to) (cond b (Some f) None) []) (own-address c service tei nothing_yet a f.address y.sapi y.tei_is)
+    one-wrong (link.received link.undefined) y = brings-malformed link.undefined y
+    one-wrong (link.received link.wrong_size) y = brings-malformed link.wrong_size y
+    one-wrong (link.received link.overlong) y = brings-malformed link.overlong y
+    one-wrong (link.expired timer) y = ap (λ e. wrong c service tei e from to) y
+    one-wrong (link.requested asked full) y = ap (λ e. wrong c service tei e from to) y.0
+    one-wrong link.offer y = ap (λ e. wrong c service tei e from to) y
+    one-wrong link.cleared y = absurd y

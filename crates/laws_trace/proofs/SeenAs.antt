@@ -1,0 +1,100 @@
+-- What an observer knows of a link of a TEI on the line: its state, and in states 7 and 8 V(A).
+use Rattle.std.proofs.Common.{◌≡◌, ℕ, ◌%◌, ◌<◌, ◌==◌, Bool, true, false, List, Some, refl, sym, ap, ◌∙◌, subst, true≢false}
+use Rattle.std.specs.Prelude.{fold}
+use Rattle.lapd_frame.specs.declared.services.Service.{Service}
+use Rattle.model_link.specs.declared.states.State.{State}
+use Rattle.model_link.specs.declared.states.State.TheVariants.{TeiAssigned, AwaitingEstablishment, AwaitingRelease, Established, TimerRecovery}
+use Rattle.model_link.specs.Link.{Link, is_multiple_frame, state_number}
+use Rattle.model_line.specs.declared.config.Config.{Config}
+use Rattle.model_line.specs.Event as line_event
+use Rattle.model_line.specs.Line.{Line, has_tei, link_of, place_in}
+use Rattle.model_line.specs.Sound.{IsInRange}
+use Rattle.model_card.specs.Card.{fresh, line_at}
+use Rattle.model_card.specs.Event.{Event, at}
+use Rattle.model_card.specs.Machine.{after}
+use Rattle.model_card.specs.Run.{moments, after_all, AreAtLines}
+use Rattle.laws_trace.specs.Managing.{is_on}
+use Rattle.laws_trace.specs.Observer.{Observed, View, view_of, moment_of, view_behind}
+use Rattle.laws_trace.specs.Trace.{is_up}
+use Rattle.laws_trace.proofs.MovesWatched.{repeated}
+use Rattle.laws_trace.proofs.NewsWatched as news
+use Rattle.laws_trace.proofs.NewsWatched.{Owing, none_owed, owing}
+use Rattle.laws_trace.proofs.NewsOfEvent.{IsAskedOf}
+use Rattle.laws_trace.proofs.NewsOfLink.{Asks}
+use Rattle.laws_trace.proofs.News.{asked-now, asked-behind}
+use Rattle.laws_trace.proofs.Observed.{IsObserved, IsSeen}
+use Rattle.laws_trace.proofs.ObservedMoves.{When}
+use Rattle.laws_trace.proofs.ObservedRun.{Holds, holds-now, holds-behind}
+use Rattle.laws_trace.proofs.TimerClaims.{Agrees, IsKnown}
+use Rattle.laws_trace.proofs.TimersOfEvent.{state-on}
+use Rattle.laws_trace.proofs.TimersWatched.{Known, nothing_yet, watch}
+
+-- States 7 and 8 are those of multiple-frame operation.
+pub up-number : (state : State) → is_up (state_number state) ≡ is_multiple_frame state
+up-number TeiAssigned = refl
+up-number AwaitingEstablishment = refl
+up-number AwaitingRelease = refl
+up-number Established = refl
+up-number TimerRecovery = refl
+
+-- In these it is known how far a link is.
+pub known-up : (state : State) (k : Known) (a s : ℕ) (busy : Bool) → is_multiple_frame state ≡ true → Agrees state k a s busy → IsKnown k a s busy
+known-up TeiAssigned k a s busy up h = absurd (true≢false (sym up))
+known-up AwaitingEstablishment k a s busy up h = absurd (true≢false (sym up))
+known-up AwaitingRelease k a s busy up h = absurd (true≢false (sym up))
+known-up Established k a s busy up h = h
+known-up TimerRecovery k a s busy up h = h
+
+pub record IsSeenAs (k : Link) (o : Observed) : Type 0 where
+  pub state_is : o.state ≡ state_number k.state
+  pub acknowledged_is : is_multiple_frame k.state ≡ true → o.acknowledged ≡ k.a % 128
+  pub asked_is : (state_number k.state == 5) ≡ true → o.asked ≡ k.asked
+
+seen-as : (service : Service) (tei : ℕ) (k : Known) (asked owed : Bool) (n : ℕ) (l : Line) (v : View) → Holds service tei k asked owed n l v → IsAskedOf service tei asked l
+    → (place : ℕ) → place_in l tei ≡ Some place → IsSeenAs (link_of service tei l) v.link
+seen-as service tei k asked owed n l v h asks place on =
+    let x = link_of service tei l in
+    let seen : IsObserved (state_number x.state) k asked owed n v.link = subst (λ st. IsSeen st k asked owed n v.link) (state-on service tei l place on) h.link_is in
+    record {
+      state_is = seen.state_is;
+      acknowledged_is = λ up. ap (λ (z : Known). z.acknowledged) seen.known_is ∙ (known-up x.state k x.a x.s x.peer_busy up h.true_of).acknowledged;
+      asked_is = by-state x.state x.asked seen.asks asks;
+    }
+  where
+    by-state : (here : State) (its : Bool) → When (state_number here == 5) (v.link.asked ≡ asked) → Asks here asked its → (state_number here == 5) ≡ true → v.link.asked ≡ its
+    by-state AwaitingEstablishment its was is five = was ∙ is
+    by-state TeiAssigned its was is five = absurd (true≢false (sym five))
+    by-state AwaitingRelease its was is five = absurd (true≢false (sym five))
+    by-state Established its was is five = absurd (true≢false (sym five))
+    by-state TimerRecovery its was is five = absurd (true≢false (sym five))
+
+-- After a list of events, and behind one more.
+module _ (c : Config) (events : List Event) (number : ℕ) (ranged : IsInRange c) (all : AreAtLines (fresh c) events) (within : number < c.lines) (service : Service) (tei : ℕ) where
+  abbrev known : Known
+  known = fold (watch c service tei number) nothing_yet (moments (fresh c) events)
+
+  abbrev asks : Bool
+  asks = fold (news.asked service tei number) false (moments (fresh c) events)
+
+  abbrev owes : Owing
+  owes = fold (owing c service tei number) none_owed (moments (fresh c) events)
+
+  abbrev count : ℕ
+  count = fold (repeated service tei number) 0 (moments (fresh c) events)
+
+  pub seen-before : (place : ℕ) → place_in (line_at number (after_all (fresh c) events)) tei ≡ Some place
+      → IsSeenAs (link_of service tei (line_at number (after_all (fresh c) events))) (view_of c service tei number events).link
+  seen-before place on =
+      seen-as service tei known asks owes.outstanding count (line_at number (after_all (fresh c) events)) (view_of c service tei number events)
+      (holds-now c events number ranged all within service tei) (asked-now c events number ranged all within service tei) place on
+
+  pub tei-seen : is_on tei (view_of c service tei number events).teis ≡ has_tei tei (line_at number (after_all (fresh c) events))
+  tei-seen = (holds-now c events number ranged all within service tei).knows.on tei
+
+  pub seen-behind : (what : line_event.Event) (place : ℕ) → place_in (line_at number (after (at number what) (after_all (fresh c) events))) tei ≡ Some place
+      → IsSeenAs (link_of service tei (line_at number (after (at number what) (after_all (fresh c) events)))) (view_behind c service tei number events what).link
+  seen-behind what place on =
+      let m = moment_of c events number what in
+      seen-as service tei (watch c service tei number known m) (news.asked service tei number asks m) (owing c service tei number owes m).outstanding (repeated service tei number count m)
+      (line_at number (after (at number what) (after_all (fresh c) events))) (view_behind c service tei number events what)
+      (holds-behind c events number ranged all within service tei what) (asked-behind c events number ranged all within service tei what) place on

@@ -1,0 +1,109 @@
+-- The premises of the law on what arrives under traffic are met by the worked call.
+use Rattle.std.proofs.Common.{◌≡◌, ℕ, List, [], ◌∷◌, ◌++◌, refl, sym, ap, ◌∙◌, inl, true≢false}
+use Rattle.std.specs.Prelude.{All}
+use Rattle.std.proofs.lemmas.Bool.{leb-true}
+use Rattle.std.proofs.lemmas.List.Elements.{All-nil, All-cons}
+use Rattle.lapd_frame.specs.declared.services.Service.TheVariants.{Call}
+use Rattle.lapd_frame.specs.declared.timers.Timer.TheVariants.{T200}
+use Rattle.lapd_frame.specs.Reading.{reading, header_of, control_of, unnumbered_of, supervisory_of}
+use Rattle.lapd_seq.specs.Circle.{distance_of, named}
+use Rattle.lapd_seq.specs.Numbers.{seq}
+use Rattle.lapd_tei.specs.Events as teis
+use Rattle.model_link.specs.declared.states.State.TheVariants.{Established}
+use Rattle.model_line.specs.Machine as lines
+use Rattle.model_line.specs.Request.{Data}
+use Rattle.laws_link.specs.Flags.{awaits_answer}
+use Rattle.laws_wire.specs.Wire.{Wire, requests, times_out, gives, takes, loses, Doing, at_near, at_far, doing_all, turns}
+use Rattle.laws_wire.specs.Call.{confirmed, indicated, all_told}
+use Rattle.laws_wire.specs.Losing.{heard_in, IsRoughTalk}
+use Rattle.laws_wire.specs.Facing.{end_of}
+use Rattle.laws_wire.specs.Recovering.{round}
+use Rattle.laws_wire.specs.Timely.{StayTimely}
+use Rattle.laws_wire.specs.Arriving.{LosesNothing, HasCome}
+use Rattle.laws_wire.specs.Worked.{user, network, begins}
+use Rattle.laws_wire.specs.WorkedArriving.{loses_two, goes_on, lossy, over, lossy_near, near_asked, over_still}
+use Rattle.laws_wire.proofs.PremisesMet.{can, all-rough}
+use Rattle.laws_wire.proofs.RecoveryMet.{heard-it, free}
+use Rattle.laws_wire.proofs.UnderwayRun.{arrives-under-traffic}
+
+data-near : (octets : List ℕ) → IsRoughTalk Call 0 (at_near (requests (Data Call 0 octets)))
+data-near octets = (refl, refl)
+
+data-far : (octets : List ℕ) → IsRoughTalk Call 0 (at_far (requests (Data Call 0 octets)))
+data-far octets = (refl, refl)
+
+expires : IsRoughTalk Call 0 (at_near (times_out (T200 Call 0)))
+expires = (refl, refl)
+
+rough : All (IsRoughTalk Call 0) loses_two
+rough = all-rough loses_two (tt, (tt, (tt, (tt, (data-near (1 ∷ []), (tt, (tt, (data-far (2 ∷ []), (data-far (3 ∷ []), (tt, (tt, (tt, tt))))))))))))
+
+rough-on : All (IsRoughTalk Call 0) goes_on
+rough-on =
+    all-rough goes_on (
+      tt,
+      (
+        expires,
+        (
+          data-far (4 ∷ []),
+          (tt, (tt, (tt, (tt, (tt, (tt, (tt, (tt, (tt, (tt, (tt, (tt, (tt, (tt, (tt, (tt, (tt, (tt, (tt, (tt, tt)))))))))))))))))))),
+        ),
+      ),
+    )
+
+abbrev AreKept : List Doing → Type 0
+AreKept [] = Unit {0}
+AreKept (d ∷ ds) = LosesNothing d × AreKept ds
+
+all-kept : (ds : List Doing) → AreKept ds → All LosesNothing ds
+all-kept [] h = All-nil LosesNothing
+all-kept (d ∷ ds) h = All-cons LosesNothing d ds h.0 (all-kept ds h.1)
+
+kept : All LosesNothing goes_on
+kept = all-kept goes_on (tt, (tt, (tt, (tt, (tt, (tt, (tt, (tt, (tt, (tt, (tt, (tt, (tt, (tt, (tt, (tt, (tt, (tt, (tt, (tt, (tt, (tt, (tt, tt)))))))))))))))))))))))
+
+-- the far end's I-frame is lost behind UA
+as-it-is-lost : Wire
+as-it-is-lost =
+    doing_all (round ++ at_near (requests (Data Call 0 (1 ∷ []))) ∷ at_near gives ∷ at_near loses ∷ at_far (requests (Data Call 0 (2 ∷ []))) ∷ at_far (requests (Data Call 0 (3 ∷ []))) ∷ at_far gives ∷ []) begins
+
+heard-then : heard_in as-it-is-lost.near ≡ confirmed Call 0 ∷ []
+unfolding lines.after lines.answer lines.takes_slot reading header_of control_of unnumbered_of supervisory_of teis.course teis.refusal seq distance_of named doing_all turns as-it-is-lost
+heard-then = refl
+
+timely : StayTimely loses_two begins
+unfolding doing_all StayTimely as-it-is-lost
+timely = (
+  tt,
+  ((tt, tt), ((tt, tt), (tt, (tt, (tt, (tt, ((tt, tt), ((tt, tt), ((tt, tt), ((tt, heard-it (heard_in as-it-is-lost.near) (confirmed Call 0) heard-then), ((tt, tt), tt))))))))))),
+)
+
+-- T200 expires in state 7
+as-it-expires : Wire
+as-it-expires = doing_all (at_near takes ∷ []) lossy
+
+in-7 : (end_of Call 0 as-it-expires.near).link.state ≡ Established
+unfolding lines.after lines.answer lines.takes_slot reading header_of control_of unnumbered_of supervisory_of teis.course teis.refusal seq distance_of named doing_all turns as-it-expires
+in-7 = refl
+
+timely-on : StayTimely goes_on lossy
+unfolding doing_all StayTimely as-it-expires
+timely-on = (
+  tt,
+  (
+    (λ awaits. absurd (true≢false (sym awaits ∙ ap awaits_answer in-7)), free (end_of Call 0 as-it-expires.near) in-7),
+    (
+      (tt, tt),
+      (tt, ((tt, tt), ((tt, tt), (tt, (tt, ((tt, tt), ((tt, tt), (tt, (tt, ((tt, tt), ((tt, tt), (tt, (tt, ((tt, tt), ((tt, tt), (tt, (tt, ((tt, tt), ((tt, tt), (tt, tt)))))))))))))))))))),
+    ),
+  ),
+)
+
+-- so the law says what the worked values show
+come : HasCome Call 0 goes_on lossy over
+come =
+    arrives-under-traffic Call user network 0 0 0 loses_two goes_on can (leb-true 3 4 refl) (leb-true 3 4 refl) rough rough-on kept timely timely-on
+    (heard-it (heard_in lossy.near) (confirmed Call 0) lossy_near) over_still
+
+pub told : heard_in over.far ≡ all_told Call 0 (indicated Call 0) over.near
+told = come.near (inl near_asked)

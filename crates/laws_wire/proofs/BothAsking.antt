@@ -1,0 +1,185 @@
+-- What is done in a call. Layer 3 asks for the establishment of the link: in state 4 it is granted, and in any other state it is
+-- refused, which changes nothing.
+use Rattle.std.proofs.Common.{◌≡◌, ℕ, ◌+◌, ◌≤◌, Bool, true, false, true≢false, not, cond, List, [], ◌∷◌, ◌++◌, Option, None, Some, refl, sym, ap, subst, ◌∙◌, ◌⊎◌, inl, inr, append-nil}
+use Rattle.std.specs.Prelude.{nat_lt}
+use Rattle.std.specs.Option.{option_map_or}
+use Rattle.std.proofs.lemmas.Bool.{le-ltb}
+use Rattle.lapd_frame.specs.declared.refusals.Refusal.{Refusal}
+use Rattle.lapd_frame.specs.declared.refusals.Refusal.TheVariants.{BadTei, NoLink, WrongState}
+use Rattle.lapd_frame.specs.declared.services.Service.{Service}
+use Rattle.lapd_tei.proofs.Tables.{is_on-at, place_of-is, not_not}
+use Rattle.model_link.specs.declared.terms.Terms.{Terms}
+use Rattle.model_link.specs.Events as link
+use Rattle.model_link.specs.Link.{Link, fresh}
+use Rattle.model_link.specs.Requests.{is_down}
+use Rattle.model_link.specs.TwoEnds.{End, with_link}
+use Rattle.model_line.specs.declared.config.Config.{Config}
+use Rattle.model_line.specs.Event.{Event, request}
+use Rattle.model_line.specs.Line.{Line, link_in, link_of, has_tei, terms}
+use Rattle.model_line.specs.Machine as lines
+use Rattle.model_line.specs.Machine.{unless_refused_told, of_request}
+use Rattle.model_line.specs.Refusal.{refusal, bad_tei, no_link, wrong_state}
+use Rattle.model_line.specs.Request as asked_for
+use Rattle.model_line.specs.Request.{Request, Establish, Data}
+use Rattle.model_card.specs.Card.{line_at}
+use Rattle.model_card.specs.Event.{at as event_at}
+use Rattle.model_card.specs.Machine.{wants_room}
+use Rattle.laws_line.specs.Share.{is_granted}
+use Rattle.laws_line.proofs.Asked.{passed}
+use Rattle.laws_wire.specs.Wire.{Station, Wire, happens, answered, requests, times_out, gives, takes, loses, Doing, at_near, at_far}
+use Rattle.laws_wire.specs.Call.{IsTalkOf, IsTalk, IsCall, IsCallOf, calls_back}
+use Rattle.laws_wire.proofs.Calling.{asked, asks-establish, told-of-establish, end}
+use Rattle.laws_wire.proofs.Standing.{Stands, Granted, asks-granted, asks-stands, link-ranges}
+use Rattle.laws_wire.proofs.Talking.{Past, Holds}
+
+module _ (service : Service) (tei : ℕ) where
+  -- ---- what is done: the link is asked for at one of the ends, or it is talk
+
+  pub data Kind (k : Doing) : Type 0 where
+    talks : IsTalk service tei k → Kind k
+    near_calls : k ≡ at_near (requests (Establish service tei)) → Kind k
+    far_calls : k ≡ at_far (requests (Establish service tei)) → Kind k
+
+  asks-so : (P : Request → Type 0) → P (Establish service tei) → ((s : Service) (x : ℕ) (octets : List ℕ) → (s ≡ service) × (x ≡ tei) → P (Data s x octets)) → (r : Request) → IsCallOf service tei (requests r) → P r
+  asks-so P establish contents (Establish s x) is = subst (λ s'. P (Establish s' x)) (sym is.0) (subst (λ x'. P (Establish service x')) (sym is.1) establish)
+  asks-so P establish contents (Data s x octets) is = contents s x octets is
+  asks-so P establish contents (asked_for.Release s x) is = absurd is
+  asks-so P establish contents (asked_for.Unit s x octets) is = absurd is
+  asks-so P establish contents (asked_for.Assign x) is = absurd is
+  asks-so P establish contents (asked_for.Remove x) is = absurd is
+  asks-so P establish contents (asked_for.Check x) is = absurd is
+  asks-so P establish contents (asked_for.SetBusy s x) is = absurd is
+  asks-so P establish contents (asked_for.ClearBusy s x) is = absurd is
+  asks-so P establish contents (asked_for.Deactivate s x) is = absurd is
+
+  pub kind : (k : Doing) → IsCall service tei k → Kind k
+  kind (at_near (requests r)) is = asks-so (λ r. Kind (at_near (requests r))) (near_calls refl) (λ s x octets same. talks same) r is
+  kind (at_near gives) is = talks tt
+  kind (at_near takes) is = talks tt
+  kind (at_near (times_out timer)) is = absurd is
+  kind (at_near loses) is = absurd is
+  kind (at_far (requests r)) is = asks-so (λ r. Kind (at_far (requests r))) (far_calls refl) (λ s x octets same. talks same) r is
+  kind (at_far gives) is = talks tt
+  kind (at_far takes) is = talks tt
+  kind (at_far (times_out timer)) is = absurd is
+  kind (at_far loses) is = absurd is
+
+  -- talk calls nobody
+  data-calls_not : (r : Request) → IsTalkOf service tei (requests r) → (w : Wire) → calls_back (at_far (requests r)) w ≡ false
+  data-calls_not (Data s x octets) is w = refl
+  data-calls_not (Establish s x) is w = absurd is
+  data-calls_not (asked_for.Release s x) is w = absurd is
+  data-calls_not (asked_for.Unit s x octets) is w = absurd is
+  data-calls_not (asked_for.Assign x) is w = absurd is
+  data-calls_not (asked_for.Remove x) is w = absurd is
+  data-calls_not (asked_for.Check x) is w = absurd is
+  data-calls_not (asked_for.SetBusy s x) is w = absurd is
+  data-calls_not (asked_for.ClearBusy s x) is w = absurd is
+  data-calls_not (asked_for.Deactivate s x) is w = absurd is
+
+  pub talk-calls_not : (k : Doing) → IsTalk service tei k → (w : Wire) → calls_back k w ≡ false
+  talk-calls_not (at_near act) is w = refl
+  talk-calls_not (at_far (requests r)) is w = data-calls_not r is w
+  talk-calls_not (at_far gives) is w = refl
+  talk-calls_not (at_far takes) is w = refl
+  talk-calls_not (at_far (times_out timer)) is w = refl
+  talk-calls_not (at_far loses) is w = refl
+
+-- ---- the link is asked for
+
+three-pass : (a b d : Bool) (x y z : Refusal) → a ≡ false → b ≡ false → d ≡ false → cond a (Some x) (cond b (Some y) (cond d (Some z) None)) ≡ None
+three-pass a b d x y z e e' e'' = rw (e, e', e'') refl
+
+pub record Refuses (service : Service) (tei : ℕ) (s : Station) : Type 0 where
+  pub same : happens (request (Establish service tei)) s ≡ s
+  pub none : is_granted (answered (request (Establish service tei)) s) ≡ false
+
+module _ (service : Service) (tei place : ℕ) (c : Config) (first : Past) (s : Station) (n : End) (h : Holds c service tei place first s n) where
+  own : Stands s.card.config service tei place s n
+  own = subst (λ k. Stands k service tei place s n) (sym h.stands.config) h.stands
+
+  abbrev l : Line
+  l = line_at s.line s.card
+
+  abbrev asks : Event
+  asks = request (Establish service tei)
+
+  abbrev why : Option Refusal
+  why = refusal s.card.config false (Establish service tei) l
+
+  link-is : link_of service tei l ≡ n.link
+  link-is = ap (λ o. option_map_or (link_in l service) o fresh) own.speaks.placed ∙ own.speaks.link
+
+  answer-is : answered asks s ≡ unless_refused_told why (of_request s.card.config (Establish service tei) l)
+  unfolding lines.answer lines.takes_slot
+  answer-is = refl
+
+  -- ---- in any other state
+
+  not-served : is_down n.link.state ≡ false → why ≡ None → ⊥
+  not-served up none =
+      let row = wrong_state service tei link.Establish l in
+      let known = passed (bad_tei tei) (no_link tei l ∷ row ∷ []) none in
+      let there = passed (no_link tei l) (row ∷ []) known.1 in
+      let state = passed row [] there.1 in
+      let served : is_down n.link.state ≡ true = ap (λ (x : Link). is_down x.state) (sym link-is) ∙ not_not (is_down (link_of service tei l).state) state.0 in
+      true≢false (sym served ∙ up)
+
+  pub refuses : is_down n.link.state ≡ false → Refuses service tei s
+  refuses up = record { same = by-line (asks-stands service tei place s n own (Establish service tei) link.Establish (λ l. refl)); none = ap is_granted answer-is ∙ by-answer why refl }
+    where
+      by-line : (happens asks s ≡ s) ⊎ Granted service tei place s n own (Establish service tei) link.Establish (λ l. refl) (happens asks s) → happens asks s ≡ s
+      by-line (inl same) = same
+      by-line (inr x) = absurd (not-served up x.none)
+
+      by-answer : (o : Option Refusal) → why ≡ o → is_granted (unless_refused_told o (of_request s.card.config (Establish service tei) l)) ≡ false
+      by-answer None e = absurd (not-served up e)
+      by-answer (Some x) e = refl
+
+-- ---- in state 4
+
+module _ (service : Service) (tei place : ℕ) (few : tei ≤ 126) (c : Config) (first : Past) (s : Station) (h : Holds c service tei place first s (end (terms c service tei) fresh [])) where
+  abbrev t : Terms
+  t = terms c service tei
+
+  abbrev n : End
+  n = end t fresh []
+
+  none-refused : why service tei place c first s n h ≡ None
+  none-refused =
+      let line = l service tei place c first s n h in
+      let at = (place_of-is line.management.places tei place (own service tei place c first s n h).speaks.placed).1 in
+      let on : has_tei tei line ≡ true = is_on-at line.management.places place tei at in
+      three-pass (nat_lt 126 tei) (not (has_tei tei line)) (not (is_down (link_of service tei line).state)) BadTei NoLink WrongState (le-ltb 126 tei few)
+      (ap not on) (ap (λ (x : Link). not (is_down x.state)) (link-is service tei place c first s n h))
+
+  room : wants_room (event_at s.line (request (Establish service tei))) s.card ≡ false
+  unfolding lines.takes_slot
+  room = refl
+
+  pub record Calls : Type 0 where
+    pub holds : Holds c service tei place first (happens (request (Establish service tei)) s) (end t asked [])
+    pub granted : (happens (request (Establish service tei)) s).granted ≡ s.granted
+    pub some : is_granted (answered (request (Establish service tei)) s) ≡ true
+
+  pub calls : Calls
+  calls =
+      let s' = happens (request (Establish service tei)) s in
+      let standing = own service tei place c first s n h in
+      let ranges = link-ranges service tei place s n standing in
+      let x = asks-granted service tei place s n standing (Establish service tei) link.Establish (λ l. refl) room none-refused in
+      let is : with_link (link.requested link.Establish false) n ≡ end t asked [] = ap (λ y. end t y []) (asks-establish t ranges) in
+      let same : s'.granted ≡ s.granted = x.granted ∙ append-nil s.granted in
+      record {
+        holds = record {
+          stands = subst (λ k. Stands k service tei place s' (end t asked [])) h.stands.config (subst (Stands s.card.config service tei place s') is x.stands);
+          granted = same ∙ h.granted;
+          since = h.since;
+          told = x.told ∙ ap (λ ts. s.told ++ ts) (told-of-establish t ranges) ∙ append-nil s.told ∙ h.told;
+          delivered = h.delivered;
+        };
+        granted = same;
+        some =
+            ap is_granted (answer-is service tei place c first s n h)
+            ∙ ap (λ o. is_granted (unless_refused_told o (of_request s.card.config (Establish service tei) (l service tei place c first s n h)))) none-refused;
+      }

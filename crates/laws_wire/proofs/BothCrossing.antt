@@ -1,0 +1,346 @@
+-- Both ends call, and SABMEs cross: how far each call has come, and what each step does.
+use Rattle.std.proofs.Common.{◌≡◌, ℕ, ◌+◌, ◌*◌, ◌<◌, ◌≤◌, true, false, cond, List, [], ◌∷◌, ◌++◌, length, map, None, refl, sym, ap, subst, ◌∙◌, ◌⊎◌, inl, inr, append-nil, arith}
+use Rattle.std.specs.Prelude.{nat_lt, if◌then◌else◌}
+use Rattle.std.proofs.lemmas.Bool.{lt-ltb}
+use Rattle.std.proofs.lemmas.List.Elements.{All-nil}
+use Rattle.lapd_frame.specs.declared.services.Service.{Service}
+use Rattle.lapd_frame.specs.Grammar.{Parts, spelling}
+use Rattle.model_link.specs.declared.frames.ControlFrame.{ControlFrame}
+use Rattle.model_link.specs.declared.terms.Terms.{Terms}
+use Rattle.model_link.specs.Events as link
+use Rattle.model_link.specs.Events.{frame, received}
+use Rattle.model_link.specs.Machine.{after, course, given}
+use Rattle.model_link.specs.Requests.{refusal}
+use Rattle.model_link.specs.Sound.{IsInRange}
+use Rattle.model_link.specs.Steps.{begun}
+use Rattle.model_link.specs.TwoEnds.{End, with_link, with_sent}
+use Rattle.model_link.specs.TwoEnds as two_ends
+use Rattle.model_line.specs.declared.config.Config.{Config}
+use Rattle.model_line.specs.Line.{terms}
+use Rattle.model_line.specs.Request.{Request}
+use Rattle.model_line.specs.Event.{next}
+use Rattle.laws_two_links.proofs.AnyOrderRuns.{Pair}
+use Rattle.laws_wire.specs.Wire.{Station, Wire, happens, frames_by, with_first_of, with_first_lost, Act, requests, times_out, gives, takes, loses, acting, turned, is_turn_of, answered, comes}
+use Rattle.laws_wire.specs.Call.{IsTalkOf, confirmed}
+use Rattle.laws_wire.proofs.Answered.{takes-granted}
+use Rattle.laws_wire.proofs.BothHalf as half
+use Rattle.laws_wire.proofs.BothHalf.{lower}
+use Rattle.laws_wire.proofs.Calling.{sabme, ua, its_ua, awaiting, caller, end, sound-caller, with_ua_waiting, with_ua_first}
+use Rattle.laws_wire.proofs.Ringing.{ringing, its_sabme}
+use Rattle.laws_wire.proofs.Speaking.{said_by}
+use Rattle.laws_wire.proofs.Standing.{IsCarried, Stands}
+use Rattle.laws_wire.proofs.Talking.{Face, Past, unheard, after_note, Holds, none-told, holds-given, holds-lost, takes as takes_frame, Took}
+use Rattle.laws_wire.proofs.Quiet.{one-at-most, Both, first-way, same-count, quiet-gives, quiet-takes, quiet-requests}
+use Rattle.laws_wire.proofs.Up.{pair_of, turn_of, granted_of}
+
+-- How far the call of an end has come: its SABME waits, is on its way, is answered by a UA that waits, and by one that is on its way.
+pub data Place : Type 0 where
+  waits : Place
+  under_way : Place
+  answered_there : Place
+  returns : Place
+
+-- What of its own call an end holds, and what of the other's.
+abbrev own_ring : Place → List ControlFrame
+own_ring waits = its_sabme ∷ []
+own_ring under_way = []
+own_ring answered_there = []
+own_ring returns = []
+
+abbrev other_ring : Place → List ControlFrame
+other_ring waits = []
+other_ring under_way = []
+other_ring answered_there = its_ua ∷ []
+other_ring returns = []
+
+abbrev own_way : Terms → Place → List Parts
+own_way t waits = []
+own_way t under_way = sabme t ∷ []
+own_way t answered_there = []
+own_way t returns = []
+
+abbrev other_way : Terms → Place → List Parts
+other_way t waits = []
+other_way t under_way = []
+other_way t answered_there = []
+other_way t returns = ua t ∷ []
+
+abbrev pub crossing : Terms → Place → Place → End
+crossing t own other = end t (ringing 0 (own_ring own ++ other_ring other)) (own_way t own ++ other_way t other)
+
+-- Of one end what waits goes in order: its SABME goes before its UA.
+abbrev NotWaiting : Place → Type 0
+NotWaiting waits = ⊥
+NotWaiting under_way = Unit {0}
+NotWaiting answered_there = Unit {0}
+NotWaiting returns = Unit {0}
+
+abbrev NotReturning : Place → Type 0
+NotReturning waits = Unit {0}
+NotReturning under_way = Unit {0}
+NotReturning answered_there = Unit {0}
+NotReturning returns = ⊥
+
+abbrev pub InOrder : Place → Place → Type 0
+InOrder waits other = NotReturning other
+InOrder under_way other = Unit {0}
+InOrder answered_there other = Unit {0}
+InOrder returns other = NotWaiting other
+
+pub turned-order : (own other : Place) → InOrder own other → InOrder other own
+turned-order waits waits h = tt
+turned-order waits under_way h = tt
+turned-order waits answered_there h = tt
+turned-order waits returns h = h
+turned-order under_way waits h = tt
+turned-order under_way under_way h = tt
+turned-order under_way answered_there h = tt
+turned-order under_way returns h = tt
+turned-order answered_there waits h = tt
+turned-order answered_there under_way h = tt
+turned-order answered_there answered_there h = tt
+turned-order answered_there returns h = tt
+turned-order returns waits h = h
+turned-order returns under_way h = tt
+turned-order returns answered_there h = tt
+turned-order returns returns h = tt
+
+abbrev pub turns_left : Place → ℕ
+turns_left waits = 4
+turns_left under_way = 3
+turns_left answered_there = 2
+turns_left returns = 1
+
+-- ---- what a link that awaits its establishment hears
+
+module _ (t : Terms) (ranges : IsInRange t) (u : Terms) where
+  -- SABME: UA waits, and nothing is told
+  hears-sabme : (ws : List ControlFrame) → length ws < 2 → after t (received (frame (sabme u))) (ringing 0 ws) ≡ ringing 0 (ws ++ its_ua ∷ [])
+  hears-sabme ws few =
+      let room : nat_lt (length ws) t.control ≡ true = let low = ranges.control_low in lt-ltb (length ws) t.control (omega (arith, few, low)) in
+      ap (λ b. ringing 0 (cond b (ws ++ its_ua ∷ []) ws)) room
+
+  told-of-crossing : (ws : List ControlFrame) → length ws < 2 → said_by (course t (received (frame (sabme u))) (ringing 0 ws)) ≡ []
+  told-of-crossing ws few =
+      let room : nat_lt (length ws) t.control ≡ true = let low = ranges.control_low in lt-ltb (length ws) t.control (omega (arith, few, low)) in
+      ap (λ b. said_by (record (begun (ringing 0 ws)) { lost = cond {A = ℕ} b 0 1 })) room
+
+few-own : (own : Place) → length (own_ring own ++ []) < 2
+few-own waits = omega arith
+few-own under_way = omega arith
+few-own answered_there = omega arith
+few-own returns = omega arith
+
+module _ (service : Service) (tei : ℕ) (c d : Config) (p q : ℕ) (face : Face c d) (back : Face d c) (rt : IsInRange (terms c service tei)) (ru : IsInRange (terms d service tei)) where
+  abbrev t : Terms
+  t = terms c service tei
+
+  abbrev u : Terms
+  u = terms d service tei
+
+  pub record IsCrossing (w : Wire) (weight : ℕ) : Type 0 where
+    pub own : Place
+    pub other : Place
+    pub order : InOrder own other
+    pub both : Both service tei c d p q unheard unheard w (crossing t own other) (crossing u other own)
+    pub is : weight ≡ turns_left own + turns_left other
+
+  -- The near end is up first: then the far one waits for UA.
+  abbrev pub NearFirst : Wire → ℕ → Type 0
+  NearFirst w weight = half.Half service tei (confirmed service tei) d c q p back face ru (turned w) weight
+
+  pub record Crossed (w w' : Wire) (before b : ℕ) : Type 0 where
+    pub weight : ℕ
+    pub goes : IsCrossing w' weight ⊎ NearFirst w' weight
+    pub price : b + weight + 4 * granted_of w ≤ before + 4 * granted_of w'
+
+  -- both are up, and have nothing to do yet
+  first-pair : Pair (pair_of (end u caller []) (end t caller []))
+  first-pair =
+      record {
+        near = record { ranges = ru; sound = sound-caller u ru; state = refl; peer_busy = refl; own_busy = refl; waiting = refl };
+        far = record { ranges = rt; sound = sound-caller t rt; state = refl; peer_busy = refl; own_busy = refl; waiting = refl };
+        there = record { lane = (refl, omega arith, λ e. refl); delivered = refl; sizes = All-nil (λ octets. length octets ≤ t.n201) };
+        back = record { lane = (refl, omega arith, λ e. refl); delivered = refl; sizes = All-nil (λ octets. length octets ≤ u.n201) };
+      }
+
+  module _ (w : Wire) (weight : ℕ) (own other : Place) (order : InOrder own other)
+      (both : Both service tei c d p q unheard unheard w (crossing t own other) (crossing u other own)) (is : weight ≡ turns_left own + turns_left other) where
+    stayed : (w' : Wire) (b : ℕ) → b ≡ 0 → granted_of w' ≡ granted_of w → Both service tei c d p q unheard unheard w' (crossing t own other) (crossing u other own) → Crossed w w' weight b
+    stayed w' b none granted both' = record { weight = weight; goes = inl (record { own = own; other = other; order = order; both = both'; is = is }); price = omega (arith, none, granted) }
+
+    -- no contents are granted before a link is up
+    none-granted : (octets : List ℕ) → refusal t (crossing t own other).link false (link.Data octets) ≡ None → ⊥
+    none-granted octets e = cc e
+
+    asks : (r : Request) → IsTalkOf service tei (requests r) → Crossed w (acting (requests r) w) weight 0
+    asks r talk =
+        let x = quiet-requests service tei c d p q unheard unheard w (crossing t own other) (crossing u other own) both none-granted r talk in
+        stayed (acting (requests r) w) 0 refl x.granted x.both
+
+    -- ---- it gives
+
+    gives-none : given t (crossing t own other).link ≡ None → Crossed w (acting gives w) weight (turn_of (frames_by (answered next w.near)))
+    gives-none none =
+        let x = quiet-gives service tei c d p q unheard unheard w (crossing t own other) (crossing u other own) both none in
+        stayed (acting gives w) _ x.none x.granted x.both
+
+    gives-on : (own' other' : Place) → InOrder own' other' → with_sent (crossing t own other) ≡ crossing t own' other' → crossing u other own ≡ crossing u other' own'
+        → turns_left own + turns_left other ≡ 1 + (turns_left own' + turns_left other') → Crossed w (acting gives w) weight (turn_of (frames_by (answered next w.near)))
+    gives-on own' other' order' near far less =
+        let sent = holds-given service tei p unheard c w.near (crossing t own other) both.near (ap (λ (x : End). x.link.contents) near) in
+        record {
+          weight = turns_left own' + turns_left other';
+          goes = inl (record {
+            own = own';
+            other = other';
+            order = order';
+            both = record { near = subst (Holds c service tei p unheard (happens next w.near)) near sent; far = subst (Holds d service tei q unheard w.far) far both.far };
+            is = refl;
+          });
+          price =
+              lower _ weight (turns_left own' + turns_left other') (granted_of w) _ (one-at-most (frames_by (answered next w.near))) (is ∙ less)
+              (same-count service tei c d p q unheard unheard w (crossing t own other) (crossing u other own) both);
+        }
+
+    -- ---- it takes
+
+    takes-none : (crossing u other own).way ≡ [] → Crossed w (acting takes w) weight (turn_of w.far.way)
+    takes-none none =
+        let x = quiet-takes service tei c d p q unheard unheard w (crossing t own other) (crossing u other own) both none in
+        stayed (acting takes w) _ x.none x.granted x.both
+
+    -- the first frame on the other's way
+    module _ (f : Parts) (fs : List Parts) (first : (crossing u other own).way ≡ f ∷ fs) where
+      abbrev s : Station
+      s = w.near
+
+      way-is : (w.far.way ≡ spelling d.side f ∷ map (spelling d.side) fs) × IsCarried d service tei f
+      way-is = first-way service tei d q unheard w.far (crossing u other own) f fs first both.far
+
+      pub same : with_first_of w.far.way s ≡ comes (spelling d.side f) s
+      same = ap (λ way. with_first_of way s) way-is.0
+
+      pub took : Took service tei p unheard c s (crossing t own other) (spelling d.side f) f
+      took = takes_frame service tei p unheard c d face s (crossing t own other) f both.near.stands way-is.1
+
+      pub taken-count : granted_of (acting takes w) ≡ granted_of w
+      taken-count = ap (λ (s' : Station). length s'.granted + length w.far.granted) same ∙ ap (λ xs. length xs + length w.far.granted) (takes-granted (spelling d.side f) s)
+
+      -- it is told this, and stands for this end
+      pub holds-then : (past : Past) (n' : End) → with_link (received (frame f)) (crossing t own other) ≡ n' → n'.link.contents ≡ [] → past.had ≡ [] → n'.delivered ≡ []
+          → said_by (course t (received (frame f)) (crossing t own other).link) ≡ past.told → Holds c service tei p past (with_first_of w.far.way s) n'
+      holds-then past n' is empty had none said =
+          subst (λ s'. Holds c service tei p past s' n') (sym same) (record {
+            stands = subst (Stands c service tei p (comes (spelling d.side f) s)) is took.stands;
+            granted = takes-granted (spelling d.side f) s ∙ both.near.granted ∙ sym empty;
+            since = [];
+            told =
+                took.told ∙ ap (λ ts. ts ++ said_by (course t (received (frame f)) (crossing t own other).link)) (none-told c service tei p [] s (crossing t own other) both.near refl)
+                ∙ said ∙ sym (append-nil past.told);
+            delivered = none ∙ sym (append-nil past.had ∙ had);
+          })
+
+    -- SABME comes
+    takes-sabme : (own' other' : Place) → InOrder own' other' → (fs : List Parts) → (crossing u other own).way ≡ sabme u ∷ fs → with_link (received (frame (sabme u))) (crossing t own other) ≡ crossing t own' other'
+        → said_by (course t (received (frame (sabme u))) (crossing t own other).link) ≡ [] → two_ends.with_first_lost (crossing u other own) ≡ crossing u other' own'
+        → turns_left own + turns_left other ≡ 1 + (turns_left own' + turns_left other') → Crossed w (acting takes w) weight (turn_of w.far.way)
+    takes-sabme own' other' order' fs first near said far less = record {
+      weight = turns_left own' + turns_left other';
+      goes = inl (record {
+        own = own';
+        other = other';
+        order = order';
+        both = record {
+          near = holds-then (sabme u) fs first unheard (crossing t own' other') near refl refl refl said;
+          far = subst (Holds d service tei q unheard (with_first_lost w.far)) far (holds-lost service tei q unheard d w.far (crossing u other own) both.far);
+        };
+        is = refl;
+      });
+      price = lower _ weight (turns_left own' + turns_left other') (granted_of w) _ (one-at-most w.far.way) (is ∙ less) (taken-count (sabme u) fs first);
+    }
+
+    -- UA comes: the far end still waits for its own
+    abbrev up_note : Past
+    up_note = after_note (confirmed service tei)
+
+    abbrev far_then : Station
+    far_then = with_first_lost w.far
+
+    up-lower : (b before k x g g' : ℕ) → b ≤ 1 → before ≡ 1 + k → x ≡ 0 → g' ≡ g → b + (k + x) + 4 * g ≤ before + 4 * g'
+    up-lower b before k x g g' one is none same = omega (arith, one, is, none, same)
+
+    takes-ua : (k : ℕ) → (crossing u other own).way ≡ ua u ∷ [] → turns_left own + turns_left other ≡ 1 + k → (n' : End)
+        → with_link (received (frame (ua u))) (crossing t own other) ≡ n' → n'.link.contents ≡ [] → n'.delivered ≡ []
+        → two_ends.with_first_lost (crossing u other own) ≡ end u awaiting []
+        → (Holds d service tei q unheard far_then (end u awaiting []) → Holds c service tei p up_note (with_first_of w.far.way w.near) n' → NearFirst (acting takes w) (k + 0))
+        → said_by (course t (received (frame (ua u))) (crossing t own other).link) ≡ confirmed service tei ∷ []
+        → Crossed w (acting takes w) weight (turn_of w.far.way)
+    takes-ua k first less n' near empty none far so said =
+        record {
+          weight = k + 0;
+          goes =
+              inr (so (subst (Holds d service tei q unheard far_then) far (holds-lost service tei q unheard d w.far (crossing u other own) both.far))
+              (holds-then (ua u) [] first up_note n' near empty refl none said));
+          price = up-lower _ weight k 0 (granted_of w) _ (one-at-most w.far.way) (is ∙ less) refl (taken-count (ua u) [] first);
+        }
+
+  -- ---- every place
+
+  gives-step : (w : Wire) (weight : ℕ) (own other : Place) → InOrder own other → Both service tei c d p q unheard unheard w (crossing t own other) (crossing u other own) → weight ≡ turns_left own + turns_left other
+      → Crossed w (acting gives w) weight (turn_of (frames_by (answered next w.near)))
+  gives-step w weight waits waits order both is = gives-on w weight waits waits order both is under_way waits tt refl refl refl
+  gives-step w weight waits under_way order both is = gives-on w weight waits under_way order both is under_way under_way tt refl refl refl
+  gives-step w weight waits answered_there order both is = gives-on w weight waits answered_there order both is under_way answered_there tt refl refl refl
+  gives-step w weight waits returns order both is = absurd order
+  gives-step w weight under_way waits order both is = gives-none w weight under_way waits order both is refl
+  gives-step w weight under_way under_way order both is = gives-none w weight under_way under_way order both is refl
+  gives-step w weight under_way answered_there order both is = gives-on w weight under_way answered_there order both is under_way returns tt refl refl refl
+  gives-step w weight under_way returns order both is = gives-none w weight under_way returns order both is refl
+  gives-step w weight answered_there waits order both is = gives-none w weight answered_there waits order both is refl
+  gives-step w weight answered_there under_way order both is = gives-none w weight answered_there under_way order both is refl
+  gives-step w weight answered_there answered_there order both is = gives-on w weight answered_there answered_there order both is answered_there returns tt refl refl refl
+  gives-step w weight answered_there returns order both is = gives-none w weight answered_there returns order both is refl
+  gives-step w weight returns waits order both is = absurd order
+  gives-step w weight returns under_way order both is = gives-none w weight returns under_way order both is refl
+  gives-step w weight returns answered_there order both is = gives-on w weight returns answered_there order both is returns returns tt refl refl refl
+  gives-step w weight returns returns order both is = gives-none w weight returns returns order both is refl
+
+  -- SABME is heard, whatever has become of the own one
+  hears-crossing : (own : Place) → with_link (received (frame (sabme u))) (crossing t own under_way) ≡ end t (ringing 0 ((own_ring own ++ []) ++ its_ua ∷ [])) (own_way t own ++ [])
+  hears-crossing own = ap (λ y. end t y (own_way t own ++ [])) (hears-sabme t rt u (own_ring own ++ []) (few-own own))
+
+  takes-step : (w : Wire) (weight : ℕ) (own other : Place) → InOrder own other → Both service tei c d p q unheard unheard w (crossing t own other) (crossing u other own) → weight ≡ turns_left own + turns_left other
+      → Crossed w (acting takes w) weight (turn_of w.far.way)
+  takes-step w weight waits waits order both is = takes-none w weight waits waits order both is refl
+  takes-step w weight waits under_way order both is =
+      takes-sabme w weight waits under_way order both is waits answered_there tt [] refl (hears-crossing waits) (told-of-crossing t rt u (own_ring waits ++ []) (few-own waits)) refl refl
+  takes-step w weight waits answered_there order both is = takes-none w weight waits answered_there order both is refl
+  takes-step w weight waits returns order both is = absurd order
+  takes-step w weight under_way waits order both is = takes-none w weight under_way waits order both is refl
+  takes-step w weight under_way under_way order both is =
+      takes-sabme w weight under_way under_way order both is under_way answered_there tt [] refl (hears-crossing under_way) (told-of-crossing t rt u (own_ring under_way ++ []) (few-own under_way)) refl refl
+  takes-step w weight under_way answered_there order both is = takes-none w weight under_way answered_there order both is refl
+  takes-step w weight under_way returns order both is = takes-none w weight under_way returns order both is refl
+  takes-step w weight answered_there waits order both is = takes-none w weight answered_there waits order both is refl
+  takes-step w weight answered_there under_way order both is =
+      takes-sabme w weight answered_there under_way order both is answered_there answered_there tt [] refl (hears-crossing answered_there) (told-of-crossing t rt u (own_ring answered_there ++ []) (few-own answered_there)) refl refl
+  takes-step w weight answered_there answered_there order both is = takes-none w weight answered_there answered_there order both is refl
+  takes-step w weight answered_there returns order both is = takes-none w weight answered_there returns order both is refl
+  takes-step w weight returns waits order both is = absurd order
+  takes-step w weight returns under_way order both is =
+      takes-sabme w weight returns under_way order both is returns answered_there tt (ua u ∷ []) refl (hears-crossing returns) (told-of-crossing t rt u (own_ring returns ++ []) (few-own returns)) refl refl
+  takes-step w weight returns answered_there order both is =
+      takes-ua w weight returns answered_there order both is 2 refl refl (with_ua_waiting (end t caller [])) refl refl refl refl
+      (λ far near. inl (record { m = end t caller []; none = refl; both = record { near = far; far = near }; pair = first-pair; is = refl })) refl
+  takes-step w weight returns returns order both is =
+      takes-ua w weight returns returns order both is 1 refl refl (with_ua_first (end t caller [])) refl refl refl refl
+      (λ far near. inr (inl (record { m = end t caller []; both = record { near = far; far = near }; pair = first-pair; is = refl }))) refl
+
+  -- so each thing that is done at the near end is a step of the call
+  pub near-step : (act : Act) → IsTalkOf service tei act → (w : Wire) (weight : ℕ) → IsCrossing w weight → Crossed w (acting act w) weight (if is_turn_of act w then 1 else 0)
+  near-step (requests r) talk w weight h = asks w weight h.own h.other h.order h.both h.is r talk
+  near-step gives talk w weight h = gives-step w weight h.own h.other h.order h.both h.is
+  near-step takes talk w weight h = takes-step w weight h.own h.other h.order h.both h.is
+  near-step (times_out timer) talk w weight h = absurd talk
+  near-step loses talk w weight h = absurd talk

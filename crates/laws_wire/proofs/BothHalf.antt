@@ -1,0 +1,298 @@
+-- A call of which one end is up, and its UA waits or is on its way; and then both are up.
+use Rattle.std.proofs.Common.{◌≡◌, ℕ, ◌+◌, ◌*◌, ◌≤◌, false, List, [], ◌++◌, length, None, refl, sym, ap, subst, ◌∙◌, ◌⊎◌, inl, inr, arith}
+use Rattle.std.specs.Prelude.{if◌then◌else◌}
+use Rattle.lapd_frame.specs.declared.services.Service.{Service}
+use Rattle.lapd_frame.specs.Grammar.{spelling}
+use Rattle.model_link.specs.declared.terms.Terms.{Terms}
+use Rattle.model_link.specs.Events as link
+use Rattle.model_link.specs.Machine.{course}
+use Rattle.model_link.specs.Requests.{refusal, is_down}
+use Rattle.model_link.specs.Sound.{IsInRange}
+use Rattle.model_link.specs.TwoEnds.{End, with_sent}
+use Rattle.model_line.specs.declared.config.Config.{Config}
+use Rattle.model_line.specs.Line.{terms}
+use Rattle.model_line.specs.Request.{Data}
+use Rattle.model_line.specs.Event.{LineTold, request, next}
+use Rattle.laws_two_links.specs.AnyOrder.{weight_at}
+use Rattle.laws_two_links.proofs.AnyOrderRuns.{Pair}
+use Rattle.laws_wire.specs.Wire.{Station, Wire, happens, frames_by, with_first_of, Act, requests, times_out, gives, takes, loses, Doing, at_near, at_far, acting, turned, doing, is_turn_of, is_turn, answered, comes}
+use Rattle.laws_wire.specs.Call.{IsTalkOf, IsTalk, confirmed}
+use Rattle.laws_wire.proofs.Answered.{gives-granted, takes-granted}
+use Rattle.laws_wire.proofs.Asking.{with_more}
+use Rattle.laws_wire.proofs.BothAsking.{Refuses, refuses}
+use Rattle.laws_wire.proofs.Calling.{ua, awaiting, caller, told-of-ua, end, none-granted-awaiting, with_ua_waiting, with_ua_first, sends-ua}
+use Rattle.laws_wire.proofs.Speaking.{said_by}
+use Rattle.laws_wire.proofs.Talking.{Face, Past, unheard, after_note, Holds, none-told, holds-given, holds-lost, takes as takes_frame, Took, fits, More, holds-asked}
+use Rattle.laws_wire.proofs.Quiet.{one-at-most, Both, turned-both, first-way, frames-are, quiet-gives, quiet-takes, for-data, quiet-requests}
+use Rattle.laws_wire.proofs.Up.{pair_of, turned-pair, turn_of, end-gives, more-pair, granted_of, one-longer, Talk, does}
+
+pub lower : (b before weight g g' : ℕ) → b ≤ 1 → before ≡ 1 + weight → g' ≡ g → b + weight + 4 * g ≤ before + 4 * g'
+lower b before weight g g' one is same = omega (arith, one, is, same)
+
+pub turned-count : (w w' : Wire) → granted_of (turned w') ≡ granted_of (turned w) → granted_of w' ≡ granted_of w
+turned-count w w' e = omega (arith, e)
+
+module _ (service : Service) (tei : ℕ) where
+  -- The near end waits for UA. The far end was told this note.
+  module _ (note : LineTold) (c d : Config) (p q : ℕ) (face : Face c d) (back : Face d c) (rt : IsInRange (terms c service tei)) where
+    abbrev t : Terms
+    t = terms c service tei
+
+    abbrev second : Past
+    second = after_note note
+
+    abbrev pub one_up : End → ℕ
+    one_up m = weight_at (end t caller []) + weight_at m
+
+    pub record IsAnswered (w : Wire) (weight : ℕ) : Type 0 where
+      pub m : End
+      pub none : m.way ≡ []
+      pub both : Both service tei c d p q unheard second w (end t awaiting []) (with_ua_waiting m)
+      pub pair : Pair (pair_of (end t caller []) m)
+      pub is : weight ≡ 2 + one_up m
+
+    pub record IsAwaited (w : Wire) (weight : ℕ) : Type 0 where
+      pub m : End
+      pub both : Both service tei c d p q unheard second w (end t awaiting []) (with_ua_first m)
+      pub pair : Pair (pair_of (end t caller []) m)
+      pub is : weight ≡ 1 + one_up m
+
+    pub record IsUp (w : Wire) (weight : ℕ) : Type 0 where
+      pub n : End
+      pub m : End
+      pub talk : Talk service tei c d p q (after_note (confirmed service tei)) second w n m
+      pub is : weight ≡ weight_at n + weight_at m
+
+    abbrev pub Half : Wire → ℕ → Type 0
+    Half w weight = IsAnswered w weight ⊎ IsAwaited w weight ⊎ IsUp w weight
+
+    pub record Stepped (w w' : Wire) (before b : ℕ) : Type 0 where
+      pub weight : ℕ
+      pub goes : Half w' weight
+      pub price : b + weight + 4 * granted_of w ≤ before + 4 * granted_of w'
+
+    -- where nothing changes the phase stays
+    stayed : (w w' : Wire) (before b : ℕ) → b ≡ 0 → granted_of w' ≡ granted_of w → Half w' before → Stepped w w' before b
+    stayed w w' before b none granted still = record { weight = before; goes = still; price = omega (arith, none, granted) }
+
+    -- UA waits
+    from-answered-near : (act : Act) → IsTalkOf service tei act → (w : Wire) (weight : ℕ) → IsAnswered w weight → Stepped w (acting act w) weight (if is_turn_of act w then 1 else 0)
+    from-answered-near (requests r) is w weight h =
+        let x = quiet-requests service tei c d p q unheard second w (end t awaiting []) (with_ua_waiting h.m) h.both (none-granted-awaiting t) r is in
+        stayed w (acting (requests r) w) weight 0 refl x.granted (inl (record { m = h.m; none = h.none; both = x.both; pair = h.pair; is = h.is }))
+    from-answered-near gives is w weight h =
+        let x = quiet-gives service tei c d p q unheard second w (end t awaiting []) (with_ua_waiting h.m) h.both refl in
+        stayed w (acting gives w) weight _ x.none x.granted (inl (record { m = h.m; none = h.none; both = x.both; pair = h.pair; is = h.is }))
+    from-answered-near takes is w weight h =
+        let x = quiet-takes service tei c d p q unheard second w (end t awaiting []) (with_ua_waiting h.m) h.both h.none in
+        stayed w (acting takes w) weight _ x.none x.granted (inl (record { m = h.m; none = h.none; both = x.both; pair = h.pair; is = h.is }))
+    from-answered-near (times_out timer) is w weight h = absurd is
+    from-answered-near loses is w weight h = absurd is
+
+    -- contents that are granted at one of a pair
+    abbrev made : Wire → Station → Wire
+    made w s' = record { near = w.near; far = s' }
+
+    more-price : (before k x x' g g' h : ℕ) → before ≡ k + x → x' ≡ x + 4 → g' ≡ g + 1 → 0 + (k + x') + 4 * (h + g) ≤ before + 4 * (h + g')
+    more-price before k x x' g g' h is e more = omega (arith, is, e, more)
+
+    up-more : (a x x' : ℕ) → x' ≡ x + 4 → a + x' ≡ (a + x) + 4
+    up-more a x x' e = omega (arith, e)
+
+    module _ (w : Wire) (m : End) (up : Pair (pair_of (end t caller []) m)) (waits : End → End) (same-terms : (waits m).terms ≡ m.terms)
+        (same-refusal : (octets : List ℕ) → refusal (waits m).terms (waits m).link false (link.Data octets) ≡ refusal m.terms m.link false (link.Data octets))
+        (holds : Holds d service tei q second w.far (waits m)) where
+      record Asks (octets : List ℕ) (s' : Station) : Type 0 where
+        more : More service tei q second d w.far s' (waits m) octets
+        pair : Pair (pair_of (end t caller []) (with_more octets m))
+        heavier : one_up (with_more octets m) ≡ one_up m + 4
+
+      far-asks : (octets : List ℕ)
+          → (happens (request (Data service tei octets)) w.far ≡ w.far) ⊎ Asks octets (happens (request (Data service tei octets)) w.far)
+      far-asks octets = go (holds-asked service tei q second d w.far (waits m) octets holds)
+        where
+          s' : Station
+          s' = happens (request (Data service tei octets)) w.far
+
+          go : (s' ≡ w.far) ⊎ More service tei q second d w.far s' (waits m) octets → (s' ≡ w.far) ⊎ Asks octets s'
+          go (inl same) = inl same
+          go (inr x) =
+              let none : refusal m.terms m.link false (link.Data octets) ≡ None = sym (same-refusal octets) ∙ x.none in
+              let own : m.terms.n201 ≡ t.n201 = ap (λ y. y.n201) (sym same-terms ∙ holds.stands.terms) ∙ back.n201 in
+              let small : length octets ≤ t.n201 = subst (λ k. length octets ≤ k) own (fits service tei q second m.terms m.link octets none) in
+              let y = more-pair octets m (end t caller []) (turned-pair (end t caller []) m up) small none in
+              inr (record { more = x; pair = turned-pair (with_more octets m) (end t caller []) y.pair; heavier = up-more (weight_at (end t caller [])) (weight_at m) (weight_at (with_more octets m)) y.heavier })
+
+    answered-asks : (w : Wire) (weight : ℕ) → IsAnswered w weight → (octets : List ℕ) → Stepped w (made w (happens (request (Data service tei octets)) w.far)) weight 0
+    answered-asks w weight h octets = go (far-asks w h.m h.pair with_ua_waiting refl (λ octets. refl) h.both.far octets)
+      where
+        s' : Station
+        s' = happens (request (Data service tei octets)) w.far
+
+        go : (s' ≡ w.far) ⊎ Asks w h.m h.pair with_ua_waiting refl (λ octets. refl) h.both.far octets s' → Stepped w (made w s') weight 0
+        go (inl same) =
+            stayed w (made w s') weight 0 refl (ap (λ (s : Station). length w.near.granted + length s.granted) same)
+            (subst (λ s. Half (made w s) weight) (sym same) (inl h))
+        go (inr x) = record {
+          weight = 2 + one_up (with_more octets h.m);
+          goes = inl (record { m = with_more octets h.m; none = h.none; both = record { near = h.both.near; far = x.more.holds }; pair = x.pair; is = refl });
+          price =
+              more-price weight 2 (one_up h.m) (one_up (with_more octets h.m)) (length w.far.granted) (length s'.granted) (length w.near.granted) h.is x.heavier
+              (ap length x.more.granted ∙ one-longer w.far.granted octets);
+        }
+
+    answered-gives : (w : Wire) (weight : ℕ) → IsAnswered w weight → Stepped w (made w (happens next w.far)) weight (turn_of (frames_by (answered next w.far)))
+    answered-gives w weight h =
+        let form = sends-ua h.m h.pair.far h.none in
+        let sent = holds-given service tei q second d w.far (with_ua_waiting h.m) h.both.far (ap (λ (x : End). x.link.contents) form) in
+        record {
+          weight = 1 + one_up h.m;
+          goes = inr (inl (record {
+            m = h.m;
+            both = record { near = h.both.near; far = subst (Holds d service tei q second (happens next w.far)) form sent };
+            pair = h.pair;
+            is = refl;
+          }));
+          price =
+              lower _ weight (1 + one_up h.m) (granted_of w) _ (one-at-most (frames_by (answered next w.far))) (h.is ∙ omega arith)
+              (ap (λ xs. length w.near.granted + length xs) (gives-granted w.far));
+        }
+
+    from-answered-far : (act : Act) → IsTalkOf service tei act → (w : Wire) (weight : ℕ) → IsAnswered w weight → Stepped w (turned (acting act (turned w))) weight (if is_turn_of act (turned w) then 1 else 0)
+    from-answered-far (requests r) is w weight h =
+        for-data service tei d c q p second unheard (turned w) (with_ua_waiting h.m) (end t awaiting []) (turned-both service tei c d p q unheard second w _ _ h.both)
+        (λ r. Stepped w (made w (happens (request r) w.far)) weight 0) (answered-asks w weight h) r is
+    from-answered-far gives is w weight h = answered-gives w weight h
+    from-answered-far takes is w weight h =
+        let x = quiet-takes service tei d c q p second unheard (turned w) (with_ua_waiting h.m) (end t awaiting []) (turned-both service tei c d p q unheard second w _ _ h.both) refl in
+        stayed w (turned (acting takes (turned w))) weight _ x.none (turned-count w (turned (acting takes (turned w))) x.granted)
+        (inl (record { m = h.m; none = h.none; both = turned-both service tei d c q p second unheard (acting takes (turned w)) (with_ua_waiting h.m) (end t awaiting []) x.both; pair = h.pair; is = h.is }))
+    from-answered-far (times_out timer) is w weight h = absurd is
+    from-answered-far loses is w weight h = absurd is
+
+    -- UA is on its way, and I-frames may be behind it
+    confirms : (w : Wire) (weight : ℕ) → IsAwaited w weight → Stepped w (acting takes w) weight (turn_of w.far.way)
+    confirms w weight h =
+        let f = ua h.m.terms in
+        let way = first-way service tei d q second w.far (with_ua_first h.m) f h.m.way refl h.both.far in
+        let s = w.near in
+        let same : with_first_of w.far.way s ≡ comes (spelling d.side f) s = ap (λ way. with_first_of way s) way.0 in
+        let x : Took service tei p unheard c s (end t awaiting []) (spelling d.side f) f = takes_frame service tei p unheard c d face s (end t awaiting []) f h.both.near.stands way.1 in
+        let near : Holds c service tei p (after_note (confirmed service tei)) (comes (spelling d.side f) s) (end t caller []) =
+        record {
+          stands = x.stands;
+          granted = takes-granted (spelling d.side f) s ∙ h.both.near.granted;
+          since = [];
+          told = x.told ∙ ap (λ ts. ts ++ said_by (course t (link.received (link.frame f)) awaiting)) (none-told c service tei p [] s (end t awaiting []) h.both.near refl) ∙ told-of-ua t rt h.m.terms;
+          delivered = refl;
+        } in
+        record {
+          weight = one_up h.m;
+          goes = inr (inr (record {
+            n = end t caller [];
+            m = h.m;
+            talk = record {
+              near = subst (λ s'. Holds c service tei p (after_note (confirmed service tei)) s' (end t caller [])) (sym same) near;
+              far = holds-lost service tei q second d w.far (with_ua_first h.m) h.both.far;
+              pair = h.pair;
+            };
+            is = refl;
+          }));
+          price =
+              lower _ weight (one_up h.m) (granted_of w) _ (one-at-most w.far.way) h.is
+              (ap (λ (s' : Station). length s'.granted + length w.far.granted) same ∙ ap (λ xs. length xs + length w.far.granted) (takes-granted (spelling d.side f) s));
+        }
+
+    from-awaited-near : (act : Act) → IsTalkOf service tei act → (w : Wire) (weight : ℕ) → IsAwaited w weight → Stepped w (acting act w) weight (if is_turn_of act w then 1 else 0)
+    from-awaited-near (requests r) is w weight h =
+        let x = quiet-requests service tei c d p q unheard second w (end t awaiting []) (with_ua_first h.m) h.both (none-granted-awaiting t) r is in
+        stayed w (acting (requests r) w) weight 0 refl x.granted (inr (inl (record { m = h.m; both = x.both; pair = h.pair; is = h.is })))
+    from-awaited-near gives is w weight h =
+        let x = quiet-gives service tei c d p q unheard second w (end t awaiting []) (with_ua_first h.m) h.both refl in
+        stayed w (acting gives w) weight _ x.none x.granted (inr (inl (record { m = h.m; both = x.both; pair = h.pair; is = h.is })))
+    from-awaited-near takes is w weight h = confirms w weight h
+    from-awaited-near (times_out timer) is w weight h = absurd is
+    from-awaited-near loses is w weight h = absurd is
+
+    awaited-asks : (w : Wire) (weight : ℕ) → IsAwaited w weight → (octets : List ℕ) → Stepped w (made w (happens (request (Data service tei octets)) w.far)) weight 0
+    awaited-asks w weight h octets = go (far-asks w h.m h.pair with_ua_first refl (λ octets. refl) h.both.far octets)
+      where
+        s' : Station
+        s' = happens (request (Data service tei octets)) w.far
+
+        go : (s' ≡ w.far) ⊎ Asks w h.m h.pair with_ua_first refl (λ octets. refl) h.both.far octets s' → Stepped w (made w s') weight 0
+        go (inl same) =
+            stayed w (made w s') weight 0 refl (ap (λ (s : Station). length w.near.granted + length s.granted) same)
+            (subst (λ s. Half (made w s) weight) (sym same) (inr (inl h)))
+        go (inr x) = record {
+          weight = 1 + one_up (with_more octets h.m);
+          goes = inr (inl (record { m = with_more octets h.m; both = record { near = h.both.near; far = x.more.holds }; pair = x.pair; is = refl }));
+          price =
+              more-price weight 1 (one_up h.m) (one_up (with_more octets h.m)) (length w.far.granted) (length s'.granted) (length w.near.granted) h.is x.heavier
+              (ap length x.more.granted ∙ one-longer w.far.granted octets);
+        }
+
+    given-price : (b before a x x' g g' h : ℕ) → before ≡ 1 + (a + x) → b + x' ≤ x → g' ≡ g → b + (1 + (a + x')) + 4 * (h + g) ≤ before + 4 * (h + g')
+    given-price b before a x x' g g' h is e same = omega (arith, is, e, same)
+
+    awaited-gives : (w : Wire) (weight : ℕ) → IsAwaited w weight → Stepped w (made w (happens next w.far)) weight (turn_of (frames_by (answered next w.far)))
+    awaited-gives w weight h =
+        let side = w.far.card.config.side in
+        let m = h.m in
+        let x = end-gives (spelling side) m (end t caller []) (turned-pair (end t caller []) m h.pair) in
+        let sent = holds-given service tei q second d w.far (with_ua_first m) h.both.far x.kept in
+        let turn-is = ap turn_of (frames-are service tei d c q p second unheard (turned w) (with_ua_first m) (end t awaiting []) (turned-both service tei c d p q unheard second w _ _ h.both)) in
+        record {
+          weight = 1 + one_up (with_sent m);
+          goes = inr (inl (record {
+            m = with_sent m;
+            both = record { near = h.both.near; far = sent };
+            pair = turned-pair (with_sent m) (end t caller []) x.pair;
+            is = refl;
+          }));
+          price =
+              given-price _ weight (weight_at (end t caller [])) (weight_at m) (weight_at (with_sent m)) (length w.far.granted) _ (length w.near.granted) h.is
+              (subst (λ b. b + weight_at (with_sent m) ≤ weight_at m) (sym turn-is) x.price) (ap length (gives-granted w.far));
+        }
+
+    from-awaited-far : (act : Act) → IsTalkOf service tei act → (w : Wire) (weight : ℕ) → IsAwaited w weight → Stepped w (turned (acting act (turned w))) weight (if is_turn_of act (turned w) then 1 else 0)
+    from-awaited-far (requests r) is w weight h =
+        for-data service tei d c q p second unheard (turned w) (with_ua_first h.m) (end t awaiting []) (turned-both service tei c d p q unheard second w _ _ h.both)
+        (λ r. Stepped w (made w (happens (request r) w.far)) weight 0) (awaited-asks w weight h) r is
+    from-awaited-far gives is w weight h = awaited-gives w weight h
+    from-awaited-far takes is w weight h =
+        let x = quiet-takes service tei d c q p second unheard (turned w) (with_ua_first h.m) (end t awaiting []) (turned-both service tei c d p q unheard second w _ _ h.both) refl in
+        stayed w (turned (acting takes (turned w))) weight _ x.none (turned-count w (turned (acting takes (turned w))) x.granted)
+        (inr (inl (record { m = h.m; both = turned-both service tei d c q p second unheard (acting takes (turned w)) (with_ua_first h.m) (end t awaiting []) x.both; pair = h.pair; is = h.is })))
+    from-awaited-far (times_out timer) is w weight h = absurd is
+    from-awaited-far loses is w weight h = absurd is
+
+    -- both are up
+    from-up : (k : Doing) → IsTalk service tei k → (w : Wire) (weight : ℕ) → IsUp w weight → Stepped w (doing k w) weight (if is_turn k w then 1 else 0)
+    from-up k is w weight h =
+        let x = does service tei c d p q face back (after_note (confirmed service tei)) second k is w h.n h.m h.talk in
+        record {
+          weight = weight_at x.n' + weight_at x.m';
+          goes = inr (inr (record { n = x.n'; m = x.m'; talk = x.talk; is = refl }));
+          price = subst (λ before. (if is_turn k w then 1 else 0) + (weight_at x.n' + weight_at x.m') + 4 * granted_of w ≤ before + 4 * granted_of (doing k w)) (sym h.is) x.price;
+        }
+
+    -- so each thing that is done is a step of the call
+    pub step : (k : Doing) → IsTalk service tei k → (w : Wire) (weight : ℕ) → Half w weight → Stepped w (doing k w) weight (if is_turn k w then 1 else 0)
+    step (at_near act) is w weight (inl h) = from-answered-near act is w weight h
+    step (at_near act) is w weight (inr (inl h)) = from-awaited-near act is w weight h
+    step (at_near act) is w weight (inr (inr h)) = from-up (at_near act) is w weight h
+    step (at_far act) is w weight (inl h) = from-answered-far act is w weight h
+    step (at_far act) is w weight (inr (inl h)) = from-awaited-far act is w weight h
+    step (at_far act) is w weight (inr (inr h)) = from-up (at_far act) is w weight h
+
+    -- neither end is granted an establishment then
+    pub near-refuses : (w : Wire) (weight : ℕ) → Half w weight → Refuses service tei w.near
+    near-refuses w weight (inl h) = refuses service tei p c unheard w.near (end t awaiting []) h.both.near refl
+    near-refuses w weight (inr (inl h)) = refuses service tei p c unheard w.near (end t awaiting []) h.both.near refl
+    near-refuses w weight (inr (inr h)) = refuses service tei p c (after_note (confirmed service tei)) w.near h.n h.talk.near (ap is_down h.talk.pair.near.state)
+
+    pub far-refuses : (w : Wire) (weight : ℕ) → Half w weight → Refuses service tei w.far
+    far-refuses w weight (inl h) = refuses service tei q d second w.far (with_ua_waiting h.m) h.both.far (ap is_down h.pair.far.state)
+    far-refuses w weight (inr (inl h)) = refuses service tei q d second w.far (with_ua_first h.m) h.both.far (ap is_down h.pair.far.state)
+    far-refuses w weight (inr (inr h)) = refuses service tei q d second w.far h.m h.talk.far (ap is_down h.talk.pair.far.state)

@@ -1,0 +1,36 @@
+-- The premises of the law are met by the worked call in which SABMEs cross: so each was told all, and the two face each other.
+use Rattle.std.proofs.Common.{[], ◌∷◌, refl}
+use Rattle.std.specs.Prelude.{All}
+use Rattle.lapd_frame.specs.declared.services.Service.TheVariants.{Call}
+use Rattle.lapd_frame.specs.Reading.{reading, header_of, control_of, unnumbered_of, supervisory_of}
+use Rattle.lapd_seq.specs.Circle.{distance_of, named}
+use Rattle.lapd_seq.specs.Numbers.{seq}
+use Rattle.lapd_tei.specs.Events as teis
+use Rattle.model_line.specs.Machine as lines
+use Rattle.model_line.specs.Request.{Data}
+use Rattle.laws_wire.specs.Wire.{requests, at_near, at_far, doing_all, turns, IsStill}
+use Rattle.laws_wire.specs.Call.{IsCall, both_call, ComesThrough}
+use Rattle.laws_wire.specs.Facing.{Face}
+use Rattle.laws_wire.specs.Worked.{user, network, begins}
+use Rattle.laws_wire.specs.BothWorked.{asks, both_send}
+use Rattle.laws_wire.proofs.Delivering.{calls-face}
+use Rattle.laws_wire.proofs.PremisesMet.{can, all-of}
+use Rattle.laws_wire.proofs.Run.{calls-come-through}
+
+pub called : All (IsCall Call 0) both_send
+called =
+    let near : IsCall Call 0 (at_near asks) = (refl, refl) in
+    let far : IsCall Call 0 (at_far asks) = (refl, refl) in
+    let first : IsCall Call 0 (at_far (requests (Data Call 0 (0xAB ∷ [])))) = (refl, refl) in
+    let second : IsCall Call 0 (at_near (requests (Data Call 0 (0xCD ∷ [])))) = (refl, refl) in
+    all-of both_send (near, (tt, (far, (tt, (tt, (tt, (tt, (tt, (first, (far, (tt, (tt, (tt, (tt, (second, (tt, (tt, (tt, (tt, tt)))))))))))))))))))
+
+pub still : IsStill (doing_all both_send begins)
+unfolding lines.after lines.answer lines.takes_slot reading header_of control_of unnumbered_of supervisory_of teis.course teis.refusal seq distance_of named doing_all turns
+still = record { near = refl; far = refl; near_way = refl; far_way = refl }
+
+pub comes : ComesThrough Call 0 (turns both_send begins) (both_call both_send begins) (doing_all both_send begins)
+comes = calls-come-through Call user network 0 0 0 both_send can called
+
+pub face : Face Call 0 (doing_all both_send begins)
+face = calls-face Call user network 0 0 0 both_send can called still

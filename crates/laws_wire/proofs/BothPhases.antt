@@ -1,0 +1,352 @@
+-- A call from its beginning: the near end calls, and the far one may call back before SABME comes; each step of it.
+use Rattle.std.proofs.Common.{◌≡◌, ℕ, ◌+◌, ◌*◌, ◌≤◌, Bool, true, false, cond, ◌||◌, [], ◌∷◌, ◌++◌, length, refl, sym, ap, subst, ◌∙◌, ◌⊎◌, inl, inr, arith}
+use Rattle.std.specs.Prelude.{if◌then◌else◌}
+use Rattle.lapd_frame.specs.declared.services.Service.{Service}
+use Rattle.lapd_frame.specs.Grammar.{spelling}
+use Rattle.model_link.specs.declared.terms.Terms.{Terms}
+use Rattle.model_link.specs.Events as link
+use Rattle.model_link.specs.Link.{fresh}
+use Rattle.model_link.specs.Machine.{course}
+use Rattle.model_link.specs.Sound.{IsInRange}
+use Rattle.model_link.specs.TwoEnds.{with_link}
+use Rattle.model_line.specs.declared.config.Config.{Config}
+use Rattle.model_line.specs.Line.{terms}
+use Rattle.model_line.specs.Request.{Establish}
+use Rattle.model_line.specs.Event.{next}
+use Rattle.laws_wire.specs.Wire.{Station, Wire, frames_by, with_first_of, Act, requests, times_out, gives, takes, loses, Doing, at_near, at_far, acting, turned, doing, is_turn_of, is_turn, answered, comes}
+use Rattle.laws_wire.specs.Call.{IsTalkOf, IsTalk, IsCall, calls_back, confirmed, indicated, told_first}
+use Rattle.laws_wire.proofs.Answered.{takes-granted}
+use Rattle.laws_wire.proofs.BothAsking.{Kind, talks, near_calls, far_calls, kind, talk-calls_not, Refuses, refuses, calls}
+use Rattle.laws_wire.proofs.BothHalf as half
+use Rattle.laws_wire.proofs.BothHalf.{lower, turned-count}
+use Rattle.laws_wire.proofs.BothCrossing as crossed
+use Rattle.laws_wire.proofs.BothCrossing.{waits, under_way, turned-order}
+use Rattle.laws_wire.proofs.Calling.{sabme, asked, awaiting, called, takes-sabme, told-of-sabme, end, none-granted-asked, none-granted-awaiting, none-granted-fresh, first-pair, with_ua_waiting}
+use Rattle.laws_wire.proofs.Speaking.{said_by}
+use Rattle.laws_wire.proofs.Standing.{Stands}
+use Rattle.laws_wire.proofs.Talking.{Face, unheard, after_note, Holds, none-told, holds-given, holds-lost, takes as takes_frame, Took}
+use Rattle.laws_wire.proofs.Quiet.{one-at-most, Both, turned-both, first-way, same-count, quiet-gives, quiet-takes, quiet-requests}
+use Rattle.laws_wire.proofs.Up.{turn_of, granted_of}
+
+abbrev pub cost : Bool → ℕ
+cost both = cond both 4 0
+
+module _ (service : Service) (tei : ℕ) where
+  -- ---- the phases
+
+  module _ (few : tei ≤ 126) (c d : Config) (p q : ℕ) (face : Face c d) (back : Face d c) (rt : IsInRange (terms c service tei)) (ru : IsInRange (terms d service tei)) where
+    abbrev t : Terms
+    t = terms c service tei
+
+    abbrev u : Terms
+    u = terms d service tei
+
+    -- SABME waits, or is on its way, and the far end has not called
+    pub record IsWaiting (w : Wire) (weight : ℕ) : Type 0 where
+      pub both : Both service tei c d p q unheard unheard w (end t asked []) (end u fresh [])
+      pub is : weight ≡ 4
+
+    pub record IsCalled (w : Wire) (weight : ℕ) : Type 0 where
+      pub both : Both service tei c d p q unheard unheard w (end t awaiting (sabme t ∷ [])) (end u fresh [])
+      pub is : weight ≡ 3
+
+    abbrev pub OneHalf : Bool → Wire → ℕ → Type 0
+    OneHalf both w weight = half.Half service tei (told_first service tei both) c d p q face back rt w weight
+
+    abbrev pub Goes : Bool → Wire → ℕ → Type 0
+    Goes false w weight = IsWaiting w weight ⊎ IsCalled w weight ⊎ OneHalf false w weight
+    Goes true w weight = crossed.IsCrossing service tei c d p q face back rt ru w weight ⊎ OneHalf true w weight ⊎ crossed.NearFirst service tei c d p q face back rt ru w weight
+
+    -- where nobody calls
+    record Went (both : Bool) (w w' : Wire) (before b : ℕ) : Type 0 where
+      weight : ℕ
+      goes : Goes both w' weight
+      price : b + weight + 4 * granted_of w ≤ before + 4 * granted_of w'
+
+    stayed : (both : Bool) (w w' : Wire) (before b : ℕ) → b ≡ 0 → granted_of w' ≡ granted_of w → Goes both w' before → Went both w w' before b
+    stayed both w w' before b none granted still = record { weight = before; goes = still; price = omega (arith, none, granted) }
+
+    -- ---- SABME waits
+
+    from-waiting-near : (act : Act) → IsTalkOf service tei act → (w : Wire) (weight : ℕ) → IsWaiting w weight → Went false w (acting act w) weight (if is_turn_of act w then 1 else 0)
+    from-waiting-near (requests r) is w weight h =
+        let x = quiet-requests service tei c d p q unheard unheard w (end t asked []) (end u fresh []) h.both (none-granted-asked t) r is in
+        stayed false w (acting (requests r) w) weight 0 refl x.granted (inl (record { both = x.both; is = h.is }))
+    from-waiting-near gives is w weight h =
+        let sent = holds-given service tei p unheard c w.near (end t asked []) h.both.near refl in
+        record {
+          weight = 3;
+          goes = inr (inl (record { both = record { near = sent; far = h.both.far }; is = refl }));
+          price = lower _ weight 3 (granted_of w) _ (one-at-most (frames_by (answered next w.near))) h.is (same-count service tei c d p q unheard unheard w (end t asked []) (end u fresh []) h.both);
+        }
+    from-waiting-near takes is w weight h =
+        let x = quiet-takes service tei c d p q unheard unheard w (end t asked []) (end u fresh []) h.both refl in
+        stayed false w (acting takes w) weight _ x.none x.granted (inl (record { both = x.both; is = h.is }))
+    from-waiting-near (times_out timer) is w weight h = absurd is
+    from-waiting-near loses is w weight h = absurd is
+
+    from-waiting-far : (act : Act) → IsTalkOf service tei act → (w : Wire) (weight : ℕ) → IsWaiting w weight → Went false w (turned (acting act (turned w))) weight (if is_turn_of act (turned w) then 1 else 0)
+    from-waiting-far (requests r) is w weight h =
+        let x = quiet-requests service tei d c q p unheard unheard (turned w) (end u fresh []) (end t asked []) (turned-both service tei c d p q unheard unheard w _ _ h.both) (none-granted-fresh u) r is in
+        stayed false w (turned (acting (requests r) (turned w))) weight 0 refl (turned-count w (turned (acting (requests r) (turned w))) x.granted) (inl (record { both = turned-both service tei d c q p unheard unheard (acting (requests r) (turned w)) (end u fresh []) (end t asked []) x.both; is = h.is }))
+    from-waiting-far gives is w weight h =
+        let x = quiet-gives service tei d c q p unheard unheard (turned w) (end u fresh []) (end t asked []) (turned-both service tei c d p q unheard unheard w _ _ h.both) refl in
+        stayed false w (turned (acting gives (turned w))) weight _ x.none (turned-count w (turned (acting gives (turned w))) x.granted) (inl (record { both = turned-both service tei d c q p unheard unheard (acting gives (turned w)) (end u fresh []) (end t asked []) x.both; is = h.is }))
+    from-waiting-far takes is w weight h =
+        let x = quiet-takes service tei d c q p unheard unheard (turned w) (end u fresh []) (end t asked []) (turned-both service tei c d p q unheard unheard w _ _ h.both) refl in
+        stayed false w (turned (acting takes (turned w))) weight _ x.none (turned-count w (turned (acting takes (turned w))) x.granted) (inl (record { both = turned-both service tei d c q p unheard unheard (acting takes (turned w)) (end u fresh []) (end t asked []) x.both; is = h.is }))
+    from-waiting-far (times_out timer) is w weight h = absurd is
+    from-waiting-far loses is w weight h = absurd is
+
+    -- ---- SABME is on its way
+
+    from-called-near : (act : Act) → IsTalkOf service tei act → (w : Wire) (weight : ℕ) → IsCalled w weight → Went false w (acting act w) weight (if is_turn_of act w then 1 else 0)
+    from-called-near (requests r) is w weight h =
+        let x = quiet-requests service tei c d p q unheard unheard w (end t awaiting (sabme t ∷ [])) (end u fresh []) h.both (none-granted-awaiting t) r is in
+        stayed false w (acting (requests r) w) weight 0 refl x.granted (inr (inl (record { both = x.both; is = h.is })))
+    from-called-near gives is w weight h =
+        let x = quiet-gives service tei c d p q unheard unheard w (end t awaiting (sabme t ∷ [])) (end u fresh []) h.both refl in
+        stayed false w (acting gives w) weight _ x.none x.granted (inr (inl (record { both = x.both; is = h.is })))
+    from-called-near takes is w weight h =
+        let x = quiet-takes service tei c d p q unheard unheard w (end t awaiting (sabme t ∷ [])) (end u fresh []) h.both refl in
+        stayed false w (acting takes w) weight _ x.none x.granted (inr (inl (record { both = x.both; is = h.is })))
+    from-called-near (times_out timer) is w weight h = absurd is
+    from-called-near loses is w weight h = absurd is
+
+    answers : (w : Wire) (weight : ℕ) → IsCalled w weight → Went false w (turned (acting takes (turned w))) weight (turn_of w.near.way)
+    answers w weight h =
+        let f = sabme t in
+        let way = first-way service tei c p unheard w.near (end t awaiting (f ∷ [])) f [] refl h.both.near in
+        let s = w.far in
+        let second = after_note (indicated service tei) in
+        let same : with_first_of w.near.way s ≡ comes (spelling c.side f) s = ap (λ way. with_first_of way s) way.0 in
+        let x : Took service tei q unheard d s (end u fresh []) (spelling c.side f) f = takes_frame service tei q unheard d c back s (end u fresh []) f h.both.far.stands way.1 in
+        let is : with_link (link.received (link.frame f)) (end u fresh []) ≡ with_ua_waiting (end u called []) = ap (λ y. end u y []) (takes-sabme u ru t) in
+        let far : Holds d service tei q second (comes (spelling c.side f) s) (with_ua_waiting (end u called [])) =
+        record {
+          stands = subst (Stands d service tei q (comes (spelling c.side f) s)) is x.stands;
+          granted = takes-granted (spelling c.side f) s ∙ h.both.far.granted;
+          since = [];
+          told = x.told ∙ ap (λ ts. ts ++ said_by (course u (link.received (link.frame f)) fresh)) (none-told d service tei q [] s (end u fresh []) h.both.far refl) ∙ told-of-sabme u ru t;
+          delivered = refl;
+        } in
+        record {
+          weight = 2 + half.one_up service tei (indicated service tei) c d p q face back rt (end u called []);
+          goes = inr (inr (inl (record {
+            m = end u called [];
+            none = refl;
+            both = record {
+              near = holds-lost service tei p unheard c w.near (end t awaiting (f ∷ [])) h.both.near;
+              far = subst (λ s'. Holds d service tei q second s' (with_ua_waiting (end u called []))) (sym same) far;
+            };
+            pair = first-pair t u rt ru;
+            is = refl;
+          })));
+          price =
+              lower _ weight 2 (granted_of w) _ (one-at-most w.near.way) h.is
+              (ap (λ (s' : Station). length w.near.granted + length s'.granted) same ∙ ap (λ xs. length w.near.granted + length xs) (takes-granted (spelling c.side f) s));
+        }
+
+    from-called-far : (act : Act) → IsTalkOf service tei act → (w : Wire) (weight : ℕ) → IsCalled w weight → Went false w (turned (acting act (turned w))) weight (if is_turn_of act (turned w) then 1 else 0)
+    from-called-far (requests r) is w weight h =
+        let x = quiet-requests service tei d c q p unheard unheard (turned w) (end u fresh []) (end t awaiting (sabme t ∷ [])) (turned-both service tei c d p q unheard unheard w _ _ h.both) (none-granted-fresh u) r is in
+        stayed false w (turned (acting (requests r) (turned w))) weight 0 refl (turned-count w (turned (acting (requests r) (turned w))) x.granted) (inr (inl (record { both = turned-both service tei d c q p unheard unheard (acting (requests r) (turned w)) (end u fresh []) (end t awaiting (sabme t ∷ [])) x.both; is = h.is })))
+    from-called-far gives is w weight h =
+        let x = quiet-gives service tei d c q p unheard unheard (turned w) (end u fresh []) (end t awaiting (sabme t ∷ [])) (turned-both service tei c d p q unheard unheard w _ _ h.both) refl in
+        stayed false w (turned (acting gives (turned w))) weight _ x.none (turned-count w (turned (acting gives (turned w))) x.granted) (inr (inl (record { both = turned-both service tei d c q p unheard unheard (acting gives (turned w)) (end u fresh []) (end t awaiting (sabme t ∷ [])) x.both; is = h.is })))
+    from-called-far takes is w weight h = answers w weight h
+    from-called-far (times_out timer) is w weight h = absurd is
+    from-called-far loses is w weight h = absurd is
+
+    -- ---- one end is up, or both
+
+    abbrev HalfWent : Bool → Wire → Wire → ℕ → ℕ → Type 0
+    HalfWent both w w' before b = half.Stepped service tei (told_first service tei both) c d p q face back rt w w' before b
+
+    as-half : (both : Bool) (w w' : Wire) (before b : ℕ) → HalfWent both w w' before b → Went both w w' before b
+    as-half false w w' before b x = record { weight = x.weight; goes = inr (inr x.goes); price = x.price }
+    as-half true w w' before b x = record { weight = x.weight; goes = inr (inl x.goes); price = x.price }
+
+    -- ---- both call
+
+    swap-price : (b x before g g' h h' : ℕ) → b + x + 4 * (h + g) ≤ before + 4 * (h' + g') → b + x + 4 * (g + h) ≤ before + 4 * (g' + h')
+    swap-price b x before g g' h h' e = omega (arith, e)
+
+    abbrev Crossing : Wire → ℕ → Type 0
+    Crossing w weight = crossed.IsCrossing service tei c d p q face back rt ru w weight
+
+    abbrev NearFirst : Wire → ℕ → Type 0
+    NearFirst w weight = crossed.NearFirst service tei c d p q face back rt ru w weight
+
+    near-goes : (w : Wire) (weight : ℕ) → Crossing w weight ⊎ NearFirst w weight → Goes true w weight
+    near-goes w weight (inl h) = inl h
+    near-goes w weight (inr h) = inr (inr h)
+
+    crossed-near : (act : Act) → IsTalkOf service tei act → (w : Wire) (weight : ℕ) → Crossing w weight → Went true w (acting act w) weight (if is_turn_of act w then 1 else 0)
+    crossed-near act is w weight h =
+        let x = crossed.near-step service tei c d p q face back rt ru act is w weight h in record { weight = x.weight; goes = near-goes (acting act w) x.weight x.goes; price = x.price }
+
+    abbrev CrossingTurned : Wire → ℕ → Type 0
+    CrossingTurned v weight = crossed.IsCrossing service tei d c q p back face ru rt v weight
+
+    abbrev FarFirst : Wire → ℕ → Type 0
+    FarFirst v weight = crossed.NearFirst service tei d c q p back face ru rt v weight
+
+    swapped : (x y weight : ℕ) → weight ≡ x + y → weight ≡ y + x
+    swapped x y weight is = omega (arith, is)
+
+    turned-crossing : (w : Wire) (weight : ℕ) → Crossing w weight → CrossingTurned (turned w) weight
+    turned-crossing w weight h = record {
+      own = h.other;
+      other = h.own;
+      order = turned-order h.own h.other h.order;
+      both = turned-both service tei c d p q unheard unheard w _ _ h.both;
+      is = swapped (crossed.turns_left h.own) (crossed.turns_left h.other) weight h.is;
+    }
+
+    crossing-back : (v : Wire) (weight : ℕ) → CrossingTurned v weight → Crossing (turned v) weight
+    crossing-back v weight h = record {
+      own = h.other;
+      other = h.own;
+      order = turned-order h.own h.other h.order;
+      both = turned-both service tei d c q p unheard unheard v _ _ h.both;
+      is = swapped (crossed.turns_left h.own) (crossed.turns_left h.other) weight h.is;
+    }
+
+    far-goes : (v : Wire) (weight : ℕ) → CrossingTurned v weight ⊎ FarFirst v weight → Goes true (turned v) weight
+    far-goes v weight (inl h) = inl (crossing-back v weight h)
+    far-goes v weight (inr h) = inr (inl h)
+
+    crossed-far : (act : Act) → IsTalkOf service tei act → (w : Wire) (weight : ℕ) → Crossing w weight → Went true w (turned (acting act (turned w))) weight (if is_turn_of act (turned w) then 1 else 0)
+    crossed-far act is w weight h =
+        let v = turned w in
+        let v' = acting act v in
+        let x = crossed.near-step service tei d c q p back face ru rt act is v weight (turned-crossing w weight h) in
+        record {
+          weight = x.weight;
+          goes = far-goes v' x.weight x.goes;
+          price = swap-price _ x.weight weight (length w.near.granted) (length v'.far.granted) (length w.far.granted) (length v'.near.granted) x.price;
+        }
+
+    -- ---- the near end was up first
+
+    first-near : (act : Act) → IsTalkOf service tei act → (w : Wire) (weight : ℕ) → NearFirst w weight → Went true w (acting act w) weight (if is_turn_of act w then 1 else 0)
+    first-near act is w weight h =
+        let w' = acting act w in
+        let x = half.step service tei (confirmed service tei) d c q p back face ru (at_far act) is (turned w) weight h in
+        record {
+          weight = x.weight;
+          goes = inr (inr x.goes);
+          price = swap-price _ x.weight weight (length w.near.granted) (length w'.near.granted) (length w.far.granted) (length w'.far.granted) x.price;
+        }
+
+    first-far : (act : Act) → IsTalkOf service tei act → (w : Wire) (weight : ℕ) → NearFirst w weight → Went true w (turned (acting act (turned w))) weight (if is_turn_of act (turned w) then 1 else 0)
+    first-far act is w weight h =
+        let v' = acting act (turned w) in
+        let x = half.step service tei (confirmed service tei) d c q p back face ru (at_near act) is (turned w) weight h in
+        record {
+          weight = x.weight;
+          goes = inr (inr x.goes);
+          price = swap-price _ x.weight weight (length w.near.granted) (length v'.far.granted) (length w.far.granted) (length v'.near.granted) x.price;
+        }
+
+    -- ---- talk
+
+    talk-step : (both : Bool) (k : Doing) → IsTalk service tei k → (w : Wire) (weight : ℕ) → Goes both w weight → Went both w (doing k w) weight (if is_turn k w then 1 else 0)
+    talk-step false (at_near act) is w weight (inl h) = from-waiting-near act is w weight h
+    talk-step false (at_near act) is w weight (inr (inl h)) = from-called-near act is w weight h
+    talk-step false (at_near act) is w weight (inr (inr h)) = as-half false w _ weight _ (half.step service tei (indicated service tei) c d p q face back rt (at_near act) is w weight h)
+    talk-step false (at_far act) is w weight (inl h) = from-waiting-far act is w weight h
+    talk-step false (at_far act) is w weight (inr (inl h)) = from-called-far act is w weight h
+    talk-step false (at_far act) is w weight (inr (inr h)) = as-half false w _ weight _ (half.step service tei (indicated service tei) c d p q face back rt (at_far act) is w weight h)
+    talk-step true (at_near act) is w weight (inl h) = crossed-near act is w weight h
+    talk-step true (at_near act) is w weight (inr (inl h)) = as-half true w _ weight _ (half.step service tei (confirmed service tei) c d p q face back rt (at_near act) is w weight h)
+    talk-step true (at_near act) is w weight (inr (inr h)) = first-near act is w weight h
+    talk-step true (at_far act) is w weight (inl h) = crossed-far act is w weight h
+    talk-step true (at_far act) is w weight (inr (inl h)) = as-half true w _ weight _ (half.step service tei (confirmed service tei) c d p q face back rt (at_far act) is w weight h)
+    talk-step true (at_far act) is w weight (inr (inr h)) = first-far act is w weight h
+
+    -- ---- the link is asked for
+
+    near-refuses : (both : Bool) (w : Wire) (weight : ℕ) → Goes both w weight → Refuses service tei w.near
+    near-refuses false w weight (inl h) = refuses service tei p c unheard w.near (end t asked []) h.both.near refl
+    near-refuses false w weight (inr (inl h)) = refuses service tei p c unheard w.near (end t awaiting (sabme t ∷ [])) h.both.near refl
+    near-refuses false w weight (inr (inr h)) = half.near-refuses service tei (indicated service tei) c d p q face back rt w weight h
+    near-refuses true w weight (inl h) = refuses service tei p c unheard w.near _ h.both.near refl
+    near-refuses true w weight (inr (inl h)) = half.near-refuses service tei (confirmed service tei) c d p q face back rt w weight h
+    near-refuses true w weight (inr (inr h)) = half.far-refuses service tei (confirmed service tei) d c q p back face ru (turned w) weight h
+
+    -- what is done, whoever calls
+    pub record Stepped (both : Bool) (k : Doing) (w : Wire) (before b : ℕ) : Type 0 where
+      pub weight : ℕ
+      pub goes : Goes (both || calls_back k w) (doing k w) weight
+      pub price : b + weight + (4 * granted_of w + cost both) ≤ before + (4 * granted_of (doing k w) + cost (both || calls_back k w))
+
+    or-none : (both b : Bool) → b ≡ false → (both || b) ≡ both
+    or-none true b none = refl
+    or-none false b none = none
+
+    none-called : (both : Bool) (k : Doing) (w : Wire) (before b : ℕ) → calls_back k w ≡ false → Went both w (doing k w) before b → Stepped both k w before b
+    none-called both k w before b none x =
+        let same : both ≡ (both || calls_back k w) = sym (or-none both (calls_back k w) none) in
+        record {
+          weight = x.weight;
+          goes = subst (λ y. Goes y (doing k w) x.weight) same x.goes;
+          price = subst (λ y. b + x.weight + (4 * granted_of w + cost both) ≤ before + (4 * granted_of (doing k w) + cost y)) same (plus-cost b x.weight (granted_of w) (cost both) before (granted_of (doing k w)) x.price);
+        }
+      where
+        plus-cost : (b x g k before g' : ℕ) → b + x + 4 * g ≤ before + 4 * g' → b + x + (4 * g + k) ≤ before + (4 * g' + k)
+        plus-cost b x g k before g' h = omega (arith, h)
+
+    not-moved : (both : Bool) (w w' : Wire) (weight : ℕ) → w' ≡ w → Goes both w weight → Went both w w' weight 0
+    not-moved both w w' weight same h = stayed both w w' weight 0 refl (ap granted_of same) (subst (λ x. Goes both x weight) (sym same) h)
+
+    near-asks : (both : Bool) (w : Wire) (weight : ℕ) → Goes both w weight → Stepped both (at_near (requests (Establish service tei))) w weight 0
+    near-asks both w weight h =
+        none-called both (at_near (requests (Establish service tei))) w weight 0 refl
+        (not-moved both w (doing (at_near (requests (Establish service tei))) w) weight (ap (λ s. record w { near = s }) (near-refuses both w weight h).same) h)
+
+    far-refused : (both : Bool) (w : Wire) (weight : ℕ) → Goes both w weight → Refuses service tei w.far → Stepped both (at_far (requests (Establish service tei))) w weight 0
+    far-refused both w weight h down =
+        none-called both (at_far (requests (Establish service tei))) w weight 0 down.none
+        (not-moved both w (doing (at_far (requests (Establish service tei))) w) weight (ap (λ s. record w { far = s }) down.same) h)
+
+    called-price : (x before g g' : ℕ) → x ≡ before + 4 → g' ≡ g → 0 + x + (4 * g + 0) ≤ before + (4 * g' + 4)
+    called-price x before g g' is same = omega (arith, is, same)
+
+    -- the far end calls back
+    abbrev far_calls_back : Wire → Wire
+    far_calls_back w = doing (at_far (requests (Establish service tei))) w
+
+    calls-too : (w : Wire) (before weight : ℕ) → Holds d service tei q unheard w.far (end u fresh []) → weight ≡ before + 4 → (Holds d service tei q unheard (far_calls_back w).far (end u asked []) → Goes true (far_calls_back w) weight)
+        → Stepped false (at_far (requests (Establish service tei))) w before 0
+    calls-too w before weight far is so =
+        let x = calls service tei q few d unheard w.far far in
+        record {
+          weight = weight;
+          goes = subst (λ y. Goes y (far_calls_back w) weight) (sym x.some) (so x.holds);
+          price =
+              subst (λ y. 0 + weight + (4 * granted_of w + 0) ≤ before + (4 * granted_of (far_calls_back w) + cost y)) (sym x.some)
+              (called-price weight before (granted_of w) (granted_of (far_calls_back w)) is (ap (λ xs. length w.near.granted + length xs) x.granted));
+        }
+
+    far-asks : (both : Bool) (w : Wire) (weight : ℕ) → Goes both w weight → Stepped both (at_far (requests (Establish service tei))) w weight 0
+    far-asks false w weight (inl h) =
+        calls-too w weight 8 h.both.far (ap (λ x. x + 4) (sym h.is))
+        (λ far. inl (record { own = waits; other = waits; order = tt; both = record { near = h.both.near; far = far }; is = refl }))
+    far-asks false w weight (inr (inl h)) =
+        calls-too w weight 7 h.both.far (ap (λ x. x + 4) (sym h.is))
+        (λ far. inl (record { own = under_way; other = waits; order = tt; both = record { near = h.both.near; far = far }; is = refl }))
+    far-asks false w weight (inr (inr h)) = far-refused false w weight (inr (inr h)) (half.far-refuses service tei (indicated service tei) c d p q face back rt w weight h)
+    far-asks true w weight (inl h) = far-refused true w weight (inl h) (refuses service tei q d unheard w.far _ h.both.far refl)
+    far-asks true w weight (inr (inl h)) = far-refused true w weight (inr (inl h)) (half.far-refuses service tei (confirmed service tei) c d p q face back rt w weight h)
+    far-asks true w weight (inr (inr h)) = far-refused true w weight (inr (inr h)) (half.near-refuses service tei (confirmed service tei) d c q p back face ru (turned w) weight h)
+
+    by-kind : (both : Bool) (k : Doing) → Kind service tei k → (w : Wire) (weight : ℕ) → Goes both w weight → Stepped both k w weight (if is_turn k w then 1 else 0)
+    by-kind both k (talks is) w weight h = none-called both k w weight _ (talk-calls_not service tei k is w) (talk-step both k is w weight h)
+    by-kind both k (near_calls is) w weight h = subst (λ k. Stepped both k w weight (if is_turn k w then 1 else 0)) (sym is) (near-asks both w weight h)
+    by-kind both k (far_calls is) w weight h = subst (λ k. Stepped both k w weight (if is_turn k w then 1 else 0)) (sym is) (far-asks both w weight h)
+
+    -- so each thing that is done is a step of the call
+    pub step : (both : Bool) (k : Doing) → IsCall service tei k → (w : Wire) (weight : ℕ) → Goes both w weight → Stepped both k w weight (if is_turn k w then 1 else 0)
+    step both k is w weight h = by-kind both k (kind service tei k is) w weight h

@@ -1,0 +1,96 @@
+-- I-frames of which none is missing between V(R) of the one end and V(S) of the other, and N(R) of which the last is V(R).
+use Rattle.std.proofs.Common.{◌≡◌, ℕ, ◌+◌, ◌%◌, ◌<◌, ◌≤◌, Bool, true, List, [], ◌∷◌, ◌++◌, refl, sym, ap, subst, ◌∙◌, ◌⊎◌, inl, inr, arith}
+use Rattle.lapd_frame.specs.Grammar.{Parts}
+use Rattle.lapd_seq.specs.Numbers.{seq}
+use Rattle.lapd_seq.proofs.Callers.{seq-value}
+use Rattle.model_link.proofs.Lines.{Means, Rising, rising-low}
+use Rattle.laws_two_links.proofs.Trains.{Kind, numbered, enquiry, answer, report, rejection, alien, Every, Calm, Beyond}
+
+-- The numbers are lo, lo + 1 and so on, up to below hi.
+abbrev pub Dense : ℕ → ℕ → List Kind → Type 0
+Dense lo hi [] = lo ≡ hi
+Dense lo hi (numbered ns ∷ xs) = (ns ≡ seq lo) × Dense (lo + 1) hi xs
+Dense lo hi (enquiry ∷ xs) = Dense lo hi xs
+Dense lo hi (answer nr ∷ xs) = Dense lo hi xs
+Dense lo hi (report ∷ xs) = Dense lo hi xs
+Dense lo hi (rejection nr ∷ xs) = Dense lo hi xs
+Dense lo hi (alien ∷ xs) = Dense lo hi xs
+
+pub dense-push : (lo hi : ℕ) (xs : List Kind) (y : Kind) → Calm y → Dense lo hi xs → Dense lo hi (xs ++ y ∷ [])
+dense-push lo hi [] (numbered ns) calm h = absurd calm
+dense-push lo hi [] enquiry calm h = h
+dense-push lo hi [] (answer nr) calm h = h
+dense-push lo hi [] report calm h = h
+dense-push lo hi [] (rejection nr) calm h = h
+dense-push lo hi [] alien calm h = absurd calm
+dense-push lo hi (numbered ns ∷ xs) y calm h = (h.0, dense-push (lo + 1) hi xs y calm h.1)
+dense-push lo hi (enquiry ∷ xs) y calm h = dense-push lo hi xs y calm h
+dense-push lo hi (answer nr ∷ xs) y calm h = dense-push lo hi xs y calm h
+dense-push lo hi (report ∷ xs) y calm h = dense-push lo hi xs y calm h
+dense-push lo hi (rejection nr ∷ xs) y calm h = dense-push lo hi xs y calm h
+dense-push lo hi (alien ∷ xs) y calm h = dense-push lo hi xs y calm h
+
+pub dense-next : (lo hi : ℕ) (xs : List Kind) → Dense lo hi xs → Dense lo (hi + 1) (xs ++ numbered (seq hi) ∷ [])
+dense-next lo hi [] h = (ap seq (sym h), ap (λ x. x + 1) h)
+dense-next lo hi (numbered ns ∷ xs) h = (h.0, dense-next (lo + 1) hi xs h.1)
+dense-next lo hi (enquiry ∷ xs) h = dense-next lo hi xs h
+dense-next lo hi (answer nr ∷ xs) h = dense-next lo hi xs h
+dense-next lo hi (report ∷ xs) h = dense-next lo hi xs h
+dense-next lo hi (rejection nr ∷ xs) h = dense-next lo hi xs h
+dense-next lo hi (alien ∷ xs) h = dense-next lo hi xs h
+
+pub calm-dense : (r : ℕ) (xs : List Kind) → Every Calm xs → Dense r r xs
+calm-dense r [] h = refl
+calm-dense r (numbered ns ∷ xs) h = absurd h.0
+calm-dense r (enquiry ∷ xs) h = calm-dense r xs h.1
+calm-dense r (answer nr ∷ xs) h = calm-dense r xs h.1
+calm-dense r (report ∷ xs) h = calm-dense r xs h.1
+calm-dense r (rejection nr ∷ xs) h = calm-dense r xs h.1
+calm-dense r (alien ∷ xs) h = absurd h.0
+
+-- so the next one comes, and REJ is not on its way
+pub dense-beyond : (r s : ℕ) (xs : List Kind) → r < s → Dense r s xs → Every (Beyond r) xs → ⊥
+dense-beyond r s [] less h all = omega (arith, less, h)
+dense-beyond r s (numbered ns ∷ xs) less h all =
+    let one : ns.value ≡ all.0.0 % 128 = seq-value ns all.0.0 all.0.1 in
+    let two : ns.value ≡ r % 128 = seq-value ns r h.0 in
+    let low : r < all.0.0 = all.0.2 in
+    let high : all.0.0 ≤ r + 127 = all.0.3 in
+    omega (arith, one, two, low, high)
+dense-beyond r s (enquiry ∷ xs) less h all = dense-beyond r s xs less h all.1
+dense-beyond r s (answer nr ∷ xs) less h all = dense-beyond r s xs less h all.1
+dense-beyond r s (report ∷ xs) less h all = dense-beyond r s xs less h all.1
+dense-beyond r s (rejection nr ∷ xs) less h all = dense-beyond r s xs less h all.1
+dense-beyond r s (alien ∷ xs) less h all = dense-beyond r s xs less h all.1
+
+-- The N(R) rise, and the last is r.
+abbrev pub Reaches : ℕ → ℕ → List Parts → Type 0
+Reaches a r [] = a ≡ r
+Reaches a r (f ∷ fs) = (m : ℕ) × (a ≤ m) × Means m f.control × Reaches m r fs
+
+pub reaches-low : (a r : ℕ) (fs : List Parts) → Reaches a r fs → a ≤ r
+reaches-low a r [] h = omega (arith, h)
+reaches-low a r (f ∷ fs) (m, up, means, rest) = let more : m ≤ r = reaches-low m r fs rest in omega (arith, up, more)
+
+pub reaches-flat : (a r : ℕ) (fs : List Parts) → a ≡ r → Rising a r fs → Reaches a r fs
+reaches-flat a r [] e h = e
+reaches-flat a r (f ∷ fs) e (m, up, means, rest) =
+    let low : m ≤ r = rising-low m r fs rest in
+    (m, up, means, reaches-flat m r fs (omega (arith, e, up, low)) rest)
+
+pub reaches-push : (a r : ℕ) (fs : List Parts) (f : Parts) → Means r f.control → Rising a r fs → Reaches a r (fs ++ f ∷ [])
+reaches-push a r [] f means h = (r, h, means, refl)
+reaches-push a r (x ∷ fs) f means (m, up, its, rest) = (m, up, its, reaches-push m r fs f means rest)
+
+-- An acknowledgement is owed, or what is acknowledged comes to V(R).
+abbrev pub Owed : ℕ → ℕ → Bool → List Parts → Type 0
+Owed a r owes fs = (owes ≡ true) ⊎ Reaches a r fs
+
+-- What an end says by the way: nothing, or one frame more that has its V(R).
+abbrev pub Replies : ℕ → Bool → Bool → List Parts → List Parts → Type 0
+Replies r owes owes' fs fs' = ((owes' ≡ owes) × (fs' ≡ fs)) ⊎ ((f : Parts) × (fs' ≡ fs ++ f ∷ []) × Means r f.control)
+
+pub owed-after : (a r : ℕ) (owes owes' : Bool) (fs fs' : List Parts) → Rising a r fs → Replies r owes owes' fs fs' → Owed a r owes fs → Owed a r owes' fs'
+owed-after a r owes owes' fs fs' up (inl (same, e)) (inl due) = inl (same ∙ due)
+owed-after a r owes owes' fs fs' up (inl (same, e)) (inr h) = inr (subst (Reaches a r) (sym e) h)
+owed-after a r owes owes' fs fs' up (inr (f, e, means)) h = inr (subst (Reaches a r) (sym e) (reaches-push a r fs f means up))

@@ -1,0 +1,363 @@
+-- Two stations of which one releases the link where both rest: what each thing that is done makes of them.
+use Rattle.std.proofs.Common.{◌≡◌, ℕ, ◌+◌, ◌<◌, Bool, true, false, List, [], ◌∷◌, ◌++◌, cond, refl, sym, ap, subst, ◌∙◌, ◌⊎◌, inl, inr, append-nil, arith}
+use Rattle.std.specs.Prelude.{All, nat_lt, flat_map}
+use Rattle.std.proofs.lemmas.Bool.{lt-ltb}
+use Rattle.std.proofs.lemmas.List.Elements.{All-head, All-tail}
+use Rattle.lapd_frame.specs.declared.services.Service.{Service}
+use Rattle.lapd_frame.specs.declared.timers.Timer.{Timer}
+use Rattle.lapd_frame.specs.declared.timers.Timer.TheVariants as timers
+use Rattle.lapd_frame.specs.Grammar.{Parts, spelling}
+use Rattle.model_link.specs.declared.states.State.TheVariants.{Established}
+use Rattle.model_link.specs.declared.frames.ControlFrame.{ControlFrame}
+use Rattle.model_link.specs.declared.terms.Terms.{Terms}
+use Rattle.model_link.specs.declared.timers.LinkTimer.{LinkTimer}
+use Rattle.model_link.specs.declared.timers.LinkTimer.TheVariants.{T200, T203}
+use Rattle.model_link.specs.Events as link
+use Rattle.model_link.specs.Link.{Link, frame_of}
+use Rattle.model_link.specs.Machine.{course}
+use Rattle.model_link.specs.TwoEnds.{End, with_link}
+use Rattle.model_link.specs.Words.{response}
+use Rattle.lapd_frame.specs.declared.controls.Control.TheVariants.{Ua, Dm}
+use Rattle.model_link.specs.Sound.{IsInRange}
+use Rattle.model_link.specs.Steps.{begun}
+use Rattle.model_line.specs.declared.config.Config.{Config}
+use Rattle.model_line.specs.Event.{LineTold, expiry, next}
+use Rattle.model_line.specs.Line.{terms}
+use Rattle.laws_two_links.specs.Waits.{HasNothingToSend}
+use Rattle.laws_wire.specs.Wire.{Station, Wire, happens, comes, with_first_of, Act, requests, times_out, gives, takes, loses, acting, turned, Doing, at_near, at_far, doing, doing_all}
+use Rattle.laws_wire.specs.Facing.{end_of}
+use Rattle.laws_wire.specs.Timely.{is_poll, is_final, IsNoneOpen, IsTimelyOf}
+use Rattle.laws_link.specs.Flags.{awaits_answer}
+use Rattle.laws_wire.specs.Losing.{for_layer_3}
+use Rattle.laws_wire.specs.Ending.{IsLeaving, IsTimelyThere, StayTimelyThere, release_confirmed, release_indicated}
+use Rattle.laws_wire.proofs.Awaited.{as-here, may-there, open-there, waits-first, goes-first}
+use Rattle.laws_wire.proofs.Leaving.{its_disc, disc, leaving, left, gone, hears-disc, told-disc, repeats-disc, repeats-untold, hears-again, told-again}
+use Rattle.laws_wire.proofs.LossyPhases.{for-timer, Aims}
+use Rattle.laws_wire.proofs.Speaking.{said_by}
+use Rattle.laws_wire.proofs.Talking.{Face}
+use Rattle.laws_wire.proofs.Tells.{Tells, as-end, t-given, t-taken, t-expired, t-lost, first-carried, none-carried, t-silent}
+use Rattle.laws_wire.proofs.TimelyFirst.{takes-none, loses-none}
+use Rattle.laws_wire.proofs.TimelyUp.{each-timer}
+
+module _ (service : Service) (tei : ℕ) where
+  abbrev T : Config → ℕ → List LineTold → Station → End → Type 0
+  T k place heard s n = Tells service tei k place heard s n
+
+  -- ---- the phases
+
+  module _ (c d : Config) (p q : ℕ) (face : Face c d) (back : Face d c) (rt : IsInRange (terms c service tei)) (ru : IsInRange (terms d service tei)) (ln lm : Link)
+      (state : lm.state ≡ Established) (quiet : HasNothingToSend (terms d service tei) lm) (hn hm : List LineTold) where
+    abbrev t : Terms
+    t = terms c service tei
+
+    abbrev u : Terms
+    u = terms d service tei
+
+    room : nat_lt 0 t.control ≡ true
+    room = let low = rt.control_low in lt-ltb 0 t.control (omega (arith, low))
+
+    room' : nat_lt 0 u.control ≡ true
+    room' = let low = ru.control_low in lt-ltb 0 u.control (omega (arith, low))
+
+    abbrev N : ℕ → List ControlFrame → List Parts → End
+    N k ws way = record { terms = t; link = leaving ln k ws; way = way; delivered = [] }
+
+    abbrev N4 : ℕ → End
+    N4 k = record { terms = t; link = left ln k; way = []; delivered = [] }
+
+    abbrev M : End
+    M = record { terms = u; link = lm; way = []; delivered = [] }
+
+    abbrev G : List ControlFrame → List Parts → End
+    G ws way = record { terms = u; link = gone lm ws; way = way; delivered = [] }
+
+    -- UA, or DM
+    abbrev reply : Bool → ControlFrame
+    reply b = response (cond b (Ua true) (Dm true))
+
+    abbrev confirmed_then : List LineTold
+    confirmed_then = hn ++ release_confirmed service tei ∷ []
+
+    abbrev indicated_then : List LineTold
+    indicated_then = hm ++ release_indicated service tei ∷ []
+
+    pub record Are (n m : End) (a b : List LineTold) (w : Wire) : Type 0 where
+      pub near : T c p a w.near n
+      pub far : T d q b w.far m
+
+    abbrev First : Wire → Type 0
+    First w = (k : ℕ) × (Are (N k (its_disc ∷ []) []) M hn hm w ⊎ Are (N k [] (disc t ∷ [])) M hn hm w ⊎ Are (N k [] []) M hn hm w)
+
+    abbrev Told : Wire → Type 0
+    Told w =
+        (k : ℕ) × (b : Bool) × (Are (N k [] []) (G (reply b ∷ []) []) hn indicated_then w ⊎ Are (N k [] []) (G [] (frame_of u (reply b) ∷ [])) hn indicated_then w
+        ⊎ Are (N k [] []) (G [] []) hn indicated_then w ⊎ Are (N k (its_disc ∷ []) []) (G [] []) hn indicated_then w
+        ⊎ Are (N k [] (disc t ∷ [])) (G [] []) hn indicated_then w)
+
+    abbrev Last : Wire → Type 0
+    Last w = (k : ℕ) × Are (N4 k) (G [] []) confirmed_then indicated_then w
+
+    abbrev pub Phase : Wire → Type 0
+    Phase w = First w ⊎ Told w ⊎ Last w
+
+    -- what gives nothing, and loses nothing
+    leaving-quiet : (k : ℕ) → HasNothingToSend t (leaving ln k [])
+    leaving-quiet k = record { waiting = refl; information = refl; pending = refl }
+
+    left-quiet : (k : ℕ) → HasNothingToSend t (left ln k)
+    left-quiet k = record { waiting = refl; information = refl; pending = refl }
+
+    gone-quiet : HasNothingToSend u (gone lm [])
+    gone-quiet = record { waiting = refl; information = refl; pending = refl }
+
+    module _ (n m : End) (a b : List LineTold) (w : Wire) (h : Are n m a b w) where
+      near-silent : HasNothingToSend n.terms n.link → Are n m a b (acting gives w)
+      near-silent none = record { near = t-silent service tei c p a w.near n none h.near; far = h.far }
+
+      far-silent : HasNothingToSend m.terms m.link → Are n m a b (turned (acting gives (turned w)))
+      far-silent none = record { near = h.near; far = t-silent service tei d q b w.far m none h.far }
+
+      near-takes-none : m.way ≡ [] → Are n m a b (acting takes w)
+      near-takes-none none = subst (Are n m a b) (sym (takes-none w (none-carried service tei d q b w.far m none h.far))) h
+
+      far-takes-none : n.way ≡ [] → Are n m a b (turned (acting takes (turned w)))
+      far-takes-none none = subst (λ v. Are n m a b (turned v)) (sym (takes-none (turned w) (none-carried service tei c p a w.near n none h.near))) h
+
+      near-loses-none : n.way ≡ [] → Are n m a b (acting loses w)
+      near-loses-none none = subst (Are n m a b) (sym (loses-none w (none-carried service tei c p a w.near n none h.near))) h
+
+      far-loses-none : m.way ≡ [] → Are n m a b (turned (acting loses (turned w)))
+      far-loses-none none = subst (λ v. Are n m a b (turned v)) (sym (loses-none (turned w) (none-carried service tei d q b w.far m none h.far))) h
+
+      -- a timer that does not run
+      near-unmoved : (timer : Timer) (its : LinkTimer) → Aims service tei timer its → course n.terms (link.expired its) n.link ≡ begun n.link → Are n m a b (acting (times_out timer) w)
+      near-unmoved timer its aims same = record {
+        near = as-end service tei c p _ a (happens (expiry timer) w.near) (with_link (link.expired its) n) n (t-expired service tei c p a w.near n h.near timer its aims)
+            (λ i. record n { link = (same i).link })
+            (ap (λ x. a ++ flat_map for_layer_3 (said_by x)) same ∙ append-nil a);
+        far = h.far;
+      }
+
+    -- ---- what moves
+
+    -- DISC goes, or is lost
+    module _ (k : ℕ) (m : End) (b : List LineTold) (w : Wire) where
+      gives-disc : Are (N k (its_disc ∷ []) []) m hn b w → Are (N k [] (disc t ∷ [])) m hn b (acting gives w)
+      gives-disc h = record { near = as-end service tei c p hn hn (happens next w.near) _ (N k [] (disc t ∷ [])) (t-given service tei c p hn w.near (N k (its_disc ∷ []) []) h.near) refl refl; far = h.far }
+
+      loses-disc : Are (N k [] (disc t ∷ [])) m hn b w → Are (N k [] []) m hn b (acting loses w)
+      loses-disc h = record { near = t-lost service tei c p hn w.near (N k [] (disc t ∷ [])) (disc t) refl h.near; far = h.far }
+
+      -- and goes again
+      asks-again : k < t.n200 → Are (N k [] []) m hn b w → Are (N (k + 1) (its_disc ∷ []) []) m hn b (acting (times_out (timers.T200 service tei)) w)
+      asks-again few h = record {
+        near = as-end service tei c p _ hn (happens (expiry (timers.T200 service tei)) w.near) (with_link (link.expired T200) (N k [] [])) (N (k + 1) (its_disc ∷ []) [])
+            (t-expired service tei c p hn w.near (N k [] []) h.near (timers.T200 service tei) T200 (λ l. refl))
+            (λ i. record (N k [] []) { link = repeats-disc t room ln k few i })
+            (ap (λ ts. hn ++ flat_map for_layer_3 ts) (repeats-untold t room ln k few) ∙ append-nil hn);
+        far = h.far;
+      }
+
+    -- the other takes it
+    module _ (k : ℕ) (w : Wire) where
+      takes-disc : Are (N k [] (disc t ∷ [])) M hn hm w → Are (N k [] []) (G (reply true ∷ []) []) hn indicated_then (turned (acting takes (turned w)))
+      takes-disc h =
+          let way = first-carried service tei c p hn w.near (N k [] (disc t ∷ [])) (disc t) refl h.near in
+          let far = t-taken service tei d q hm w.far M h.far c back (disc t) way.1 in
+          record {
+            near = t-lost service tei c p hn w.near (N k [] (disc t ∷ [])) (disc t) refl h.near;
+            far = subst (λ ways. T d q indicated_then (with_first_of ways w.far) (G (reply true ∷ []) [])) (sym way.0)
+                (as-end service tei d q _ indicated_then (comes (spelling c.side (disc t)) w.far) (with_link (link.received (link.frame (disc t))) M) (G (reply true ∷ []) []) far
+                (λ i. record M { link = hears-disc u room' lm state quiet.waiting t i })
+                (ap (λ ts. hm ++ flat_map for_layer_3 ts) (told-disc u room' lm state quiet.waiting t)));
+          }
+
+      takes-again : Are (N k [] (disc t ∷ [])) (G [] []) hn indicated_then w → Are (N k [] []) (G (reply false ∷ []) []) hn indicated_then (turned (acting takes (turned w)))
+      takes-again h =
+          let way = first-carried service tei c p hn w.near (N k [] (disc t ∷ [])) (disc t) refl h.near in
+          let far = t-taken service tei d q indicated_then w.far (G [] []) h.far c back (disc t) way.1 in
+          record {
+            near = t-lost service tei c p hn w.near (N k [] (disc t ∷ [])) (disc t) refl h.near;
+            far = subst (λ ways. T d q indicated_then (with_first_of ways w.far) (G (reply false ∷ []) [])) (sym way.0)
+                (as-end service tei d q _ indicated_then (comes (spelling c.side (disc t)) w.far) (with_link (link.received (link.frame (disc t))) (G [] [])) (G (reply false ∷ []) []) far
+                (λ i. record (G [] []) { link = hears-again u room' lm t i })
+                (ap (λ ts. indicated_then ++ flat_map for_layer_3 ts) (told-again u room' lm t) ∙ append-nil indicated_then));
+          }
+
+    -- the answer goes, is lost, or comes
+    module _ (k : ℕ) (w : Wire) where
+      gives-reply : (b : Bool) → Are (N k [] []) (G (reply b ∷ []) []) hn indicated_then w → Are (N k [] []) (G [] (frame_of u (reply b) ∷ [])) hn indicated_then (turned (acting gives (turned w)))
+      gives-reply b h = record {
+        near = h.near;
+        far = as-end service tei d q indicated_then indicated_then (happens next w.far) _ (G [] (frame_of u (reply b) ∷ [])) (t-given service tei d q indicated_then w.far (G (reply b ∷ []) []) h.far) refl refl;
+      }
+
+      loses-reply : (b : Bool) → Are (N k [] []) (G [] (frame_of u (reply b) ∷ [])) hn indicated_then w → Are (N k [] []) (G [] []) hn indicated_then (turned (acting loses (turned w)))
+      loses-reply b h = record { near = h.near; far = t-lost service tei d q indicated_then w.far (G [] (frame_of u (reply b) ∷ [])) (frame_of u (reply b)) refl h.far }
+
+      takes-reply : (b : Bool) → Are (N k [] []) (G [] (frame_of u (reply b) ∷ [])) hn indicated_then w → Are (N4 k) (G [] []) confirmed_then indicated_then (acting takes w)
+      takes-reply b h =
+          let f = frame_of u (reply b) in
+          let way = first-carried service tei d q indicated_then w.far (G [] (f ∷ [])) f refl h.far in
+          let near = t-taken service tei c p hn w.near (N k [] []) h.near d face f way.1 in
+          record {
+            near = subst (λ ways. T c p confirmed_then (with_first_of ways w.near) (N4 k)) (sym way.0)
+                (as-end service tei c p _ confirmed_then (comes (spelling d.side f) w.near) (with_link (link.received (link.frame f)) (N k [] [])) (N4 k) near (is b) (told b));
+            far = t-lost service tei d q indicated_then w.far (G [] (f ∷ [])) f refl h.far;
+          }
+        where
+          is : (b : Bool) → record (with_link (link.received (link.frame (frame_of u (reply b)))) (N k [] [])) { delivered = [] } ≡ N4 k
+          is true = refl
+          is false = refl
+
+          told : (b : Bool) → hn ++ flat_map for_layer_3 (said_by (course t (link.received (link.frame (frame_of u (reply b)))) (leaving ln k []))) ≡ confirmed_then
+          told true = refl
+          told false = refl
+
+    -- ---- each act
+
+    -- what is open at the stations is open at the ends
+    open-now : (n m : End) (a b : List LineTold) (w : Wire) → Are n m a b w → IsNoneOpen (end_of service tei w.near) (end_of service tei w.far) → IsNoneOpen n m
+    open-now n m a b w h none = open-there service tei c d p q w.near w.far n m h.near.stands h.far.stands none
+
+    final : (b : Bool) → is_final (reply b).command (reply b).control ≡ true
+    final true = refl
+    final false = refl
+
+    first-near : (k : ℕ) (w : Wire) → Are (N k (its_disc ∷ []) []) M hn hm w ⊎ Are (N k [] (disc t ∷ [])) M hn hm w ⊎ Are (N k [] []) M hn hm w
+        → (act : Act) → IsLeaving service tei (at_near act) → IsTimelyOf act w → First (acting act w)
+    first-near k w h (requests r) is x = absurd is
+    first-near k w (inl h) (times_out timer) is x =
+        each-timer service tei (λ timer. IsTimelyOf (times_out timer) w → First (acting (times_out timer) w))
+        (λ x. absurd (waits-first is_poll (N k (its_disc ∷ []) []) its_disc [] refl refl (open-now (N k (its_disc ∷ []) []) M hn hm w h (x.0 (ap awaits_answer (as-here service tei c p w.near (N k (its_disc ∷ []) []) h.near.stands refl)))).commands))
+        (λ x. (k, inl (near-unmoved (N k (its_disc ∷ []) []) M hn hm w h (timers.T203 service tei) T203 (λ l. refl) refl))) timer is x
+    first-near k w (inl h) gives is x = (k, inr (inl (gives-disc k M hm w h)))
+    first-near k w (inl h) takes is x = (k, inl (near-takes-none (N k (its_disc ∷ []) []) M hn hm w h refl))
+    first-near k w (inl h) loses is x = (k, inl (near-loses-none (N k (its_disc ∷ []) []) M hn hm w h refl))
+    first-near k w (inr (inl h)) (times_out timer) is x =
+        each-timer service tei (λ timer. IsTimelyOf (times_out timer) w → First (acting (times_out timer) w))
+        (λ x. absurd (goes-first is_poll (N k [] (disc t ∷ [])) (disc t) [] refl refl (open-now (N k [] (disc t ∷ [])) M hn hm w h (x.0 (ap awaits_answer (as-here service tei c p w.near (N k [] (disc t ∷ [])) h.near.stands refl)))).commands))
+        (λ x. (k, inr (inl (near-unmoved (N k [] (disc t ∷ [])) M hn hm w h (timers.T203 service tei) T203 (λ l. refl) refl)))) timer is x
+    first-near k w (inr (inl h)) gives is x = (k, inr (inl (near-silent (N k [] (disc t ∷ [])) M hn hm w h (leaving-quiet k))))
+    first-near k w (inr (inl h)) takes is x = (k, inr (inl (near-takes-none (N k [] (disc t ∷ [])) M hn hm w h refl)))
+    first-near k w (inr (inl h)) loses is x = (k, inr (inr (loses-disc k M hm w h)))
+    first-near k w (inr (inr h)) (times_out timer) is x =
+        each-timer service tei (λ timer. IsTimelyOf (times_out timer) w → First (acting (times_out timer) w))
+        (λ x. (k + 1, inl (asks-again k M hm w (may-there service tei c p w.near (N k [] []) h.near.stands x.1 refl) h)))
+        (λ x. (k, inr (inr (near-unmoved (N k [] []) M hn hm w h (timers.T203 service tei) T203 (λ l. refl) refl)))) timer is x
+    first-near k w (inr (inr h)) gives is x = (k, inr (inr (near-silent (N k [] []) M hn hm w h (leaving-quiet k))))
+    first-near k w (inr (inr h)) takes is x = (k, inr (inr (near-takes-none (N k [] []) M hn hm w h refl)))
+    first-near k w (inr (inr h)) loses is x = (k, inr (inr (near-loses-none (N k [] []) M hn hm w h refl)))
+
+    first-far : (k : ℕ) (w : Wire) → Are (N k (its_disc ∷ []) []) M hn hm w ⊎ Are (N k [] (disc t ∷ [])) M hn hm w ⊎ Are (N k [] []) M hn hm w
+        → (act : Act) → IsLeaving service tei (at_far act) → Phase (turned (acting act (turned w)))
+    first-far k w h (requests r) is = absurd is
+    first-far k w h (times_out timer) is = absurd is
+    first-far k w (inl h) gives is = inl (k, inl (far-silent (N k (its_disc ∷ []) []) M hn hm w h quiet))
+    first-far k w (inl h) takes is = inl (k, inl (far-takes-none (N k (its_disc ∷ []) []) M hn hm w h refl))
+    first-far k w (inl h) loses is = inl (k, inl (far-loses-none (N k (its_disc ∷ []) []) M hn hm w h refl))
+    first-far k w (inr (inl h)) gives is = inl (k, inr (inl (far-silent (N k [] (disc t ∷ [])) M hn hm w h quiet)))
+    first-far k w (inr (inl h)) takes is = inr (inl (k, true, inl (takes-disc k w h)))
+    first-far k w (inr (inl h)) loses is = inl (k, inr (inl (far-loses-none (N k [] (disc t ∷ [])) M hn hm w h refl)))
+    first-far k w (inr (inr h)) gives is = inl (k, inr (inr (far-silent (N k [] []) M hn hm w h quiet)))
+    first-far k w (inr (inr h)) takes is = inl (k, inr (inr (far-takes-none (N k [] []) M hn hm w h refl)))
+    first-far k w (inr (inr h)) loses is = inl (k, inr (inr (far-loses-none (N k [] []) M hn hm w h refl)))
+
+    abbrev I : List LineTold
+    I = indicated_then
+
+    told-near : (k : ℕ) (b : Bool) (w : Wire)
+        → Are (N k [] []) (G (reply b ∷ []) []) hn I w ⊎ Are (N k [] []) (G [] (frame_of u (reply b) ∷ [])) hn I w ⊎ Are (N k [] []) (G [] []) hn I w
+        ⊎ Are (N k (its_disc ∷ []) []) (G [] []) hn I w ⊎ Are (N k [] (disc t ∷ [])) (G [] []) hn I w
+        → (act : Act) → IsLeaving service tei (at_near act) → IsTimelyOf act w → Phase (acting act w)
+    told-near k b w h (requests r) is x = absurd is
+    told-near k b w (inl h) (times_out timer) is x =
+        each-timer service tei (λ timer. IsTimelyOf (times_out timer) w → Phase (acting (times_out timer) w))
+        (λ x. absurd (waits-first is_final (G (reply b ∷ []) []) (reply b) [] refl (final b) (open-now (N k [] []) (G (reply b ∷ []) []) hn I w h (x.0 (ap awaits_answer (as-here service tei c p w.near (N k [] []) h.near.stands refl)))).responses))
+        (λ x. inr (inl (k, b, inl (near-unmoved (N k [] []) (G (reply b ∷ []) []) hn I w h (timers.T203 service tei) T203 (λ l. refl) refl)))) timer is x
+    told-near k b w (inl h) gives is x = inr (inl (k, b, inl (near-silent (N k [] []) (G (reply b ∷ []) []) hn I w h (leaving-quiet k))))
+    told-near k b w (inl h) takes is x = inr (inl (k, b, inl (near-takes-none (N k [] []) (G (reply b ∷ []) []) hn I w h refl)))
+    told-near k b w (inl h) loses is x = inr (inl (k, b, inl (near-loses-none (N k [] []) (G (reply b ∷ []) []) hn I w h refl)))
+    told-near k b w (inr (inl h)) (times_out timer) is x =
+        each-timer service tei (λ timer. IsTimelyOf (times_out timer) w → Phase (acting (times_out timer) w))
+        (λ x. absurd (goes-first is_final (G [] (frame_of u (reply b) ∷ [])) (frame_of u (reply b)) [] refl (final b) (open-now (N k [] []) (G [] (frame_of u (reply b) ∷ [])) hn I w h (x.0 (ap awaits_answer (as-here service tei c p w.near (N k [] []) h.near.stands refl)))).responses))
+        (λ x. inr (inl (k, b, inr (inl (near-unmoved (N k [] []) (G [] (frame_of u (reply b) ∷ [])) hn I w h (timers.T203 service tei) T203 (λ l. refl) refl))))) timer is x
+    told-near k b w (inr (inl h)) gives is x = inr (inl (k, b, inr (inl (near-silent (N k [] []) (G [] (frame_of u (reply b) ∷ [])) hn I w h (leaving-quiet k)))))
+    told-near k b w (inr (inl h)) takes is x = inr (inr (k, takes-reply k w b h))
+    told-near k b w (inr (inl h)) loses is x = inr (inl (k, b, inr (inl (near-loses-none (N k [] []) (G [] (frame_of u (reply b) ∷ [])) hn I w h refl))))
+    told-near k b w (inr (inr (inl h))) (times_out timer) is x =
+        each-timer service tei (λ timer. IsTimelyOf (times_out timer) w → Phase (acting (times_out timer) w))
+        (λ x. inr (inl (k + 1, b, inr (inr (inr (inl (asks-again k (G [] []) I w (may-there service tei c p w.near (N k [] []) h.near.stands x.1 refl) h)))))))
+        (λ x. inr (inl (k, b, inr (inr (inl (near-unmoved (N k [] []) (G [] []) hn I w h (timers.T203 service tei) T203 (λ l. refl) refl)))))) timer is x
+    told-near k b w (inr (inr (inl h))) gives is x = inr (inl (k, b, inr (inr (inl (near-silent (N k [] []) (G [] []) hn I w h (leaving-quiet k))))))
+    told-near k b w (inr (inr (inl h))) takes is x = inr (inl (k, b, inr (inr (inl (near-takes-none (N k [] []) (G [] []) hn I w h refl)))))
+    told-near k b w (inr (inr (inl h))) loses is x = inr (inl (k, b, inr (inr (inl (near-loses-none (N k [] []) (G [] []) hn I w h refl)))))
+    told-near k b w (inr (inr (inr (inl h)))) (times_out timer) is x =
+        each-timer service tei (λ timer. IsTimelyOf (times_out timer) w → Phase (acting (times_out timer) w))
+        (λ x. absurd (waits-first is_poll (N k (its_disc ∷ []) []) its_disc [] refl refl (open-now (N k (its_disc ∷ []) []) (G [] []) hn I w h (x.0 (ap awaits_answer (as-here service tei c p w.near (N k (its_disc ∷ []) []) h.near.stands refl)))).commands))
+        (λ x. inr (inl (k, b, inr (inr (inr (inl (near-unmoved (N k (its_disc ∷ []) []) (G [] []) hn I w h (timers.T203 service tei) T203 (λ l. refl) refl))))))) timer is x
+    told-near k b w (inr (inr (inr (inl h)))) gives is x = inr (inl (k, b, inr (inr (inr (inr (gives-disc k (G [] []) I w h))))))
+    told-near k b w (inr (inr (inr (inl h)))) takes is x = inr (inl (k, b, inr (inr (inr (inl (near-takes-none (N k (its_disc ∷ []) []) (G [] []) hn I w h refl))))))
+    told-near k b w (inr (inr (inr (inl h)))) loses is x = inr (inl (k, b, inr (inr (inr (inl (near-loses-none (N k (its_disc ∷ []) []) (G [] []) hn I w h refl))))))
+    told-near k b w (inr (inr (inr (inr h)))) (times_out timer) is x =
+        each-timer service tei (λ timer. IsTimelyOf (times_out timer) w → Phase (acting (times_out timer) w))
+        (λ x. absurd (goes-first is_poll (N k [] (disc t ∷ [])) (disc t) [] refl refl (open-now (N k [] (disc t ∷ [])) (G [] []) hn I w h (x.0 (ap awaits_answer (as-here service tei c p w.near (N k [] (disc t ∷ [])) h.near.stands refl)))).commands))
+        (λ x. inr (inl (k, b, inr (inr (inr (inr (near-unmoved (N k [] (disc t ∷ [])) (G [] []) hn I w h (timers.T203 service tei) T203 (λ l. refl) refl))))))) timer is x
+    told-near k b w (inr (inr (inr (inr h)))) gives is x = inr (inl (k, b, inr (inr (inr (inr (near-silent (N k [] (disc t ∷ [])) (G [] []) hn I w h (leaving-quiet k)))))))
+    told-near k b w (inr (inr (inr (inr h)))) takes is x = inr (inl (k, b, inr (inr (inr (inr (near-takes-none (N k [] (disc t ∷ [])) (G [] []) hn I w h refl))))))
+    told-near k b w (inr (inr (inr (inr h)))) loses is x = inr (inl (k, b, inr (inr (inl (loses-disc k (G [] []) I w h)))))
+
+    told-far : (k : ℕ) (b : Bool) (w : Wire)
+        → Are (N k [] []) (G (reply b ∷ []) []) hn I w ⊎ Are (N k [] []) (G [] (frame_of u (reply b) ∷ [])) hn I w ⊎ Are (N k [] []) (G [] []) hn I w
+        ⊎ Are (N k (its_disc ∷ []) []) (G [] []) hn I w ⊎ Are (N k [] (disc t ∷ [])) (G [] []) hn I w
+        → (act : Act) → IsLeaving service tei (at_far act) → Told (turned (acting act (turned w)))
+    told-far k b w h (requests r) is = absurd is
+    told-far k b w h (times_out timer) is = absurd is
+    told-far k b w (inl h) gives is = (k, b, inr (inl (gives-reply k w b h)))
+    told-far k b w (inl h) takes is = (k, b, inl (far-takes-none (N k [] []) (G (reply b ∷ []) []) hn I w h refl))
+    told-far k b w (inl h) loses is = (k, b, inl (far-loses-none (N k [] []) (G (reply b ∷ []) []) hn I w h refl))
+    told-far k b w (inr (inl h)) gives is = (k, b, inr (inl (far-silent (N k [] []) (G [] (frame_of u (reply b) ∷ [])) hn I w h gone-quiet)))
+    told-far k b w (inr (inl h)) takes is = (k, b, inr (inl (far-takes-none (N k [] []) (G [] (frame_of u (reply b) ∷ [])) hn I w h refl)))
+    told-far k b w (inr (inl h)) loses is = (k, b, inr (inr (inl (loses-reply k w b h))))
+    told-far k b w (inr (inr (inl h))) gives is = (k, b, inr (inr (inl (far-silent (N k [] []) (G [] []) hn I w h gone-quiet))))
+    told-far k b w (inr (inr (inl h))) takes is = (k, b, inr (inr (inl (far-takes-none (N k [] []) (G [] []) hn I w h refl))))
+    told-far k b w (inr (inr (inl h))) loses is = (k, b, inr (inr (inl (far-loses-none (N k [] []) (G [] []) hn I w h refl))))
+    told-far k b w (inr (inr (inr (inl h)))) gives is = (k, b, inr (inr (inr (inl (far-silent (N k (its_disc ∷ []) []) (G [] []) hn I w h gone-quiet)))))
+    told-far k b w (inr (inr (inr (inl h)))) takes is = (k, b, inr (inr (inr (inl (far-takes-none (N k (its_disc ∷ []) []) (G [] []) hn I w h refl)))))
+    told-far k b w (inr (inr (inr (inl h)))) loses is = (k, b, inr (inr (inr (inl (far-loses-none (N k (its_disc ∷ []) []) (G [] []) hn I w h refl)))))
+    told-far k b w (inr (inr (inr (inr h)))) gives is = (k, b, inr (inr (inr (inr (far-silent (N k [] (disc t ∷ [])) (G [] []) hn I w h gone-quiet)))))
+    told-far k b w (inr (inr (inr (inr h)))) takes is = (k, false, inl (takes-again k w h))
+    told-far k b w (inr (inr (inr (inr h)))) loses is = (k, b, inr (inr (inr (inr (far-loses-none (N k [] (disc t ∷ [])) (G [] []) hn I w h refl)))))
+
+    last-near : (w : Wire) → Last w → (act : Act) → IsLeaving service tei (at_near act) → Last (acting act w)
+    last-near w (k, h) (requests r) is = absurd is
+    last-near w (k, h) (times_out timer) is =
+        for-timer service tei (λ timer. Last (acting (times_out timer) w)) (λ timer its aims. (k, near-unmoved (N4 k) (G [] []) confirmed_then I w h timer its aims (unmoved its))) timer is
+      where
+        unmoved : (its : LinkTimer) → course t (link.expired its) (left ln k) ≡ begun (left ln k)
+        unmoved T200 = refl
+        unmoved T203 = refl
+    last-near w (k, h) gives is = (k, near-silent (N4 k) (G [] []) confirmed_then I w h (left-quiet k))
+    last-near w (k, h) takes is = (k, near-takes-none (N4 k) (G [] []) confirmed_then I w h refl)
+    last-near w (k, h) loses is = (k, near-loses-none (N4 k) (G [] []) confirmed_then I w h refl)
+
+    last-far : (w : Wire) → Last w → (act : Act) → IsLeaving service tei (at_far act) → Last (turned (acting act (turned w)))
+    last-far w (k, h) (requests r) is = absurd is
+    last-far w (k, h) (times_out timer) is = absurd is
+    last-far w (k, h) gives is = (k, far-silent (N4 k) (G [] []) confirmed_then I w h gone-quiet)
+    last-far w (k, h) takes is = (k, far-takes-none (N4 k) (G [] []) confirmed_then I w h refl)
+    last-far w (k, h) loses is = (k, far-loses-none (N4 k) (G [] []) confirmed_then I w h refl)
+
+    pub step : (x : Doing) → IsLeaving service tei x → (w : Wire) → IsTimelyThere x w → Phase w → Phase (doing x w)
+    step (at_near act) is w timely (inl (k, h)) = inl (first-near k w h act is timely)
+    step (at_near act) is w timely (inr (inl (k, b, h))) = told-near k b w h act is timely
+    step (at_near act) is w timely (inr (inr h)) = inr (inr (last-near w h act is))
+    step (at_far act) is w timely (inl (k, h)) = first-far k w h act is
+    step (at_far act) is w timely (inr (inl (k, b, h))) = inr (inl (told-far k b w h act is))
+    step (at_far act) is w timely (inr (inr h)) = inr (inr (last-far w h act is))
+
+    pub ends : (ds : List Doing) → All (IsLeaving service tei) ds → (w : Wire) → StayTimelyThere ds w → Phase w → Phase (doing_all ds w)
+    unfolding doing_all StayTimelyThere
+    ends [] all w x h = h
+    ends (x ∷ ds) all w timely h =
+        ends ds (All-tail (IsLeaving service tei) x ds all) (doing x w) timely.1 (step x (All-head (IsLeaving service tei) x ds all) w timely.0 h)

@@ -1,0 +1,91 @@
+-- A link that is released, and the one that is told of it: what each event makes of them.
+use Rattle.std.proofs.Common.{◌≡◌, ℕ, ◌+◌, ◌<◌, Bool, true, false, cond, List, [], ◌∷◌, ◌++◌, take, None, Some, refl, sym, ap, ◌∙◌}
+use Rattle.std.specs.Prelude.{nat_lt}
+use Rattle.std.proofs.lemmas.Bool.{lt-ltb}
+use Rattle.lapd_frame.specs.declared.controls.Control.TheVariants.{Disc, Ua, Dm}
+use Rattle.lapd_frame.specs.declared.notes.ErrorCode.TheVariants as code
+use Rattle.lapd_frame.specs.Grammar.{Parts}
+use Rattle.model_link.specs.declared.states.State.TheVariants.{TeiAssigned, AwaitingRelease, Established}
+use Rattle.model_link.specs.declared.timers.LinkTimer.TheVariants.{T200}
+use Rattle.model_link.specs.declared.frames.ControlFrame.{ControlFrame}
+use Rattle.model_link.specs.declared.terms.Terms.{Terms}
+use Rattle.model_link.specs.Events.{frame, received, expired, requested, Release}
+use Rattle.model_link.specs.Link.{Link, frame_of}
+use Rattle.model_link.specs.Machine.{after, course}
+use Rattle.model_link.specs.Steps.{Course, begun, ◌then◌}
+use Rattle.model_link.specs.Words
+use Rattle.model_link.specs.Words.{command, response}
+use Rattle.laws_wire.specs.Ending.{release_indicated}
+use Rattle.laws_wire.proofs.Speaking.{said_by}
+
+abbrev pub its_disc : ControlFrame
+its_disc = command (Disc true)
+
+abbrev pub disc : Terms → Parts
+disc t = frame_of t its_disc
+
+abbrev pub its_dm : ControlFrame
+its_dm = response (Dm true)
+
+-- state 6, as often as DISC was repeated and whatever waits
+abbrev pub leaving : Link → ℕ → List ControlFrame → Link
+leaving l k ws =
+    record l { state = AwaitingRelease; contents = take l.a l.contents; s = l.a; pending = false; repeats = k; running = Some T200; waiting = ws }
+
+-- state 4, behind that, and of the other end
+abbrev pub left : Link → ℕ → Link
+left l k = record (leaving l k []) { state = TeiAssigned; running = None }
+
+abbrev pub gone : Link → List ControlFrame → Link
+gone l ws = record l { state = TeiAssigned; contents = take l.a l.contents; s = l.a; pending = false; running = None; waiting = ws }
+
+module _ (t : Terms) (room : nat_lt 0 t.control ≡ true) (l : Link) where
+  -- up, and nothing waits
+  module _ (state : l.state ≡ Established) (none : l.waiting ≡ []) where
+    same : record l { state = Established; waiting = [] } ≡ l
+    same = λ i. record l { state = sym state i; waiting = sym none i }
+
+    pub releases : after t (requested Release false) l ≡ leaving l 0 (its_disc ∷ [])
+    releases =
+        ap (after t (requested Release false)) (sym same) ∙ ap (λ b. leaving l 0 (cond b ([] ++ its_disc ∷ []) [])) room
+
+    pub releases-untold : said_by (course t (requested Release false) l) ≡ []
+    releases-untold =
+        ap (λ y. said_by (course t (requested Release false) y)) (sym same)
+        ∙ ap (λ b. said_by (record (begun l) { lost = cond {A = ℕ} b 0 1 })) room
+
+    pub hears-disc : (u : Terms) → after t (received (frame (disc u))) l ≡ gone l (response (Ua true) ∷ [])
+    hears-disc u =
+        ap (after t (received (frame (disc u)))) (sym same) ∙ ap (λ b. gone l (cond b ([] ++ response (Ua true) ∷ []) [])) room
+
+    pub told-disc : (u : Terms) → said_by (course t (received (frame (disc u))) l) ≡ release_indicated t.service t.tei ∷ []
+    told-disc u =
+        ap (λ y. said_by (course t (received (frame (disc u))) y)) (sym same)
+        ∙ ap (λ b. said_by (record (begun l) { notes = Rattle.lapd_frame.specs.declared.notes.Note.TheVariants.ReleaseIndication t.service t.tei ∷ []; lost = cond {A = ℕ} b 0 1 })) room
+
+  -- DISC again
+  module _ (k : ℕ) where
+    abbrev again : Bool → Course
+    again b = record (begun (leaving l (k + 1) (cond b (its_disc ∷ []) []))) { started = Some T200; lost = cond {A = ℕ} b 0 1 }
+
+    abbrev over : Course
+    over = (Words.error t code.H then Words.release_confirm t then Words.no_timer then Words.enter TeiAssigned) (begun (leaving l k []))
+
+    t200-is : course t (expired T200) (leaving l k []) ≡ cond (nat_lt k t.n200) (again (nat_lt 0 t.control)) over
+    t200-is = refl
+
+    repeats : k < t.n200 → course t (expired T200) (leaving l k []) ≡ again true
+    repeats few = ap (λ b. cond b (again (nat_lt 0 t.control)) over) (lt-ltb k t.n200 few) ∙ ap again room
+
+    pub repeats-disc : k < t.n200 → after t (expired T200) (leaving l k []) ≡ leaving l (k + 1) (its_disc ∷ [])
+    repeats-disc few = ap (λ (c : Course). c.link) (repeats few)
+
+    pub repeats-untold : k < t.n200 → said_by (course t (expired T200) (leaving l k [])) ≡ []
+    repeats-untold few = ap said_by (repeats few)
+
+  -- DISC where it is down already
+  pub hears-again : (u : Terms) → after t (received (frame (disc u))) (gone l []) ≡ gone l (its_dm ∷ [])
+  hears-again u = ap (λ b. gone l (cond b ([] ++ its_dm ∷ []) [])) room
+
+  pub told-again : (u : Terms) → said_by (course t (received (frame (disc u))) (gone l [])) ≡ []
+  told-again u = ap (λ b. said_by (record (begun (gone l [])) { lost = cond {A = ℕ} b 0 1 })) room

@@ -1,0 +1,264 @@
+-- Two stations that are up, either of which may be busy, where each timer is timely: both stay up, whatever is lost.
+use Rattle.std.proofs.Common.{◌≡◌, ℕ, Bool, true, false, cond, List, [], ◌∷◌, ◌++◌, length, drop, map, Option, None, Some, refl, sym, ap, subst, ◌∙◌, ◌⊎◌, inl, inr, append-nil}
+use Rattle.std.specs.Prelude.{All}
+use Rattle.std.proofs.lemmas.List.Elements.{All-head}
+use Rattle.lapd_frame.specs.declared.refusals.Refusal.{Refusal}
+use Rattle.lapd_frame.specs.declared.services.Service.{Service}
+use Rattle.lapd_frame.specs.declared.timers.Timer.{Timer}
+use Rattle.lapd_frame.specs.declared.timers.Timer.TheVariants as timers
+use Rattle.lapd_frame.specs.Grammar.{Parts, spelling}
+use Rattle.model_link.specs.declared.states.State.TheVariants.{TimerRecovery}
+use Rattle.model_link.specs.declared.terms.Terms.{Terms}
+use Rattle.model_link.specs.declared.timers.LinkTimer.{LinkTimer}
+use Rattle.model_link.specs.declared.timers.LinkTimer.TheVariants.{T200, T203}
+use Rattle.model_link.specs.Events as link
+use Rattle.model_link.specs.Link.{Link, state_number, queue_of}
+use Rattle.model_link.specs.Machine.{course}
+use Rattle.model_link.specs.Requests as requests
+use Rattle.model_link.specs.Steps.{Course, begun}
+use Rattle.model_link.specs.TwoEnds.{End, with_link, with_sent}
+use Rattle.model_link.specs.TwoEnds as two_ends
+use Rattle.model_link.proofs.Sending.{offer-gave}
+use Rattle.model_line.specs.declared.config.Config.{Config}
+use Rattle.model_line.specs.Event.{LineTold, request}
+use Rattle.model_line.specs.Line.{Line, place_in}
+use Rattle.model_line.specs.Request.{Request, Data, SetBusy, ClearBusy}
+use Rattle.model_line.specs.Request as asked
+use Rattle.model_line.specs.Requested.{at_requested, aim_of_request}
+use Rattle.laws_link.specs.Flags.{awaits_answer}
+use Rattle.laws_two_links.specs.Ahead.{IsMildRequest, CanRepeat}
+use Rattle.laws_two_links.specs.Timely as two_links_timely
+use Rattle.laws_two_links.specs.Waits.{HasNothingToSend}
+use Rattle.laws_two_links.proofs.Waiting.{nothing-given}
+use Rattle.model_link.specs.Told.{runs}
+use Rattle.laws_wire.specs.Wire.{Station, Wire, happens, with_first_of, Act, requests, times_out, gives, takes, loses, acting, turned, IsStill, contents_of}
+use Rattle.laws_wire.specs.Call.{data_told}
+use Rattle.laws_wire.specs.Losing.{heard_in}
+use Rattle.laws_wire.specs.Facing.{end_of}
+use Rattle.laws_wire.specs.Timely.{IsTimelyOf}
+use Rattle.laws_wire.specs.Arriving.{runs_t200}
+use Rattle.laws_wire.specs.Answering.{IsAsked, IsFullTalkOf, Rests}
+use Rattle.laws_wire.proofs.Asking.{with_more, asked-form}
+use Rattle.laws_wire.proofs.Awaited.{closed, link-is, as-here, may-there, open-there}
+use Rattle.laws_wire.proofs.Held.{TellsIt, Held, heard-then, held-given, held-lost, held-taken, Grants, held-asked}
+use Rattle.laws_wire.proofs.Loose.{Loose, loose-turned, loose-after, loose-fine, loose-kept, HasAll, loose-came}
+use Rattle.laws_wire.proofs.LossyPhases.{Aims}
+use Rattle.laws_wire.proofs.Standing.{IsCarried, Stands, Granted, asks-stands}
+use Rattle.laws_wire.proofs.Talking.{Face}
+use Rattle.laws_wire.proofs.TimelyUp.{each-timer, hushed, timer-held, never}
+
+-- what own busy asks for is told nobody, and leaves the contents
+record Mute (l : Link) (c : Course) : Type 0 where
+  contents : c.link.contents ≡ l.contents
+  notes : c.notes ≡ []
+  delivered : c.delivered ≡ None
+  unit : c.unit ≡ None
+
+drop-all : (xs : List (List ℕ)) → drop (length xs) xs ≡ []
+drop-all [] = refl
+drop-all (x ∷ xs) = drop-all xs
+
+module _ (t : Terms) (l : Link) where
+  either : (b : Bool) (u v : Course) → Mute l u → Mute l v → Mute l (cond b u v)
+  either true u v x y = x
+  either false u v x y = y
+
+  nothing-asked : Mute l (begun l)
+  nothing-asked = record { contents = refl; notes = refl; delivered = refl; unit = refl }
+
+  unless-refused : (rq : link.Request) (o : Option Refusal) → Mute l (requests.granted t rq (begun l))
+      → Mute l (elim o as (λ o. Course) [ None ↦ requests.granted t rq (begun l) | Some _ ↦ begun l ])
+  unless-refused rq None h = h
+  unless-refused rq (Some why) h = nothing-asked
+
+  busy-mute : Mute l (course t (link.requested link.SetBusy false) l)
+  busy-mute =
+      unless-refused link.SetBusy (requests.refusal t l false link.SetBusy)
+      (either l.own_busy _ _ nothing-asked (record { contents = refl; notes = refl; delivered = refl; unit = refl }))
+
+  ready-mute : Mute l (course t (link.requested link.ClearBusy false) l)
+  ready-mute =
+      unless-refused link.ClearBusy (requests.refusal t l false link.ClearBusy)
+      (either l.own_busy _ _ (record { contents = refl; notes = refl; delivered = refl; unit = refl }) nothing-asked)
+
+module _ (service : Service) (tei : ℕ) where
+  -- the requests of a call
+  pub for-asked : (P : Request → Type 0) → ((octets : List ℕ) → P (Data service tei octets)) → P (SetBusy service tei) → P (ClearBusy service tei)
+      → (r : Request) → IsAsked service tei r → P r
+  for-asked P own busy ready (Data s t octets) is = subst (λ s'. P (Data s' t octets)) (sym is.0) (subst (λ t'. P (Data service t' octets)) (sym is.1) (own octets))
+  for-asked P own busy ready (SetBusy s t) is = subst (λ s'. P (SetBusy s' t)) (sym is.0) (subst (λ t'. P (SetBusy service t')) (sym is.1) busy)
+  for-asked P own busy ready (ClearBusy s t) is = subst (λ s'. P (ClearBusy s' t)) (sym is.0) (subst (λ t'. P (ClearBusy service t')) (sym is.1) ready)
+  for-asked P own busy ready (asked.Establish s t) is = absurd is
+  for-asked P own busy ready (asked.Release s t) is = absurd is
+  for-asked P own busy ready (asked.Unit s t octets) is = absurd is
+  for-asked P own busy ready (asked.Assign t) is = absurd is
+  for-asked P own busy ready (asked.Remove t) is = absurd is
+  for-asked P own busy ready (asked.Check t) is = absurd is
+  for-asked P own busy ready (asked.Deactivate s t) is = absurd is
+
+  pub record LooseUp (c d : Config) (p q : ℕ) (past other : List LineTold) (w : Wire) : Type 0 where
+    pub n : End
+    pub m : End
+    pub near : Held c service tei p past w.near n
+    pub far : Held d service tei q other w.far m
+    pub loose : Loose n m
+
+  pub loose-turned-up : (c d : Config) (p q : ℕ) (past other : List LineTold) (w : Wire) → LooseUp c d p q past other w → LooseUp d c q p other past (turned w)
+  loose-turned-up c d p q past other w h = record { n = h.m; m = h.n; near = h.far; far = h.near; loose = loose-turned h.n h.m h.loose }
+
+  -- own busy begins or ends
+  module _ (c : Config) (place : ℕ) (past : List LineTold) (s : Station) (n : End) (h : Held c service tei place past s n) (r : Request) (rq : link.Request)
+      (aims : (l : Line) → aim_of_request r l ≡ at_requested service tei rq (place_in l tei)) (none : contents_of r ≡ [])
+      (mute : Mute n.link (course n.terms (link.requested rq false) n.link)) where
+    abbrev n' : End
+    n' = with_link (link.requested rq false) n
+
+    abbrev s' : Station
+    s' = happens (request r) s
+
+    own : Stands s.card.config service tei place s n
+    own = subst (λ k. Stands k service tei place s n) (sym h.stands.config) h.stands
+
+    held-busy : (s' ≡ s) ⊎ Held c service tei place past s' n'
+    held-busy = go (asks-stands service tei place s n own r rq aims)
+      where
+        x : Course
+        x = course n.terms (link.requested rq false) n.link
+
+        tells : TellsIt n.terms.service n.terms.tei x
+        tells = record {
+          its_notes = mute.notes ∙ ap (λ o. map (λ octets. Rattle.lapd_frame.specs.declared.notes.Note.TheVariants.Data n.terms.service n.terms.tei) (Rattle.std.specs.Prelude.option_to_list o)) (sym mute.delivered);
+          no_unit = mute.unit;
+        }
+
+        go : (s' ≡ s) ⊎ Granted service tei place s n own r rq aims s' → (s' ≡ s) ⊎ Held c service tei place past s' n'
+        go (inl same) = inl same
+        go (inr g) = inr (record {
+          stands = subst (λ k. Stands k service tei place s' n') h.stands.config g.stands;
+          granted = g.granted ∙ ap (λ xs. s.granted ++ xs) none ∙ append-nil s.granted ∙ h.granted ∙ sym mute.contents;
+          heard = heard-then service tei place past c s n h s' x g.told tells;
+        })
+
+  module _ (c d : Config) (p q : ℕ) (face : Face c d) (past other : List LineTold) (w : Wire) (h : LooseUp c d p q past other w) where
+    abbrev n : End
+    n = h.n
+
+    abbrev m : End
+    m = h.m
+
+    abbrev Now : Wire → Type 0
+    Now w' = LooseUp c d p q past other w'
+
+    loose-gives : Now (acting gives w)
+    loose-gives =
+        let kept = (offer-gave n.terms h.loose.joined.near_ranges n.link h.loose.joined.near_sound n.link.waiting refl).same in
+        record { n = with_sent n; m = m; near = held-given service tei p past c w.near n h.near kept; far = h.far; loose = loose-after n m h.loose two_ends.sends tt }
+
+    loose-loses : Now (acting loses w)
+    loose-loses = record {
+      n = two_ends.with_first_lost n;
+      m = m;
+      near = held-lost service tei p past c w.near n h.near;
+      far = h.far;
+      loose = loose-after n m h.loose two_ends.loses tt;
+    }
+
+    loose-takes : Now (acting takes w)
+    loose-takes = record {
+      n = two_ends.with_first_of m.way n;
+      m = two_ends.with_first_lost m;
+      near = subst (λ ways. Held c service tei p past (with_first_of ways w.near) (two_ends.with_first_of m.way n)) (sym h.far.stands.way) (taken m.way refl);
+      far = held-lost service tei q other d w.far m h.far;
+      loose = loose-after n m h.loose two_ends.receives tt;
+    }
+      where
+        taken : (way : List Parts) → m.way ≡ way → Held c service tei p past (with_first_of (map (spelling d.side) way) w.near) (two_ends.with_first_of way n)
+        taken [] e = h.near
+        taken (f ∷ fs) e =
+            let from : IsCarried d service tei f = All-head (IsCarried d service tei) f fs (subst (All (IsCarried d service tei)) e h.far.stands.carried) in
+            let fine = loose-fine n m h.loose f fs e in
+            held-taken service tei p past c w.near n h.near d face f from (record { its_notes = fine.its_notes; no_unit = fine.no_unit }) (loose-kept n m h.loose f fs e)
+
+    loose-asks : (octets : List ℕ) → Now (acting (requests (Data service tei octets)) w)
+    loose-asks octets = go (held-asked service tei p past c w.near n h.near octets)
+      where
+        s' : Station
+        s' = happens (request (Data service tei octets)) w.near
+
+        go : (s' ≡ w.near) ⊎ Grants service tei p past c w.near n h.near octets s' → Now (record w { near = s' })
+        go (inl same) = record { n = n; m = m; near = subst (λ s. Held c service tei p past s n) (sym same) h.near; far = h.far; loose = h.loose }
+        go (inr x) = record {
+          n = with_more octets n;
+          m = m;
+          near = x.held;
+          far = h.far;
+          loose = subst (λ y. Loose y m) (asked-form octets n x.none) (loose-after n m h.loose (two_ends.asks (link.Data octets) false) tt);
+        }
+
+    by-busy : (r : Request) (rq : link.Request) → IsMildRequest rq → (aims : (l : Line) → aim_of_request r l ≡ at_requested service tei rq (place_in l tei)) → contents_of r ≡ []
+        → Mute n.link (course n.terms (link.requested rq false) n.link) → Now (acting (requests r) w)
+    by-busy r rq is aims none mute = go (held-busy c p past w.near n h.near r rq aims none mute)
+      where
+        s' : Station
+        s' = happens (request r) w.near
+
+        go : (s' ≡ w.near) ⊎ Held c service tei p past s' (with_link (link.requested rq false) n) → Now (record w { near = s' })
+        go (inl same) = record { n = n; m = m; near = subst (λ s. Held c service tei p past s n) (sym same) h.near; far = h.far; loose = h.loose }
+        go (inr x) = record { n = with_link (link.requested rq false) n; m = m; near = x; far = h.far; loose = loose-after n m h.loose (two_ends.asks rq false) is }
+
+    loose-expires : (timer : Timer) (its : LinkTimer) → Aims service tei timer its → CanRepeat its n → two_links_timely.IsTimely its n m → Now (acting (times_out timer) w)
+    loose-expires timer its aims can timely =
+        let loose = loose-after n m h.loose (two_ends.expires its) (can, timely) in
+        record {
+          n = with_link (link.expired its) n;
+          m = m;
+          near = timer-held service tei c p past w.near n h.near h.loose.joined.near_up timer its aims loose.joined.near_up;
+          far = h.far;
+          loose = loose;
+        }
+
+    loose-t200 : IsTimelyOf (times_out (timers.T200 service tei)) w → Now (acting (times_out (timers.T200 service tei)) w)
+    loose-t200 (long, may) =
+        let there = may-there service tei c p w.near n h.near.stands may in
+        let none = λ (state : n.link.state ≡ TimerRecovery).
+        closed n m (open-there service tei c d p q w.near w.far n m h.near.stands h.far.stands (long (ap awaits_answer (as-here service tei c p w.near n h.near.stands state)))) in
+        loose-expires (timers.T200 service tei) T200 (λ l. refl) (λ state running. there (ap awaits_answer state)) (λ state running. none state)
+
+    loose-t203 : Now (acting (times_out (timers.T203 service tei)) w)
+    loose-t203 =
+        loose-expires (timers.T203 service tei) T203 (λ l. refl)
+        (λ state running. absurd (never service tei c p past w.near n h.near h.loose.near_sane.timed state running))
+        (λ state running. absurd (never service tei c p past w.near n h.near h.loose.near_sane.timed state running))
+
+    pub loose-acts : (act : Act) → IsFullTalkOf service tei act → IsTimelyOf act w → Now (acting act w)
+    loose-acts (requests r) is x =
+        for-asked (λ r. Now (acting (requests r) w)) loose-asks (by-busy (SetBusy service tei) link.SetBusy tt (λ l. refl) refl (busy-mute n.terms n.link))
+        (by-busy (ClearBusy service tei) link.ClearBusy tt (λ l. refl) refl (ready-mute n.terms n.link)) r is
+    loose-acts (times_out timer) is x =
+        each-timer service tei (λ timer. IsTimelyOf (times_out timer) w → Now (acting (times_out timer) w)) loose-t200 (λ x. loose-t203) timer is x
+    loose-acts gives is x = loose-gives
+    loose-acts takes is x = loose-takes
+    loose-acts loses is x = loose-loses
+
+    -- where no turn is left and T200 does not run, all that it was granted was told at the other, and it rests
+    module _ (still : IsStill w) (none : runs_t200 service tei w.near ≡ false) where
+      its-link : (end_of service tei w.near).link ≡ n.link
+      its-link = link-is service tei c p w.near n h.near.stands
+
+      quiet : HasNothingToSend n.terms n.link
+      quiet = nothing-given n.terms n.link (hushed service tei c p past w.near n h.near still.near still.near_way).given
+
+      stopped : runs T200 n.link.running ≡ false
+      stopped = ap (λ (l : Link). runs T200 l.running) (sym its-link) ∙ none
+
+      has-all : HasAll n m h.loose quiet stopped
+      has-all = loose-came n m h.loose quiet stopped
+
+      pub loose-told : heard_in w.far ≡ other ++ map (data_told service tei) w.near.granted
+      loose-told = h.far.heard ∙ ap (λ xs. other ++ map (data_told service tei) xs) (has-all.delivered ∙ sym h.near.granted)
+
+      pub loose-rests : Rests service tei w.near
+      loose-rests = (
+        ap (λ (l : Link). state_number l.state) its-link ∙ ap state_number has-all.state,
+        ap queue_of its-link ∙ ap (λ a. drop a n.link.contents) has-all.acknowledged ∙ drop-all n.link.contents,
+      )

@@ -1,0 +1,296 @@
+-- What an end that was never busy answers, puts and gives: which N(R) it has, and what is owed.
+use Rattle.std.proofs.Common.{◌≡◌, ℕ, ◌+◌, Bool, true, false, cond, ◌&&◌, IsTrue, List, [], ◌∷◌, ◌++◌, length, Option, None, Some, refl, sym, ap, subst, ◌∙◌, append_assoc, append-nil, ◌⊎◌, inl, inr, true≢false}
+use Rattle.std.specs.Prelude.{nat_lt, slice_get, unwrap_or}
+use Rattle.lapd_seq.specs.declared.numbers.Seq.{Seq}
+use Rattle.lapd_seq.specs.Numbers.{seq}
+use Rattle.lapd_seq.specs.Circle.{named}
+use Rattle.lapd_frame.specs.declared.controls.Control.TheVariants.{Information, ReceiveReady, ReceiveNotReady, Reject}
+use Rattle.lapd_frame.specs.declared.notes.ErrorCode.TheVariants as code
+use Rattle.lapd_frame.specs.Grammar.{Parts}
+use Rattle.model_link.specs.declared.states.State.{State}
+use Rattle.model_link.specs.declared.states.State.TheVariants.{TeiAssigned, AwaitingEstablishment, AwaitingRelease, Established, TimerRecovery}
+use Rattle.model_link.specs.declared.timers.LinkTimer.{LinkTimer}
+use Rattle.model_link.specs.declared.timers.LinkTimer.TheVariants.{T200, T203}
+use Rattle.model_link.specs.declared.frames.ControlFrame.{ControlFrame}
+use Rattle.model_link.specs.declared.terms.Terms.{Terms}
+use Rattle.model_link.specs.Link.{Link, is_multiple_frame, frame_of, may_repeat}
+use Rattle.model_link.specs.Events.{expired, offer}
+use Rattle.model_link.specs.Steps.{Course, Step, begun}
+use Rattle.model_link.specs.Words
+use Rattle.model_link.specs.MultipleFrame
+use Rattle.model_link.specs.Established
+use Rattle.model_link.specs.TimerRecovery
+use Rattle.model_link.specs.Offers
+use Rattle.model_link.specs.Machine
+use Rattle.model_link.specs.TwoEnds.{frame_given}
+use Rattle.model_link.proofs.Direction.{frames_of, frames-append}
+use Rattle.model_link.proofs.Lines.{Means}
+use Rattle.laws_two_links.proofs.Effects.{c-7, c-8}
+use Rattle.laws_two_links.proofs.Trains.{enquiry, kind_of}
+use Rattle.laws_wire.proofs.Dense.{Replies}
+
+abbrev IsUpIn : Course → Type 0
+IsUpIn c = IsTrue (is_multiple_frame c.link.state)
+
+-- one frame more waits
+pub line-push : (t : Terms) (way : List Parts) (ws ws' : List ControlFrame) (f : ControlFrame) → ws' ≡ ws ++ f ∷ []
+    → way ++ frames_of t ws' ≡ (way ++ frames_of t ws) ++ frame_of t f ∷ []
+line-push t way ws ws' f e =
+    ap (λ ws. way ++ frames_of t ws) e ∙ ap (λ fs. way ++ fs) (frames-append t ws (f ∷ [])) ∙ sym (append_assoc way (frames_of t ws) (frame_of t f ∷ []))
+
+ready-means : (b : Bool) (r : ℕ) (pf : Bool) → Means r (cond b (ReceiveNotReady (seq r) pf) (ReceiveReady (seq r) pf))
+ready-means true r pf = refl
+ready-means false r pf = refl
+
+-- An enquiry waits, the last, and the state is 8.
+pub record Enquired (t : Terms) (l l' : Link) : Type 0 where
+  pub state : l'.state ≡ TimerRecovery
+  pub s : l'.s ≡ l.s
+  pub a : l'.a ≡ l.a
+  pub r : l'.r ≡ l.r
+  pub frame : ControlFrame
+  pub waits : l'.waiting ≡ l.waiting ++ frame ∷ []
+  pub kind : kind_of frame.command frame.control ≡ enquiry
+  pub means : Means l.r frame.control
+
+module _ (t : Terms) (l : Link) where
+  abbrev its_enquiry : ControlFrame
+  its_enquiry = Words.command (Words.ready_to_receive true l)
+
+  enquiry-kind : (b : Bool) → kind_of true (cond b (ReceiveNotReady (seq l.r) true) (ReceiveReady (seq l.r) true)) ≡ enquiry
+  enquiry-kind true = refl
+  enquiry-kind false = refl
+
+  enquires : (l' : Link) → Words.has_room t l ≡ true → l'.state ≡ TimerRecovery → l'.s ≡ l.s → l'.a ≡ l.a → l'.r ≡ l.r
+      → l'.waiting ≡ cond (Words.has_room t l) (l.waiting ++ its_enquiry ∷ []) l.waiting → Enquired t l l'
+  enquires l' room state s a r waits = record {
+    state = state;
+    s = s;
+    a = a;
+    r = r;
+    frame = its_enquiry;
+    waits = waits ∙ ap (λ b. cond b (l.waiting ++ its_enquiry ∷ []) l.waiting) room;
+    kind = enquiry-kind l.own_busy;
+    means = ready-means l.own_busy l.r true;
+  }
+
+  abbrev pub Expired : Link → Type 0
+  Expired l' = (l' ≡ l) ⊎ Enquired t l l'
+
+  again : Words.has_room t l ≡ true → l.state ≡ TimerRecovery → (b : Bool) → IsUpIn (cond b (Words.start T200 (Words.repeated (Words.enquire t (begun l)))) (MultipleFrame.failed t code.I (begun l)))
+      → Expired (cond b (Words.start T200 (Words.repeated (Words.enquire t (begun l)))) (MultipleFrame.failed t code.I (begun l))).link
+  again room here true up = inr (enquires _ room here refl refl refl refl)
+  again room here false up = absurd (true≢false (sym up))
+
+  expires-in : Words.has_room t l ≡ true → (here : State) → l.state ≡ here → IsTrue (is_multiple_frame here) → (timer : LinkTimer)
+      → IsUpIn (Machine.expired_in here timer t (begun l)) → Expired (Machine.expired_in here timer t (begun l)).link
+  expires-in room TeiAssigned e before timer up = absurd (true≢false (sym before))
+  expires-in room AwaitingEstablishment e before timer up = absurd (true≢false (sym before))
+  expires-in room AwaitingRelease e before timer up = absurd (true≢false (sym before))
+  expires-in room Established e before timer up = inr (enquires _ room refl refl refl refl refl)
+  expires-in room TimerRecovery e before T200 up = again room e (may_repeat t l) up
+  expires-in room TimerRecovery e before T203 up = inl refl
+
+  pub expires-so : IsTrue (is_multiple_frame l.state) → (timer : LinkTimer) → (Machine.is_running timer l ≡ true → Words.has_room t l ≡ true)
+      → IsUpIn (Machine.course t (expired timer) l) → Expired (Machine.after t (expired timer) l)
+  expires-so before timer room up = go (Machine.is_running timer l) refl up
+    where
+      go : (b : Bool) → Machine.is_running timer l ≡ b → IsUpIn (cond b (Machine.expire_running timer t (begun l)) (begun l))
+          → Expired (cond b (Machine.expire_running timer t (begun l)) (begun l)).link
+      go true is up = expires-in (room is) l.state refl before timer up
+      go false is up = inl refl
+
+  -- where it runs in state 7, or T200 in 8, it is so
+  asks-in : Words.has_room t l ≡ true → (here : State) → l.state ≡ here → IsTrue (is_multiple_frame here) → IsUpIn (Machine.expired_in here T200 t (begun l))
+      → Enquired t l (Machine.expired_in here T200 t (begun l)).link
+  asks-in room TeiAssigned e before up = absurd (true≢false (sym before))
+  asks-in room AwaitingEstablishment e before up = absurd (true≢false (sym before))
+  asks-in room AwaitingRelease e before up = absurd (true≢false (sym before))
+  asks-in room Established e before up = enquires _ room refl refl refl refl refl
+  asks-in room TimerRecovery e before up = go (may_repeat t l) up
+    where
+      go : (b : Bool) → IsUpIn (cond b (Words.start T200 (Words.repeated (Words.enquire t (begun l)))) (MultipleFrame.failed t code.I (begun l)))
+          → Enquired t l (cond b (Words.start T200 (Words.repeated (Words.enquire t (begun l)))) (MultipleFrame.failed t code.I (begun l))).link
+      go true up = enquires _ room e refl refl refl refl
+      go false up = absurd (true≢false (sym up))
+
+  pub asks-so : IsTrue (is_multiple_frame l.state) → Machine.is_running T200 l ≡ true → Words.has_room t l ≡ true
+      → IsUpIn (Machine.course t (expired T200) l) → Enquired t l (Machine.after t (expired T200) l)
+  asks-so before running room up = go (Machine.is_running T200 l) running up
+    where
+      go : (b : Bool) → b ≡ true → IsUpIn (cond b (Machine.expire_running T200 t (begun l)) (begun l)) → Enquired t l (cond b (Machine.expire_running T200 t (begun l)) (begun l)).link
+      go true is up = asks-in room l.state refl before up
+      go false is up = absurd (true≢false (sym is))
+
+  -- an offer
+  abbrev Says : Course → Type 0
+  Says c = (way : List Parts) → Replies l.r l.pending c.link.pending (way ++ frames_of t l.waiting)
+      ((way ++ frame_given t (Machine.given_of t l c c.sent)) ++ frames_of t c.link.waiting)
+
+  at-end : (way : List Parts) (f : Parts) (ws : List ControlFrame) → ws ≡ [] → (way ++ f ∷ []) ++ frames_of t ws ≡ (way ++ frames_of t ws) ++ f ∷ []
+  at-end way f [] e = append-nil (way ++ f ∷ []) ∙ sym (ap (λ xs. xs ++ f ∷ []) (append-nil way))
+  at-end way f (w ∷ ws) e = absurd (cc)
+
+  either-says : (b : Bool) (u v : Course) → Says u → Says v → Says (cond b u v)
+  either-says true u v x y = x
+  either-says false u v x y = y
+
+  abbrev information : Parts
+  information = record (frame_of t (Offers.next_information l)) { info = unwrap_or (slice_get l.contents l.s) [] }
+
+  offers-say : (ws : List ControlFrame) → l.waiting ≡ ws → Says (Offers.offer_among t ws (begun l))
+  offers-say (f ∷ fs) e = λ way. inl (refl, append_assoc way (frame_of t f ∷ []) (frames_of t fs) ∙ ap (λ ws. way ++ frames_of t ws) (sym e))
+  offers-say [] e =
+      either-says (Offers.may_send_information t l) _ _
+      (either-says (Offers.is_awaiting_acknowledgement (Offers.with_one_sent l)) _ _
+      (λ way. inr (information, at-end way information l.waiting e, refl)) (λ way. inr (information, at-end way information l.waiting e, refl)))
+      (either-says l.pending _ _
+      (λ way. inr (frame_of t (Words.response (ReceiveReady (seq l.r) false)), at-end way (frame_of t (Words.response (ReceiveReady (seq l.r) false))) l.waiting e, refl))
+      (λ way. inl (refl, ap (λ xs. xs ++ frames_of t l.waiting) (append-nil way))))
+
+  pub offer-says : Says (Machine.course t offer l)
+  offer-says = offers-say l.waiting refl
+
+  -- ---- what it hears
+
+  by-number : (P : Link → Type 0) (nr : Seq) (f : ℕ → Step) (c : Course) → ((n : ℕ) → P (f n c).link) → IsUpIn (Words.by_number t nr f c) → P (Words.by_number t nr f c).link
+  by-number P nr f c x up = go (named c.link.a c.link.s nr) up
+    where
+      go : (o : Option ℕ) → IsUpIn (elim o as (λ o. Course) [ None ↦ Words.re_establish t (Words.error t code.J c) | Some n ↦ f n c ])
+          → P (elim o as (λ o. Course) [ None ↦ Words.re_establish t (Words.error t code.J c) | Some n ↦ f n c ]).link
+      go None up = absurd (true≢false (sym up))
+      go (Some n) up = x n
+
+  either : (P : Link → Type 0) (b : Bool) (u v : Course) → P u.link → P v.link → P (cond b u v).link
+  either P true u v x y = x
+  either P false u v x y = y
+
+  -- what is owed, V(R) and what waits stay
+  pub record Same (l' : Link) : Type 0 where
+    pub pending : l'.pending ≡ l.pending
+    pub r : l'.r ≡ l.r
+    pub waiting : l'.waiting ≡ l.waiting
+
+  in-7 : (c : Course) → Same c.link → (n : ℕ) → Same (Established.acknowledged_in_7 n c).link
+  in-7 c h n =
+      either Same (Established.is_all_sent n c.link) _ _ (record { pending = h.pending; r = h.r; waiting = h.waiting })
+      (either Same (Established.is_beyond_acknowledged n c.link) _ _ (record { pending = h.pending; r = h.r; waiting = h.waiting }) h)
+
+  same-7 : (busy b pf : Bool) → (b && pf) ≡ false → Same (c-7 t l busy b pf).link
+  same-7 busy true true e = absurd (true≢false e)
+  same-7 busy true false e = record { pending = refl; r = refl; waiting = refl }
+  same-7 busy false true e = record { pending = refl; r = refl; waiting = refl }
+  same-7 busy false false e = record { pending = refl; r = refl; waiting = refl }
+
+  same-8 : (busy b pf : Bool) → (b && pf) ≡ false → Same (c-8 t l busy b pf).link
+  same-8 busy true true e = absurd (true≢false e)
+  same-8 busy true false e = record { pending = refl; r = refl; waiting = refl }
+  same-8 busy false true e = record { pending = refl; r = refl; waiting = refl }
+  same-8 busy false false e = record { pending = refl; r = refl; waiting = refl }
+
+  in-8 : (timer : LinkTimer) (final : Bool) (c : Course) → Same c.link → (n : ℕ) → Same (TimerRecovery.acknowledged_in_8 timer final n c).link
+  in-8 timer true c h n = record { pending = h.pending; r = h.r; waiting = h.waiting }
+  in-8 timer false c h n = record { pending = h.pending; r = h.r; waiting = h.waiting }
+
+  -- RR and REJ that ask nothing
+  pub ready-same : IsTrue (is_multiple_frame l.state) → (b pf : Bool) (nr : Seq) (octets : List ℕ) → (b && pf) ≡ false
+      → IsUpIn (Machine.frame_step t b octets (ReceiveReady nr pf) (begun l)) → Same (Machine.frame_step t b octets (ReceiveReady nr pf) (begun l)).link
+  ready-same before b pf nr octets e up = go l.state before up
+    where
+      go : (here : State) → IsTrue (is_multiple_frame here) → IsUpIn (Machine.frame_in here t b octets (ReceiveReady nr pf) (begun l))
+          → Same (Machine.frame_in here t b octets (ReceiveReady nr pf) (begun l)).link
+      go TeiAssigned before up = absurd (true≢false (sym before))
+      go AwaitingEstablishment before up = absurd (true≢false (sym before))
+      go AwaitingRelease before up = absurd (true≢false (sym before))
+      go Established before up = by-number Same nr Established.acknowledged_in_7 (c-7 t l false b pf) (in-7 (c-7 t l false b pf) (same-7 false b pf e)) up
+      go TimerRecovery before up =
+          by-number Same nr (TimerRecovery.acknowledged_in_8 T203 (MultipleFrame.is_final b pf)) (c-8 t l false b pf)
+          (in-8 T203 (MultipleFrame.is_final b pf) (c-8 t l false b pf) (same-8 false b pf e)) up
+
+  pub reject-same : IsTrue (is_multiple_frame l.state) → (nr : Seq) (octets : List ℕ)
+      → IsUpIn (Machine.frame_step t false octets (Reject nr false) (begun l)) → Same (Machine.frame_step t false octets (Reject nr false) (begun l)).link
+  reject-same before nr octets up = go l.state before up
+    where
+      go : (here : State) → IsTrue (is_multiple_frame here) → IsUpIn (Machine.frame_in here t false octets (Reject nr false) (begun l))
+          → Same (Machine.frame_in here t false octets (Reject nr false) (begun l)).link
+      go TeiAssigned before up = absurd (true≢false (sym before))
+      go AwaitingEstablishment before up = absurd (true≢false (sym before))
+      go AwaitingRelease before up = absurd (true≢false (sym before))
+      go Established before up =
+          by-number Same nr Established.acknowledged_by_rej_in_7 (c-7 t l false false false) (λ n. record { pending = refl; r = refl; waiting = refl }) up
+      go TimerRecovery before up =
+          by-number Same nr (TimerRecovery.acknowledged_in_8 T203 false) (c-8 t l false false false) (λ n. record { pending = refl; r = refl; waiting = refl }) up
+
+  -- an enquiry is answered
+  abbrev its_answer : ControlFrame
+  its_answer = Words.response (Words.ready_to_receive true l)
+
+  pub record Answers (l' : Link) : Type 0 where
+    pub r : l'.r ≡ l.r
+    pub waits : l'.waiting ≡ l.waiting ++ its_answer ∷ []
+
+  pub answer-means : Means l.r its_answer.control
+  answer-means = ready-means l.own_busy l.r true
+
+  answered : Words.has_room t l ≡ true → (l' : Link) → l'.r ≡ l.r → l'.waiting ≡ cond (Words.has_room t l) (l.waiting ++ its_answer ∷ []) l.waiting → Answers l'
+  answered room l' r waits = record { r = r; waits = waits ∙ ap (λ b. cond b (l.waiting ++ its_answer ∷ []) l.waiting) room }
+
+  pub enquiry-answered : IsTrue (is_multiple_frame l.state) → Words.has_room t l ≡ true → (nr : Seq) (octets : List ℕ)
+      → IsUpIn (Machine.frame_step t true octets (ReceiveReady nr true) (begun l)) → Answers (Machine.frame_step t true octets (ReceiveReady nr true) (begun l)).link
+  enquiry-answered before room nr octets up = go l.state before up
+    where
+      go : (here : State) → IsTrue (is_multiple_frame here) → IsUpIn (Machine.frame_in here t true octets (ReceiveReady nr true) (begun l))
+          → Answers (Machine.frame_in here t true octets (ReceiveReady nr true) (begun l)).link
+      go TeiAssigned before up = absurd (true≢false (sym before))
+      go AwaitingEstablishment before up = absurd (true≢false (sym before))
+      go AwaitingRelease before up = absurd (true≢false (sym before))
+      go Established before up =
+          let c = c-7 t l false true true in
+          by-number Answers nr Established.acknowledged_in_7 c
+          (λ n. either Answers (Established.is_all_sent n c.link) _ _ (answered room _ refl refl)
+          (either Answers (Established.is_beyond_acknowledged n c.link) _ _ (answered room _ refl refl) (answered room _ refl refl))) up
+      go TimerRecovery before up =
+          by-number Answers nr (TimerRecovery.acknowledged_in_8 T203 false) (c-8 t l false true true) (λ n. answered room _ refl refl) up
+
+  -- the next I-frame is taken
+  pub record Next (l' : Link) : Type 0 where
+    pub r : l'.r ≡ l.r + 1
+    pub pending : l'.pending ≡ true
+
+  module _ (own : l.own_busy ≡ false) (ns : Seq) (next : MultipleFrame.is_next ns l ≡ true) (nr : Seq) (octets : List ℕ) where
+    abbrev contents : Course
+    contents = MultipleFrame.contents_in_7_8 t ns false octets (begun l)
+
+    taken : Next contents.link
+    taken =
+        let in-order = MultipleFrame.in_sequence t false octets (begun l) in
+        let other = MultipleFrame.out_of_sequence t false (begun l) in
+        let dropped = MultipleFrame.dropped t false (begun l) in
+        subst (λ b. Next (cond b dropped (cond (MultipleFrame.is_next ns l) in-order other)).link) (sym own)
+        (subst (λ b. Next (cond b in-order other).link) (sym next) (record { r = refl; pending = refl }))
+
+    fitting : (b : Bool) (u v : Course) → (IsUpIn u → ⊥) → (IsUpIn v → Next v.link) → IsUpIn (cond b u v) → Next (cond b u v).link
+    fitting true u v x y up = absurd (x up)
+    fitting false u v x y up = y up
+
+    next-by : (f : ℕ → Step) → ((n : ℕ) → Next (f n contents).link) → IsUpIn (MultipleFrame.information_in_7_8 t ns nr false octets f (begun l))
+        → Next (MultipleFrame.information_in_7_8 t ns nr false octets f (begun l)).link
+    next-by f x up = fitting (nat_lt t.n201 (length octets)) _ _ (λ u. true≢false (sym u)) (λ u. by-number Next nr f contents x u) up
+
+    next-7 : (n : ℕ) → Next (Established.acknowledged_by_information_in_7 n contents).link
+    next-7 n =
+        either Next contents.link.peer_busy _ _ (record { r = taken.r; pending = taken.pending })
+        (either Next (Established.is_all_sent n contents.link) _ _ (record { r = taken.r; pending = taken.pending })
+        (either Next (Established.is_beyond_acknowledged n contents.link) _ _ (record { r = taken.r; pending = taken.pending }) taken))
+
+    pub next-taken : IsTrue (is_multiple_frame l.state) → (b : Bool) → IsUpIn (Machine.frame_step t b octets (Information ns nr false) (begun l))
+        → Next (Machine.frame_step t b octets (Information ns nr false) (begun l)).link
+    next-taken before b up = go l.state before up
+      where
+        go : (here : State) → IsTrue (is_multiple_frame here) → IsUpIn (Machine.frame_in here t b octets (Information ns nr false) (begun l))
+            → Next (Machine.frame_in here t b octets (Information ns nr false) (begun l)).link
+        go TeiAssigned before up = absurd (true≢false (sym before))
+        go AwaitingEstablishment before up = absurd (true≢false (sym before))
+        go AwaitingRelease before up = absurd (true≢false (sym before))
+        go Established before up = next-by Established.acknowledged_by_information_in_7 next-7 up
+        go TimerRecovery before up = next-by Words.acknowledge (λ n. record { r = taken.r; pending = taken.pending }) up

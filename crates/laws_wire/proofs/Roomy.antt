@@ -1,0 +1,93 @@
+-- There is room for each enquiry and each answer of two ends of which neither was ever busy, where three control frames may wait.
+use Rattle.std.proofs.Common.{◌≡◌, ℕ, ◌+◌, ◌≤◌, Bool, true, false, List, [], ◌∷◌, ◌++◌, length, refl, ap, ◌∙◌, arith, true≢false}
+use Rattle.std.specs.Prelude.{All}
+use Rattle.std.proofs.lemmas.Bool.{lt-ltb}
+use Rattle.std.proofs.lemmas.List.Elements.{All-head, All-tail}
+use Rattle.lapd_frame.specs.declared.controls.Control.{Control}
+use Rattle.lapd_frame.specs.declared.controls.Control.TheVariants.{Information, ReceiveReady, ReceiveNotReady, Reject, Sabme, Disc, Ui, Ua, Dm, Frmr, Xid}
+use Rattle.lapd_frame.specs.Grammar.{Parts}
+use Rattle.model_link.specs.declared.frames.ControlFrame.{ControlFrame}
+use Rattle.model_link.specs.declared.terms.Terms.{Terms}
+use Rattle.model_link.specs.TwoEnds.{End}
+use Rattle.model_link.specs.Words.{has_room}
+use Rattle.model_link.proofs.Direction.{frames_of}
+use Rattle.laws_two_links.specs.Timely.{is_enquiry, HasNo}
+use Rattle.laws_two_links.proofs.Meeting.{line}
+use Rattle.laws_two_links.proofs.Trains.{Kind, kind_of, kinds_of, kinds-append, tally, one_enquiry, one_answer, one_rejection}
+use Rattle.laws_wire.proofs.Firm.{Firm}
+use Rattle.laws_wire.proofs.Tame.{WaitsSo}
+
+abbrev pub kinds : End → List Kind
+kinds n = line n.terms n.way n.link.waiting
+
+tally-append : (one : Kind → ℕ) (xs ys : List Kind) → tally one (xs ++ ys) ≡ tally one xs + tally one ys
+tally-append one [] ys = omega arith
+tally-append one (x ∷ xs) ys = let more : tally one (xs ++ ys) ≡ tally one xs + tally one ys = tally-append one xs ys in omega (arith, more)
+
+count-waits : (t : Terms) (ws : List ControlFrame) → All WaitsSo ws
+    → length ws ≡ tally one_enquiry (kinds_of (frames_of t ws)) + tally one_answer (kinds_of (frames_of t ws)) + tally one_rejection (kinds_of (frames_of t ws))
+count-waits t [] h = refl
+count-waits t (f ∷ fs) h =
+    let x = kind_of f.command f.control in
+    let here : one_enquiry x + one_answer x + one_rejection x ≡ 1 = (All-head WaitsSo f fs h).one in
+    let more : length fs ≡ tally one_enquiry (kinds_of (frames_of t fs)) + tally one_answer (kinds_of (frames_of t fs)) + tally one_rejection (kinds_of (frames_of t fs)) =
+    count-waits t fs (All-tail WaitsSo f fs h) in
+    omega (arith, here, more)
+
+within : (one : Kind → ℕ) (n : End) → tally one (kinds_of (frames_of n.terms n.link.waiting)) ≤ tally one (kinds n)
+within one n =
+    let fs = frames_of n.terms n.link.waiting in
+    let all : tally one (kinds n) ≡ tally one (kinds_of n.way) + tally one (kinds_of fs) =
+    ap (tally one) (kinds-append n.way fs) ∙ tally-append one (kinds_of n.way) (kinds_of fs) in
+    omega (arith, all)
+
+pub roomy : (n m : End) → Firm n m → 3 ≤ n.terms.control → tally one_enquiry (kinds n) + tally one_answer (kinds n) ≤ 1 → has_room n.terms n.link ≡ true
+roomy n m h wide few =
+    let all = count-waits n.terms n.link.waiting h.near_tame.waiting in
+    let e = within one_enquiry n in
+    let a = within one_answer n in
+    let r = within one_rejection n in
+    let one : tally one_rejection (kinds n) ≤ 1 = h.back.one in
+    lt-ltb (length n.link.waiting) n.terms.control (omega (arith, all, e, a, r, one, few, wide))
+
+-- no enquiry is none among the kinds
+not-enquiry : (b : Bool) (control : Control) → is_enquiry b control ≡ false → one_enquiry (kind_of b control) ≡ 0
+not-enquiry b (Information ns nr true) e = refl
+not-enquiry b (Information ns nr false) e = refl
+not-enquiry true (ReceiveReady nr true) e = absurd (true≢false e)
+not-enquiry true (ReceiveReady nr false) e = refl
+not-enquiry false (ReceiveReady nr true) e = refl
+not-enquiry false (ReceiveReady nr false) e = refl
+not-enquiry true (ReceiveNotReady nr true) e = absurd (true≢false e)
+not-enquiry true (ReceiveNotReady nr false) e = refl
+not-enquiry false (ReceiveNotReady nr true) e = refl
+not-enquiry false (ReceiveNotReady nr false) e = refl
+not-enquiry true (Reject nr pf) e = refl
+not-enquiry false (Reject nr true) e = refl
+not-enquiry false (Reject nr false) e = refl
+not-enquiry b (Sabme p) e = refl
+not-enquiry b (Disc p) e = refl
+not-enquiry b (Ui p) e = refl
+not-enquiry b (Ua f) e = refl
+not-enquiry b (Dm f) e = refl
+not-enquiry b (Frmr f) e = refl
+not-enquiry b (Xid pf) e = refl
+
+none-waits : (t : Terms) (ws : List ControlFrame) → All (λ f. is_enquiry f.command f.control ≡ false) ws → tally one_enquiry (kinds_of (frames_of t ws)) ≡ 0
+none-waits t [] h = refl
+none-waits t (f ∷ fs) h =
+    let here : one_enquiry (kind_of f.command f.control) ≡ 0 = not-enquiry f.command f.control (All-head (λ f. is_enquiry f.command f.control ≡ false) f fs h) in
+    let more : tally one_enquiry (kinds_of (frames_of t fs)) ≡ 0 = none-waits t fs (All-tail (λ f. is_enquiry f.command f.control ≡ false) f fs h) in
+    omega (arith, here, more)
+
+none-goes : (t : Terms) (way : List Parts) (ws : List ControlFrame) → All (λ f. is_enquiry f.address.command f.control ≡ false) way
+    → All (λ f. is_enquiry f.command f.control ≡ false) ws → tally one_enquiry (line t way ws) ≡ 0
+none-goes t [] ws h k = none-waits t ws k
+none-goes t (f ∷ fs) ws h k =
+    let here : one_enquiry (kind_of f.address.command f.control) ≡ 0 =
+    not-enquiry f.address.command f.control (All-head (λ f. is_enquiry f.address.command f.control ≡ false) f fs h) in
+    let more : tally one_enquiry (line t fs ws) ≡ 0 = none-goes t fs ws (All-tail (λ f. is_enquiry f.address.command f.control ≡ false) f fs h) k in
+    omega (arith, here, more)
+
+pub none-asked : (n : End) → HasNo is_enquiry n → tally one_enquiry (kinds n) ≡ 0
+none-asked n h = none-goes n.terms n.way n.link.waiting h.way h.waiting

@@ -1,0 +1,340 @@
+-- What an end sends arrives for sure once it has asked, where nothing more is lost: it awaits the answer, or nothing that it sent is
+-- missing. What it does itself leaves that so.
+use Rattle.std.proofs.Common.{◌≡◌, ℕ, ◌+◌, ◌≤◌, Bool, true, false, IsTrue, List, [], ◌∷◌, ◌++◌, Some, refl, sym, ap, subst, ◌∙◌, ◌⊎◌, inl, inr, true≢false, arith}
+use Rattle.lapd_frame.specs.declared.controls.Control.{Control}
+use Rattle.lapd_frame.specs.declared.controls.Control.TheVariants.{Information, ReceiveReady, ReceiveNotReady, Reject, Sabme, Disc, Ui, Ua, Dm, Frmr, Xid}
+use Rattle.lapd_frame.specs.Grammar.{Parts}
+use Rattle.lapd_seq.specs.declared.numbers.Seq.{Seq}
+use Rattle.lapd_seq.specs.Numbers.{seq}
+use Rattle.lapd_seq.specs.Circle.{named}
+use Rattle.model_link.specs.declared.states.State.{State}
+use Rattle.model_link.specs.declared.states.State.TheVariants.{TeiAssigned, AwaitingEstablishment, AwaitingRelease, Established, TimerRecovery}
+use Rattle.model_link.specs.declared.timers.LinkTimer.{LinkTimer}
+use Rattle.model_link.specs.declared.timers.LinkTimer.TheVariants.{T200}
+use Rattle.model_link.specs.Events.{frame, received, expired, offer}
+use Rattle.model_link.specs.Link.{Link, is_multiple_frame}
+use Rattle.model_link.specs.Machine.{after, course, is_running, given_of}
+use Rattle.model_link.specs.Steps.{Course}
+use Rattle.model_link.specs.TwoEnds.{End, with_link, with_sent, frame_given}
+use Rattle.model_link.specs.Words.{has_room}
+use Rattle.model_link.proofs.Direction.{line_of, frames_of, named-means}
+use Rattle.model_link.proofs.Lines.{Means, Rising, rising-low}
+use Rattle.model_link.proofs.Sending.{offer-gave}
+use Rattle.model_link.proofs.SoundRows.{named-within}
+use Rattle.model_link.proofs.Taking.{frame-taken, named-is_seq}
+use Rattle.laws_two_links.specs.Timely.{IsTimely}
+use Rattle.laws_two_links.proofs.Effects.{is_recovering, Takes, Heard}
+use Rattle.laws_two_links.proofs.Flow.{Flow, most}
+use Rattle.laws_two_links.proofs.Flowing.{answer-says, no-answer}
+use Rattle.laws_two_links.proofs.Going.{offer-goes, Gives}
+use Rattle.laws_two_links.proofs.Halves.{named-number}
+use Rattle.laws_two_links.proofs.HeardRows.{heard}
+use Rattle.laws_two_links.proofs.Meeting.{line, Longer, line-longer, NoAlien, is-no-alien}
+use Rattle.laws_two_links.proofs.Trains.{Kind, numbered, enquiry, answer, report, rejection, alien, kind_of, kinds_of, kinds-append, tally, tally-push, one_enquiry, one_answer, Calm}
+use Rattle.laws_wire.proofs.Asking.{with_more}
+use Rattle.laws_wire.proofs.Dense.{Dense, dense-push, dense-next, calm-dense, dense-beyond, Reaches, reaches-low, reaches-flat, Owed}
+use Rattle.laws_wire.proofs.Firm.{Firm, not-behind}
+use Rattle.laws_wire.proofs.Replying.{Enquired, line-push, expires-so, asks-so}
+use Rattle.laws_wire.proofs.Roomy.{kinds, roomy, none-asked}
+
+-- It awaits the answer to an enquiry, and one of both is on its way.
+pub record Asking (n m : End) : Type 0 where
+  pub state : n.link.state ≡ TimerRecovery
+  pub open_ : 1 ≤ tally one_enquiry (kinds n) + tally one_answer (kinds m)
+
+-- All that it sent and the other has not received is on its way, and what is acknowledged comes to that.
+pub record Steady (n m : End) : Type 0 where
+  pub state : n.link.state ≡ Established
+  pub dense : Dense m.link.r n.link.s (kinds n)
+  pub owed : Owed n.link.a m.link.r m.link.pending (line_of m)
+
+abbrev pub Sure : End → End → Type 0
+Sure n m = Asking n m ⊎ Steady n m
+
+pub one-at-most : (b : Bool) → most b ≤ 1
+one-at-most true = omega arith
+one-at-most false = omega arith
+
+pub longer-tally : (one : Kind → ℕ) (xs ys : List Kind) (x : Kind) → Longer xs ys x → tally one xs ≤ tally one ys
+longer-tally one xs ys x (inl e) = let same : tally one ys ≡ tally one xs = ap (tally one) e in omega (arith, same)
+longer-tally one xs ys x (inr e) = let same : tally one ys ≡ tally one xs + one x = ap (tally one) e ∙ tally-push one xs x in omega (arith, same)
+
+longer-dense : (lo hi : ℕ) (xs ys : List Kind) (x : Kind) → Calm x → Longer xs ys x → Dense lo hi xs → Dense lo hi ys
+longer-dense lo hi xs ys x calm (inl e) h = subst (Dense lo hi) (sym e) h
+longer-dense lo hi xs ys x calm (inr e) h = subst (Dense lo hi) (sym e) (dense-push lo hi xs x calm h)
+
+-- an answer to V(R) means it
+answer-means : (b : Bool) (control : Control) (nr : Seq) (r : ℕ) → kind_of b control ≡ answer nr → nr ≡ seq r → Means r control
+answer-means b (Information ns n true) nr r e is = absurd (cc e)
+answer-means b (Information ns n false) nr r e is = absurd (cc e)
+answer-means true (ReceiveReady n true) nr r e is = absurd (cc e)
+answer-means true (ReceiveReady n false) nr r e is = absurd (cc e)
+answer-means false (ReceiveReady n true) nr r e is = let same : n ≡ nr = cc e in same ∙ is
+answer-means false (ReceiveReady n false) nr r e is = absurd (cc e)
+answer-means true (ReceiveNotReady n true) nr r e is = absurd (cc e)
+answer-means true (ReceiveNotReady n false) nr r e is = absurd (cc e)
+answer-means false (ReceiveNotReady n true) nr r e is = let same : n ≡ nr = cc e in same ∙ is
+answer-means false (ReceiveNotReady n false) nr r e is = absurd (cc e)
+answer-means true (Reject n pf) nr r e is = absurd (cc e)
+answer-means false (Reject n true) nr r e is = absurd (cc e)
+answer-means false (Reject n false) nr r e is = absurd (cc e)
+answer-means b (Sabme p) nr r e is = absurd (cc e)
+answer-means b (Disc p) nr r e is = absurd (cc e)
+answer-means b (Ui p) nr r e is = absurd (cc e)
+answer-means b (Ua f) nr r e is = absurd (cc e)
+answer-means b (Dm f) nr r e is = absurd (cc e)
+answer-means b (Frmr f) nr r e is = absurd (cc e)
+answer-means b (Xid pf) nr r e is = absurd (cc e)
+
+one-number : (x y : ℕ) → Some x ≡ Some y → x ≡ y
+one-number x y e = cc e
+
+module _ (n m : End) (h : Firm n m) (wide : 3 ≤ n.terms.control) where
+  -- what it has asked, and answered, is one frame each at most
+  asked : tally one_enquiry (kinds n) + tally one_answer (kinds m) ≤ most (is_recovering n.link.state)
+  asked = h.there.asked
+
+  answers-one : tally one_answer (kinds n) ≤ 1
+  answers-one =
+      let both : tally one_enquiry (kinds m) + tally one_answer (kinds n) ≤ most (is_recovering m.link.state) = h.back.asked in
+      let one : most (is_recovering m.link.state) ≤ 1 = one-at-most (is_recovering m.link.state) in
+      omega (arith, both, one)
+
+  none-in-7 : n.link.state ≡ Established → tally one_enquiry (kinds n) ≡ 0
+  none-in-7 e = let few : tally one_enquiry (kinds n) + tally one_answer (kinds m) ≤ 0 = subst (λ s. tally one_enquiry (kinds n) + tally one_answer (kinds m) ≤ most (is_recovering s)) e asked in omega (arith, few)
+
+  pub room-for : tally one_enquiry (kinds n) ≡ 0 → has_room n.terms n.link ≡ true
+  room-for none = let one = answers-one in roomy n m h wide (omega (arith, none, one))
+
+  -- where a timer runs out in time none of its enquiries is open
+  pub none-open : (timer : LinkTimer) → IsTimely timer n m → is_running timer n.link ≡ true → tally one_enquiry (kinds n) ≡ 0
+  none-open timer timely running = go n.link.state refl h.joined.near_up
+    where
+      go : (here : State) → n.link.state ≡ here → IsTrue (is_multiple_frame here) → tally one_enquiry (kinds n) ≡ 0
+      go TeiAssigned e up = absurd (true≢false (sym up))
+      go AwaitingEstablishment e up = absurd (true≢false (sym up))
+      go AwaitingRelease e up = absurd (true≢false (sym up))
+      go Established e up = none-in-7 e
+      go TimerRecovery e up = none-asked n (timely e running).enquiries
+
+  -- an enquiry waits
+  asks-now : (l' : Link) → Enquired n.terms n.link l' → 1 ≤ tally one_enquiry (line n.terms n.way l'.waiting)
+  asks-now l' q =
+      let own = line n.terms n.way n.link.waiting in
+      let more : line n.terms n.way l'.waiting ≡ own ++ enquiry ∷ [] =
+      ap kinds_of (line-push n.terms n.way n.link.waiting l'.waiting q.frame q.waits) ∙ kinds-append (line_of n) _ ∙ ap (λ x. own ++ x ∷ []) q.kind in
+      let count : tally one_enquiry (line n.terms n.way l'.waiting) ≡ tally one_enquiry own + 1 = ap (tally one_enquiry) more ∙ tally-push one_enquiry own enquiry in
+      omega (arith, count)
+
+  asking : (l' : Link) (ds : List (List ℕ)) → Enquired n.terms n.link l' → Sure (record n { link = l'; delivered = ds }) m
+  asking l' ds q = let one = asks-now l' q in inl (record { state = q.state; open_ = omega (arith, one) })
+
+  abbrev IsUpBy : LinkTimer → Type 0
+  IsUpBy timer = IsTrue (is_multiple_frame (after n.terms (expired timer) n.link).state)
+
+  -- T200 runs out, in time
+  pub sure-begins : IsTimely T200 n m → is_running T200 n.link ≡ true → IsUpBy T200 → Sure (with_link (expired T200) n) m
+  sure-begins timely running up =
+      asking (after n.terms (expired T200) n.link) (with_link (expired T200) n).delivered
+      (asks-so n.terms n.link h.joined.near_up running (room-for (none-open T200 timely running)) up)
+
+  -- ---- what it does itself
+
+  pub sure-asks : (octets : List ℕ) → Sure n m → Sure (with_more octets n) m
+  sure-asks octets (inl x) = inl (record { state = x.state; open_ = x.open_ })
+  sure-asks octets (inr x) = inr (record { state = x.state; dense = x.dense; owed = x.owed })
+
+  told-more : (ds : List (List ℕ)) → Sure n m → Sure (record n { delivered = ds }) m
+  told-more ds (inl x) = inl (record { state = x.state; open_ = x.open_ })
+  told-more ds (inr x) = inr (record { state = x.state; dense = x.dense; owed = x.owed })
+
+  pub sure-expires : (timer : LinkTimer) → IsTimely timer n m → IsUpBy timer → Sure n m → Sure (with_link (expired timer) n) m
+  sure-expires timer timely up s = go (expires-so n.terms n.link h.joined.near_up timer (λ running. room-for (none-open timer timely running)) up)
+    where
+      l' : Link
+      l' = after n.terms (expired timer) n.link
+
+      ds : List (List ℕ)
+      ds = (with_link (expired timer) n).delivered
+
+      go : (l' ≡ n.link) ⊎ Enquired n.terms n.link l' → Sure (with_link (expired timer) n) m
+      go (inl e) = subst (λ l. Sure (record n { link = l; delivered = ds }) m) (sym e) (told-more ds s)
+      go (inr q) = asking l' ds q
+
+  -- it gives a frame
+  gives-asking : (c : Course) → let way = n.way ++ frame_given n.terms (given_of n.terms n.link c c.sent) in
+      c.link.state ≡ n.link.state → Gives n.terms n.link c → Asking n m → Asking (record n { link = c.link; way = way }) m
+  gives-asking c state gives x =
+      let few = x.open_ in
+      let more = longer gives in
+      record { state = state ∙ x.state; open_ = omega (arith, few, more) }
+    where
+      way : List Parts
+      way = n.way ++ frame_given n.terms (given_of n.terms n.link c c.sent)
+
+      longer : Gives n.terms n.link c → tally one_enquiry (kinds n) ≤ tally one_enquiry (kinds_of (way ++ frames_of n.terms c.link.waiting))
+      longer (inl g) = longer-tally one_enquiry (kinds n) _ report (inl (g.1 n.way))
+      longer (inr (inl g)) = longer-tally one_enquiry (kinds n) _ report (inr (g.1 n.way))
+      longer (inr (inr g)) = longer-tally one_enquiry (kinds n) _ (numbered (seq n.link.s)) (inr (g.2 n.way))
+
+  gives-steady : (c : Course) → let way = n.way ++ frame_given n.terms (given_of n.terms n.link c c.sent) in
+      c.link.state ≡ n.link.state → c.link.a ≡ n.link.a → Gives n.terms n.link c → Steady n m → Steady (record n { link = c.link; way = way }) m
+  gives-steady c state same gives x = record {
+    state = state ∙ x.state;
+    dense = dense gives;
+    owed = subst (λ a. Owed a m.link.r m.link.pending (line_of m)) (sym same) x.owed;
+  }
+    where
+      way : List Parts
+      way = n.way ++ frame_given n.terms (given_of n.terms n.link c c.sent)
+
+      dense : Gives n.terms n.link c → Dense m.link.r c.link.s (kinds_of (way ++ frames_of n.terms c.link.waiting))
+      dense (inl g) = subst (λ s. Dense m.link.r s (kinds_of (way ++ frames_of n.terms c.link.waiting))) (sym g.0) (subst (Dense m.link.r n.link.s) (sym (g.1 n.way)) x.dense)
+      dense (inr (inl g)) =
+          subst (λ s. Dense m.link.r s (kinds_of (way ++ frames_of n.terms c.link.waiting))) (sym g.0)
+          (subst (Dense m.link.r n.link.s) (sym (g.1 n.way)) (dense-push m.link.r n.link.s (kinds n) report tt x.dense))
+      dense (inr (inr g)) =
+          subst (λ s. Dense m.link.r s (kinds_of (way ++ frames_of n.terms c.link.waiting))) (sym g.1)
+          (subst (Dense m.link.r (n.link.s + 1)) (sym (g.2 n.way)) (dense-next m.link.r n.link.s (kinds n) x.dense))
+
+  pub sure-sends : Sure n m → Sure (with_sent n) m
+  sure-sends (inl x) = let o = offer-goes n.terms n.link in inl (gives-asking (course n.terms offer n.link) o.state o.gives x)
+  sure-sends (inr x) =
+      let o = offer-goes n.terms n.link in
+      let kept = (offer-gave n.terms h.joined.near_ranges n.link h.joined.near_sound n.link.waiting refl).acknowledged in
+      inr (gives-steady (course n.terms offer n.link) o.state kept o.gives x)
+
+-- ---- what it hears
+
+module _ (n m : End) (h : Firm n m) (p : Parts) (fs : List Parts) (first : m.way ≡ p ∷ fs) where
+  abbrev l' : Link
+  l' = after n.terms (received (frame p)) n.link
+
+  abbrev n' : End
+  n' = with_link (received (frame p)) n
+
+  abbrev m' : End
+  m' = record m { way = fs }
+
+  abbrev x : Kind
+  x = kind_of p.address.command p.control
+
+  abbrev rest : List Kind
+  rest = line m.terms fs m.link.waiting
+
+  there : Flow n.link.s m.link.r (is_recovering n.link.state) m.link.rejecting (kinds n) (x ∷ rest)
+  there = subst (λ way. Flow n.link.s m.link.r (is_recovering n.link.state) m.link.rejecting (kinds n) (line m.terms way m.link.waiting)) first h.there
+
+  back : Flow m.link.s n.link.r (is_recovering m.link.state) n.link.rejecting (x ∷ rest) (kinds n)
+  back = subst (λ way. Flow m.link.s n.link.r (is_recovering m.link.state) n.link.rejecting (line m.terms way m.link.waiting) (kinds n)) first h.back
+
+  known : NoAlien x
+  known = is-no-alien m.link.s n.link.r (is_recovering m.link.state) n.link.rejecting x rest (kinds n) back
+
+  high : m.link.r ≤ n.link.s
+  high = not-behind n m h.there
+
+  near : n.link.s ≤ n.link.a + 127
+  near =
+      let within : n.link.s ≤ n.link.a + n.terms.k = h.joined.near_sound.within in
+      let small : n.terms.k ≤ 127 = h.joined.near_ranges.k_high in
+      omega (arith, within, small)
+
+  module _ (up' : IsTrue (is_multiple_frame l'.state)) (rising' : Rising l'.a m.link.r (line_of m')) where
+    -- V(A) becomes what the N(R) means
+    hears-number : (i : ℕ) → n.link.a ≤ i → i ≤ m.link.r → Means i p.control → l'.a ≡ i
+    hears-number i low below means =
+        let told = (frame-taken n.terms n.link h.joined.near_up p.address.command p.info i p.control means).took.by.stay up' in
+        let v = told.0 in
+        let between = named-within n.link.a n.link.s v (seq i) told.1 in
+        let high' = high in
+        let near' = near in
+        let same : v ≡ i =
+        named-means n.link.a n.link.s i v (seq i) refl low (omega (arith, below, high', near')) between.0 between.1 near' (named-is_seq n.link.a n.link.s v (seq i) told.1) in
+        told.2.acknowledged ∙ same
+
+    owed-heard : Owed n.link.a m.link.r m.link.pending (line_of m) → Owed l'.a m.link.r m.link.pending (line_of m')
+    owed-heard (inl due) = inl due
+    owed-heard (inr all) =
+        let at : Reaches n.link.a m.link.r (p ∷ fs ++ frames_of m.terms m.link.waiting) =
+        subst (λ way. Reaches n.link.a m.link.r (way ++ frames_of m.terms m.link.waiting)) first all in
+        let i = at.0 in
+        let same = hears-number i at.1 (reaches-low i m.link.r (fs ++ frames_of m.terms m.link.waiting) at.3) at.2 in
+        inr (subst (λ a. Reaches a m.link.r (fs ++ frames_of m.terms m.link.waiting)) (sym same) at.3)
+
+    -- the kinds of frames that wait then
+    abbrev Then : Kind → Type 0
+    Then y = Longer (kinds n) (line n.terms n.way l'.waiting) y
+
+    took-line : (ns : Seq) → Takes ns n.link l' → Then (rejection (seq n.link.r))
+    took-line ns (inl t) = inl (ap (λ ws. line n.terms n.way ws) t.2)
+    took-line ns (inr (inl t)) = inl (ap (λ ws. line n.terms n.way ws) t.3)
+    took-line ns (inr (inr t)) = line-longer n.terms n.way n.link.waiting l'.waiting (rejection (seq n.link.r)) t.4
+
+    -- an answer: nothing that it sent is on its way, and it goes back to what is missing
+    recovers : (nr : Seq) → x ≡ answer nr → is_recovering n.link.state ≡ true → Heard (answer nr) true n.link l' → Sure n' m'
+    recovers nr is rec k =
+        let flow : Flow n.link.s m.link.r true m.link.rejecting (kinds n) (answer nr ∷ rest) =
+        subst (λ b. Flow n.link.s m.link.r b m.link.rejecting (kinds n) (answer nr ∷ rest)) rec
+        (subst (λ y. Flow n.link.s m.link.r (is_recovering n.link.state) m.link.rejecting (kinds n) (y ∷ rest)) is there) in
+        let says : nr ≡ seq m.link.r = answer-says n.link.s m.link.r true m.link.rejecting nr (kinds n) rest flow in
+        let low : n.link.a ≤ m.link.r = rising-low n.link.a m.link.r (line_of m) h.joined.there.rising in
+        let s-is : l'.s ≡ m.link.r =
+        one-number l'.s m.link.r (sym k.s ∙ ap (named n.link.a n.link.s) says ∙ named-number n.link.a n.link.s m.link.r low high near) in
+        let a-is : l'.a ≡ m.link.r = hears-number m.link.r low (omega arith) (answer-means p.address.command p.control nr m.link.r is says) in
+        let calm = calm-dense m.link.r (kinds n) (flow.answered (omega arith)).calm in
+        inr (record {
+          state = k.state;
+          dense = subst (λ s. Dense m.link.r s (kinds n')) (sym s-is) (subst (Dense m.link.r m.link.r) (ap (λ ws. line n.terms n.way ws) (sym k.waiting)) calm);
+          owed = inr (reaches-flat l'.a m.link.r (line_of m') a-is rising');
+        })
+
+    -- while it awaits the answer
+    still-asking : (y : Kind) → l'.state ≡ n.link.state → Then y → n.link.state ≡ TimerRecovery → 1 ≤ tally one_enquiry (kinds n) + tally one_answer rest → Sure n' m'
+    still-asking y state then here some =
+        let more = longer-tally one_enquiry (kinds n) (line n.terms n.way l'.waiting) y then in
+        inl (record { state = state ∙ here; open_ = omega (arith, more, some) })
+
+    in-8 : (y : Kind) → x ≡ y → NoAlien y → Heard y true n.link l' → n.link.state ≡ TimerRecovery
+        → 1 ≤ tally one_enquiry (kinds n) + (one_answer y + tally one_answer rest) → Sure n' m'
+    in-8 (numbered ns) e known_ k here some = still-asking (rejection (seq n.link.r)) k.state (took-line ns k.takes) here (omega (arith, some))
+    in-8 enquiry e known_ k here some =
+        still-asking (answer (seq n.link.r)) k.state (line-longer n.terms n.way n.link.waiting l'.waiting (answer (seq n.link.r)) k.waiting) here (omega (arith, some))
+    in-8 (answer nr) e known_ k here some = recovers nr e (ap is_recovering here) k
+    in-8 report e known_ k here some = still-asking report k.state (inl (ap (λ ws. line n.terms n.way ws) k.waiting)) here (omega (arith, some))
+    in-8 (rejection nr) e known_ k here some = still-asking report k.state (inl (ap (λ ws. line n.terms n.way ws) k.waiting)) here (omega (arith, some))
+    in-8 alien e known_ k here some = absurd known_
+
+    -- and in state 7
+    still-steady : (y : Kind) → Calm y → l'.state ≡ n.link.state → l'.s ≡ n.link.s → Then y → Steady n m → Sure n' m'
+    still-steady y calm state same then q = inr (record {
+      state = state ∙ q.state;
+      dense = subst (λ s. Dense m.link.r s (kinds n')) (sym same) (longer-dense m.link.r n.link.s (kinds n) (kinds n') y calm then q.dense);
+      owed = owed-heard q.owed;
+    })
+
+    flow-7 : (y : Kind) → x ≡ y → n.link.state ≡ Established → Flow n.link.s m.link.r false m.link.rejecting (kinds n) (y ∷ rest)
+    flow-7 y e here =
+        subst (λ b. Flow n.link.s m.link.r b m.link.rejecting (kinds n) (y ∷ rest)) (ap is_recovering here)
+        (subst (λ z. Flow n.link.s m.link.r (is_recovering n.link.state) m.link.rejecting (kinds n) (z ∷ rest)) e there)
+
+    in-7 : (y : Kind) → x ≡ y → NoAlien y → Heard y false n.link l' → Steady n m → Sure n' m'
+    in-7 (numbered ns) e known_ k q = still-steady (rejection (seq n.link.r)) tt k.state k.s (took-line ns k.takes) q
+    in-7 enquiry e known_ k q =
+        still-steady (answer (seq n.link.r)) tt k.state k.s (line-longer n.terms n.way n.link.waiting l'.waiting (answer (seq n.link.r)) k.waiting) q
+    in-7 (answer nr) e known_ k q = absurd (no-answer n.link.s m.link.r m.link.rejecting nr (kinds n) rest (flow-7 (answer nr) e q.state))
+    in-7 report e known_ k q = still-steady report tt k.state k.s (inl (ap (λ ws. line n.terms n.way ws) k.waiting)) q
+    in-7 (rejection nr) e known_ k q =
+        let j = (flow-7 (rejection nr) e q.state).rejected (omega arith) in
+        absurd (dense-beyond m.link.r n.link.s (kinds n) j.below q.dense j.beyond)
+    in-7 alien e known_ k q = absurd known_
+
+    its-kind : Heard x (is_recovering n.link.state) n.link l'
+    its-kind = heard n.terms n.link h.joined.near_up p.address.command p.info p.control up'
+
+    pub sure-hears : Sure n m → Sure n' m'
+    sure-hears (inl q) =
+        let all : kinds m ≡ x ∷ rest = ap (λ way. line m.terms way m.link.waiting) first in
+        in-8 x refl known (subst (λ b. Heard x b n.link l') (ap is_recovering q.state) its-kind) q.state
+        (subst (λ xs. 1 ≤ tally one_enquiry (kinds n) + tally one_answer xs) all q.open_)
+    sure-hears (inr q) = in-7 x refl known (subst (λ b. Heard x b n.link l') (ap is_recovering q.state) its-kind) q

@@ -1,0 +1,266 @@
+-- What the other end does leaves what an end sends as sure as it was, where nothing more is lost.
+use Rattle.std.proofs.Common.{◌≡◌, ℕ, ◌+◌, ◌≤◌, ◌==◌, Bool, true, false, cond, IsTrue, List, [], ◌∷◌, ◌++◌, refl, sym, ap, subst, ◌∙◌, ◌⊎◌, inl, inr, true≢false, eq-eqb, arith}
+use Rattle.lapd_frame.specs.declared.controls.Control.{Control}
+use Rattle.lapd_frame.specs.declared.controls.Control.TheVariants.{Information, ReceiveReady, ReceiveNotReady, Reject, Sabme, Disc, Ui, Ua, Dm, Frmr, Xid}
+use Rattle.lapd_frame.specs.Grammar.{Parts}
+use Rattle.lapd_seq.specs.declared.numbers.Seq.{Seq}
+use Rattle.lapd_seq.specs.Numbers.{seq}
+use Rattle.model_link.specs.declared.timers.LinkTimer.{LinkTimer}
+use Rattle.model_link.specs.declared.terms.Terms.{Terms}
+use Rattle.model_link.specs.Events.{frame, received, expired}
+use Rattle.model_link.specs.Link.{Link, is_multiple_frame, frame_of}
+use Rattle.model_link.specs.Machine.{after, frame_step}
+use Rattle.model_link.specs.MultipleFrame.{is_next}
+use Rattle.model_link.specs.Steps.{begun}
+use Rattle.model_link.specs.TwoEnds.{End, with_link, with_sent}
+use Rattle.model_link.specs.Words.{has_room, ready_to_receive, response}
+use Rattle.model_link.proofs.Direction.{line_of, frames_of}
+use Rattle.model_link.proofs.Lines.{Rising}
+use Rattle.laws_two_links.specs.Timely.{IsTimely}
+use Rattle.laws_two_links.proofs.Effects.{is_recovering, Takes, Heard}
+use Rattle.laws_two_links.proofs.Flow.{Flow, most}
+use Rattle.laws_two_links.proofs.Going.{offer-goes}
+use Rattle.laws_two_links.proofs.HeardRows.{heard}
+use Rattle.laws_two_links.proofs.Meeting.{line, Longer, line-longer, NoAlien, is-no-alien}
+use Rattle.laws_two_links.proofs.Trains.{Kind, numbered, enquiry, answer, report, rejection, alien, kind_of, kinds_of, kinds-append, tally, tally-push, one_enquiry, one_answer}
+use Rattle.laws_wire.proofs.Asking.{with_more}
+use Rattle.laws_wire.proofs.Dense.{Dense, Owed, Replies, owed-after}
+use Rattle.laws_wire.proofs.Firm.{Firm}
+use Rattle.laws_wire.proofs.Replying.{Enquired, line-push, expires-so, offer-says, Same, ready-same, reject-same, Answers, enquiry-answered, Next, next-taken}
+use Rattle.laws_wire.proofs.Roomy.{kinds, roomy}
+use Rattle.laws_wire.proofs.Sure.{Asking, Steady, Sure, one-at-most, longer-tally, room-for, none-open}
+use Rattle.laws_wire.proofs.Tame.{IsFree}
+
+replied-tally : (r : ℕ) (owes owes' : Bool) (fs fs' : List Parts) → Replies r owes owes' fs fs' → tally one_answer (kinds_of fs) ≤ tally one_answer (kinds_of fs')
+replied-tally r owes owes' fs fs' (inl (same, e)) = let is : tally one_answer (kinds_of fs') ≡ tally one_answer (kinds_of fs) = ap (λ xs. tally one_answer (kinds_of xs)) e in omega (arith, is)
+replied-tally r owes owes' fs fs' (inr (f, e, means)) =
+    let x = kind_of f.address.command f.control in
+    let is : tally one_answer (kinds_of fs') ≡ tally one_answer (kinds_of fs) + one_answer x =
+    ap (λ xs. tally one_answer (kinds_of xs)) e ∙ ap (tally one_answer) (kinds-append fs (f ∷ [])) ∙ tally-push one_answer (kinds_of fs) x in
+    omega (arith, is)
+
+-- The other end has the same V(R), and says nothing, or has it in what it says.
+module _ (n m : End) (rising : Rising m.link.a n.link.r (line_of n)) (l' : Link) (way : List Parts) (ds : List (List ℕ)) where
+  abbrev then : End
+  then = record n { link = l'; way = way; delivered = ds }
+
+  pub sure-replied : l'.r ≡ n.link.r → Replies n.link.r n.link.pending l'.pending (line_of n) (line_of then) → Sure m n → Sure m then
+  sure-replied same says (inl q) =
+      let some = q.open_ in
+      let more = replied-tally n.link.r n.link.pending l'.pending (line_of n) (line_of then) says in
+      inl (record { state = q.state; open_ = omega (arith, some, more) })
+  sure-replied same says (inr q) = inr (record {
+    state = q.state;
+    dense = subst (λ r. Dense r m.link.s (kinds m)) (sym same) q.dense;
+    owed = subst (λ r. Owed m.link.a r l'.pending (line_of then)) (sym same)
+        (owed-after m.link.a n.link.r n.link.pending l'.pending (line_of n) (line_of then) rising says q.owed);
+  })
+
+module _ (n m : End) (h : Firm n m) (wide : 3 ≤ n.terms.control) where
+  pub other-asks : (octets : List ℕ) → Sure m n → Sure m (with_more octets n)
+  other-asks octets s = sure-replied n m h.joined.back.rising (with_more octets n).link n.way n.delivered refl (inl (refl, refl)) s
+
+  pub other-sends : Sure m n → Sure m (with_sent n)
+  other-sends s = sure-replied n m h.joined.back.rising (with_sent n).link (with_sent n).way n.delivered (offer-goes n.terms n.link).r (offer-says n.terms n.link n.way) s
+
+  pub other-expires : (timer : LinkTimer) → IsTimely timer n m → IsTrue (is_multiple_frame (after n.terms (expired timer) n.link).state) → Sure m n → Sure m (with_link (expired timer) n)
+  other-expires timer timely up s = go (expires-so n.terms n.link h.joined.near_up timer (λ running. room-for n m h wide (none-open n m h wide timer timely running)) up)
+    where
+      l' : Link
+      l' = after n.terms (expired timer) n.link
+
+      ds : List (List ℕ)
+      ds = (with_link (expired timer) n).delivered
+
+      go : (l' ≡ n.link) ⊎ Enquired n.terms n.link l' → Sure m (with_link (expired timer) n)
+      go (inl e) = subst (λ l. Sure m (record n { link = l; delivered = ds })) (sym e) (sure-replied n m h.joined.back.rising n.link n.way ds refl (inl (refl, refl)) s)
+      go (inr q) = sure-replied n m h.joined.back.rising l' n.way ds q.r (inr (frame_of n.terms q.frame, line-push n.terms n.way n.link.waiting l'.waiting q.frame q.waits, q.means)) s
+
+-- ---- it hears a frame
+
+-- one that asks nothing and carries nothing
+abbrev IsMere : Kind → Type 0
+IsMere (numbered ns) = ⊥
+IsMere enquiry = ⊥
+IsMere (answer nr) = Unit {0}
+IsMere report = Unit {0}
+IsMere (rejection nr) = Unit {0}
+IsMere alien = ⊥
+
+module _ (t : Terms) (l : Link) (before : IsTrue (is_multiple_frame l.state)) (octets : List ℕ) where
+  abbrev IsUpBy : Bool → Control → Type 0
+  IsUpBy b control = IsTrue (is_multiple_frame (frame_step t b octets control (begun l)).link.state)
+
+  mere-same : (b : Bool) (control : Control) → IsMere (kind_of b control) → IsFree control → IsUpBy b control → Same t l (frame_step t b octets control (begun l)).link
+  mere-same b (Information ns nr true) is free up = absurd is
+  mere-same b (Information ns nr false) is free up = absurd is
+  mere-same true (ReceiveReady nr true) is free up = absurd is
+  mere-same true (ReceiveReady nr false) is free up = ready-same t l before true false nr octets refl up
+  mere-same false (ReceiveReady nr pf) is free up = ready-same t l before false pf nr octets refl up
+  mere-same b (ReceiveNotReady nr pf) is free up = absurd (true≢false free)
+  mere-same true (Reject nr pf) is free up = absurd is
+  mere-same false (Reject nr true) is free up = absurd is
+  mere-same false (Reject nr false) is free up = reject-same t l before nr octets up
+  mere-same b (Sabme p) is free up = absurd is
+  mere-same b (Disc p) is free up = absurd is
+  mere-same b (Ui p) is free up = absurd is
+  mere-same b (Ua f) is free up = absurd is
+  mere-same b (Dm f) is free up = absurd is
+  mere-same b (Frmr f) is free up = absurd is
+  mere-same b (Xid pf) is free up = absurd is
+
+  -- an enquiry
+  asked-answers : has_room t l ≡ true → (b : Bool) (control : Control) → kind_of b control ≡ enquiry → IsFree control → IsUpBy b control
+      → Answers t l (frame_step t b octets control (begun l)).link
+  asked-answers room b (Information ns nr true) e free up = absurd (cc e)
+  asked-answers room b (Information ns nr false) e free up = absurd (cc e)
+  asked-answers room true (ReceiveReady nr true) e free up = enquiry-answered t l before room nr octets up
+  asked-answers room true (ReceiveReady nr false) e free up = absurd (cc e)
+  asked-answers room false (ReceiveReady nr true) e free up = absurd (cc e)
+  asked-answers room false (ReceiveReady nr false) e free up = absurd (cc e)
+  asked-answers room b (ReceiveNotReady nr pf) e free up = absurd (true≢false free)
+  asked-answers room true (Reject nr pf) e free up = absurd (cc e)
+  asked-answers room false (Reject nr true) e free up = absurd (cc e)
+  asked-answers room false (Reject nr false) e free up = absurd (cc e)
+  asked-answers room b (Sabme p) e free up = absurd (cc e)
+  asked-answers room b (Disc p) e free up = absurd (cc e)
+  asked-answers room b (Ui p) e free up = absurd (cc e)
+  asked-answers room b (Ua f) e free up = absurd (cc e)
+  asked-answers room b (Dm f) e free up = absurd (cc e)
+  asked-answers room b (Frmr f) e free up = absurd (cc e)
+  asked-answers room b (Xid pf) e free up = absurd (cc e)
+
+  -- the next I-frame
+  numbered-taken : l.own_busy ≡ false → (b : Bool) (control : Control) → kind_of b control ≡ numbered (seq l.r) → IsUpBy b control
+      → Next t l (frame_step t b octets control (begun l)).link
+  numbered-taken own b (Information ns nr true) e up = absurd (cc e)
+  numbered-taken own b (Information ns nr false) e up =
+      let is : ns ≡ seq l.r = cc e in
+      let next : is_next ns l ≡ true = ap (λ (x : Seq). x.value == (seq l.r).value) is ∙ eq-eqb (seq l.r).value (seq l.r).value refl in
+      next-taken t l own ns next nr octets before b up
+  numbered-taken own true (ReceiveReady nr true) e up = absurd (cc e)
+  numbered-taken own true (ReceiveReady nr false) e up = absurd (cc e)
+  numbered-taken own false (ReceiveReady nr true) e up = absurd (cc e)
+  numbered-taken own false (ReceiveReady nr false) e up = absurd (cc e)
+  numbered-taken own true (ReceiveNotReady nr true) e up = absurd (cc e)
+  numbered-taken own true (ReceiveNotReady nr false) e up = absurd (cc e)
+  numbered-taken own false (ReceiveNotReady nr true) e up = absurd (cc e)
+  numbered-taken own false (ReceiveNotReady nr false) e up = absurd (cc e)
+  numbered-taken own true (Reject nr pf) e up = absurd (cc e)
+  numbered-taken own false (Reject nr true) e up = absurd (cc e)
+  numbered-taken own false (Reject nr false) e up = absurd (cc e)
+  numbered-taken own b (Sabme p) e up = absurd (cc e)
+  numbered-taken own b (Disc p) e up = absurd (cc e)
+  numbered-taken own b (Ui p) e up = absurd (cc e)
+  numbered-taken own b (Ua f) e up = absurd (cc e)
+  numbered-taken own b (Dm f) e up = absurd (cc e)
+  numbered-taken own b (Frmr f) e up = absurd (cc e)
+  numbered-taken own b (Xid pf) e up = absurd (cc e)
+
+answer-kind : (b : Bool) (r : ℕ) → one_answer (kind_of false (cond b (ReceiveNotReady (seq r) true) (ReceiveReady (seq r) true))) ≡ 1
+answer-kind true r = refl
+answer-kind false r = refl
+
+module _ (n m : End) (h : Firm n m) (wide : 3 ≤ n.terms.control) (p : Parts) (fs : List Parts) (first : m.way ≡ p ∷ fs) (free : IsFree p.control)
+    (up' : IsTrue (is_multiple_frame (after n.terms (received (frame p)) n.link).state)) where
+  abbrev l' : Link
+  l' = after n.terms (received (frame p)) n.link
+
+  abbrev n' : End
+  n' = with_link (received (frame p)) n
+
+  abbrev m' : End
+  m' = record m { way = fs }
+
+  abbrev x : Kind
+  x = kind_of p.address.command p.control
+
+  abbrev rest : List Kind
+  rest = line m.terms fs m.link.waiting
+
+  back : Flow m.link.s n.link.r (is_recovering m.link.state) n.link.rejecting (x ∷ rest) (kinds n)
+  back = subst (λ way. Flow m.link.s n.link.r (is_recovering m.link.state) n.link.rejecting (line m.terms way m.link.waiting) (kinds n)) first h.back
+
+  known : NoAlien x
+  known = is-no-alien m.link.s n.link.r (is_recovering m.link.state) n.link.rejecting x rest (kinds n) back
+
+  -- the sender has one frame less on its way, of which none was an enquiry
+  less : (y : Kind) → x ≡ y → one_enquiry y ≡ 0 → Asking m n → Asking m' n
+  less y e none q =
+      let all : kinds m ≡ y ∷ rest = ap (λ way. line m.terms way m.link.waiting) first ∙ ap (λ z. z ∷ rest) e in
+      let some : 1 ≤ (one_enquiry y + tally one_enquiry rest) + tally one_answer (kinds n) = subst (λ xs. 1 ≤ tally one_enquiry xs + tally one_answer (kinds n)) all q.open_ in
+      record { state = q.state; open_ = omega (arith, some, none) }
+
+  abbrev Rest : Kind → Type 0
+  Rest y = Dense n.link.r m.link.s (y ∷ rest)
+
+  dense-first : (y : Kind) → x ≡ y → Steady m n → Rest y
+  dense-first y e q = subst (Dense n.link.r m.link.s) (ap (λ way. line m.terms way m.link.waiting) first ∙ ap (λ z. z ∷ rest) e) q.dense
+
+  -- a mere frame
+  by-mere : (y : Kind) → x ≡ y → IsMere y → one_enquiry y ≡ 0 → (Rest y → Dense n.link.r m.link.s rest) → Sure m n → Sure m' n'
+  by-mere y e is none behind s =
+      let same = mere-same n.terms n.link h.joined.near_up p.info p.address.command p.control (subst IsMere (sym e) is) free up' in
+      sure-replied n m' h.joined.back.rising l' n.way (with_link (received (frame p)) n).delivered same.r
+      (inl (same.pending, ap (λ ws. n.way ++ frames_of n.terms ws) same.waiting)) (go s)
+    where
+      go : Sure m n → Sure m' n
+      go (inl q) = inl (less y e none q)
+      go (inr q) = inr (record { state = q.state; dense = behind (dense-first y e q); owed = q.owed })
+
+  -- an I-frame
+  abbrev Then : Kind → Type 0
+  Then y = Longer (kinds n) (line n.terms n.way l'.waiting) y
+
+  took-line : (ns : Seq) → Takes ns n.link l' → Then (rejection (seq n.link.r))
+  took-line ns (inl t) = inl (ap (λ ws. line n.terms n.way ws) t.2)
+  took-line ns (inr (inl t)) = inl (ap (λ ws. line n.terms n.way ws) t.3)
+  took-line ns (inr (inr t)) = line-longer n.terms n.way n.link.waiting l'.waiting (rejection (seq n.link.r)) t.4
+
+  by-numbered : (ns : Seq) → x ≡ numbered ns → Takes ns n.link l' → Sure m n → Sure m' n'
+  by-numbered ns e takes (inl q) =
+      let q' = less (numbered ns) e refl q in
+      let some = q'.open_ in
+      let more = longer-tally one_answer (kinds n) (kinds n') (rejection (seq n.link.r)) (took-line ns takes) in
+      inl (record { state = q'.state; open_ = omega (arith, some, more) })
+  by-numbered ns e takes (inr q) =
+      let d = dense-first (numbered ns) e q in
+      let next = numbered-taken n.terms n.link h.joined.near_up p.info h.near_free p.address.command p.control (e ∙ ap numbered d.0) up' in
+      inr (record { state = q.state; dense = subst (λ r. Dense r m.link.s rest) (sym next.r) d.1; owed = inl next.pending })
+
+  -- an enquiry
+  asked : (1 + tally one_enquiry rest) + tally one_answer (kinds n) ≤ most (is_recovering m.link.state) → tally one_enquiry (kinds n) + tally one_answer (kinds n) ≤ 1
+  asked all =
+      let one : most (is_recovering m.link.state) ≤ 1 = one-at-most (is_recovering m.link.state) in
+      let own : tally one_enquiry (kinds n) + tally one_answer (kinds m) ≤ most (is_recovering n.link.state) = h.there.asked in
+      let other : most (is_recovering n.link.state) ≤ 1 = one-at-most (is_recovering n.link.state) in
+      omega (arith, all, one, own, other)
+
+  back-as : x ≡ enquiry → (1 + tally one_enquiry rest) + tally one_answer (kinds n) ≤ most (is_recovering m.link.state)
+  back-as e = subst (λ y. (one_enquiry y + tally one_enquiry rest) + tally one_answer (kinds n) ≤ most (is_recovering m.link.state)) e back.asked
+
+  by-enquiry : x ≡ enquiry → Sure m n → Sure m' n'
+  by-enquiry e (inl q) =
+      let room = roomy n m h wide (asked (back-as e)) in
+      let a = asked-answers n.terms n.link h.joined.near_up p.info room p.address.command p.control e free up' in
+      let f = response (ready_to_receive true n.link) in
+      let one : one_answer (kind_of f.command f.control) ≡ 1 = answer-kind n.link.own_busy n.link.r in
+      let all : tally one_answer (kinds n') ≡ tally one_answer (kinds n) + one_answer (kind_of f.command f.control) =
+      ap (λ fs. tally one_answer (kinds_of fs)) (line-push n.terms n.way n.link.waiting l'.waiting f a.waits)
+      ∙ ap (tally one_answer) (kinds-append (line_of n) (frame_of n.terms f ∷ [])) ∙ tally-push one_answer (kinds n) (kind_of f.command f.control) in
+      inl (record { state = q.state; open_ = omega (arith, one, all) })
+  by-enquiry e (inr q) =
+      let none : (1 + tally one_enquiry rest) + tally one_answer (kinds n) ≤ 0 =
+      subst (λ s. (1 + tally one_enquiry rest) + tally one_answer (kinds n) ≤ most (is_recovering s)) q.state (back-as e) in
+      absurd (omega (arith, none))
+
+  by-kind : (y : Kind) → x ≡ y → NoAlien y → Heard y (is_recovering n.link.state) n.link l' → Sure m n → Sure m' n'
+  by-kind (numbered ns) e known_ k s = by-numbered ns e k.takes s
+  by-kind enquiry e known_ k s = by-enquiry e s
+  by-kind (answer nr) e known_ k s = by-mere (answer nr) e tt refl (λ d. d) s
+  by-kind report e known_ k s = by-mere report e tt refl (λ d. d) s
+  by-kind (rejection nr) e known_ k s = by-mere (rejection nr) e tt refl (λ d. d) s
+  by-kind alien e known_ k s = absurd known_
+
+  pub other-hears : Sure m n → Sure m' n'
+  other-hears s = by-kind x refl known (heard n.terms n.link h.joined.near_up p.address.command p.info p.control up') s

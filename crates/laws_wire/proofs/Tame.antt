@@ -1,0 +1,208 @@
+-- Two ends of which neither was ever busy: no RNR is on their ways, and what waits at either is enquiries, answers and REJ.
+use Rattle.std.proofs.Common.{◌≡◌, ℕ, ◌+◌, Bool, true, false, cond, not, ◌&&◌, ◌||◌, IsTrue, List, [], ◌∷◌, ◌++◌, take, refl, sym, ap, subst, ◌∙◌, true≢false}
+use Rattle.std.specs.Prelude.{All}
+use Rattle.std.proofs.lemmas.List.Elements.{All-nil, All-cons, All-head, All-append, All-take, All-drop}
+use Rattle.lapd_seq.specs.Numbers.{seq}
+use Rattle.lapd_frame.specs.declared.controls.Control.{Control}
+use Rattle.lapd_frame.specs.declared.controls.Control.TheVariants.{Information, ReceiveReady, ReceiveNotReady, Reject, Sabme, Disc, Ui, Ua, Dm, Frmr, Xid}
+use Rattle.lapd_frame.specs.Grammar.{Parts}
+use Rattle.model_link.specs.declared.states.State.{State}
+use Rattle.model_link.specs.declared.states.State.TheVariants.{TeiAssigned, AwaitingEstablishment, AwaitingRelease, Established, TimerRecovery}
+use Rattle.model_link.specs.declared.timers.LinkTimer.{LinkTimer}
+use Rattle.model_link.specs.declared.frames.ControlFrame.{ControlFrame}
+use Rattle.model_link.specs.declared.terms.Terms.{Terms}
+use Rattle.model_link.specs.Link.{Link, is_multiple_frame}
+use Rattle.model_link.specs.Events.{Event, frame, undefined, wrong_size, overlong, received, expired, requested, offer, cleared, Establish, Release, Data, SetBusy, ClearBusy}
+use Rattle.model_link.specs.Machine.{after, given_of}
+use Rattle.model_link.specs.Offers
+use Rattle.model_link.specs.Steps.{Course, begun}
+use Rattle.model_link.specs.TwoEnds.{End, with_link, with_sent, with_first_of, with_first_lost, frame_given}
+use Rattle.laws_link.specs.Flags.{busy_by, busy_heard, flag_left}
+use Rattle.laws_link.specs.States.{as_heard, is_overlong, moves}
+use Rattle.laws_link.specs.Waiting.{receipt_as, as_response, answers_to, command_in, is_next, is_time, room, waiting_left}
+use Rattle.laws_link.proofs.Follows.{event-follows}
+use Rattle.laws_two_links.proofs.Meeting.{NoAlien}
+use Rattle.laws_two_links.proofs.Trains.{Kind, kind_of, one_enquiry, one_answer, one_rejection}
+
+abbrev pub IsFree : Control → Type 0
+IsFree control = busy_by control false ≡ false
+
+abbrev pub IsFreeFrame : Parts → Type 0
+IsFreeFrame f = IsFree f.control
+
+-- one of the three kinds
+abbrev pub counts : Kind → ℕ
+counts x = one_enquiry x + one_answer x + one_rejection x
+
+pub record WaitsSo (f : ControlFrame) : Type 0 where
+  pub free : IsFree f.control
+  pub one : counts (kind_of f.command f.control) ≡ 1
+
+pub record Tame (n : End) : Type 0 where
+  pub peer_free : n.link.peer_busy ≡ false
+  pub waiting : All WaitsSo n.link.waiting
+  pub way : All IsFreeFrame n.way
+
+abbrev Few : Event → Type 0
+Few (received (frame f)) = NoAlien (kind_of f.address.command f.control) × IsFree f.control
+Few (received other) = Unit {0}
+Few (expired timer) = Unit {0}
+Few (requested (Data octets) full) = Unit {0}
+Few (requested other full) = ⊥
+Few offer = Unit {0}
+Few cleared = Unit {0}
+
+off : (b c x : Bool) → x ≡ false → cond b false (cond c x false) ≡ false
+off true c x e = refl
+off false true x e = e
+off false false x e = refl
+
+module _ (t : Terms) (l : Link) (own : l.own_busy ≡ false) where
+  either : (b : Bool) (xs ys : List ControlFrame) → All WaitsSo xs → All WaitsSo ys → All WaitsSo (cond b xs ys)
+  either true xs ys x y = x
+  either false xs ys x y = y
+
+  none : All WaitsSo []
+  none = All-nil WaitsSo
+
+  rejects : All WaitsSo (as_response (Reject (seq l.r) false))
+  rejects = All-cons WaitsSo (record { command = false; control = Reject (seq l.r) false }) [] (record { free = refl; one = refl }) none
+
+  answered : (r : ℕ) → All WaitsSo (as_response (receipt_as l.own_busy r true))
+  answered r =
+      subst (λ b. All WaitsSo (as_response (receipt_as b r true))) (sym own)
+      (All-cons WaitsSo (record { command = false; control = ReceiveReady (seq r) true }) [] (record { free = refl; one = refl }) none)
+
+  -- what a frame is answered by
+  answers-so : (b : Bool) (control : Control) → NoAlien (kind_of b control) → All WaitsSo (answers_to b control l)
+  answers-so b (Information ns nr true) h = absurd h
+  answers-so b (Information ns nr false) h =
+      either (is_multiple_frame l.state) _ _ (either (not l.own_busy && (not (is_next ns l) && not l.rejecting)) _ _ rejects none) none
+  answers-so true (ReceiveReady nr pf) h = either (is_multiple_frame l.state) _ _ (either pf _ _ (answered l.r) none) none
+  answers-so false (ReceiveReady nr pf) h = either (is_multiple_frame l.state) _ _ none none
+  answers-so true (ReceiveNotReady nr pf) h = either (is_multiple_frame l.state) _ _ (either pf _ _ (answered l.r) none) none
+  answers-so false (ReceiveNotReady nr pf) h = either (is_multiple_frame l.state) _ _ none none
+  answers-so true (Reject nr pf) h = absurd h
+  answers-so false (Reject nr pf) h = either (is_multiple_frame l.state) _ _ none none
+  answers-so b (Sabme p) h = absurd h
+  answers-so b (Disc p) h = absurd h
+  answers-so b (Ui p) h = absurd h
+  answers-so b (Ua f) h = absurd h
+  answers-so b (Dm f) h = absurd h
+  answers-so b (Frmr f) h = absurd h
+  answers-so b (Xid pf) h = absurd h
+
+  commands-so : (to : State) → IsTrue (is_multiple_frame to) → All WaitsSo (command_in to l)
+  commands-so TeiAssigned up = none
+  commands-so AwaitingEstablishment up = absurd (true≢false (sym up))
+  commands-so AwaitingRelease up = absurd (true≢false (sym up))
+  commands-so Established up = none
+  commands-so TimerRecovery up =
+      subst (λ b. All WaitsSo (record { command = true; control = receipt_as b l.r true } ∷ [])) (sym own)
+      (All-cons WaitsSo (record { command = true; control = ReceiveReady (seq l.r) true }) [] (record { free = refl; one = refl }) none)
+
+  module _ (waits : All WaitsSo l.waiting) (to : State) (up : IsTrue (is_multiple_frame to)) where
+    behind-so : (frames : List ControlFrame) (b : Bool) → All WaitsSo frames
+        → All WaitsSo (l.waiting ++ take (room t l) (frames ++ cond b (command_in to l) []))
+    behind-so frames b h =
+        let more = cond b (command_in to l) [] in
+        All-append WaitsSo l.waiting (take (room t l) (frames ++ more)) waits
+        (All-take WaitsSo (room t l) (frames ++ more) (All-append WaitsSo frames more h (either b (command_in to l) [] (commands-so to up) none)))
+
+    left-so : (e : Event) → Few e → All WaitsSo (waiting_left t e l to)
+    left-so (received (frame f)) may = behind-so (answers_to f.address.command f.control l) (moves l.state to || false) (answers-so f.address.command f.control may.0)
+    left-so (received undefined) may = behind-so [] (moves l.state to || false) none
+    left-so (received wrong_size) may = behind-so [] (moves l.state to || false) none
+    left-so (received overlong) may = behind-so [] (moves l.state to || false) none
+    left-so (expired timer) may = behind-so [] (moves l.state to || is_time (expired timer) l) none
+    left-so (requested Establish full) may = absurd may
+    left-so (requested Release full) may = absurd may
+    left-so (requested (Data octets) full) may = behind-so [] (moves l.state to || false) none
+    left-so (requested SetBusy full) may = absurd may
+    left-so (requested ClearBusy full) may = absurd may
+    left-so offer may = All-drop WaitsSo 1 l.waiting waits
+    left-so cleared may = none
+
+    heard-so : (b : Bool) (f : Parts) → Few (received (frame f)) → All WaitsSo (waiting_left t (received (cond b overlong (frame f))) l to)
+    heard-so true f may = left-so (received overlong) tt
+    heard-so false f may = left-so (received (frame f)) may
+
+    by-event : (e : Event) → Few e → All WaitsSo (waiting_left t (as_heard t e) l to)
+    by-event (received (frame f)) may = heard-so (is_overlong t f.control f.info) f may
+    by-event (received undefined) may = left-so (received undefined) tt
+    by-event (received wrong_size) may = left-so (received wrong_size) tt
+    by-event (received overlong) may = left-so (received overlong) tt
+    by-event (expired timer) may = left-so (expired timer) tt
+    by-event (requested request full) may = left-so (requested request full) may
+    by-event offer may = left-so offer tt
+    by-event cleared may = left-so cleared tt
+
+  waits-after : (e : Event) → Few e → All WaitsSo l.waiting → IsTrue (is_multiple_frame (after t e l).state) → All WaitsSo (after t e l).waiting
+  waits-after e may waits up = subst (All WaitsSo) (sym (event-follows t e l).leaves.waiting) (by-event waits (after t e l).state up e may)
+
+  -- the other end is never taken for busy
+  unheard : (e : Event) → Few e → busy_heard (as_heard t e) false ≡ false
+  unheard (received (frame f)) may = by (is_overlong t f.control f.info)
+    where
+      by : (b : Bool) → busy_heard (received (cond b overlong (frame f))) false ≡ false
+      by true = refl
+      by false = may.1
+  unheard (received undefined) may = refl
+  unheard (received wrong_size) may = refl
+  unheard (received overlong) may = refl
+  unheard (expired timer) may = refl
+  unheard (requested request full) may = refl
+  unheard offer may = refl
+  unheard cleared may = refl
+
+  free-after : (e : Event) → Few e → l.peer_busy ≡ false → (after t e l).peer_busy ≡ false
+  free-after e may is =
+      let to = (after t e l).state in
+      (event-follows t e l).leaves.peer_busy ∙ ap (λ b. flag_left (as_heard t e) l to (busy_heard (as_heard t e) b) b) is
+      ∙ off _ (is_multiple_frame l.state) (busy_heard (as_heard t e) false) (unheard e may)
+
+  -- what an offer gives
+  abbrev GivesFree : Course → Type 0
+  GivesFree c = All IsFreeFrame (frame_given t (given_of t l c c.sent))
+
+  either-gives : (b : Bool) (u v : Course) → GivesFree u → GivesFree v → GivesFree (cond b u v)
+  either-gives true u v x y = x
+  either-gives false u v x y = y
+
+  offers-free : (ws : List ControlFrame) → All WaitsSo ws → GivesFree (Offers.offer_among t ws (begun l))
+  offers-free (f ∷ fs) h = All-cons IsFreeFrame _ [] (All-head WaitsSo f fs h).free (All-nil IsFreeFrame)
+  offers-free [] h =
+      either-gives (Offers.may_send_information t l) _ _
+      (either-gives (Offers.is_awaiting_acknowledgement (Offers.with_one_sent l)) _ _ (All-cons IsFreeFrame _ [] refl (All-nil IsFreeFrame)) (All-cons IsFreeFrame _ [] refl (All-nil IsFreeFrame)))
+      (either-gives l.pending _ _ (All-cons IsFreeFrame _ [] refl (All-nil IsFreeFrame)) (All-nil IsFreeFrame))
+
+-- ---- an end, as something happens at it
+
+module _ (n : End) (h : Tame n) (own : n.link.own_busy ≡ false) where
+  tame-event : (e : Event) → Few e → IsTrue (is_multiple_frame (after n.terms e n.link).state) → Tame (with_link e n)
+  tame-event e may up = record {
+    peer_free = free-after n.terms n.link own e may h.peer_free;
+    waiting = waits-after n.terms n.link own e may h.waiting up;
+    way = h.way;
+  }
+
+  pub tame-asks : (octets : List ℕ) → IsTrue (is_multiple_frame (after n.terms (requested (Data octets) false) n.link).state) → Tame (with_link (requested (Data octets) false) n)
+  tame-asks octets up = tame-event (requested (Data octets) false) tt up
+
+  pub tame-expires : (timer : LinkTimer) → IsTrue (is_multiple_frame (after n.terms (expired timer) n.link).state) → Tame (with_link (expired timer) n)
+  tame-expires timer up = tame-event (expired timer) tt up
+
+  pub tame-sends : IsTrue (is_multiple_frame (after n.terms offer n.link).state) → Tame (with_sent n)
+  tame-sends up = record {
+    peer_free = free-after n.terms n.link own offer tt h.peer_free;
+    waiting = waits-after n.terms n.link own offer tt h.waiting up;
+    way = All-append IsFreeFrame n.way _ h.way (offers-free n.terms n.link own n.link.waiting h.waiting);
+  }
+
+  pub tame-loses : Tame (with_first_lost n)
+  tame-loses = record { peer_free = h.peer_free; waiting = h.waiting; way = All-drop IsFreeFrame 1 n.way h.way }
+
+  pub tame-takes : (way : List Parts) → All IsFreeFrame way → ((f : Parts) (fs : List Parts) → way ≡ f ∷ fs → NoAlien (kind_of f.address.command f.control))
+      → IsTrue (is_multiple_frame (with_first_of way n).link.state) → Tame (with_first_of way n)
+  tame-takes [] free known up = h
+  tame-takes (f ∷ fs) free known up = tame-event (received (frame f)) (known f fs refl, All-head IsFreeFrame f fs free) up

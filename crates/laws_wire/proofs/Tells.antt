@@ -1,0 +1,111 @@
+-- A station, the end for which it stands, and what its layer 3 heard.
+use Rattle.std.proofs.Common.{◌≡◌, ℕ, List, [], ◌∷◌, ◌++◌, map, drop, refl, sym, ap, subst, ◌∙◌}
+use Rattle.std.specs.Prelude.{All, flat_map}
+use Rattle.std.proofs.lemmas.List.Concat.{flat_map-append}
+use Rattle.std.proofs.lemmas.List.Elements.{All-nil, All-head}
+use Rattle.lapd_frame.specs.declared.services.Service.{Service}
+use Rattle.lapd_frame.specs.declared.timers.Timer.{Timer}
+use Rattle.lapd_frame.specs.Grammar.{Parts, spelling}
+use Rattle.model_link.specs.declared.timers.LinkTimer.{LinkTimer}
+use Rattle.model_link.specs.Events as link
+use Rattle.model_link.specs.Machine.{course}
+use Rattle.model_link.specs.TwoEnds.{End, with_link, with_sent}
+use Rattle.model_line.specs.declared.config.Config.{Config}
+use Rattle.model_line.specs.Event.{LineTold, expiry, next}
+use Rattle.laws_two_links.specs.Waits.{HasNothingToSend}
+use Rattle.laws_two_links.proofs.Waiting.{nothing-to_send}
+use Rattle.laws_wire.specs.Wire.{Station, happens, comes, with_first_lost}
+use Rattle.laws_wire.specs.Losing.{for_layer_3, heard_in}
+use Rattle.laws_wire.proofs.Answered.{gives-told}
+use Rattle.laws_wire.proofs.LossyPhases.{Aims}
+use Rattle.laws_wire.proofs.Speaking.{said_by}
+use Rattle.laws_wire.proofs.Standing.{IsCarried, Stands, gives-stands, expires-stands, expires-said}
+use Rattle.laws_wire.proofs.Talking.{Face, unheard, takes as takes_frame}
+use Rattle.laws_wire.proofs.Up.{stays}
+
+-- A station stands for an end, whose layer 3 heard this.
+pub record Tells (service : Service) (tei : ℕ) (k : Config) (place : ℕ) (heard : List LineTold) (s : Station) (n : End) : Type 0 where
+  pub stands : Stands k service tei place s n
+  pub told : heard_in s ≡ heard
+
+module _ (service : Service) (tei : ℕ) where
+  abbrev T : Config → ℕ → List LineTold → Station → End → Type 0
+  T k place heard s n = Tells service tei k place heard s n
+
+  -- what it delivered is no part of it
+  pub as-end : (k : Config) (place : ℕ) (hs hs' : List LineTold) (s : Station) (n n' : End) → T k place hs s n → record n { delivered = n'.delivered } ≡ n' → hs ≡ hs' → T k place hs' s n'
+  as-end k place hs hs' s n n' h e same = record {
+    stands = subst (Stands k service tei place s) e (record {
+      config = h.stands.config;
+      sound = h.stands.sound;
+      within = h.stands.within;
+      speaks = h.stands.speaks;
+      terms = h.stands.terms;
+      way = h.stands.way;
+      carried = h.stands.carried;
+    });
+    told = h.told ∙ same;
+  }
+
+  own : (k : Config) (place : ℕ) (hs : List LineTold) (s : Station) (n : End) → T k place hs s n → Stands s.card.config service tei place s n
+  own k place hs s n h = subst (λ k. Stands k service tei place s n) (sym h.stands.config) h.stands
+
+  module _ (k : Config) (place : ℕ) (hs : List LineTold) (s : Station) (n : End) (h : T k place hs s n) where
+    pub t-given : T k place hs (happens next s) (with_sent n)
+    t-given = record {
+      stands = subst (λ k. Stands k service tei place (happens next s) (with_sent n)) h.stands.config (gives-stands service tei place s n (own k place hs s n h));
+      told = ap (flat_map for_layer_3) (gives-told s) ∙ h.told;
+    }
+
+    abbrev After : Parts → End
+    After f = with_link (link.received (link.frame f)) n
+
+    abbrev more-by : Parts → List LineTold
+    more-by f = flat_map for_layer_3 (said_by (course n.terms (link.received (link.frame f)) n.link))
+
+    pub t-taken : (d : Config) → Face k d → (f : Parts) → IsCarried d service tei f → T k place (hs ++ more-by f) (comes (spelling d.side f) s) (After f)
+    t-taken d face f from =
+        let x = takes_frame service tei place unheard k d face s n f h.stands from in
+        record {
+          stands = x.stands;
+          told = ap (flat_map for_layer_3) x.told ∙ flat_map-append for_layer_3 s.told (said_by (course n.terms (link.received (link.frame f)) n.link)) ∙ ap (λ ts. ts ++ more-by f) h.told;
+        }
+
+    pub t-expired : (timer : Timer) (its : LinkTimer) → Aims service tei timer its
+        → T k place (hs ++ flat_map for_layer_3 (said_by (course n.terms (link.expired its) n.link))) (happens (expiry timer) s) (with_link (link.expired its) n)
+    t-expired timer its aims = record {
+      stands =
+          subst (λ k. Stands k service tei place (happens (expiry timer) s) (with_link (link.expired its) n)) h.stands.config
+          (expires-stands service tei place s n (own k place hs s n h) timer its aims);
+      told =
+          ap (flat_map for_layer_3) (expires-said service tei place s n (own k place hs s n h) timer its aims)
+          ∙ flat_map-append for_layer_3 s.told (said_by (course n.terms (link.expired its) n.link))
+          ∙ ap (λ ts. ts ++ flat_map for_layer_3 (said_by (course n.terms (link.expired its) n.link))) h.told;
+    }
+
+  -- its only frame is lost, or taken
+  pub t-lost : (k : Config) (place : ℕ) (hs : List LineTold) (s : Station) (n : End) (f : Parts) → n.way ≡ f ∷ [] → T k place hs s n → T k place hs (with_first_lost s) (record n { way = [] })
+  t-lost k place hs s n f one h = record {
+    stands = record {
+      config = h.stands.config;
+      sound = h.stands.sound;
+      within = h.stands.within;
+      speaks = h.stands.speaks;
+      terms = h.stands.terms;
+      way = ap (drop 1) (h.stands.way ∙ ap (map (spelling k.side)) one);
+      carried = All-nil (IsCarried k service tei);
+    };
+    told = h.told;
+  }
+
+  pub first-carried : (k : Config) (place : ℕ) (hs : List LineTold) (s : Station) (n : End) (f : Parts) → n.way ≡ f ∷ [] → T k place hs s n
+      → (s.way ≡ spelling k.side f ∷ []) × IsCarried k service tei f
+  first-carried k place hs s n f one h =
+      (h.stands.way ∙ ap (map (spelling k.side)) one, All-head (IsCarried k service tei) f [] (subst (All (IsCarried k service tei)) one h.stands.carried))
+
+  pub none-carried : (k : Config) (place : ℕ) (hs : List LineTold) (s : Station) (n : End) → n.way ≡ [] → T k place hs s n → s.way ≡ []
+  none-carried k place hs s n none h = h.stands.way ∙ ap (map (spelling k.side)) none
+
+  -- it has nothing to give
+  pub t-silent : (k : Config) (place : ℕ) (hs : List LineTold) (s : Station) (n : End) → HasNothingToSend n.terms n.link → T k place hs s n → T k place hs (happens next s) n
+  t-silent k place hs s n quiet h = as-end k place hs hs (happens next s) (with_sent n) n (t-given k place hs s n h) (stays n (nothing-to_send n.terms n.link quiet)) refl

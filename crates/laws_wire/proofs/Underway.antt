@@ -1,0 +1,320 @@
+-- Two stations that are up, nothing is lost, and T200 expires at either: what is then sure to arrive, and that it has, where no turn is left.
+use Rattle.std.proofs.Common.{◌≡◌, ℕ, ◌-◌, ◌≤◌, Bool, true, false, not, ◌&&◌, ◌||◌, IsTrue, List, [], ◌∷◌, ◌++◌, length, map, drop, refl, sym, ap, subst, ◌∙◌, ◌⊎◌, inl, inr, true≢false, arith}
+use Rattle.std.specs.Prelude.{All, nat_lt}
+use Rattle.std.proofs.lemmas.Bool.{lt-ltb, ltb-false}
+use Rattle.std.proofs.lemmas.List.{take_all}
+use Rattle.std.proofs.lemmas.List.Elements.{All-head, All-tail}
+use Rattle.lapd_frame.specs.declared.services.Service.{Service}
+use Rattle.lapd_frame.specs.declared.timers.Timer.{Timer}
+use Rattle.lapd_frame.specs.declared.timers.Timer.TheVariants as timers
+use Rattle.lapd_frame.specs.Grammar.{Parts}
+use Rattle.model_link.specs.declared.states.State.TheVariants.{Established, TimerRecovery}
+use Rattle.model_link.specs.declared.timers.LinkTimer.{LinkTimer}
+use Rattle.model_link.specs.declared.timers.LinkTimer.TheVariants.{T200, T203}
+use Rattle.model_link.specs.Events as link
+use Rattle.model_link.specs.Link.{Link, is_multiple_frame}
+use Rattle.model_link.specs.Machine.{is_running}
+use Rattle.model_link.specs.Offers.{is_established}
+use Rattle.model_link.specs.Told.{runs}
+use Rattle.model_link.specs.TwoEnds.{End, with_link, with_sent}
+use Rattle.model_link.specs.TwoEnds as two_ends
+use Rattle.model_link.proofs.Direction.{line_of, frames_of}
+use Rattle.model_line.specs.declared.config.Config.{Config}
+use Rattle.model_line.specs.Event.{LineTold, request}
+use Rattle.model_line.specs.Request.{Data}
+use Rattle.laws_link.specs.Flags.{awaits_answer}
+use Rattle.laws_two_links.specs.Timely as two_links
+use Rattle.laws_two_links.specs.Ahead.{CanRepeat}
+use Rattle.laws_two_links.specs.Waits.{HasNothingToSend}
+use Rattle.laws_two_links.proofs.Meeting.{line}
+use Rattle.laws_two_links.proofs.Trains.{tally, one_enquiry, one_answer}
+use Rattle.laws_two_links.proofs.Waiting.{nothing-given}
+use Rattle.laws_wire.specs.Wire.{Station, Wire, happens, Act, requests, times_out, gives, takes, loses, acting, turned, Doing, at_near, at_far, doing, doing_all, IsStill}
+use Rattle.laws_wire.specs.Call.{confirmed, indicated, data_told}
+use Rattle.laws_wire.specs.Losing.{heard_in, IsRoughTalkOf, IsRoughTalk}
+use Rattle.laws_wire.specs.Timely.{IsTimelyOf, IsTimely, StayTimely}
+use Rattle.laws_wire.specs.Arriving.{LosesNothing, runs_t200, is_t200, near_asks, far_asks, ever}
+use Rattle.laws_wire.proofs.Asking.{with_more, asked-form}
+use Rattle.laws_wire.proofs.Awaited.{closed, link-is, as-here, may-there, open-there}
+use Rattle.laws_wire.proofs.Dense.{Dense, Reaches, Owed}
+use Rattle.laws_wire.proofs.Firm.{Firm, firm-asks, firm-takes}
+use Rattle.laws_wire.proofs.Held.{Held, Grants, held-asked}
+use Rattle.laws_wire.proofs.Loose.{as-loose, loose-came}
+use Rattle.laws_wire.proofs.LossyPhases.{for-data, Aims}
+use Rattle.laws_wire.proofs.Roomy.{kinds}
+use Rattle.laws_wire.proofs.Sure.{Sure, sure-begins, sure-asks, sure-expires, sure-sends, sure-hears}
+use Rattle.laws_wire.proofs.SureHeard.{other-asks, other-sends, other-expires, other-hears}
+use Rattle.laws_wire.proofs.Talking.{Face}
+use Rattle.laws_wire.proofs.Tame.{IsFreeFrame}
+use Rattle.laws_wire.proofs.TimelyUp.{each-timer, IsHushed, hushed, never, BothUp, turned-up, up-gives, up-takes, up-expires}
+
+-- ---- where no turn is left
+
+module _ (n m : End) (h : Firm n m) (quiet : HasNothingToSend n.terms n.link) (way : n.way ≡ []) where
+  -- all is sent that is not beyond the window
+  sent-all : n.link.state ≡ Established → n.link.s ≤ n.link.a → n.link.s ≡ length n.link.contents
+  sent-all state none = go (nat_lt n.link.s (length n.link.contents)) refl
+    where
+      low : 1 ≤ n.terms.k
+      low = h.joined.near_ranges.k_low
+
+      first : (is_established n.link.state && not n.link.peer_busy && nat_lt (n.link.s - n.link.a) n.terms.k) ≡ true
+      first =
+          (λ i. is_established (state i) && not (h.near_tame.peer_free i) && nat_lt (n.link.s - n.link.a) n.terms.k)
+          ∙ lt-ltb (n.link.s - n.link.a) n.terms.k (omega (arith, none, low))
+
+      go : (b : Bool) → nat_lt n.link.s (length n.link.contents) ≡ b → n.link.s ≡ length n.link.contents
+      go true is = absurd (true≢false (sym ((λ i. first i && is i)) ∙ quiet.information))
+      go false is =
+          let high : length n.link.contents ≤ n.link.s = ltb-false n.link.s (length n.link.contents) is in
+          let most : n.link.s ≤ length n.link.contents = h.joined.near_sound.accepted in
+          omega (arith, high, most)
+
+  abbrev HasAll : Type 0
+  HasAll = m.delivered ≡ n.link.contents
+
+  all-received : m.link.r ≡ length n.link.contents → HasAll
+  all-received e = h.joined.there.delivered ∙ take_all m.link.r n.link.contents (omega (arith, e))
+
+  no-kinds : (n : End) → n.link.waiting ≡ [] → n.way ≡ [] → kinds n ≡ []
+  no-kinds n waiting way = (λ i. line n.terms (way i) (waiting i))
+
+  pub sure-came : HasNothingToSend m.terms m.link → m.way ≡ [] → Sure n m → HasAll
+  sure-came other away (inl q) =
+      let none : tally one_enquiry (kinds n) ≡ 0 = ap (tally one_enquiry) (no-kinds n quiet.waiting way) in
+      let none' : tally one_answer (kinds m) ≡ 0 = ap (tally one_answer) (no-kinds m other.waiting away) in
+      let some = q.open_ in
+      absurd (omega (arith, none, none', some))
+  sure-came other away (inr q) = go q.owed
+    where
+      all : m.link.r ≡ n.link.s
+      all = subst (Dense m.link.r n.link.s) (no-kinds n quiet.waiting way) q.dense
+
+      empty : line_of m ≡ []
+      empty = λ i. away i ++ frames_of m.terms (other.waiting i)
+
+      go : Owed n.link.a m.link.r m.link.pending (line_of m) → HasAll
+      go (inl due) = absurd (true≢false (sym due ∙ other.pending))
+      go (inr reaches) =
+          let same : n.link.a ≡ m.link.r = subst (Reaches n.link.a m.link.r) empty reaches in
+          all-received (all ∙ sent-all q.state (omega (arith, same, all)))
+
+-- ---- while turns come
+
+-- what is so of a first frame, where there is one
+module _ (n m : End) (h : Firm n m) (wide : 3 ≤ n.terms.control) where
+  abbrev Then : List Parts → Type 0
+  Then way = Firm (two_ends.with_first_of way n) (record m { way = drop 1 way })
+
+  takes-there : (way : List Parts) → m.way ≡ way → Then way → Sure n m → Sure (two_ends.with_first_of way n) (record m { way = drop 1 way })
+  takes-there [] e firm s = subst (λ way. Sure n (record m { way = way })) e s
+  takes-there (f ∷ fs) e firm s = sure-hears n m h f fs e firm.joined.near_up firm.joined.there.rising s
+
+  takes-back : (way : List Parts) → m.way ≡ way → Then way → Sure m n → Sure (record m { way = drop 1 way }) (two_ends.with_first_of way n)
+  takes-back [] e firm s = subst (λ way. Sure (record m { way = way }) n) e s
+  takes-back (f ∷ fs) e firm s =
+      let free = All-head IsFreeFrame f fs (subst (All IsFreeFrame) e h.far_tame.way) in
+      other-hears n m h wide f fs e free firm.joined.near_up s
+
+module _ (service : Service) (tei : ℕ) where
+  -- both are up, and what either end sends is sure to arrive where this is so of it
+  pub record SureUp (c d : Config) (p q : ℕ) (past other : List LineTold) (A B : Type 0) (w : Wire) : Type 0 where
+    pub n : End
+    pub m : End
+    pub up : BothUp service tei c d p q past other w n m
+    pub there : A → Sure n m
+    pub back : B → Sure m n
+
+  sure-turned : (c d : Config) (p q : ℕ) (past other : List LineTold) (A B : Type 0) (w : Wire) → SureUp c d p q past other A B w → SureUp d c q p other past B A (turned w)
+  sure-turned c d p q past other A B w h = record { n = h.m; m = h.n; up = turned-up service tei c d p q past other w h.n h.m h.up; there = h.back; back = h.there }
+
+  sure-by : (c d : Config) (p q : ℕ) (past other : List LineTold) (A B A' B' : Type 0) (w : Wire) → (A' → A) → (B' → B) → SureUp c d p q past other A B w → SureUp c d p q past other A' B' w
+  sure-by c d p q past other A B A' B' w f g h = record { n = h.n; m = h.m; up = h.up; there = λ a. h.there (f a); back = λ b. h.back (g b) }
+
+  module _ (c d : Config) (p q : ℕ) (face : Face c d) (past other : List LineTold) (A B : Type 0) (wide_c : 3 ≤ c.control) (w : Wire) (h : SureUp c d p q past other A B w) where
+    abbrev n : End
+    n = h.n
+
+    abbrev m : End
+    m = h.m
+
+    firm : Firm n m
+    firm = h.up.firm
+
+    wide : 3 ≤ n.terms.control
+    wide = subst (λ t. 3 ≤ t.control) (sym h.up.near.stands.terms) wide_c
+
+    abbrev Now : Type 0 → Wire → Type 0
+    Now more w' = SureUp c d p q past other (A ⊎ more) B w'
+
+    abbrev Nothing : Type 0
+    Nothing = false ≡ true
+
+    old : {P : Type 0} → (A → P) → A ⊎ Nothing → P
+    old f (inl a) = f a
+    old f (inr e) = absurd (true≢false (sym e))
+
+    asks-data : (octets : List ℕ) → Now Nothing (acting (requests (Data service tei octets)) w)
+    asks-data octets = go (held-asked service tei p past c w.near n h.up.near octets)
+      where
+        s' : Station
+        s' = happens (request (Data service tei octets)) w.near
+
+        go : (s' ≡ w.near) ⊎ Grants service tei p past c w.near n h.up.near octets s' → Now Nothing (record w { near = s' })
+        go (inl same) = record {
+          n = n;
+          m = m;
+          up = record { near = subst (λ s. Held c service tei p past s n) (sym same) h.up.near; far = h.up.far; firm = firm };
+          there = old h.there;
+          back = h.back;
+        }
+        go (inr x) = record {
+          n = with_more octets n;
+          m = m;
+          up = record { near = x.held; far = h.up.far; firm = subst (λ y. Firm y m) (asked-form octets n x.none) (firm-asks n m firm octets) };
+          there = old (λ a. sure-asks n m firm wide octets (h.there a));
+          back = λ b. other-asks n m firm wide octets (h.back b);
+        }
+
+    abbrev After : LinkTimer → End
+    After its = with_link (link.expired its) n
+
+    expires-by : (timer : Timer) (its : LinkTimer) (more : Type 0) → Aims service tei timer its → (can : CanRepeat its n) (timely : two_links.IsTimely its n m)
+        → (IsTrue (is_multiple_frame (After its).link.state) → more → Sure (After its) m) → Now more (acting (times_out timer) w)
+    expires-by timer its more aims can timely begins =
+        let up = up-expires service tei c d p q face past other w n m h.up timer its aims can timely in
+        record {
+          n = After its;
+          m = m;
+          up = up;
+          there = go up.firm.joined.near_up;
+          back = λ b. other-expires n m firm wide its timely up.firm.joined.near_up (h.back b);
+        }
+      where
+        go : IsTrue (is_multiple_frame (After its).link.state) → A ⊎ more → Sure (After its) m
+        go up (inl a) = sure-expires n m firm wide its timely up (h.there a)
+        go up (inr x) = begins up x
+
+    runs-there : runs_t200 service tei w.near ≡ true → is_running T200 n.link ≡ true
+    runs-there e = ap (is_running T200) (sym (link-is service tei c p w.near n h.up.near.stands)) ∙ e
+
+    expires-t200 : IsTimelyOf (times_out (timers.T200 service tei)) w → Now (runs_t200 service tei w.near ≡ true) (acting (times_out (timers.T200 service tei)) w)
+    expires-t200 (long, may) =
+        let there = may-there service tei c p w.near n h.up.near.stands may in
+        let none = λ (state : n.link.state ≡ TimerRecovery).
+        closed n m (open-there service tei c d p q w.near w.far n m h.up.near.stands h.up.far.stands (long (ap awaits_answer (as-here service tei c p w.near n h.up.near.stands state)))) in
+        expires-by (timers.T200 service tei) T200 (runs_t200 service tei w.near ≡ true) (λ l. refl) (λ state running. there (ap awaits_answer state)) (λ state running. none state)
+        (λ up e. sure-begins n m firm wide (λ state running. none state) (runs-there e) up)
+
+    expires-t203 : Now Nothing (acting (times_out (timers.T203 service tei)) w)
+    expires-t203 =
+        expires-by (timers.T203 service tei) T203 Nothing (λ l. refl)
+        (λ state running. absurd (never service tei c p past w.near n h.up.near firm.near_sane.timed state running))
+        (λ state running. absurd (never service tei c p past w.near n h.up.near firm.near_sane.timed state running)) (λ up e. absurd (true≢false (sym e)))
+
+    sure-acts : (act : Act) → IsRoughTalkOf service tei act → LosesNothing (at_near act) → IsTimelyOf act w
+        → Now ((is_t200 act && runs_t200 service tei w.near) ≡ true) (acting act w)
+    sure-acts (requests r) is kept x = for-data service tei (λ r. Now Nothing (acting (requests r) w)) asks-data r is
+    sure-acts (times_out timer) is kept x =
+        each-timer service tei (λ timer. IsTimelyOf (times_out timer) w → Now ((is_t200 (times_out timer) && runs_t200 service tei w.near) ≡ true) (acting (times_out timer) w))
+        expires-t200 (λ x. expires-t203) timer is x
+    sure-acts gives is kept x = record {
+      n = with_sent n;
+      m = m;
+      up = up-gives service tei c d p q face past other w n m h.up;
+      there = old (λ a. sure-sends n m firm wide (h.there a));
+      back = λ b. other-sends n m firm wide (h.back b);
+    }
+    sure-acts takes is kept x = record {
+      n = two_ends.with_first_of m.way n;
+      m = two_ends.with_first_lost m;
+      up = up-takes service tei c d p q face past other w n m h.up;
+      there = old (λ a. takes-there n m firm wide m.way refl (firm-takes n m firm) (h.there a));
+      back = λ b. takes-back n m firm wide m.way refl (firm-takes n m firm) (h.back b);
+    }
+    sure-acts loses is kept x = absurd kept
+
+  -- ---- and all of them
+
+  module _ (c d : Config) (p q : ℕ) (face : Face c d) (back : Face d c) (wide_c : 3 ≤ c.control) (wide_d : 3 ≤ d.control) where
+    abbrev first_near : List LineTold
+    first_near = confirmed service tei ∷ []
+
+    abbrev first_far : List LineTold
+    first_far = indicated service tei ∷ []
+
+    abbrev pub Up : Type 0 → Type 0 → Wire → Type 0
+    Up A B w = SureUp c d p q first_near first_far A B w
+
+    Nowhere : Type 0
+    Nowhere = false ≡ true
+
+    kept-far : (act : Act) → LosesNothing (at_far act) → LosesNothing (at_near act)
+    kept-far loses h = h
+    kept-far (requests r) h = tt
+    kept-far (times_out timer) h = tt
+    kept-far gives h = tt
+    kept-far takes h = tt
+
+    step : (A B : Type 0) (k : Doing) (w : Wire) → IsRoughTalk service tei k → LosesNothing k → IsTimely k w → Up A B w
+        → Up (A ⊎ (near_asks service tei k w ≡ true)) (B ⊎ (far_asks service tei k w ≡ true)) (doing k w)
+    step A B (at_near act) w is kept x h =
+        sure-by c d p q first_near first_far (A ⊎ ((is_t200 act && runs_t200 service tei w.near) ≡ true)) B _ _ (acting act w) (λ a. a) no
+        (sure-acts c d p q face first_near first_far A B wide_c w h act is kept x)
+      where
+        no : B ⊎ (false ≡ true) → B
+        no (inl b) = b
+        no (inr e) = absurd (true≢false (sym e))
+    step A B (at_far act) w is kept x h =
+        let v = turned w in
+        let h' = sure-acts d c q p back first_far first_near B A wide_d v (sure-turned c d p q first_near first_far A B w h) act is (kept-far act kept) x.0 in
+        sure-by c d p q first_near first_far A (B ⊎ ((is_t200 act && runs_t200 service tei w.far) ≡ true)) _ _ (turned (acting act v)) no (λ b. b)
+        (sure-turned d c q p first_far first_near (B ⊎ ((is_t200 act && runs_t200 service tei w.far) ≡ true)) A (acting act v) h')
+      where
+        no : A ⊎ (false ≡ true) → A
+        no (inl a) = a
+        no (inr e) = absurd (true≢false (sym e))
+
+    first-or : (A : Type 0) (a b : Bool) → A ⊎ ((a || b) ≡ true) → (A ⊎ (a ≡ true)) ⊎ (b ≡ true)
+    first-or A a b (inl x) = inl (inl x)
+    first-or A true b (inr e) = inl (inr refl)
+    first-or A false b (inr e) = inr e
+
+    pub sure-runs : (A B : Type 0) (ds : List Doing) (w : Wire) → All (IsRoughTalk service tei) ds → All LosesNothing ds → StayTimely ds w → Up A B w
+        → Up (A ⊎ (ever (near_asks service tei) ds w ≡ true)) (B ⊎ (ever (far_asks service tei) ds w ≡ true)) (doing_all ds w)
+    unfolding doing_all StayTimely ever
+    sure-runs A B [] w all kept x h = sure-by c d p q first_near first_far A B _ _ w (no A) (no B) h
+      where
+        no : (X : Type 0) → X ⊎ (false ≡ true) → X
+        no X (inl a) = a
+        no X (inr e) = absurd (true≢false (sym e))
+    sure-runs A B (k ∷ ds) w all kept x h =
+        let asks = near_asks service tei k w in
+        let asks' = far_asks service tei k w in
+        let w' = doing k w in
+        let now = step A B k w (All-head (IsRoughTalk service tei) k ds all) (All-head LosesNothing k ds kept) x.0 h in
+        sure-by c d p q first_near first_far _ _ _ _ (doing_all ds w')
+        (first-or A asks (ever (near_asks service tei) ds w')) (first-or B asks' (ever (far_asks service tei) ds w'))
+        (sure-runs (A ⊎ (asks ≡ true)) (B ⊎ (asks' ≡ true)) ds w' (All-tail (IsRoughTalk service tei) k ds all) (All-tail LosesNothing k ds kept) x.1 now)
+
+  -- what has come at the link is told
+  module _ (c d : Config) (p q : ℕ) (past other : List LineTold) (w : Wire) (n m : End) (h : BothUp service tei c d p q past other w n m) (still : IsStill w) where
+    near-hushed : IsHushed service tei n
+    near-hushed = hushed service tei c p past w.near n h.near still.near still.near_way
+
+    far-hushed : IsHushed service tei m
+    far-hushed = hushed service tei d q other w.far m h.far still.far still.far_way
+
+    near-quiet : HasNothingToSend n.terms n.link
+    near-quiet = nothing-given n.terms n.link near-hushed.given
+
+    abbrev HasHeard : Type 0
+    HasHeard = heard_in w.far ≡ other ++ map (data_told service tei) w.near.granted
+
+    told-all : m.delivered ≡ n.link.contents → HasHeard
+    told-all e = h.far.heard ∙ ap (λ xs. other ++ map (data_told service tei) xs) (e ∙ sym h.near.granted)
+
+    pub has-come : Sure n m ⊎ (runs_t200 service tei w.near ≡ false) → HasHeard
+    has-come (inl s) = told-all (sure-came n m h.firm near-quiet near-hushed.way (nothing-given m.terms m.link far-hushed.given) far-hushed.way s)
+    has-come (inr none) =
+        told-all (loose-came n m (as-loose n m h.firm) near-quiet (ap (λ (l : Link). runs T200 l.running) (sym (link-is service tei c p w.near n h.near.stands)) ∙ none)).delivered

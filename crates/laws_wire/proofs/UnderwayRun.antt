@@ -1,0 +1,68 @@
+-- A call from nothing, in which nothing is lost any more from some time on.
+use Rattle.std.proofs.Common.{◌≡◌, ℕ, true, false, List, [], ◌∷◌, ◌⊎◌, inl, inr}
+use Rattle.std.specs.Prelude.{◌≢◌}
+use Rattle.lapd_frame.specs.declared.services.Service.{Service}
+use Rattle.model_line.specs.declared.config.Config.{Config}
+use Rattle.model_line.specs.Event.{LineTold}
+use Rattle.laws_wire.specs.Wire.{Wire, turned, doing_all, IsStill}
+use Rattle.laws_wire.specs.Call.{calling, confirmed, indicated, all_told}
+use Rattle.laws_wire.specs.Losing.{heard_in}
+use Rattle.laws_wire.specs.Arriving.{runs_t200, near_asks, far_asks, ever, ArrivesUnderTraffic}
+use Rattle.laws_wire.proofs.TimelyPhases.{Goes}
+use Rattle.laws_wire.proofs.TimelyRun.{setting, runs}
+use Rattle.laws_wire.proofs.TimelyUp.{AreUp, BothUp, turned-up}
+use Rattle.laws_wire.proofs.Underway.{SureUp, sure-runs, has-come}
+
+module _ (service : Service) (tei : ℕ) (c d : Config) (p q : ℕ) where
+  -- once the end that called was told anything, both are up
+  are-up : (w : Wire) → Goes service tei c d p q w → heard_in w.near ≢ [] → AreUp service tei c d p q (confirmed service tei ∷ []) (indicated service tei ∷ []) w
+  are-up w (inl h) told = absurd (told h.near.heard)
+  are-up w (inr (inl h)) told = absurd (told h.near.heard)
+  are-up w (inr (inr (inl h))) told = absurd (told h.near.heard)
+  are-up w (inr (inr (inr (inl h)))) told = absurd (told h.is.near.heard)
+  are-up w (inr (inr (inr (inr (inl h))))) told = absurd (told h.is.near.heard)
+  are-up w (inr (inr (inr (inr (inr h))))) told = h
+
+  abbrev first_near : List LineTold
+  first_near = confirmed service tei ∷ []
+
+  abbrev first_far : List LineTold
+  first_far = indicated service tei ∷ []
+
+  abbrev Up : Type 0 → Type 0 → Wire → Type 0
+  Up A B w = SureUp service tei c d p q first_near first_far A B w
+
+  begins : (w : Wire) → AreUp service tei c d p q first_near first_far w → Up ⊥ ⊥ w
+  begins w h = record { n = h.n; m = h.m; up = h.up; there = λ no. absurd no; back = λ no. absurd no }
+
+  abbrev Asked : Type 0 → Type 0
+  Asked A = ⊥ ⊎ A
+
+  comes : (A B : Type 0) (last : Wire) → Up (Asked A) (Asked B) last → IsStill last
+      → (A ⊎ (runs_t200 service tei last.near ≡ false) → heard_in last.far ≡ all_told service tei (indicated service tei) last.near)
+      × (B ⊎ (runs_t200 service tei last.far ≡ false) → heard_in last.near ≡ all_told service tei (confirmed service tei) last.far)
+  comes A B last h still = (near, far)
+    where
+      near : A ⊎ (runs_t200 service tei last.near ≡ false) → heard_in last.far ≡ all_told service tei (indicated service tei) last.near
+      near (inl a) = has-come service tei c d p q first_near first_far last h.n h.m h.up still (inl (h.there (inr a)))
+      near (inr none) = has-come service tei c d p q first_near first_far last h.n h.m h.up still (inr none)
+
+      up' : BothUp service tei d c q p first_far first_near (turned last) h.m h.n
+      up' = turned-up service tei c d p q (confirmed service tei ∷ []) (indicated service tei ∷ []) last h.n h.m h.up
+
+      still' : IsStill (turned last)
+      still' = record { near = still.far; far = still.near; near_way = still.far_way; far_way = still.near_way }
+
+      far : B ⊎ (runs_t200 service tei last.far ≡ false) → heard_in last.near ≡ all_told service tei (confirmed service tei) last.far
+      far (inl b) = has-come service tei d c q p first_far first_near (turned last) h.m h.n up' still' (inl (h.back (inr b)))
+      far (inr none) = has-come service tei d c q p first_far first_near (turned last) h.m h.n up' still' (inr none)
+
+pub arrives-under-traffic : ArrivesUnderTraffic
+arrives-under-traffic service c d line other tei before since can wide_c wide_d talk talk' kept = λ timely timely' told still.
+    let x = setting service c d line other tei can in
+    let w = doing_all before (calling service tei c line d other) in
+    let last = doing_all since w in
+    let up = are-up service tei c d 0 0 w (runs service tei c d 0 0 x.face x.back x.near x.far before talk (calling service tei c line d other) timely x.begun) told in
+    let h = sure-runs service tei c d 0 0 x.face x.back wide_c wide_d ⊥ ⊥ since w talk' kept timely' (begins service tei c d 0 0 w up) in
+    let both = comes service tei c d 0 0 (ever (near_asks service tei) since w ≡ true) (ever (far_asks service tei) since w ≡ true) last h still in
+    record { near = both.0; far = both.1 }

@@ -1,0 +1,68 @@
+-- What arrives under traffic: of an end whose T200 has expired since a frame was lost last, all that it was granted to send.
+use Rattle.std.specs.Prelude.{◌≡◌, ◌≢◌, ◌≤◌, ℕ, ◌*◌, Bool, true, false, ◌&&◌, ◌||◌, List, [], ◌∷◌, ◌++◌, All, ◌⊎◌}
+use Rattle.lapd_frame.specs.declared.services.Service.{Service}
+use Rattle.lapd_frame.specs.declared.timers.Timer.TheVariants.{T200}
+use Rattle.model_link.specs.declared.timers.LinkTimer.TheVariants as link
+use Rattle.model_link.specs.Machine.{is_running}
+use Rattle.model_line.specs.declared.config.Config.{Config}
+use Rattle.model_line.specs.Line.{terms}
+use Rattle.laws_wire.specs.Wire.{Station, Wire, Act, times_out, loses, Doing, at_near, at_far, doing, doing_all, IsStill}
+use Rattle.laws_wire.specs.Call.{calling, CanCall, confirmed, indicated, all_told}
+use Rattle.laws_wire.specs.Losing.{IsRoughTalk, heard_in}
+use Rattle.laws_wire.specs.Facing.{end_of, granted_of}
+use Rattle.laws_wire.specs.Recovering.{rounds}
+use Rattle.laws_wire.specs.Resting.{expiries, most_frames}
+use Rattle.laws_wire.specs.Timely.{StayTimely}
+
+-- No frame is lost.
+abbrev pub LosesNothing : Doing → Type 0
+LosesNothing (at_near loses) = ⊥
+LosesNothing (at_far loses) = ⊥
+LosesNothing other = Unit {0}
+
+-- T200 of the link runs at a station; it expires there at some time.
+abbrev pub runs_t200 : Service → ℕ → Station → Bool
+runs_t200 service tei s = is_running link.T200 (end_of service tei s).link
+
+abbrev pub is_t200 : Act → Bool
+is_t200 (times_out (T200 service tei)) = true
+is_t200 other = false
+
+abbrev pub near_asks : Service → ℕ → Doing → Wire → Bool
+near_asks service tei (at_near act) w = is_t200 act && runs_t200 service tei w.near
+near_asks service tei (at_far act) w = false
+
+abbrev pub far_asks : Service → ℕ → Doing → Wire → Bool
+far_asks service tei (at_near act) w = false
+far_asks service tei (at_far act) w = is_t200 act && runs_t200 service tei w.far
+
+unfoldable pub ever : (Doing → Wire → Bool) → List Doing → Wire → Bool
+ever asks [] w = false
+ever asks (d ∷ ds) w = asks d w || ever asks ds (doing d w)
+
+-- All that an end was granted to send has been told at the other, in order, each once, and nothing else: where T200 of the end
+-- has expired since, or does not run. So an expiry is needed at that end alone, and only where T200 runs.
+pub record HasCome (service : Service) (tei : ℕ) (since : List Doing) (w last : Wire) : Type 0 where
+  pub near : (ever (near_asks service tei) since w ≡ true) ⊎ (runs_t200 service tei last.near ≡ false) →
+      heard_in last.far ≡ all_told service tei (indicated service tei) last.near
+  pub far : (ever (far_asks service tei) since w ≡ true) ⊎ (runs_t200 service tei last.far ≡ false) →
+      heard_in last.near ≡ all_told service tei (confirmed service tei) last.far
+
+-- So it is where no turn is left, in a call as `Recovering` has it, with room for three control frames at either end, if nothing
+-- is lost since some time behind its establishment.
+abbrev pub ArrivesUnderTraffic : Type 0
+ArrivesUnderTraffic =
+    (service : Service) (c d : Config) (line other tei : ℕ) (before since : List Doing) → CanCall c line d other tei →
+    3 ≤ c.control → 3 ≤ d.control → All (IsRoughTalk service tei) before → All (IsRoughTalk service tei) since → All LosesNothing since →
+    let begun = calling service tei c line d other in let w = doing_all before begun in let last = doing_all since w in
+    StayTimely before begun → StayTimely since w → heard_in w.near ≢ [] → IsStill last → HasCome service tei since w last
+
+-- And there is such a time within so many rounds in which nothing more is asked for, nothing is lost, and no timer expires.
+abbrev pub ArrivesInRounds : Type 0
+ArrivesInRounds =
+    (service : Service) (c d : Config) (line other tei k : ℕ) (before since : List Doing) → CanCall c line d other tei →
+    3 ≤ c.control → 3 ≤ d.control → (terms c service tei).k ≤ k → (terms d service tei).k ≤ k →
+    All (IsRoughTalk service tei) before → All (IsRoughTalk service tei) since → All LosesNothing since →
+    let begun = calling service tei c line d other in let w = doing_all before begun in let last = doing_all since w in
+    StayTimely before begun → StayTimely since w → heard_in w.near ≢ [] →
+    (n : ℕ) × (n ≤ 2 * most_frames k (expiries (before ++ since)) (granted_of last)) × IsStill (rounds n last) × HasCome service tei since w (rounds n last)

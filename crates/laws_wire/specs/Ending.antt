@@ -1,0 +1,54 @@
+-- A call that ends: where both ends rest, layer 3 of one of them releases the link.
+use Rattle.std.specs.Prelude.{◌≡◌, ℕ, false, List, [], ◌∷◌, ◌++◌, All, ◌⊎◌}
+use Rattle.lapd_frame.specs.declared.notes.Note.TheVariants.{ReleaseConfirm, ReleaseIndication}
+use Rattle.lapd_frame.specs.declared.services.Service.{Service}
+use Rattle.model_line.specs.declared.config.Config.{Config}
+use Rattle.model_line.specs.Event.{LineTold, nothing}
+use Rattle.model_line.specs.Request.{Release}
+use Rattle.laws_wire.specs.Wire.{Wire, requests, times_out, acting, turned, Doing, at_near, at_far, doing, doing_all, IsStill}
+use Rattle.laws_wire.specs.Call.{calling, CanCall}
+use Rattle.laws_wire.specs.Losing.{IsOfLink, heard_in}
+use Rattle.laws_wire.specs.Timely.{IsTimelyOf}
+use Rattle.laws_wire.specs.Arriving.{runs_t200}
+use Rattle.laws_wire.specs.Answering.{IsFullTalk, StayPatient}
+
+-- Then nothing more is asked for. Each end gives frames and takes them, or loses them, and timers of the end that releases expire.
+abbrev pub IsLeaving : Service → ℕ → Doing → Type 0
+IsLeaving service tei (at_near (requests r)) = ⊥
+IsLeaving service tei (at_near (times_out timer)) = IsOfLink service tei timer
+IsLeaving service tei (at_near other) = Unit {0}
+IsLeaving service tei (at_far (requests r)) = ⊥
+IsLeaving service tei (at_far (times_out timer)) = ⊥
+IsLeaving service tei (at_far other) = Unit {0}
+
+-- T200 is long enough there, and N200 is not used up.
+abbrev pub IsTimelyThere : Doing → Wire → Type 0
+IsTimelyThere (at_near act) w = IsTimelyOf act w
+IsTimelyThere (at_far act) w = Unit {0}
+
+unfoldable pub StayTimelyThere : List Doing → Wire → Type 0
+StayTimelyThere [] w = Unit {0}
+StayTimelyThere (d ∷ ds) w = IsTimelyThere d w × StayTimelyThere ds (doing d w)
+
+-- Each is told of the end by its note, once and behind all else, or not yet: the end that releases by a confirmation, the other by an
+-- indication; both where no turn is left and T200 runs no more.
+abbrev pub release_confirmed : Service → ℕ → LineTold
+release_confirmed service tei = record nothing { notes = ReleaseConfirm service tei ∷ [] }
+
+abbrev pub release_indicated : Service → ℕ → LineTold
+release_indicated service tei = record nothing { notes = ReleaseIndication service tei ∷ [] }
+
+pub record EndsSo (service : Service) (tei : ℕ) (w last : Wire) : Type 0 where
+  pub near : (heard_in last.near ≡ heard_in w.near) ⊎ (heard_in last.near ≡ heard_in w.near ++ release_confirmed service tei ∷ [])
+  pub far : (heard_in last.far ≡ heard_in w.far) ⊎ (heard_in last.far ≡ heard_in w.far ++ release_indicated service tei ∷ [])
+  pub near_ended : IsStill last → runs_t200 service tei last.near ≡ false → heard_in last.near ≡ heard_in w.near ++ release_confirmed service tei ∷ []
+  pub far_ended : IsStill last → runs_t200 service tei last.near ≡ false → heard_in last.far ≡ heard_in w.far ++ release_indicated service tei ∷ []
+
+-- So it is behind a call as `Answering` has it, of whichever end releases: v is its wire, or the same as the other end sees it.
+abbrev pub CallsEnd : Type 0
+CallsEnd =
+    (service : Service) (c d : Config) (line other tei : ℕ) (before after : List Doing) (v : Wire) → CanCall c line d other tei →
+    All (IsFullTalk service tei) before → All (IsLeaving service tei) after →
+    let begun = calling service tei c line d other in let w = doing_all before begun in StayPatient before begun →
+    IsStill w → runs_t200 service tei w.near ≡ false → runs_t200 service tei w.far ≡ false → (v ≡ w) ⊎ (v ≡ turned w) →
+    let released = acting (requests (Release service tei)) v in StayTimelyThere after released → EndsSo service tei v (doing_all after released)

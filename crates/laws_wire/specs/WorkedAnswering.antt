@@ -1,0 +1,104 @@
+-- Worked values of a call whose UA is lost, and one of whose ends is busy. Each computes.
+use Rattle.std.specs.Prelude.{◌≡◌, true, false, List, [], ◌∷◌, ◌++◌, refl}
+use Rattle.lapd_frame.specs.declared.notes.ErrorCode.TheVariants.{F}
+use Rattle.lapd_frame.specs.declared.notes.Note.TheVariants.{Error, EstablishIndication}
+use Rattle.lapd_frame.specs.declared.services.Service.TheVariants.{Call}
+use Rattle.lapd_frame.specs.declared.timers.Timer.TheVariants.{T200}
+use Rattle.lapd_frame.specs.Reading.{reading, header_of, control_of, unnumbered_of, supervisory_of}
+use Rattle.lapd_seq.specs.Circle.{distance_of, named}
+use Rattle.lapd_seq.specs.Numbers.{seq}
+use Rattle.lapd_tei.specs.Events as teis
+use Rattle.model_line.specs.Event.{nothing}
+use Rattle.model_line.specs.Machine as lines
+use Rattle.model_line.specs.Request.{Data, SetBusy, ClearBusy}
+use Rattle.laws_wire.specs.Wire.{Wire, requests, times_out, gives, takes, loses, Doing, at_near, at_far, doing_all, turns, IsStill}
+use Rattle.laws_wire.specs.Call.{confirmed, indicated, data_told}
+use Rattle.laws_wire.specs.Losing.{heard_in}
+use Rattle.laws_wire.specs.Recovering.{round}
+use Rattle.laws_wire.specs.Arriving.{runs_t200}
+use Rattle.laws_wire.specs.Answering.{calls, error_f}
+use Rattle.laws_wire.specs.Worked.{begins}
+
+-- UA is lost, T200 expires, and SABME goes again.
+abbrev pub loses_ua : List Doing
+loses_ua = at_near gives ∷ at_far takes ∷ at_far gives ∷ at_far loses ∷ at_near (times_out (T200 Call 0)) ∷ round
+
+-- Then own busy begins at the far end, which drops an I-frame, and whose RNR is lost; it sends an I-frame itself, and is ready again.
+abbrev pub is_busy : List Doing
+is_busy =
+    at_far (requests (SetBusy Call 0)) ∷ at_near (requests (Data Call 0 (1 ∷ []))) ∷ at_near gives ∷ at_far takes ∷ at_far gives ∷ at_far loses
+    ∷ at_far (requests (Data Call 0 (2 ∷ []))) ∷ at_far gives ∷ at_near takes ∷ at_far (requests (ClearBusy Call 0)) ∷ at_near (times_out (T200 Call 0))
+    ∷ (round ++ round ++ round)
+
+abbrev pub repeated : Wire
+repeated = doing_all (loses_ua ++ is_busy) begins
+
+taken_twice : calls (loses_ua ++ is_busy) begins ≡ 2
+unfolding lines.after lines.answer lines.takes_slot reading header_of control_of unnumbered_of supervisory_of teis.course teis.refusal seq distance_of named doing_all turns calls
+taken_twice = refl
+
+repeated_near : heard_in repeated.near ≡ confirmed Call 0 ∷ data_told Call 0 (2 ∷ []) ∷ []
+unfolding lines.after lines.answer lines.takes_slot reading header_of control_of unnumbered_of supervisory_of teis.course teis.refusal seq distance_of named doing_all turns calls
+repeated_near = refl
+
+repeated_far : heard_in repeated.far ≡ indicated Call 0 ∷ error_f Call 0 ∷ data_told Call 0 (1 ∷ []) ∷ []
+unfolding lines.after lines.answer lines.takes_slot reading header_of control_of unnumbered_of supervisory_of teis.course teis.refusal seq distance_of named doing_all turns calls
+repeated_far = refl
+
+pub repeated_still : IsStill repeated
+unfolding lines.after lines.answer lines.takes_slot reading header_of control_of unnumbered_of supervisory_of teis.course teis.refusal seq distance_of named doing_all turns calls
+repeated_still = record { near = refl; far = refl; near_way = refl; far_way = refl }
+
+pub repeated_rests : (runs_t200 Call 0 repeated.near ≡ false) × (runs_t200 Call 0 repeated.far ≡ false)
+unfolding lines.after lines.answer lines.takes_slot reading header_of control_of unnumbered_of supervisory_of teis.course teis.refusal seq distance_of named doing_all turns calls
+repeated_rests = (refl, refl)
+
+-- While the far end is busy, what it dropped is not told, though no turn is left: T200 runs at the near end.
+abbrev stays_busy : List Doing
+stays_busy =
+    loses_ua ++ at_far (requests (SetBusy Call 0)) ∷ at_near (requests (Data Call 0 (1 ∷ []))) ∷ at_near gives ∷ at_far takes ∷ round
+
+abbrev waits : Wire
+waits = doing_all stays_busy begins
+
+waits_far : heard_in waits.far ≡ indicated Call 0 ∷ error_f Call 0 ∷ []
+unfolding lines.after lines.answer lines.takes_slot reading header_of control_of unnumbered_of supervisory_of teis.course teis.refusal seq distance_of named doing_all turns calls
+waits_far = refl
+
+waits_still : IsStill waits
+unfolding lines.after lines.answer lines.takes_slot reading header_of control_of unnumbered_of supervisory_of teis.course teis.refusal seq distance_of named doing_all turns calls
+waits_still = record { near = refl; far = refl; near_way = refl; far_way = refl }
+
+waits_runs : runs_t200 Call 0 waits.near ≡ true
+unfolding lines.after lines.answer lines.takes_slot reading header_of control_of unnumbered_of supervisory_of teis.course teis.refusal seq distance_of named doing_all turns calls
+waits_runs = refl
+
+-- Where the end that was called is granted data before, its I-frame goes behind the UA that is lost, and as SABME comes again its contents
+-- are dropped: it is told a second establishment, and the other is told nothing of them, though no turn is left and T200 runs nowhere.
+abbrev grants_early : List Doing
+grants_early =
+    at_near gives ∷ at_far takes ∷ at_far (requests (Data Call 0 (2 ∷ []))) ∷ at_far gives ∷ at_far gives ∷ at_far loses ∷ at_near takes
+    ∷ at_near (times_out (T200 Call 0)) ∷ round
+
+abbrev dropped : Wire
+dropped = doing_all grants_early begins
+
+dropped_granted : dropped.far.granted ≡ (2 ∷ []) ∷ []
+unfolding lines.after lines.answer lines.takes_slot reading header_of control_of unnumbered_of supervisory_of teis.course teis.refusal seq distance_of named doing_all turns calls
+dropped_granted = refl
+
+dropped_near : heard_in dropped.near ≡ confirmed Call 0 ∷ []
+unfolding lines.after lines.answer lines.takes_slot reading header_of control_of unnumbered_of supervisory_of teis.course teis.refusal seq distance_of named doing_all turns calls
+dropped_near = refl
+
+dropped_far : heard_in dropped.far ≡ indicated Call 0 ∷ record nothing { notes = Error Call 0 F ∷ EstablishIndication Call 0 ∷ [] } ∷ []
+unfolding lines.after lines.answer lines.takes_slot reading header_of control_of unnumbered_of supervisory_of teis.course teis.refusal seq distance_of named doing_all turns calls
+dropped_far = refl
+
+dropped_still : IsStill dropped
+unfolding lines.after lines.answer lines.takes_slot reading header_of control_of unnumbered_of supervisory_of teis.course teis.refusal seq distance_of named doing_all turns calls
+dropped_still = record { near = refl; far = refl; near_way = refl; far_way = refl }
+
+dropped_rests : (runs_t200 Call 0 dropped.near ≡ false) × (runs_t200 Call 0 dropped.far ≡ false)
+unfolding lines.after lines.answer lines.takes_slot reading header_of control_of unnumbered_of supervisory_of teis.course teis.refusal seq distance_of named doing_all turns calls
+dropped_rests = (refl, refl)

@@ -1,0 +1,89 @@
+-- Worked values of a call in which frames are lost, and T200 of one end expires amid what goes on. Each computes.
+use Rattle.std.specs.Prelude.{◌≡◌, true, List, [], ◌∷◌, ◌++◌, refl}
+use Rattle.lapd_frame.specs.declared.services.Service.TheVariants.{Call}
+use Rattle.lapd_frame.specs.declared.timers.Timer.TheVariants.{T200}
+use Rattle.lapd_frame.specs.Reading.{reading, header_of, control_of, unnumbered_of, supervisory_of}
+use Rattle.lapd_seq.specs.Circle.{distance_of, named}
+use Rattle.lapd_seq.specs.Numbers.{seq}
+use Rattle.lapd_tei.specs.Events as teis
+use Rattle.model_line.specs.declared.config.Config.{Config}
+use Rattle.model_line.specs.Machine as lines
+use Rattle.model_line.specs.Request.{Data}
+use Rattle.laws_wire.specs.Wire.{Wire, requests, times_out, gives, takes, loses, Doing, at_near, at_far, doing_all, turns, IsStill}
+use Rattle.laws_wire.specs.Call.{calling, confirmed, indicated, data_told}
+use Rattle.laws_wire.specs.Losing.{heard_in}
+use Rattle.laws_wire.specs.Recovering.{round}
+use Rattle.laws_wire.specs.Arriving.{near_asks, ever}
+use Rattle.laws_wire.specs.Worked.{user, network, begins}
+
+-- Each end loses its first I-frame, and the far end's second is on its way.
+abbrev pub loses_two : List Doing
+loses_two =
+    round
+    ++ at_near (requests (Data Call 0 (1 ∷ []))) ∷ at_near gives ∷ at_near loses
+    ∷ at_far (requests (Data Call 0 (2 ∷ []))) ∷ at_far (requests (Data Call 0 (3 ∷ []))) ∷ at_far gives ∷ at_far loses ∷ at_far gives ∷ []
+
+-- From then on nothing is lost. The near end takes the second, so that REJ waits, and then its T200 expires; that of the far end never
+-- does.
+abbrev pub goes_on : List Doing
+goes_on =
+    at_near takes ∷ at_near (times_out (T200 Call 0)) ∷ at_far (requests (Data Call 0 (4 ∷ [])))
+    ∷ (round ++ round ++ round ++ round ++ round)
+
+abbrev pub lossy : Wire
+lossy = doing_all loses_two begins
+
+abbrev pub over : Wire
+over = doing_all goes_on lossy
+
+pub lossy_near : heard_in lossy.near ≡ confirmed Call 0 ∷ []
+unfolding lines.after lines.answer lines.takes_slot reading header_of control_of unnumbered_of supervisory_of teis.course teis.refusal seq distance_of named doing_all turns ever
+lossy_near = refl
+
+pub over_far : heard_in over.far ≡ indicated Call 0 ∷ data_told Call 0 (1 ∷ []) ∷ []
+unfolding lines.after lines.answer lines.takes_slot reading header_of control_of unnumbered_of supervisory_of teis.course teis.refusal seq distance_of named doing_all turns ever
+over_far = refl
+
+pub over_near : heard_in over.near ≡ confirmed Call 0 ∷ data_told Call 0 (2 ∷ []) ∷ data_told Call 0 (3 ∷ []) ∷ data_told Call 0 (4 ∷ []) ∷ []
+unfolding lines.after lines.answer lines.takes_slot reading header_of control_of unnumbered_of supervisory_of teis.course teis.refusal seq distance_of named doing_all turns ever
+over_near = refl
+
+pub near_asked : ever (near_asks Call 0) goes_on lossy ≡ true
+unfolding lines.after lines.answer lines.takes_slot reading header_of control_of unnumbered_of supervisory_of teis.course teis.refusal seq distance_of named doing_all turns ever
+near_asked = refl
+
+pub over_still : IsStill over
+unfolding lines.after lines.answer lines.takes_slot reading header_of control_of unnumbered_of supervisory_of teis.course teis.refusal seq distance_of named doing_all turns ever
+over_still = record { near = refl; far = refl; near_way = refl; far_way = refl }
+
+-- With room for two control frames alone: REJ and an answer wait at the near end as its T200 expires, so that its enquiry is lost. No
+-- turn is left, though what it sent has not been told, and T200 runs again.
+abbrev narrow : Config
+narrow = record user { control = 2 }
+
+abbrev narrow_begins : Wire
+narrow_begins = calling Call 0 narrow 0 network 0
+
+abbrev finds_no_room : List Doing
+finds_no_room =
+    at_near takes ∷ at_far (times_out (T200 Call 0)) ∷ at_far gives ∷ at_near takes ∷ at_near (times_out (T200 Call 0))
+    ∷ (round ++ round ++ round ++ round)
+
+abbrev stuck : Wire
+stuck = doing_all finds_no_room (doing_all loses_two narrow_begins)
+
+stuck_asked : ever (near_asks Call 0) finds_no_room (doing_all loses_two narrow_begins) ≡ true
+unfolding lines.after lines.answer lines.takes_slot reading header_of control_of unnumbered_of supervisory_of teis.course teis.refusal seq distance_of named doing_all turns ever
+stuck_asked = refl
+
+stuck_still : IsStill stuck
+unfolding lines.after lines.answer lines.takes_slot reading header_of control_of unnumbered_of supervisory_of teis.course teis.refusal seq distance_of named doing_all turns ever
+stuck_still = record { near = refl; far = refl; near_way = refl; far_way = refl }
+
+stuck_granted : stuck.near.granted ≡ (1 ∷ []) ∷ []
+unfolding lines.after lines.answer lines.takes_slot reading header_of control_of unnumbered_of supervisory_of teis.course teis.refusal seq distance_of named doing_all turns ever
+stuck_granted = refl
+
+stuck_far : heard_in stuck.far ≡ indicated Call 0 ∷ []
+unfolding lines.after lines.answer lines.takes_slot reading header_of control_of unnumbered_of supervisory_of teis.course teis.refusal seq distance_of named doing_all turns ever
+stuck_far = refl

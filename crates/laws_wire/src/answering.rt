@@ -1,0 +1,28 @@
+//! What is told where frames are lost, UA too, and where the call ends. Each law is the contract of a call that does nothing.
+
+ghost use Rattle.laws_wire.specs.Answering.{LossyCallsComeThrough};
+ghost use Rattle.laws_wire.specs.Ending.{CallsEnd};
+
+/// A call with losses comes through. Two cards have just begun as in [`crate::a_call_comes_through`], and one is asked to
+/// establish. Then data is asked for at either end, layer 3 says that it is busy and that it is ready again, and frames are
+/// given, taken or lost, in any order and at any time: UA, RNR and all others. T200 and T203 of the link expire; T200 is long
+/// enough, and N200 is not used up, as in [`crate::what_is_lost_arrives`]. Before the end that calls was told that the link is
+/// established, layer 3 of the other asks for nothing, none of the other's timers expires, and own busy begins at neither. Each
+/// SABME that the other end takes is told: the first as an establishment, and each further one, which comes where its UA was
+/// lost, as error F (Q.921 clauses 5.5.1.2, 5.5.1.3 and 5.7). Then each is told the data that the other was granted to send, in
+/// order, each once, and nothing else, so no other error: at any time a beginning of that, and all of it wherever no turn is
+/// left and T200 runs at neither end, as it does while the other end is busy, or something that was sent is missing. And there
+/// both links are in state 7 again, and all that they kept is acknowledged.
+pub fn a_call_with_losses_comes_through()
+    ensures { LossyCallsComeThrough }
+{}
+
+/// A call ends. Behind a call as [`a_call_with_losses_comes_through`] has it, no turn is left and T200 runs at neither end, so
+/// that all was told, and layer 3 of either end is granted the release of the link. Then nothing more is asked for; frames are
+/// given, taken or lost, in any order and at any time, and timers of the end that releases expire, T200 where it is long enough
+/// and N200 is not used up (Q.921 clauses 5.5.3.2 and 5.5.3.3). Layer 3 of this end is told that the release is confirmed, once
+/// and nothing else, and layer 3 of the other that the link is released, once and nothing else; both are told where no turn is
+/// left and T200 does not run any more, also where DISC, UA or DM was lost.
+pub fn a_call_ends()
+    ensures { CallsEnd }
+{}

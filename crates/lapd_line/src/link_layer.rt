@@ -99,15 +99,17 @@ impl LinkLayer {
         service: Service,
         tei: u8,
         place: usize,
+        report: &mut BareReport,
         shelf: &mut S,
-    ) -> BareReport
+    )
         requires at { IsAt self.old.teis.places place tei }
+        requires clear { IsClear report.old }
         requires stands { Standing self.old (S.store shelf.old) }
-        ensures { Serves (always (at_link service tei place event.cleared)) [] self.old (S.store shelf.old) self.new (S.store shelf.new) result }
+        ensures { Serves (always (at_link service tei place event.cleared)) [] self.old (S.store shelf.old) self.new (S.store shelf.new) report.new }
     {
         let number = link_number(place, service);
         self.awake.wake(number);
-        BareReport::of_link(self.links.clear(number, shelf), 0)
+        self.links.clear(number, &mut report.answer, shelf);
     }
 
     /// The state of the link of a service with this TEI; none where the TEI is not on the line.

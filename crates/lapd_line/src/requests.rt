@@ -117,7 +117,9 @@ impl LinkLayer {
             Request::Data(service, tei, contents) => (service, tei, LinkRequest::Data(contents)),
             Request::SetBusy(service, tei) => (service, tei, LinkRequest::SetBusy),
             Request::ClearBusy(service, tei) => (service, tei, LinkRequest::ClearBusy),
-            Request::Deactivate(service, tei) => return self.deactivate(service, tei, shelf),
+            Request::Deactivate(service, tei) => {
+                return self.deactivate(service, tei, report, shelf);
+            }
         };
         self.ask(service, tei, request, report, shelf, slots)
     }
@@ -169,16 +171,19 @@ impl LinkLayer {
         &mut self,
         service: Service,
         tei: u8,
+        report: &mut BareReport,
         shelf: &mut S,
-    ) -> Result<BareReport, Refusal>
-        requires { Standing self.old (S.store shelf.old) }
+    ) -> Result<(), Refusal>
+        requires stands { Standing self.old (S.store shelf.old) }
+        requires clear { IsClear report.old }
+        ensures untold { OnErr result (report.new ≡ report.old) }
         ensures refused { IfErr result (λ why. (others : List Owned) (m : Line) → Stands self.old (S.store shelf.old) others m
             → refusal self.old.config false (asked.Deactivate service tei) m ≡ Some why) }
         ensures unchanged { OnErr result (self.new ≡ self.old) }
         ensures kept { OnErr result (shelf.new ≡ shelf.old) }
         ensures granted { OnOk result ((others : List Owned) (m : Line) → Stands self.old (S.store shelf.old) others m
             → refusal self.old.config false (asked.Deactivate service tei) m ≡ None) }
-        ensures served { IfOk result (Serves (λ m. at_deactivated service tei (machine.place_in m tei)) [] self.old (S.store shelf.old) self.new (S.store shelf.new)) }
+        ensures served { OnOk result (Serves (λ m. at_deactivated service tei (machine.place_in m tei)) [] self.old (S.store shelf.old) self.new (S.store shelf.new) report.new) }
     {
         if tei > LAST_TEI {
             return Err(Refusal::BadTei);
@@ -186,7 +191,8 @@ impl LinkLayer {
         let Some(place) = self.teis.place(tei) else {
             return Err(Refusal::NoLink);
         };
-        Ok(self.clear_link(service, tei, place, shelf))
+        self.clear_link(service, tei, place, report, shelf);
+        Ok(())
     }
 
     /// Asks TEI management for something about a TEI.

@@ -55,4 +55,4 @@ pub returns-in-Deactivate-clause-granted : goal.returns-in-Deactivate-clause-gra
 returns-in-Deactivate-clause-granted g c = granted_as _ _ _ (ap request_of c.in-Deactivate.is) (λ m. refl) c.deactivate.result c.deactivate.ensures.granted
 
 pub returns-in-Deactivate-clause-served : goal.returns-in-Deactivate-clause-served
-returns-in-Deactivate-clause-served g c = aimed_as (request_of c.args.request) _ _ _ _ c.deactivate.result (ap (λ r. aim_of_request (request_of r)) c.in-Deactivate.is) c.deactivate.ensures.served
+returns-in-Deactivate-clause-served g c = aimed_as (request_of c.args.request) _ _ _ _ _ c.deactivate.result (ap (λ r. aim_of_request (request_of r)) c.in-Deactivate.is) c.deactivate.ensures.served

@@ -27,10 +27,14 @@ small_reply m e t ranges is =
     let most : m.card.config.n201 ≤ 260 = (ranges_of m.card.config ranges).n201.most in
     omega arith
 
--- so a report of the card is shown whole
+-- so what the card tells is shown whole, and a report of it
+pub shown_told : (m : Card) (e : Event) (t : LineTold) (p : PlainReport) → IsInRange m.config → told t ≡ answer e m
+    → (length (contents_of t.contents) ≤ 260 → Shows p t) → ShowsAnswer p (answer e m)
+shown_told m e t p ranges is h = subst (ShowsAnswer p) is (h (small m e t ranges is))
+
 pub shown : (m : Card) (e : Event) (r : Report) (p : PlainReport) → IsInRange m.config → told (report_told r) ≡ answer e m
     → (length (contents_of (report_told r).contents) ≤ 260 → Shows p (report_told r)) → ShowsAnswer p (answer e m)
-shown m e r p ranges is h = subst (ShowsAnswer p) is (h (small m e (report_told r) ranges is))
+shown m e r p ranges is h = shown_told m e (report_told r) p ranges is h
 
 pub shown_reply : (m : OctetCard) (e : octets.Event) (r : Report) (p : PlainReport) → IsInRange m.card.config → port.told (report_told r) ≡ octet_card.answer e m
     → (length (contents_of (report_told r).contents) ≤ 260 → Shows p (report_told r)) → ShowsReply p (octet_card.answer e m)

@@ -18,7 +18,7 @@ use crate::kinds::AnyCard;
 use crate::plain::{
     NO_CARD, NO_FRAME, OK, PlainReport, WRONG_CARD, WRONG_LENGTH, WRONG_LINE, fault_in,
 };
-use lapd_card::FrameCard;
+use lapd_card::{BareReport, FrameCard};
 use lapd_store::RawShelf;
 use std::alloc::Global;
 
@@ -77,8 +77,9 @@ fn take_frame(
     if line >= card.lines() {
         return WRONG_LINE;
     }
-    let told = card.frame(line, octets);
-    report.show(&told);
+    let mut bare = BareReport::nothing();
+    card.hear(line, octets, &mut bare);
+    report.show_bare(&bare, card.contents(line, octets, &bare));
     OK
 }
 
@@ -233,7 +234,7 @@ fn give_frame(
     match card.next_frame(line, out) {
         Ok(Some(next)) => {
             *count = next.length;
-            report.show_pull(true, next.orders());
+            report.show_next(next.order_list());
             OK
         }
         Ok(None) => NO_FRAME,

@@ -100,10 +100,17 @@ impl<S: Shelf> Card<S> {
     {
         match self.ports[line].octet(octet) {
             Ended::Nothing => None,
-            Ended::Dropped(cause) => Some(self.frames.heard(line, Heard::Dropped(cause))),
-            Ended::Frame(_) | Ended::Overlong => Some(
-                self.frames.heard(line, self.ports[line].latest()),
-            ),
+            Ended::Dropped(cause) => {
+                let mut bare = BareReport::nothing();
+                self.frames.heard(line, Heard::Dropped(cause), &mut bare);
+                Some(bare)
+            }
+            Ended::Frame(_) | Ended::Overlong => {
+                let mut bare = BareReport::nothing();
+                self.frames
+                    .heard(line, self.ports[line].latest(), &mut bare);
+                Some(bare)
+            }
         }
     }
 

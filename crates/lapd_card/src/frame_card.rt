@@ -1,8 +1,9 @@
 //! The card: one call an event.
 
 ghost use Rattle.std.specs.Prelude.{◌≡◌, ◌+◌, ◌≤◌, ◌<◌, ◌↔◌, length, drop, Some, None, IsSome, IsTrue, IfOk, IfErr, IfSome, IsErr, OnOk, OnErr, get_or};
+ghost use Rattle.std.specs.Option.{option_copied};
 ghost use Rattle.lapd_count.specs.Counters.{none_counted};
-ghost use Rattle.lapd_line.specs.Reports.{report_told, told_in, octets_of, gave_in, written};
+ghost use Rattle.lapd_line.specs.Reports.{report_told, told_in, octets_of, gave_in, written, IsClear};
 ghost use Rattle.model_bits.specs.Heard.{heard_of};
 ghost use Rattle.model_bits.specs.Stream as stream;
 ghost use Rattle.model_card.specs.ByEvent.{RisesByHeard, RisesByExpiry, RisesByRequest, FallsByNext};
@@ -98,7 +99,40 @@ impl<S: Shelf> FrameCard<S> {
         // What may be sent rises by two at most for the frame, and by k more where that is an REJ with a valid N(R).
         ensures frames { (m : machine.Card) → Stands S.store self.old m → RisesByHeard line (came self.old.config.n201 octets.now) m }
     {
-        self.lines[line].frame(octets, &mut self.shelf)
+        let mut bare = BareReport::nothing();
+        self.hear(line, octets, &mut bare);
+        self.lend(line, octets, &bare)
+    }
+
+    /// Takes a frame as [`FrameCard::frame`] does, and tells what it led to in a report without references, in which nothing is
+    /// told yet. [`FrameCard::lend`] makes the report of it, and [`FrameCard::contents`] lends the contents alone.
+    #[inline(always)]
+    pub fn hear(&mut self, line: usize, octets: &[u8], report: &mut BareReport)
+        requires within { line < line_count self.old }
+        requires clear { IsClear report.old }
+        ensures told { (m : machine.Card) → Stands S.store self.old m
+            → told (told_in (octets_of (Some (came self.old.config.n201 octets.now))) report.new)
+            ≡ answer (at line (hears (came self.old.config.n201 octets.now))) m }
+        ensures after { Leads S.store (at line (hears (came self.old.config.n201 octets.now))) self.old self.new }
+    {
+        self.lines[line].frame(octets, report, &mut self.shelf);
+    }
+
+    /// The report of what a frame of these octets led to at a line, with the contents that it delivered.
+    pub fn lend<'a>(&self, line: usize, octets: &'a [u8], bare: &BareReport) -> Report<'a>
+        requires { line < line_count self.now }
+        ensures { report_told result ≡ told_in (octets_of (Some (came self.now.config.n201 octets.now))) bare.now }
+    {
+        self.lines[line].lend(octets, bare)
+    }
+
+    /// The contents alone that a frame of these octets delivered at a line.
+    #[inline(always)]
+    pub fn contents<'a>(&self, line: usize, octets: &'a [u8], bare: &BareReport) -> Option<&'a [u8]>
+        requires { line < line_count self.now }
+        ensures { option_copied result ≡ (told_in (octets_of (Some (came self.now.config.n201 octets.now))) bare.now).contents }
+    {
+        self.lines[line].contents(octets, bare)
     }
 
     /// The controller of a line told a fault in place of a frame. It is reported with its cause and counted, and has
@@ -112,16 +146,17 @@ impl<S: Shelf> FrameCard<S> {
         self.lines[line].failed(fault)
     }
 
-    /// Takes what the port of a line has heard, and answers without references.
+    /// Takes what the port of a line has heard, and tells in the report what it led to.
     #[inline(always)]
-    pub(crate) fn heard(&mut self, line: usize, heard: Heard<'_>) -> BareReport
+    pub(crate) fn heard(&mut self, line: usize, heard: Heard<'_>, report: &mut BareReport)
         requires within { line < line_count self.old }
+        requires clear { IsClear report.old }
         requires something { IsSome (heard_of heard) }
         ensures told { IfSome (heard_of heard.entry) (λ e. (m : machine.Card) → Stands S.store self.old m
-            → told (told_in (octets_of (heard_of heard.entry)) result) ≡ answer (at line (hears e)) m) }
+            → told (told_in (octets_of (heard_of heard.entry)) report.new) ≡ answer (at line (hears e)) m) }
         ensures after { IfSome (heard_of heard.entry) (λ e. Leads S.store (at line (hears e)) self.old self.new) }
     {
-        self.lines[line].heard(heard, &mut self.shelf)
+        self.lines[line].heard(heard, report, &mut self.shelf);
     }
 
     /// Writes the next frame to be sent on a line in front of `out`, from its address to its information, without its

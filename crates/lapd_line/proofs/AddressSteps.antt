@@ -6,6 +6,10 @@ use Rattle.model_link.specs.Events as link
 use Rattle.lapd_tei.specs.Events as teis
 use Rattle.lapd_line.specs.declared.addressing.Addressee.TheVariants as to
 use Rattle.lapd_line.specs.Addressing as aims
+use Rattle.std.specs.Option.{option_or}
+use Rattle.std.specs.Prelude.{if◌then◌else◌}
+use Rattle.lapd_line.specs.Reports.{IsClear}
+use Rattle.lapd_line.proofs.ReportSteps.{clear_tells_nothing}
 
 -- one aim is the other, for every past that stands
 pub serves_as : {aim' aim : Line → Aim} {octets : List ℕ} {e new : LinkLayer} {s t : Store} {o : BareReport} → ((others : List Owned) (m : Line) → Stands e s others m → aim m ≡ aim' m)
@@ -165,7 +169,13 @@ module _ (c : Config) (parts : Parts) (told : LineTold) where
 
 -- and so it is reported
 pub group_reported : (octets : List ℕ) (one : ShortList Note) (rest : BareReport) (start : ℕ) (service : Service) (info : List ℕ)
-    → listed one ≡ notes.Unit service group_tei ∷ [] → told_in octets rest ≡ nothing → drop start octets ≡ info
-    → told_in octets (record { notes = one; orders = rest.orders; contents = Some start; cause = rest.cause; lost = rest.lost }) ≡ group_told service info
+    → listed one ≡ notes.Unit service group_tei ∷ [] → IsClear rest → drop start octets ≡ info
+    → told_in octets (record rest { answer = record rest.answer { told = record rest.answer.told { notes = one; unit = true } }; start = start }) ≡ group_told service info
 group_reported octets one rest start service info noted none contents =
-    λ i. record { notes = noted i; contents = Some (contents i); cause = (none i).cause; orders = (none i).orders; lost = (none i).lost }
+    let told = clear_tells_nothing octets none in λ i. record {
+      notes = noted i;
+      contents = option_or (if none.answer.told.delivered i then Some (contents i) else None) (Some (contents i));
+      cause = (told i).cause;
+      orders = (told i).orders;
+      lost = (told i).lost;
+    }

@@ -20,4 +20,5 @@ pub mod NextSteps
 pub mod PortSteps
 pub mod OctetSteps
 pub mod AnswerLaws
+pub mod ReportSteps
 pub mod RoomSteps

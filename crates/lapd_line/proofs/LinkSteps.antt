@@ -127,6 +127,6 @@ pub on_ok : {A E P Q : Type 0} (r : Result A E) → (P → Q) → OnOk r P → O
 on_ok (Ok a) f h = f h
 on_ok (Err e) f h = h
 
-pub both_ok : {A E Q : Type 0} {P R : A → Type 0} (r : Result A E) → ((a : A) → Q → P a → R a) → OnOk r Q → IfOk r P → IfOk r R
-both_ok (Ok a) f q h = f a q h
-both_ok (Err e) f q h = h
+pub both_ok : {A E P Q R : Type 0} (r : Result A E) → (P → Q → R) → OnOk r P → OnOk r Q → OnOk r R
+both_ok (Ok a) f p q = f p q
+both_ok (Err e) f p q = q

@@ -24,9 +24,9 @@ module _ {X : Type 0} (e : LinkLayer) (s : Store) (full : Bool) {r this : Reques
   granted_as h = on_ok result (λ k. λ others m st. ap (λ x. refusal e.config full x m) is ∙ same m ∙ k others m st) h
 
 -- and what is done for its aim is done for the request
-pub aimed_as : (r : Request) {aim : machine.Line → Aim} (e : LinkLayer) (s : Store) (new : LinkLayer) (t : Store) (result : Result BareReport Refusal) → aim_of_request r ≡ aim
-    → IfOk result (Serves aim [] e s new t) → IfOk result (Serves (aim_of_request r) [] e s new t)
-aimed_as r e s new t result is h = subst (λ x. IfOk result (Serves x [] e s new t)) (sym is) h
+pub aimed_as : (r : Request) {aim : machine.Line → Aim} (e : LinkLayer) (s : Store) (new : LinkLayer) (t : Store) (o : BareReport) {A E : Type 0} (result : Result A E) → aim_of_request r ≡ aim
+    → OnOk result (Serves aim [] e s new t o) → OnOk result (Serves (aim_of_request r) [] e s new t o)
+aimed_as r e s new t o result is h = subst (λ x. OnOk result (Serves x [] e s new t o)) (sym is) h
 
 -- a request that asks this of the link of a service with a TEI: its rows, and its aim
 pub record Asks (r : asking.Request) (asked : Service × ℕ × LinkRequest) : Type 0 where

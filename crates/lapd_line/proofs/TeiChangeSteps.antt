@@ -283,7 +283,7 @@ IsFew t = (length t.notes ≤ 1) × (length t.orders ≤ 1)
 pub few_told : {e : LinkLayer} {s u t : Store} {tei place first second : ℕ} {one two : List Link} {call packet : Answer} (k : Going e s tei place)
     → (place ≤ 8 → first ≡ link_number place Call) → (place ≤ 8 → second ≡ link_number place Packet)
     → links.Serves first event.cleared [] e.links s one u call → links.Serves second event.cleared [] one u two t packet
-    → ((length (listed call.notes) ≤ 1) × (length (listed call.orders) ≤ 1)) × ((length (listed packet.notes) ≤ 1) × (length (listed packet.orders) ≤ 1))
+    → ((length (listed call.told.notes) ≤ 1) × (length (listed call.orders) ≤ 1)) × ((length (listed packet.told.notes) ≤ 1) × (length (listed packet.orders) ≤ 1))
 unfolding IsFew
 few_told {e} {tei = tei} {first = first} {second} k is_call is_packet one two =
     let of_call = terms e.config Call tei in

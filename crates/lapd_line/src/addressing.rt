@@ -59,55 +59,52 @@ impl LinkLayer {
     ghost use Rattle.lapd_link.specs.Events.{received_of, info_of};
     ghost use Rattle.lapd_line.specs.Addressing.{addressee, group_service, message_at, serves_group, IsAtPlace};
     ghost use Rattle.lapd_line.specs.LinkLayer.{Standing, Serves, always, aim_of_event};
-    ghost use Rattle.lapd_line.specs.Reports.{octets_of, told_in};
+    ghost use Rattle.lapd_line.specs.Reports.{octets_of, told_in, IsClear};
 
     /// Serves what the octets of the line have brought.
-    // A program with both kinds of cards calls it from two places, and would keep it apart. What is rare is kept apart, and
-    // its report is named before it is answered: a call that wrote it into the answer would keep all answers in memory.
+    // A program with both kinds of cards calls it from two places, and would keep it apart.
     #[inline(always)]
-    pub(crate) fn serve<S: Shelf>(&mut self, heard: Heard<'_>, shelf: &mut S) -> BareReport
-        requires { Standing self.old (S.store shelf.old) }
-        ensures { Serves (aim_of_event self.old.config (heard_of heard.entry)) (octets_of (heard_of heard.entry)) self.old (S.store shelf.old) self.new (S.store shelf.new) result }
+    pub(crate) fn serve<S: Shelf>(
+        &mut self,
+        heard: Heard<'_>,
+        report: &mut BareReport,
+        shelf: &mut S,
+    )
+        requires stands { Standing self.old (S.store shelf.old) }
+        requires clear { IsClear report.old }
+        ensures { Serves (aim_of_event self.old.config (heard_of heard.entry)) (octets_of (heard_of heard.entry)) self.old (S.store shelf.old) self.new (S.store shelf.new) report.new }
     {
         match heard {
-            Heard::Nothing => BareReport::nothing(),
-            Heard::Dropped(cause) => BareReport::dropped(cause),
-            Heard::Frame(octets) => self.frame(octets, shelf),
-            Heard::Overlong(head) => {
-                let report = self.overlong(&head, shelf);
-                report
-            }
+            Heard::Nothing => {}
+            Heard::Dropped(cause) => report.tell_drop(cause),
+            Heard::Frame(octets) => self.frame(octets, report, shelf),
+            Heard::Overlong(head) => self.overlong(&head, report, shelf),
         }
     }
 
     /// A frame.
-    // Both kinds of lines call it: compiled into each, it costs no copy of what it answers.
     #[inline(always)]
-    fn frame<S: Shelf>(&mut self, octets: &[u8], shelf: &mut S) -> BareReport
-        requires { Standing self.old (S.store shelf.old) }
-        ensures { Serves (λ m. aim_of_reading self.old.config m (reading (heard_side self.old.config) octets.now)) octets.now self.old (S.store shelf.old) self.new (S.store shelf.new) result }
+    fn frame<S: Shelf>(&mut self, octets: &[u8], report: &mut BareReport, shelf: &mut S)
+        requires stands { Standing self.old (S.store shelf.old) }
+        requires clear { IsClear report.old }
+        ensures { Serves (λ m. aim_of_reading self.old.config m (reading (heard_side self.old.config) octets.now)) octets.now self.old (S.store shelf.old) self.new (S.store shelf.new) report.new }
     {
         match read(self.config.side.other(), octets) {
-            Ok(frame) => self.spelled(frame, shelf),
-            Err(fault) => {
-                let report = self.faulty(fault, octets.len(), shelf);
-                report
-            }
+            Ok(frame) => self.spelled(frame, report, shelf),
+            Err(fault) => self.faulty(fault, octets.len(), report, shelf),
         }
     }
 
     /// A frame of the grammar.
     #[inline(always)]
-    fn spelled<S: Shelf>(&mut self, frame: Frame<'_>, shelf: &mut S) -> BareReport
-        requires { Standing self.old (S.store shelf.old) }
+    fn spelled<S: Shelf>(&mut self, frame: Frame<'_>, report: &mut BareReport, shelf: &mut S)
+        requires stands { Standing self.old (S.store shelf.old) }
+        requires clear { IsClear report.old }
         ensures { (octets : List ℕ) → frame.entry.info.now ≡ drop (start_of frame.entry.control) octets
-            → Serves (λ m. aim_of_reading self.old.config m (Ok (parts_of frame.entry))) octets self.old (S.store shelf.old) self.new (S.store shelf.new) result }
+            → Serves (λ m. aim_of_reading self.old.config m (Ok (parts_of frame.entry))) octets self.old (S.store shelf.old) self.new (S.store shelf.new) report.new }
     {
         match self.addressee(frame.address) {
-            Addressee::Management => {
-                let report = self.message(frame.control, frame.info, shelf);
-                report
-            }
+            Addressee::Management => self.message(frame.control, frame.info, report, shelf),
             Addressee::Link {
                 service,
                 tei,
@@ -119,30 +116,29 @@ impl LinkLayer {
                     place,
                     Received::Frame(frame),
                     frame.control.start(),
+                    report,
                     shelf,
                 )
             }
-            Addressee::Nobody(cause) => {
-                let report = self.for_nobody(frame, cause);
-                report
-            }
+            Addressee::Nobody(cause) => self.for_nobody(frame, cause, report),
         }
     }
 
     /// A frame of the grammar that is for no link, nor for layer 2 management. On the user's side it may bring unit data
     /// that the network sends to the group.
     #[inline(never)]
-    fn for_nobody(&self, frame: Frame<'_>, cause: Cause) -> BareReport
+    fn for_nobody(&self, frame: Frame<'_>, cause: Cause, report: &mut BareReport)
+        requires { IsClear report.old }
         ensures { (octets : List ℕ) → frame.entry.info.now ≡ drop (start_of frame.entry.control) octets
-            → told_in octets result ≡ told_at self.now.config self.now.config.side (parts_of frame.entry) (dropped cause) }
+            → told_in octets report.new ≡ told_at self.now.config self.now.config.side (parts_of frame.entry) (dropped cause) }
     {
         match self.group_service(frame) {
-            None => BareReport::dropped(cause),
-            Some(service) => BareReport {
-                notes: ShortList::one(Note::Unit(service, GROUP)),
-                contents: Some(frame.control.start()),
-                ..BareReport::nothing()
-            },
+            None => report.tell_drop(cause),
+            Some(service) => {
+                report.answer.told.notes = ShortList::one(Note::Unit(service, GROUP));
+                report.answer.told.unit = true;
+                report.start = frame.control.start();
+            }
         }
     }
 
@@ -167,39 +163,55 @@ impl LinkLayer {
 
     /// Octets that spell no frame: `len` of them.
     #[inline(never)]
-    fn faulty<S: Shelf>(&mut self, fault: ReadFault, len: usize, shelf: &mut S) -> BareReport
-        requires { Standing self.old (S.store shelf.old) }
+    fn faulty<S: Shelf>(
+        &mut self,
+        fault: ReadFault,
+        len: usize,
+        report: &mut BareReport,
+        shelf: &mut S,
+    )
+        requires stands { Standing self.old (S.store shelf.old) }
+        requires clear { IsClear report.old }
         ensures { (octets : List ℕ) → length octets ≤ len
-            → Serves (λ m. aim_of_reading self.old.config m (Err fault)) octets self.old (S.store shelf.old) self.new (S.store shelf.new) result }
+            → Serves (λ m. aim_of_reading self.old.config m (Err fault)) octets self.old (S.store shelf.old) self.new (S.store shelf.new) report.new }
     {
         match fault {
-            ReadFault::BadExtension => BareReport::dropped(Cause::Extension),
+            ReadFault::BadExtension => report.tell_drop(Cause::Extension),
             ReadFault::Undefined(address) => self.malformed(
                 address,
                 Received::Undefined,
                 len,
+                report,
                 shelf,
             ),
             ReadFault::WrongSize(address) => self.malformed(
                 address,
                 Received::WrongSize,
                 len,
+                report,
                 shelf,
             ),
-            ReadFault::Short => BareReport::dropped(Cause::Unserved),
+            ReadFault::Short => report.tell_drop(Cause::Unserved),
         }
     }
 
     /// A frame that is longer than the line has room for, by its first four octets.
     #[inline(never)]
-    fn overlong<S: Shelf>(&mut self, head: &[u8; 4], shelf: &mut S) -> BareReport
-        requires { Standing self.old (S.store shelf.old) }
-        ensures { Serves (λ m. aim_of_long m (long_reading (heard_side self.old.config) head.now)) [] self.old (S.store shelf.old) self.new (S.store shelf.new) result }
+    fn overlong<S: Shelf>(&mut self, head: &[u8; 4], report: &mut BareReport, shelf: &mut S)
+        requires stands { Standing self.old (S.store shelf.old) }
+        requires clear { IsClear report.old }
+        ensures { Serves (λ m. aim_of_long m (long_reading (heard_side self.old.config) head.now)) [] self.old (S.store shelf.old) self.new (S.store shelf.new) report.new }
     {
         match read_long(self.config.side.other(), head) {
-            Ok(Long::Information(address)) => self.malformed(address, Received::Overlong, 0, shelf),
-            Ok(Long::Unnumbered(address)) => self.unserved(address, shelf),
-            Err(fault) => self.faulty(fault, 0, shelf),
+            Ok(Long::Information(address)) => self.malformed(
+                address,
+                Received::Overlong,
+                0,
+                report,
+                shelf,
+            ),
+            Ok(Long::Unnumbered(address)) => self.unserved(address, report, shelf),
+            Err(fault) => self.faulty(fault, 0, report, shelf),
         }
     }
 
@@ -209,47 +221,57 @@ impl LinkLayer {
         address: Address,
         received: Received<'_>,
         len: usize,
+        report: &mut BareReport,
         shelf: &mut S,
-    ) -> BareReport
+    )
         requires stands { Standing self.old (S.store shelf.old) }
+        requires clear { IsClear report.old }
         requires no_frame { info_of received ≡ [] }
         ensures { (octets : List ℕ) → length octets ≤ len
-            → Serves (λ m. addressed m address (received_of received.entry) (drop_for Unserved)) octets self.old (S.store shelf.old) self.new (S.store shelf.new) result }
+            → Serves (λ m. addressed m address (received_of received.entry) (drop_for Unserved)) octets self.old (S.store shelf.old) self.new (S.store shelf.new) report.new }
     {
         match self.addressee(address) {
-            Addressee::Management => BareReport::dropped(Cause::Unserved),
+            Addressee::Management => report.tell_drop(Cause::Unserved),
             Addressee::Link {
                 service,
                 tei,
                 place,
-            } => self.receive(service, tei, place, received, len, shelf),
-            Addressee::Nobody(cause) => BareReport::dropped(cause),
+            } => self.receive(service, tei, place, received, len, report, shelf),
+            Addressee::Nobody(cause) => report.tell_drop(cause),
         }
     }
 
     /// A UI or XID frame that is too long to keep: no link serves it (profile).
-    fn unserved<S: Shelf>(&mut self, address: Address, shelf: &mut S) -> BareReport
-        requires { Standing self.old (S.store shelf.old) }
-        ensures { Serves (λ m. unless_at_link (addressed m address link.overlong (drop_for Unserved))) [] self.old (S.store shelf.old) self.new (S.store shelf.new) result }
+    fn unserved<S: Shelf>(&mut self, address: Address, report: &mut BareReport, shelf: &mut S)
+        requires stands { Standing self.old (S.store shelf.old) }
+        requires clear { IsClear report.old }
+        ensures { Serves (λ m. unless_at_link (addressed m address link.overlong (drop_for Unserved))) [] self.old (S.store shelf.old) self.new (S.store shelf.new) report.new }
     {
         match self.addressee(address) {
-            Addressee::Management | Addressee::Link { .. } => BareReport::dropped(Cause::Unserved),
-            Addressee::Nobody(cause) => BareReport::dropped(cause),
+            Addressee::Management | Addressee::Link { .. } => report.tell_drop(Cause::Unserved),
+            Addressee::Nobody(cause) => report.tell_drop(cause),
         }
     }
 
     /// A frame of layer 2 management.
     /// UI alone is served, on the network's side.
     #[inline(never)]
-    fn message<S: Shelf>(&mut self, control: Control, info: &[u8], shelf: &mut S) -> BareReport
-        requires { Standing self.old (S.store shelf.old) }
-        ensures { (octets : List ℕ) → Serves (always (message_at self.old.config.side control info.now)) octets self.old (S.store shelf.old) self.new (S.store shelf.new) result }
+    fn message<S: Shelf>(
+        &mut self,
+        control: Control,
+        info: &[u8],
+        report: &mut BareReport,
+        shelf: &mut S,
+    )
+        requires stands { Standing self.old (S.store shelf.old) }
+        requires clear { IsClear report.old }
+        ensures { (octets : List ℕ) → Serves (always (message_at self.old.config.side control info.now)) octets self.old (S.store shelf.old) self.new (S.store shelf.new) report.new }
     {
         if !is_ui(control) || !has_management(self.config.side) {
-            return BareReport::dropped(Cause::Unserved);
+            return report.tell_drop(Cause::Unserved);
         }
         let told = self.teis.message(info);
-        self.change(told, shelf)
+        self.change(told, report, shelf);
     }
 
     /// For whom a frame is.

@@ -14,16 +14,30 @@ use lapd_store::Shelf;
 
 impl LinkLayer {
     ghost use Rattle.lapd_line.specs.LinkLayer.{Standing, Serves, always};
+    ghost use Rattle.lapd_line.specs.Reports.{IsClear};
 
     /// A timer expires. Where it does not run, nothing happens.
-    pub(crate) fn expire<S: Shelf>(&mut self, timer: Timer, shelf: &mut S) -> BareReport
-        requires { Standing self.old (S.store shelf.old) }
-        ensures { Serves (aim_of_expiry timer) [] self.old (S.store shelf.old) self.new (S.store shelf.new) result }
+    pub(crate) fn expire<S: Shelf>(&mut self, timer: Timer, report: &mut BareReport, shelf: &mut S)
+        requires stands { Standing self.old (S.store shelf.old) }
+        requires clear { IsClear report.old }
+        ensures { Serves (aim_of_expiry timer) [] self.old (S.store shelf.old) self.new (S.store shelf.new) report.new }
     {
         match timer {
-            Timer::T200(service, tei) => self.expire_at(service, tei, LinkTimer::T200, shelf),
-            Timer::T203(service, tei) => self.expire_at(service, tei, LinkTimer::T203, shelf),
-            Timer::T201 => self.expire_check(shelf),
+            Timer::T200(service, tei) => self.expire_at(
+                service,
+                tei,
+                LinkTimer::T200,
+                report,
+                shelf,
+            ),
+            Timer::T203(service, tei) => self.expire_at(
+                service,
+                tei,
+                LinkTimer::T203,
+                report,
+                shelf,
+            ),
+            Timer::T201 => self.expire_check(report, shelf),
         }
     }
 
@@ -33,23 +47,26 @@ impl LinkLayer {
         service: Service,
         tei: u8,
         timer: LinkTimer,
+        report: &mut BareReport,
         shelf: &mut S,
-    ) -> BareReport
-        requires { Standing self.old (S.store shelf.old) }
-        ensures { Serves (λ m. at_timer service tei timer (machine.place_in m tei)) [] self.old (S.store shelf.old) self.new (S.store shelf.new) result }
+    )
+        requires stands { Standing self.old (S.store shelf.old) }
+        requires clear { IsClear report.old }
+        ensures { Serves (λ m. at_timer service tei timer (machine.place_in m tei)) [] self.old (S.store shelf.old) self.new (S.store shelf.new) report.new }
     {
         match self.teis.place(tei) {
-            Some(place) => self.expire_link(service, tei, place, timer, shelf),
-            None => BareReport::nothing(),
+            Some(place) => self.expire_link(service, tei, place, timer, report, shelf),
+            None => {}
         }
     }
 
     /// The timer of the check expires.
-    fn expire_check<S: Shelf>(&mut self, shelf: &mut S) -> BareReport
-        requires { Standing self.old (S.store shelf.old) }
-        ensures { Serves (always (at_management teis.expiry)) [] self.old (S.store shelf.old) self.new (S.store shelf.new) result }
+    fn expire_check<S: Shelf>(&mut self, report: &mut BareReport, shelf: &mut S)
+        requires stands { Standing self.old (S.store shelf.old) }
+        requires clear { IsClear report.old }
+        ensures { Serves (always (at_management teis.expiry)) [] self.old (S.store shelf.old) self.new (S.store shelf.new) report.new }
     {
         let told = self.teis.expire_t201();
-        self.change(told, shelf)
+        self.change(told, report, shelf);
     }
 }

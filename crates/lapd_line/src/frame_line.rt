@@ -1,6 +1,7 @@
 //! The line: one call for each thing that happens.
 
 ghost use Rattle.std.specs.Prelude.{◌≡◌, ℕ, ◌≤◌, ◌++◌, List, false, None, Some, IfOk, IfErr, OnErr, nat_le};
+ghost use Rattle.std.specs.Option.{option_copied};
 ghost use Rattle.lapd_count.specs.Counters.{none_counted, with_all};
 ghost use Rattle.lapd_count.specs.Shown.{heard_shown};
 ghost use Rattle.lapd_store.specs.Ownership.{Owned, Holds};
@@ -47,7 +48,7 @@ pub struct FrameLine {
 impl FrameLine {
     ghost use Rattle.lapd_line.specs.Counted.{bare_shown, with_counted};
     ghost use Rattle.lapd_line.specs.LinkLayer.{Standing, Serves, aim_of_event};
-    ghost use Rattle.lapd_line.specs.Reports.{report_told, told_in, octets_of};
+    ghost use Rattle.lapd_line.specs.Reports.{report_told, told_in, octets_of, IsClear};
     ghost use Rattle.lapd_line.specs.Stands.{Stands, Leads, LeadsIfHeard, answer_if_heard, config_of};
 
     /// A line of a card with these sizes and limits, all in range. No TEI is on it.
@@ -71,73 +72,96 @@ impl FrameLine {
         })
     }
 
-    /// Takes what is heard, as a deframer tells it, and answers what it led to, without references; a port makes the report
-    /// of it ([`Port::lend`](crate::Port::lend)). Where nothing is heard, nothing happens.
+    /// Takes what is heard, as a deframer tells it, and tells in the report what it led to. Where nothing is heard, nothing
+    /// happens.
     #[inline(always)]
-    pub fn heard<S: Shelf>(&mut self, heard: Heard<'_>, shelf: &mut S) -> BareReport
-        requires { (others : List Owned) × (m : machine.Line) × Stands self.old (S.store shelf.old) others m }
+    pub fn heard<S: Shelf>(&mut self, heard: Heard<'_>, report: &mut BareReport, shelf: &mut S)
+        requires clear { IsClear report.old }
+        requires stands { (others : List Owned) × (m : machine.Line) × Stands self.old (S.store shelf.old) others m }
         ensures told { (others : List Owned) (m : machine.Line) → Stands self.old (S.store shelf.old) others m
-            → told (told_in (octets_of (heard_of heard.entry)) result) ≡ answer_if_heard (config_of self.old) (heard_of heard.entry) m }
+            → told (told_in (octets_of (heard_of heard.entry)) report.new) ≡ answer_if_heard (config_of self.old) (heard_of heard.entry) m }
         ensures after { LeadsIfHeard (heard_of heard.entry) self.old (S.store shelf.old) self.new (S.store shelf.new) }
     {
         match heard {
-            Heard::Nothing => BareReport::nothing(),
-            Heard::Dropped(cause) => self.dropped(cause),
-            Heard::Frame(_) | Heard::Overlong(_) => self.serve(heard, shelf),
+            Heard::Nothing => {}
+            Heard::Dropped(cause) => self.dropped(cause, report),
+            Heard::Frame(_) | Heard::Overlong(_) => self.serve(heard, report, shelf),
         }
     }
 
     /// Something is dropped in place of a frame. It is told, counted, and changes nothing.
     #[inline(always)]
-    fn dropped(&mut self, cause: Cause) -> BareReport
-        ensures line { self.new ≡ with_counted self.old (bare_shown result) }
-        ensures told { (octets : List ℕ) → told_in octets result ≡ dropped cause }
+    fn dropped(&mut self, cause: Cause, report: &mut BareReport)
+        requires { IsClear report.old }
+        ensures line { self.new ≡ with_counted self.old (bare_shown report.new) }
+        ensures told { (octets : List ℕ) → told_in octets report.new ≡ dropped cause }
     {
-        let bare = BareReport::dropped(cause);
-        self.count(&bare);
-        bare
+        report.tell_drop(cause);
+        self.count(report);
     }
 
     /// Serves a frame, and counts it and what it led to.
     #[inline(always)]
-    fn serve<S: Shelf>(&mut self, heard: Heard<'_>, shelf: &mut S) -> BareReport
-        requires { Standing self.old.layer (S.store shelf.old) }
+    fn serve<S: Shelf>(&mut self, heard: Heard<'_>, report: &mut BareReport, shelf: &mut S)
+        requires clear { IsClear report.old }
+        requires stands { Standing self.old.layer (S.store shelf.old) }
         ensures line { self.new ≡ record {
           layer = self.new.layer;
           quiet = false;
-          counters = with_all self.old.counters (heard_shown self.old.layer.config.side (heard_of heard.entry) ++ bare_shown result);
+          counters = with_all self.old.counters (heard_shown self.old.layer.config.side (heard_of heard.entry) ++ bare_shown report.new);
         } }
         ensures served { Serves (aim_of_event self.old.layer.config (heard_of heard.entry)) (octets_of (heard_of heard.entry))
-            self.old.layer (S.store shelf.old) self.new.layer (S.store shelf.new) result }
+            self.old.layer (S.store shelf.old) self.new.layer (S.store shelf.new) report.new }
     {
         let side = self.layer.config.side;
         self.quiet = false;
         self.counters.heard(side, heard);
-        let bare = self.layer.serve(heard, shelf);
-        self.count(&bare);
-        bare
+        self.layer.serve(heard, report, shelf);
+        self.count(report);
     }
 
     /// Counts what was told.
     #[inline(always)]
-    fn count(&mut self, bare: &BareReport)
-        ensures { self.new ≡ with_counted self.old (bare_shown bare.now) }
+    fn count(&mut self, report: &BareReport)
+        ensures { self.new ≡ with_counted self.old (bare_shown report.now) }
     {
-        count_told(&mut self.counters, bare.notes, bare.cause, bare.lost);
+        let told = &report.answer.told;
+        count_told(&mut self.counters, told.notes, report.cause(), told.lost);
     }
 
-    /// Takes a frame that a controller brings, from its address to its information, without its check, and tells what it led
-    /// to. Contents that it delivers are lent from these octets.
+    /// Takes a frame that a controller brings, from its address to its information, without its check, and tells in the report
+    /// what it led to. [`FrameLine::lend`] lends contents that it delivers from these octets.
     ///
     /// What it is heard as is what a deframer would hear in its octets on an idle line (`frames_are_heard` of `model_ports`).
-    pub fn frame<'a, S: Shelf>(&mut self, octets: &'a [u8], shelf: &mut S) -> Report<'a>
-        requires { (others : List Owned) × (m : machine.Line) × Stands self.old (S.store shelf.old) others m }
+    #[inline(always)]
+    pub fn frame<S: Shelf>(&mut self, octets: &[u8], report: &mut BareReport, shelf: &mut S)
+        requires clear { IsClear report.old }
+        requires stands { (others : List Owned) × (m : machine.Line) × Stands self.old (S.store shelf.old) others m }
         ensures told { (others : List Owned) (m : machine.Line) → Stands self.old (S.store shelf.old) others m
-            → told (report_told result) ≡ answer (config_of self.old) (hears (came (config_of self.old).n201 octets.now)) m }
+            → told (told_in (octets_of (Some (came (config_of self.old).n201 octets.now))) report.new) ≡ answer (config_of self.old) (hears (came (config_of self.old).n201 octets.now)) m }
         ensures after { Leads (hears (came (config_of self.old).n201 octets.now)) self.old (S.store shelf.old) self.new (S.store shelf.new) }
     {
-        let heard = came(octets, self.layer.config.n201);
-        self.heard(heard, shelf).report(octets_of(heard))
+        self.heard(came(octets, self.layer.config.n201), report, shelf);
+    }
+
+    /// The report of what a frame of these octets led to, with the contents that it delivered.
+    pub fn lend<'a>(&self, octets: &'a [u8], bare: &BareReport) -> Report<'a>
+        ensures { report_told result ≡ told_in (octets_of (Some (came (config_of self.now).n201 octets.now))) bare.now }
+    {
+        bare.report(octets_of(came(octets, self.layer.config.n201)))
+    }
+
+    /// The contents alone.
+    #[tactic(auto, using(crate::proofs::ReportSteps::none_lent))]
+    #[inline(always)]
+    pub fn contents<'a>(&self, octets: &'a [u8], bare: &BareReport) -> Option<&'a [u8]>
+        ensures { option_copied result ≡ (told_in (octets_of (Some (came (config_of self.now).n201 octets.now))) bare.now).contents }
+    {
+        if bare.has_contents() {
+            bare.lent(octets_of(came(octets, self.layer.config.n201)))
+        } else {
+            None
+        }
     }
 
     /// A controller tells a fault in place of a frame. It is reported with its cause, and changes nothing.
@@ -148,7 +172,9 @@ impl FrameLine {
             → told (report_told result) ≡ answer (config_of self.old) (hears (stream.dropped (cause_of fault))) m }
         ensures after { (store : Store) → Leads (hears (stream.dropped (cause_of fault))) self.old store self.new store }
     {
-        self.dropped(cause_of(fault)).report(&[])
+        let mut bare = BareReport::nothing();
+        self.dropped(cause_of(fault), &mut bare);
+        bare.report(&[])
     }
 
     /// A timer expires: T200 or T203 of a link, or T201 of the check of a TEI (Q.921 clause 5.9). Where it does not
@@ -162,7 +188,8 @@ impl FrameLine {
         ensures after { Leads (line_event.expiry timer) self.old (S.store shelf.old) self.new (S.store shelf.new) }
     {
         self.quiet = false;
-        let bare = self.layer.expire(timer, shelf);
+        let mut bare = BareReport::nothing();
+        self.layer.expire(timer, &mut bare, shelf);
         self.count(&bare);
         bare.report(&[])
     }
@@ -193,8 +220,9 @@ impl FrameLine {
         ensures after { IfOk result (λ report.
             Leads (line_event.request (request_of request.entry)) self.old (S.store shelf.old) self.new (S.store shelf.new)) }
     {
-        match self.layer.request(request, shelf, slots) {
-            Ok(bare) => {
+        let mut bare = BareReport::nothing();
+        match self.layer.request(request, &mut bare, shelf, slots) {
+            Ok(()) => {
                 self.quiet = false;
                 self.count(&bare);
                 Ok(bare.report(&[]))

@@ -90,8 +90,16 @@ impl Line {
     {
         match self.port.octet(octet) {
             Ended::Nothing => None,
-            Ended::Dropped(cause) => Some(self.frames.heard(Heard::Dropped(cause), shelf)),
-            Ended::Frame(_) | Ended::Overlong => Some(self.frames.heard(self.port.latest(), shelf)),
+            Ended::Dropped(cause) => {
+                let mut bare = BareReport::nothing();
+                self.frames.heard(Heard::Dropped(cause), &mut bare, shelf);
+                Some(bare)
+            }
+            Ended::Frame(_) | Ended::Overlong => {
+                let mut bare = BareReport::nothing();
+                self.frames.heard(self.port.latest(), &mut bare, shelf);
+                Some(bare)
+            }
         }
     }
 

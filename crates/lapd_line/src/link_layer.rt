@@ -5,18 +5,16 @@ ghost use Rattle.lapd_store.specs.Ownership.{Owned};
 ghost use Rattle.lapd_store.specs.Store.{Store};
 ghost use Rattle.model_link.specs.Events as event;
 ghost use Rattle.model_line.specs.Line as machine;
-ghost use Rattle.model_line.specs.Effect.{at_link, told_of_link};
-ghost use Rattle.lapd_link.specs.Outcome.{told_with};
+ghost use Rattle.model_line.specs.Effect.{at_link};
 
 use crate::awake::Awake;
 use crate::links::Links;
 use crate::reports::BareReport;
 use crate::units::Units;
 use lapd_frame::Service;
-use lapd_link::{Answer, LinkTimer, Received};
+use lapd_link::{LinkTimer, Received};
 use lapd_store::Shelf;
 use lapd_tei::Teis;
-use model_bits::Cause;
 use model_line::Config;
 
 /// What a line has beside its bits.
@@ -43,31 +41,14 @@ pub(crate) fn link_number(place: usize, service: Service) -> usize
     }
 }
 
-impl BareReport {
-    ghost use Rattle.lapd_line.specs.Reports.{told_in};
-
-    /// What a link tells of something that came from its terminal, whose information begins at `start`.
-    pub(crate) fn of_link(answer: Answer, start: usize) -> BareReport
-        ensures { (octets : List ℕ) → told_in octets result ≡ told_of_link (told_with (drop start octets) answer) }
-    {
-        BareReport {
-            notes: answer.notes,
-            orders: answer.orders,
-            contents: (answer.delivered || answer.unit).then_some(start),
-            cause: answer.unserved.then_some(Cause::Unserved),
-            lost: answer.lost,
-        }
-    }
-}
-
 impl LinkLayer {
     ghost use Rattle.lapd_link.specs.Events.{received_of, info_of};
     ghost use Rattle.lapd_tei.specs.Sound.{IsAt};
     ghost use Rattle.lapd_line.specs.LinkLayer.{Standing, Stands, Serves, always};
+    ghost use Rattle.lapd_line.specs.Reports.{IsClear};
 
     /// Something came from the terminal for a link of the TEI at a place. Its information begins at `start` of the
     /// octets that came.
-    // It is compiled into its callers, so that what it answers is not copied on its way.
     #[inline(always)]
     pub(crate) fn receive<S: Shelf>(
         &mut self,
@@ -76,16 +57,20 @@ impl LinkLayer {
         place: usize,
         received: Received<'_>,
         start: usize,
+        report: &mut BareReport,
         shelf: &mut S,
-    ) -> BareReport
+    )
         requires at { IsAt self.old.teis.places place tei }
+        requires clear { IsClear report.old }
         requires stands { Standing self.old (S.store shelf.old) }
         ensures { (octets : List ℕ) → info_of received.entry ≡ drop start octets
-            → Serves (always (at_link service tei place (event.received (received_of received.entry)))) octets self.old (S.store shelf.old) self.new (S.store shelf.new) result }
+            → Serves (always (at_link service tei place (event.received (received_of received.entry)))) octets self.old (S.store shelf.old) self.new (S.store shelf.new) report.new }
     {
         let number = link_number(place, service);
         self.awake.wake(number);
-        BareReport::of_link(self.links.receive(number, received, shelf), start)
+        report.start = start;
+        self.links
+            .receive(number, received, &mut report.answer, shelf);
     }
 
     /// A timer of a link of the TEI at a place expires.
@@ -95,15 +80,17 @@ impl LinkLayer {
         tei: u8,
         place: usize,
         timer: LinkTimer,
+        report: &mut BareReport,
         shelf: &mut S,
-    ) -> BareReport
+    )
         requires at { IsAt self.old.teis.places place tei }
+        requires clear { IsClear report.old }
         requires stands { Standing self.old (S.store shelf.old) }
-        ensures { Serves (always (at_link service tei place (event.expired timer))) [] self.old (S.store shelf.old) self.new (S.store shelf.new) result }
+        ensures { Serves (always (at_link service tei place (event.expired timer))) [] self.old (S.store shelf.old) self.new (S.store shelf.new) report.new }
     {
         let number = link_number(place, service);
         self.awake.wake(number);
-        BareReport::of_link(self.links.expire(number, timer, shelf), 0)
+        self.links.expire(number, timer, &mut report.answer, shelf);
     }
 
     /// A link of the TEI at a place is left as one that begins, while the TEI stays.
@@ -112,15 +99,17 @@ impl LinkLayer {
         service: Service,
         tei: u8,
         place: usize,
+        report: &mut BareReport,
         shelf: &mut S,
-    ) -> BareReport
+    )
         requires at { IsAt self.old.teis.places place tei }
+        requires clear { IsClear report.old }
         requires stands { Standing self.old (S.store shelf.old) }
-        ensures { Serves (always (at_link service tei place event.cleared)) [] self.old (S.store shelf.old) self.new (S.store shelf.new) result }
+        ensures { Serves (always (at_link service tei place event.cleared)) [] self.old (S.store shelf.old) self.new (S.store shelf.new) report.new }
     {
         let number = link_number(place, service);
         self.awake.wake(number);
-        BareReport::of_link(self.links.clear(number, shelf), 0)
+        self.links.clear(number, &mut report.answer, shelf);
     }
 
     /// The state of the link of a service with this TEI; none where the TEI is not on the line.

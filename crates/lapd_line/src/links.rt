@@ -38,6 +38,7 @@ impl Model for Links {
 
 impl Links {
     ghost use Rattle.lapd_link.specs.Events.{received_of, request_of, info_of};
+    ghost use Rattle.lapd_link.specs.Outcome.{IsClear};
     ghost use Rattle.lapd_line.specs.Links.{LinksStand, Offers, Serves, Refuses, HasTerms, machine_at, terms_in};
     ghost use Rattle.lapd_line.specs.Starts.{AreBegun};
 
@@ -60,13 +61,15 @@ impl Links {
         &mut self,
         number: usize,
         received: Received<'_>,
+        answer: &mut Answer,
         shelf: &mut S,
-    ) -> Answer
+    )
         requires within { number < length self.old }
+        requires clear { IsClear answer.old }
         requires stands { (c : Config) × (others : List Owned) × (ms : List machine.Link) × LinksStand c self.old (S.store shelf.old) others ms }
-        ensures { Serves number (event.received (received_of received.entry)) (info_of received.entry) self.old (S.store shelf.old) self.new (S.store shelf.new) result }
+        ensures { Serves number (event.received (received_of received.entry)) (info_of received.entry) self.old (S.store shelf.old) self.new (S.store shelf.new) answer.new }
     {
-        self.all[number].receive(received, shelf)
+        self.all[number].receive(received, answer, shelf);
     }
 
     /// A timer of a link expires.
@@ -74,22 +77,25 @@ impl Links {
         &mut self,
         number: usize,
         timer: LinkTimer,
+        answer: &mut Answer,
         shelf: &mut S,
-    ) -> Answer
+    )
         requires within { number < length self.old }
+        requires clear { IsClear answer.old }
         requires stands { (c : Config) × (others : List Owned) × (ms : List machine.Link) × LinksStand c self.old (S.store shelf.old) others ms }
-        ensures { Serves number (event.expired timer) [] self.old (S.store shelf.old) self.new (S.store shelf.new) result }
+        ensures { Serves number (event.expired timer) [] self.old (S.store shelf.old) self.new (S.store shelf.new) answer.new }
     {
-        self.all[number].expire(timer, shelf)
+        self.all[number].expire(timer, answer, shelf);
     }
 
     /// The TEI of a link leaves the line.
-    pub(crate) fn clear<S: Shelf>(&mut self, number: usize, shelf: &mut S) -> Answer
+    pub(crate) fn clear<S: Shelf>(&mut self, number: usize, answer: &mut Answer, shelf: &mut S)
         requires within { number < length self.old }
+        requires clear { IsClear answer.old }
         requires stands { (c : Config) × (others : List Owned) × (ms : List machine.Link) × LinksStand c self.old (S.store shelf.old) others ms }
-        ensures { Serves number event.cleared [] self.old (S.store shelf.old) self.new (S.store shelf.new) result }
+        ensures { Serves number event.cleared [] self.old (S.store shelf.old) self.new (S.store shelf.new) answer.new }
     {
-        self.all[number].clear(shelf)
+        self.all[number].clear(answer, shelf);
     }
 
     /// Layer 3 asks a link for something.
@@ -98,19 +104,22 @@ impl Links {
         &mut self,
         number: usize,
         request: LinkRequest<'_>,
+        answer: &mut Answer,
         shelf: &mut S,
         slots: u32,
-    ) -> Result<Answer, Refusal>
+    ) -> Result<(), Refusal>
         requires within { number < length self.old }
+        requires clear { IsClear answer.old }
         requires stands { (c : Config) × (others : List Owned) × (ms : List machine.Link) × LinksStand c self.old (S.store shelf.old) others ms }
         requires slots { slots ≤ (S.store shelf.old).slots }
         ensures refused { IfErr result (λ why. Refuses number (nat_le slots (used_slots (S.store shelf.old))) (request_of request.entry) self.old (S.store shelf.old) (Some why)) }
         ensures unchanged { OnErr result (self.new ≡ self.old) }
         ensures kept { OnErr result (shelf.new ≡ shelf.old) }
+        ensures untold { OnErr result (answer.new ≡ answer.old) }
         ensures granted { OnOk result (Refuses number (nat_le slots (used_slots (S.store shelf.old))) (request_of request.entry) self.old (S.store shelf.old) None) }
-        ensures served { IfOk result (Serves number (event.requested (request_of request.entry) (nat_le slots (used_slots (S.store shelf.old)))) [] self.old (S.store shelf.old) self.new (S.store shelf.new)) }
+        ensures served { OnOk result (Serves number (event.requested (request_of request.entry) (nat_le slots (used_slots (S.store shelf.old)))) [] self.old (S.store shelf.old) self.new (S.store shelf.new) answer.new) }
     {
-        self.all[number].request(request, shelf, slots)
+        self.all[number].request(request, answer, shelf, slots)
     }
 
     /// How many they are.

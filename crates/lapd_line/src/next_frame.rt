@@ -32,6 +32,13 @@ impl NextFrame {
     {
         self.orders.as_slice()
     }
+
+    /// The same as a list.
+    pub fn order_list(&self) -> ShortList<Order>
+        ensures { result ≡ self.now.orders }
+    {
+        self.orders
+    }
 }
 
 /// The room of a caller, of which so many octets in front are the frame that was taken.
@@ -45,9 +52,27 @@ impl Outlet for RoomOf<'_> {
     ghost loading = { λ room. in_octets room.octets.now room.length room.octets.ghost_name };
 
     fn load(&mut self, head: &[u8], info: &[u8]) {
-        put(self.octets, 0, head);
-        put(self.octets, head.len(), info);
+        put_head(self.octets, head);
+        if !info.is_empty() {
+            put(self.octets, head.len(), info);
+        }
         self.length = head.len() + info.len();
+    }
+}
+
+/// Writes an address and a control field in front, of three octets or four.
+#[inline(always)]
+fn put_head(out: &mut [u8], head: &[u8])
+    requires low { 3 ≤ length head.now }
+    requires high { length head.now ≤ 4 }
+    requires room { 4 ≤ length out.old }
+    ensures { out.new ≡ head.now ++ drop (length head.now) out.old }
+{
+    out[0] = head[0];
+    out[1] = head[1];
+    out[2] = head[2];
+    if head.len() > 3 {
+        out[3] = head[3];
     }
 }
 

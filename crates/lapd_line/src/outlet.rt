@@ -15,7 +15,7 @@ pub(crate) trait Outlet {
         requires free { IsFree (loading self.old) }
         requires head { length head.now ≤ 4 }
         requires info { length info.now ≤ room_in (loading self.old) }
-        requires a_frame { 3 ≤ length head.now + length info.now }
+        requires a_frame { 3 ≤ length head.now }
         ensures loaded { Loads (head.now ++ info.now) (loading self.old) (loading self.new) }
         ensures room { room_in (loading self.new) ≡ room_in (loading self.old) }
         ensures reference { reference_in (loading self.new) ≡ reference_in (loading self.old) };

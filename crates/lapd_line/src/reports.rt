@@ -4,6 +4,7 @@ ghost use Rattle.std.specs.Prelude.{◌≡◌};
 ghost use Rattle.std.specs.Option.{option_copied};
 
 use lapd_frame::{Note, Order, ShortList};
+use lapd_link::Answer;
 use model_bits::Cause;
 
 /// What an octet, an expiry or an accepted request led to.
@@ -20,15 +21,17 @@ pub struct Report<'a> {
     pub lost: u8,
 }
 
-/// The same without references: where in the frame that the latest octet ended the delivered contents begin, in place
-/// of the contents. [`Port::lend`](crate::Port::lend) makes the report of it.
-#[derive(Clone, Copy, PartialEq, Eq, Debug)]
+/// The same without references: where in the frame that came the delivered contents begin, in place of the contents. A call
+/// is handed one in which nothing is told yet ([`BareReport::nothing`]), and each level below it writes into it what it tells.
+/// [`FrameLine::lend`](crate::FrameLine::lend) and [`Port::lend`](crate::Port::lend) make the report of it.
+#[derive(Clone, Copy)]
 pub struct BareReport {
-    pub(crate) notes: ShortList<Note>,
-    pub(crate) orders: ShortList<Order>,
-    pub(crate) contents: Option<usize>,
+    /// What a link told, or the line: notes, whether information is delivered, what was lost, and orders.
+    pub(crate) answer: Answer,
+    /// Where in the frame the information begins.
+    pub(crate) start: usize,
+    /// Why something was dropped that no link was asked for.
     pub(crate) cause: Option<Cause>,
-    pub(crate) lost: u8,
 }
 
 impl Report<'_> {
@@ -78,31 +81,60 @@ impl Report<'_> {
 }
 
 impl BareReport {
-    ghost use Rattle.std.specs.Prelude.{ℕ, List};
-    ghost use Rattle.model_line.specs.Event.{nothing, dropped};
-    ghost use Rattle.lapd_line.specs.Reports.{report_told, told_in};
+    ghost use Rattle.std.specs.Prelude.{ℕ, List, []};
+    ghost use Rattle.lapd_frame.specs.ShortLists.{listed};
+    ghost use Rattle.model_line.specs.Event.{dropped};
+    ghost use Rattle.lapd_line.specs.Reports.{report_told, told_in, cause_in, has_contents, IsClear};
 
-    /// Nothing happened.
+    /// Nothing is told yet.
     pub fn nothing() -> BareReport
-        ensures { (octets : List ℕ) → told_in octets result ≡ nothing }
+        ensures { IsClear result }
     {
         BareReport {
-            notes: ShortList::none(),
-            orders: ShortList::none(),
-            contents: None,
+            answer: Answer::nothing(),
+            start: 0,
             cause: None,
-            lost: 0,
         }
     }
 
-    /// Something was dropped without effect.
-    pub(crate) fn dropped(cause: Cause) -> BareReport
-        ensures { (octets : List ℕ) → told_in octets result ≡ dropped cause }
+    /// Something is dropped without effect.
+    pub(crate) fn tell_drop(&mut self, cause: Cause)
+        requires { IsClear self.old }
+        ensures { (octets : List ℕ) → told_in octets self.new ≡ dropped cause }
     {
-        BareReport {
-            cause: Some(cause),
-            ..BareReport::nothing()
+        self.cause = Some(cause);
+    }
+
+    /// What layer 3 and management are told, in order.
+    pub fn notes(&self) -> ShortList<Note>
+        ensures { listed result ≡ (told_in [] self.now).notes }
+    {
+        self.answer.told.notes
+    }
+
+    /// What is to be done with timers, in order.
+    pub fn orders(&self) -> ShortList<Order>
+        ensures { listed result ≡ (told_in [] self.now).orders }
+    {
+        self.answer.orders
+    }
+
+    /// Why something was dropped.
+    pub fn cause(&self) -> Option<Cause>
+        ensures { result ≡ cause_in self.now }
+    {
+        if self.answer.told.unserved {
+            Some(Cause::Unserved)
+        } else {
+            self.cause
         }
+    }
+
+    /// How many control frames and messages of TEI management found no room to wait.
+    pub fn lost(&self) -> u8
+        ensures { result ≡ (told_in [] self.now).lost }
+    {
+        self.answer.told.lost
     }
 
     /// The report of it, with contents lent from the octets of a frame.
@@ -110,18 +142,30 @@ impl BareReport {
         ensures { report_told result ≡ told_in octets.now self.now }
     {
         Report {
-            notes: self.notes,
-            orders: self.orders,
+            notes: self.answer.told.notes,
+            orders: self.answer.orders,
             delivered: self.lent(octets),
-            cause: self.cause,
-            lost: self.lost,
+            cause: self.cause(),
+            lost: self.answer.told.lost,
         }
     }
 
-    fn lent<'a>(&self, octets: &'a [u8]) -> Option<&'a [u8]>
+    /// Whether contents were delivered.
+    pub(crate) fn has_contents(&self) -> bool
+        ensures { result ≡ has_contents self.now }
+    {
+        self.answer.told.delivered || self.answer.told.unit
+    }
+
+    /// The contents that the frame of these octets delivered.
+    #[tactic(auto, using(crate::proofs::ReportSteps::some_lent, crate::proofs::ReportSteps::none_lent))]
+    pub(crate) fn lent<'a>(&self, octets: &'a [u8]) -> Option<&'a [u8]>
         ensures { option_copied result ≡ (told_in octets.now self.now).contents }
     {
-        let start = self.contents?;
-        Some(octets.get(start..).unwrap_or(&[]))
+        if self.has_contents() {
+            Some(octets.get(self.start..).unwrap_or(&[]))
+        } else {
+            None
+        }
     }
 }

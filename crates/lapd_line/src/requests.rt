@@ -82,41 +82,46 @@ impl TeiRequest {
 impl LinkLayer {
     ghost use Rattle.lapd_link.specs.Events as link;
     ghost use Rattle.lapd_line.specs.LinkLayer.{Standing, Stands, Serves, always};
+    ghost use Rattle.lapd_line.specs.Reports.{IsClear};
 
     /// Serves a request, or refuses it and changes nothing.
-    // Both kinds of lines call it: compiled into each, it costs no copy of what it answers.
     #[inline(always)]
     pub(crate) fn request<S: Shelf>(
         &mut self,
         request: Request<'_>,
+        report: &mut BareReport,
         shelf: &mut S,
         slots: u32,
-    ) -> Result<BareReport, Refusal>
+    ) -> Result<(), Refusal>
         requires stands { Standing self.old (S.store shelf.old) }
+        requires clear { IsClear report.old }
         requires slots { slots ≤ (S.store shelf.old).slots }
         ensures refused { IfErr result (λ why. (others : List Owned) (m : Line) → Stands self.old (S.store shelf.old) others m
             → refusal self.old.config (nat_le slots (used_slots (S.store shelf.old))) (request_of request.entry) m ≡ Some why) }
         ensures unchanged { OnErr result (self.new ≡ self.old) }
         ensures kept { OnErr result (shelf.new ≡ shelf.old) }
+        ensures untold { OnErr result (report.new ≡ report.old) }
         ensures granted { OnOk result ((others : List Owned) (m : Line) → Stands self.old (S.store shelf.old) others m
             → refusal self.old.config (nat_le slots (used_slots (S.store shelf.old))) (request_of request.entry) m ≡ None) }
-        ensures served { IfOk result (Serves (aim_of_request (request_of request.entry)) [] self.old (S.store shelf.old) self.new (S.store shelf.new)) }
+        ensures served { OnOk result (Serves (aim_of_request (request_of request.entry)) [] self.old (S.store shelf.old) self.new (S.store shelf.new) report.new) }
     {
         let (service, tei, request) = match request {
             Request::Unit(service, tei, contents) => {
-                return self.unit(service, tei, contents, shelf, slots);
+                return self.unit(service, tei, contents, report, shelf, slots);
             }
-            Request::Assign(tei) => return self.manage(TeiRequest::Assign, tei, shelf),
-            Request::Remove(tei) => return self.manage(TeiRequest::Remove, tei, shelf),
-            Request::Check(tei) => return self.manage(TeiRequest::Check, tei, shelf),
+            Request::Assign(tei) => return self.manage(TeiRequest::Assign, tei, report, shelf),
+            Request::Remove(tei) => return self.manage(TeiRequest::Remove, tei, report, shelf),
+            Request::Check(tei) => return self.manage(TeiRequest::Check, tei, report, shelf),
             Request::Establish(service, tei) => (service, tei, LinkRequest::Establish),
             Request::Release(service, tei) => (service, tei, LinkRequest::Release),
             Request::Data(service, tei, contents) => (service, tei, LinkRequest::Data(contents)),
             Request::SetBusy(service, tei) => (service, tei, LinkRequest::SetBusy),
             Request::ClearBusy(service, tei) => (service, tei, LinkRequest::ClearBusy),
-            Request::Deactivate(service, tei) => return self.deactivate(service, tei, shelf),
+            Request::Deactivate(service, tei) => {
+                return self.deactivate(service, tei, report, shelf);
+            }
         };
-        self.ask(service, tei, request, shelf, slots)
+        self.ask(service, tei, request, report, shelf, slots)
     }
 
     /// Asks the link of a service with a TEI.
@@ -126,18 +131,21 @@ impl LinkLayer {
         service: Service,
         tei: u8,
         request: LinkRequest<'_>,
+        report: &mut BareReport,
         shelf: &mut S,
         slots: u32,
-    ) -> Result<BareReport, Refusal>
+    ) -> Result<(), Refusal>
         requires stands { Standing self.old (S.store shelf.old) }
+        requires clear { IsClear report.old }
         requires slots { slots ≤ (S.store shelf.old).slots }
         ensures refused { IfErr result (λ why. (others : List Owned) (m : Line) → Stands self.old (S.store shelf.old) others m
             → link_refusal self.old.config (nat_le slots (used_slots (S.store shelf.old))) service tei (link.request_of request.entry) m ≡ Some why) }
         ensures unchanged { OnErr result (self.new ≡ self.old) }
         ensures kept { OnErr result (shelf.new ≡ shelf.old) }
+        ensures untold { OnErr result (report.new ≡ report.old) }
         ensures granted { OnOk result ((others : List Owned) (m : Line) → Stands self.old (S.store shelf.old) others m
             → link_refusal self.old.config (nat_le slots (used_slots (S.store shelf.old))) service tei (link.request_of request.entry) m ≡ None) }
-        ensures served { IfOk result (Serves (λ m. at_requested service tei (link.request_of request.entry) (machine.place_in m tei)) [] self.old (S.store shelf.old) self.new (S.store shelf.new)) }
+        ensures served { OnOk result (Serves (λ m. at_requested service tei (link.request_of request.entry) (machine.place_in m tei)) [] self.old (S.store shelf.old) self.new (S.store shelf.new) report.new) }
     {
         if tei > LAST_TEI {
             return Err(Refusal::BadTei);
@@ -146,10 +154,13 @@ impl LinkLayer {
             return Err(Refusal::NoLink);
         };
         let number = link_number(place, service);
-        match self.links.request(number, request, shelf, slots) {
-            Ok(answer) => {
+        match self
+            .links
+            .request(number, request, &mut report.answer, shelf, slots)
+        {
+            Ok(()) => {
                 self.awake.wake(number);
-                Ok(BareReport::of_link(answer, 0))
+                Ok(())
             }
             Err(why) => Err(why),
         }
@@ -160,16 +171,19 @@ impl LinkLayer {
         &mut self,
         service: Service,
         tei: u8,
+        report: &mut BareReport,
         shelf: &mut S,
-    ) -> Result<BareReport, Refusal>
-        requires { Standing self.old (S.store shelf.old) }
+    ) -> Result<(), Refusal>
+        requires stands { Standing self.old (S.store shelf.old) }
+        requires clear { IsClear report.old }
+        ensures untold { OnErr result (report.new ≡ report.old) }
         ensures refused { IfErr result (λ why. (others : List Owned) (m : Line) → Stands self.old (S.store shelf.old) others m
             → refusal self.old.config false (asked.Deactivate service tei) m ≡ Some why) }
         ensures unchanged { OnErr result (self.new ≡ self.old) }
         ensures kept { OnErr result (shelf.new ≡ shelf.old) }
         ensures granted { OnOk result ((others : List Owned) (m : Line) → Stands self.old (S.store shelf.old) others m
             → refusal self.old.config false (asked.Deactivate service tei) m ≡ None) }
-        ensures served { IfOk result (Serves (λ m. at_deactivated service tei (machine.place_in m tei)) [] self.old (S.store shelf.old) self.new (S.store shelf.new)) }
+        ensures served { OnOk result (Serves (λ m. at_deactivated service tei (machine.place_in m tei)) [] self.old (S.store shelf.old) self.new (S.store shelf.new) report.new) }
     {
         if tei > LAST_TEI {
             return Err(Refusal::BadTei);
@@ -177,7 +191,8 @@ impl LinkLayer {
         let Some(place) = self.teis.place(tei) else {
             return Err(Refusal::NoLink);
         };
-        Ok(self.clear_link(service, tei, place, shelf))
+        self.clear_link(service, tei, place, report, shelf);
+        Ok(())
     }
 
     /// Asks TEI management for something about a TEI.
@@ -185,16 +200,19 @@ impl LinkLayer {
         &mut self,
         asked: TeiRequest,
         tei: u8,
+        report: &mut BareReport,
         shelf: &mut S,
-    ) -> Result<BareReport, Refusal>
-        requires { Standing self.old (S.store shelf.old) }
+    ) -> Result<(), Refusal>
+        requires stands { Standing self.old (S.store shelf.old) }
+        requires clear { IsClear report.old }
         ensures refused { IfErr result (λ why. (others : List Owned) (m : Line) → Stands self.old (S.store shelf.old) others m
             → management_refusal self.old.config.side asked tei m ≡ Some why) }
         ensures unchanged { OnErr result (self.new ≡ self.old) }
         ensures kept { OnErr result (shelf.new ≡ shelf.old) }
+        ensures untold { OnErr result (report.new ≡ report.old) }
         ensures granted { OnOk result ((others : List Owned) (m : Line) → Stands self.old (S.store shelf.old) others m
             → management_refusal self.old.config.side asked tei m ≡ None) }
-        ensures served { IfOk result (Serves (always (at_management (event_of asked tei))) [] self.old (S.store shelf.old) self.new (S.store shelf.new)) }
+        ensures served { OnOk result (Serves (always (at_management (event_of asked tei))) [] self.old (S.store shelf.old) self.new (S.store shelf.new) report.new) }
     {
         if !asked.is_for(self.config.side) {
             return Err(Refusal::WrongSide);
@@ -203,7 +221,10 @@ impl LinkLayer {
             return Err(Refusal::BadTei);
         }
         match asked.put(tei, &mut self.teis) {
-            Ok(told) => Ok(self.change(told, shelf)),
+            Ok(told) => {
+                self.change(told, report, shelf);
+                Ok(())
+            }
             Err(why) => Err(why),
         }
     }
@@ -214,18 +235,21 @@ impl LinkLayer {
         service: Service,
         tei: u8,
         contents: &[u8],
+        report: &mut BareReport,
         shelf: &mut S,
         slots: u32,
-    ) -> Result<BareReport, Refusal>
+    ) -> Result<(), Refusal>
         requires stands { Standing self.old (S.store shelf.old) }
+        requires clear { IsClear report.old }
         requires slots { slots ≤ (S.store shelf.old).slots }
         ensures refused { IfErr result (λ why. (others : List Owned) (m : Line) → Stands self.old (S.store shelf.old) others m
             → refusal self.old.config (nat_le slots (used_slots (S.store shelf.old))) (asked.Unit service tei contents.now) m ≡ Some why) }
         ensures unchanged { OnErr result (self.new ≡ self.old) }
         ensures kept { OnErr result (shelf.new ≡ shelf.old) }
+        ensures untold { OnErr result (report.new ≡ report.old) }
         ensures granted { OnOk result ((others : List Owned) (m : Line) → Stands self.old (S.store shelf.old) others m
             → refusal self.old.config (nat_le slots (used_slots (S.store shelf.old))) (asked.Unit service tei contents.now) m ≡ None) }
-        ensures served { IfOk result (Serves (always (at_units (record { service = service; tei = tei; contents = contents.now }))) [] self.old (S.store shelf.old) self.new (S.store shelf.new)) }
+        ensures served { OnOk result (Serves (always (at_units (record { service = service; tei = tei; contents = contents.now }))) [] self.old (S.store shelf.old) self.new (S.store shelf.new) report.new) }
     {
         if let Some(why) = self.unit_refusal(tei, contents.len(), slots <= shelf.used()) {
             return Err(why);
@@ -235,7 +259,7 @@ impl LinkLayer {
             return Err(Refusal::PoolFull);
         };
         self.units.push(QueuedUnit { service, tei, slot });
-        Ok(BareReport::nothing())
+        Ok(())
     }
 
     /// Why unit data of so many octets is refused.

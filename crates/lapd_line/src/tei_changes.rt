@@ -16,36 +16,32 @@ use lapd_frame::{Service, ShortList};
 use lapd_link::Answer;
 use lapd_store::Shelf;
 use lapd_tei::{Change, TeiOutcome};
-use model_bits::Cause;
 
 impl BareReport {
-    ghost use Rattle.lapd_line.specs.Reports.{told_in};
+    ghost use Rattle.lapd_line.specs.Reports.{told_in, IsClear};
 
     /// What TEI management tells.
-    pub(crate) fn of_management(told: TeiOutcome) -> BareReport
-        ensures { (octets : List ℕ) → told_in octets result ≡ told_of_management (told_of told) }
+    fn tell_management(&mut self, told: TeiOutcome)
+        requires { IsClear self.old }
+        ensures notes { listed self.new.answer.told.notes ≡ listed told.notes }
+        ensures orders { listed self.new.answer.orders ≡ listed told.orders }
+        ensures told { (octets : List ℕ) → told_in octets self.new ≡ told_of_management (told_of told) }
     {
-        BareReport {
-            notes: told.notes,
-            orders: told.orders,
-            contents: None,
-            cause: told.unserved.then_some(Cause::Unserved),
-            lost: told.lost,
-        }
+        self.answer.told.notes = told.notes;
+        self.answer.told.lost = told.lost;
+        self.answer.told.unserved = told.unserved;
+        self.answer.orders = told.orders;
     }
 
-    /// With what the two links of a TEI tell that leaves the line.
-    pub(crate) fn with_cleared(self, call: Answer, packet: Answer) -> BareReport
-        requires notes { length (listed self.notes) + length (listed call.notes) + length (listed packet.notes) ≤ 4 }
-        requires orders { length (listed call.orders) + length (listed packet.orders) + length (listed self.orders) ≤ 4 }
-        ensures { (octets : List ℕ) → told_in octets result
-            ≡ with_cleared (told_of_link (link.told_with [] call)) (told_of_link (link.told_with [] packet)) (told_in octets self) }
+    /// After that, what the two links of a TEI tell that leaves the line.
+    fn tell_cleared(&mut self, call: &Answer, packet: &Answer)
+        requires notes { length (listed self.old.answer.told.notes) + length (listed call.now.told.notes) + length (listed packet.now.told.notes) ≤ 4 }
+        requires orders { length (listed call.now.orders) + length (listed packet.now.orders) + length (listed self.old.answer.orders) ≤ 4 }
+        ensures { (octets : List ℕ) → told_in octets self.new
+            ≡ with_cleared (told_of_link (link.told_with [] call.now)) (told_of_link (link.told_with [] packet.now)) (told_in octets self.old) }
     {
-        BareReport {
-            notes: joined(self.notes, call.notes, packet.notes),
-            orders: joined(call.orders, packet.orders, self.orders),
-            ..self
-        }
+        self.answer.told.notes = joined(self.answer.told.notes, call.told.notes, packet.told.notes);
+        self.answer.orders = joined(call.orders, packet.orders, self.answer.orders);
     }
 }
 
@@ -63,18 +59,25 @@ fn joined<T: Copy>(first: ShortList<T>, second: ShortList<T>, third: ShortList<T
 
 impl LinkLayer {
     ghost use Rattle.lapd_line.specs.LinkLayer.{Serves, always};
+    ghost use Rattle.lapd_line.specs.Reports.{IsClear};
 
     /// TEI management has served an event: what it told leads to changes of the links.
-    pub(crate) fn change<S: Shelf>(&mut self, told: TeiOutcome, shelf: &mut S) -> BareReport
+    pub(crate) fn change<S: Shelf>(
+        &mut self,
+        told: TeiOutcome,
+        report: &mut BareReport,
+        shelf: &mut S,
+    )
         requires changing { Changing self.old (S.store shelf.old) told }
+        requires clear { IsClear report.old }
         requires short { IsShort told }
         ensures { (e : teis.Event) (before : Management) (octets : List ℕ) → IsAnswerTo e before self.old.teis told
-            → Serves (always (at_management e)) octets (with_management before self.old) (S.store shelf.old) self.new (S.store shelf.new) result }
+            → Serves (always (at_management e)) octets (with_management before self.old) (S.store shelf.old) self.new (S.store shelf.new) report.new }
     {
         match told.change {
-            None => BareReport::of_management(told),
-            Some(Change::Gained { tei, place }) => self.open(told, tei, place, shelf),
-            Some(Change::Left { tei, place }) => self.clear(told, tei, place, shelf),
+            None => report.tell_management(told),
+            Some(Change::Gained { tei, place }) => self.open(told, tei, place, report, shelf),
+            Some(Change::Left { tei, place }) => self.clear(told, tei, place, report, shelf),
         }
     }
 
@@ -84,12 +87,14 @@ impl LinkLayer {
         told: TeiOutcome,
         tei: u8,
         place: usize,
+        report: &mut BareReport,
         shelf: &mut S,
-    ) -> BareReport
+    )
         requires changing { Changing self.old (S.store shelf.old) told }
+        requires clear { IsClear report.old }
         requires gained { told.change ≡ Some (Gained tei place) }
         ensures { (e : teis.Event) (before : Management) (octets : List ℕ) → IsAnswerTo e before self.old.teis told
-            → Serves (always (at_management e)) octets (with_management before self.old) (S.store shelf.old) self.new (S.store shelf.new) result }
+            → Serves (always (at_management e)) octets (with_management before self.old) (S.store shelf.old) self.new (S.store shelf.new) report.new }
     {
         self.links.open(
             link_number(place, Service::Call),
@@ -103,7 +108,7 @@ impl LinkLayer {
             tei,
             &self.config,
         );
-        BareReport::of_management(told)
+        report.tell_management(told);
     }
 
     /// A TEI has left the line: its links are cleared, that of call control first.
@@ -112,16 +117,23 @@ impl LinkLayer {
         told: TeiOutcome,
         tei: u8,
         place: usize,
+        report: &mut BareReport,
         shelf: &mut S,
-    ) -> BareReport
+    )
         requires changing { Changing self.old (S.store shelf.old) told }
+        requires clear { IsClear report.old }
         requires short { IsShort told }
         requires left { told.change ≡ Some (Left tei place) }
         ensures { (e : teis.Event) (before : Management) (octets : List ℕ) → IsAnswerTo e before self.old.teis told
-            → Serves (always (at_management e)) octets (with_management before self.old) (S.store shelf.old) self.new (S.store shelf.new) result }
+            → Serves (always (at_management e)) octets (with_management before self.old) (S.store shelf.old) self.new (S.store shelf.new) report.new }
     {
-        let call = self.links.clear(link_number(place, Service::Call), shelf);
-        let packet = self.links.clear(link_number(place, Service::Packet), shelf);
-        BareReport::of_management(told).with_cleared(call, packet)
+        let mut call = Answer::nothing();
+        let mut packet = Answer::nothing();
+        self.links
+            .clear(link_number(place, Service::Call), &mut call, shelf);
+        self.links
+            .clear(link_number(place, Service::Packet), &mut packet, shelf);
+        report.tell_management(told);
+        report.tell_cleared(&call, &packet);
     }
 }

@@ -1,22 +1,28 @@
 -- What a link answers, as the machine tells it.
-use Rattle.std.specs.Prelude.{◌≡◌, ℕ, ◌≤◌, List, length, Option, Some, None, option_map, if◌then◌else◌}
+use Rattle.std.specs.Prelude.{◌≡◌, ℕ, ◌≤◌, List, [], length, Option, Some, None, option_map, if◌then◌else◌}
 use Rattle.std.specs.Borrow.{Bor}
 use Rattle.lapd_store.specs.Store.{Store, contents_of}
 use Rattle.lapd_frame.specs.ShortLists.{listed}
+use Rattle.lapd_link_steps.specs.Done.{IsNothing}
 use Rattle.model_link.specs.Told.{LinkTold, Given}
 use Rattle.lapd_link.specs.declared.outcome.Answer.{Answer}
 use Rattle.lapd_link.specs.declared.outcome.Outcome.{Outcome}
 use Rattle.lapd_link.specs.declared.offers.Offer.{Offer}
 
+-- nothing is told in an answer yet
+pub record IsClear (answer : Answer) : Type 0 where
+  pub told : IsNothing answer.told
+  pub orders : listed answer.orders ≡ []
+
 -- of an answer, with the information that came with the frame
 abbrev pub told_with : List ℕ → Answer → LinkTold
 told_with info answer = record {
-  notes = listed answer.notes;
-  delivered = if answer.delivered then Some info else None;
-  unit = if answer.unit then Some info else None;
+  notes = listed answer.told.notes;
+  delivered = if answer.told.delivered then Some info else None;
+  unit = if answer.told.unit then Some info else None;
   orders = listed answer.orders;
-  lost = answer.lost;
-  unserved = answer.unserved;
+  lost = answer.told.lost;
+  unserved = answer.told.unserved;
 }
 
 -- of an outcome that lends it

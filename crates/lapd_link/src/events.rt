@@ -24,7 +24,7 @@ use model_link::{LinkTimer, Terms};
 
 impl Link {
     ghost use Rattle.lapd_link.specs.Stands.{Stands, Stays, Reaches, terms_of};
-    ghost use Rattle.lapd_link.specs.Outcome.{told_with, told_of};
+    ghost use Rattle.lapd_link.specs.Outcome.{IsClear, told_with, told_of};
 
     /// Something came from the terminal with the link's address. What is delivered is lent from the frame.
     pub fn frame<'a, S: Shelf>(&mut self, received: Received<'a>, shelf: &mut S) -> Outcome<'a>
@@ -41,59 +41,64 @@ impl Link {
         ensures terms { terms_of self.new ≡ terms_of self.old }
         ensures limits { SameLimits (S.store shelf.old) (S.store shelf.new) }
     {
-        self.receive(received, shelf).lend(received.information())
+        let mut answer = Answer::nothing();
+        self.receive(received, &mut answer, shelf);
+        answer.lend(received.information())
     }
 
-    /// The same without lending anything: the answer says whether the frame's information is delivered.
+    /// The same without lending anything: the answer, in which nothing is told yet, then says whether the frame's information is
+    /// delivered.
     // As `settle` is.
     #[inline(always)]
-    pub fn receive<S: Shelf>(&mut self, received: Received<'_>, shelf: &mut S) -> Answer
-        requires { (others : List Owned) × (m : machine.Link) × Stands self.old (S.store shelf.old) others m }
+    pub fn receive<S: Shelf>(&mut self, received: Received<'_>, answer: &mut Answer, shelf: &mut S)
+        requires stands { (others : List Owned) × (m : machine.Link) × Stands self.old (S.store shelf.old) others m }
+        requires clear { IsClear answer.old }
         ensures stands { (others : List Owned) (m : machine.Link) → Stands self.old (S.store shelf.old) others m →
             Stands self.new (S.store shelf.new) others (after (terms_of self.old) (event.received (received_of received.entry)) m) }
         ensures told { (others : List Owned) (m : machine.Link) → Stands self.old (S.store shelf.old) others m →
-            told_with (info_of received.entry) result ≡ told (terms_of self.old) (event.received (received_of received.entry)) m }
+            told_with (info_of received.entry) answer.new ≡ told (terms_of self.old) (event.received (received_of received.entry)) m }
         ensures frames { (others : List Owned) (m : machine.Link) → Stands self.old (S.store shelf.old) others m →
             RisesByEvent (terms_of self.old) (event.received (received_of received.entry)) m }
         // What the state does not serve changes nothing.
-        ensures unserved { (others : List Owned) (m : machine.Link) → Stands self.old (S.store shelf.old) others m → result.unserved ≡ true →
+        ensures unserved { (others : List Owned) (m : machine.Link) → Stands self.old (S.store shelf.old) others m → answer.new.told.unserved ≡ true →
             after (terms_of self.old) (event.received (received_of received.entry)) m ≡ m }
         ensures terms { terms_of self.new ≡ terms_of self.old }
         ensures limits { SameLimits (S.store shelf.old) (S.store shelf.new) }
     {
         let before = self.entity.running();
-        let mut told = Told::nothing();
-        hear(&mut self.entity, self.terms, &mut told, received);
-        self.settle(before, told, shelf)
+        hear(&mut self.entity, self.terms, &mut answer.told, received);
+        self.settle(before, answer, shelf);
     }
 
-    /// A timer expires. One that does not run changes nothing.
-    pub fn expire<S: Shelf>(&mut self, timer: LinkTimer, shelf: &mut S) -> Answer
-        requires { (others : List Owned) × (m : machine.Link) × Stands self.old (S.store shelf.old) others m }
+    /// A timer expires. One that does not run changes nothing. In the answer nothing is told yet.
+    pub fn expire<S: Shelf>(&mut self, timer: LinkTimer, answer: &mut Answer, shelf: &mut S)
+        requires clear { IsClear answer.old }
+        requires stands { (others : List Owned) × (m : machine.Link) × Stands self.old (S.store shelf.old) others m }
         ensures stands { (others : List Owned) (m : machine.Link) → Stands self.old (S.store shelf.old) others m →
             Stands self.new (S.store shelf.new) others (after (terms_of self.old) (event.expired timer) m) }
         ensures told { (others : List Owned) (m : machine.Link) → Stands self.old (S.store shelf.old) others m →
-            told_with [] result ≡ told (terms_of self.old) (event.expired timer) m }
+            told_with [] answer.new ≡ told (terms_of self.old) (event.expired timer) m }
         ensures frames { (others : List Owned) (m : machine.Link) → Stands self.old (S.store shelf.old) others m →
             RisesByEvent (terms_of self.old) (event.expired timer) m }
         // At most one timer is started.
-        ensures starts { starts (listed result.orders) ≤ 1 }
+        ensures starts { starts (listed answer.new.orders) ≤ 1 }
         ensures terms { terms_of self.new ≡ terms_of self.old }
         ensures limits { SameLimits (S.store shelf.old) (S.store shelf.new) }
     {
         let before = self.entity.running();
-        let mut told = Told::nothing();
-        self.entity.expire(self.terms, &mut told, timer);
-        self.settle(before, told, shelf)
+        self.entity.expire(self.terms, &mut answer.told, timer);
+        self.settle(before, answer, shelf);
     }
 
-    /// The link's TEI leaves the line: its contents are released, and it is as one that begins.
-    pub fn clear<S: Shelf>(&mut self, shelf: &mut S) -> Answer
-        requires { (others : List Owned) × (m : machine.Link) × Stands self.old (S.store shelf.old) others m }
+    /// The link's TEI leaves the line: its contents are released, and it is as one that begins. In the answer nothing is told
+    /// yet.
+    pub fn clear<S: Shelf>(&mut self, answer: &mut Answer, shelf: &mut S)
+        requires clear { IsClear answer.old }
+        requires stands { (others : List Owned) × (m : machine.Link) × Stands self.old (S.store shelf.old) others m }
         ensures stands { (others : List Owned) (m : machine.Link) → Stands self.old (S.store shelf.old) others m →
             Stands self.new (S.store shelf.new) others (after (terms_of self.old) event.cleared m) }
         ensures told { (others : List Owned) (m : machine.Link) → Stands self.old (S.store shelf.old) others m →
-            told_with [] result ≡ told (terms_of self.old) event.cleared m }
+            told_with [] answer.new ≡ told (terms_of self.old) event.cleared m }
         // It may send no more than before.
         ensures frames { (others : List Owned) (m : machine.Link) → Stands self.old (S.store shelf.old) others m →
             RisesByEvent (terms_of self.old) event.cleared m }
@@ -101,37 +106,34 @@ impl Link {
         ensures limits { SameLimits (S.store shelf.old) (S.store shelf.new) }
     {
         let before = self.entity.running();
-        let mut told = Told::nothing();
-        self.entity.clear(self.terms, &mut told);
-        self.settle(before, told, shelf)
+        self.entity.clear(self.terms, &mut answer.told);
+        self.settle(before, answer, shelf);
     }
 
-    // Ends an event: what it released goes from the shelf, and what it told is answered. It is compiled into its callers,
-    // so that an answer is not copied on its way.
+    // Ends an event: what it released goes from the shelf, and the answer gets its orders.
     #[inline(always)]
     pub(crate) fn settle<S: Shelf>(
         &mut self,
         before: Option<LinkTimer>,
-        told: Told,
+        answer: &mut Answer,
         shelf: &mut S,
-    ) -> Answer
+    )
         requires { (messages : List (List ℕ)) × (others : List Owned) × Keeps (S.store shelf.old) self.old.queue.slots messages others }
         ensures reaches { (info : List ℕ) (messages : List (List ℕ)) (others : List Owned) (m : machine.Link) (c : Course) →
             Keeps (S.store shelf.old) self.old.queue.slots messages others → before ≡ m.running →
-            Agrees (terms_of self.old) info messages c self.old.entity told → Reaches info m c self.new (S.store shelf.new) others result }
-        ensures starts { starts (listed result.orders) ≤ 1 }
+            Agrees (terms_of self.old) info messages c self.old.entity answer.old.told → Reaches info m c self.new (S.store shelf.new) others answer.new }
+        ensures starts { starts (listed answer.new.orders) ≤ 1 }
         ensures stays { Stays self.old self.new }
         ensures limits { SameLimits (S.store shelf.old) (S.store shelf.new) }
     {
-        self.queue.release_oldest(usize::from(told.released), shelf);
-        Answer {
-            notes: told.notes,
-            delivered: told.delivered,
-            unit: told.unit,
-            orders: orders(self.terms, before, told.started, self.entity.running()),
-            lost: told.lost,
-            unserved: told.unserved,
-        }
+        self.queue
+            .release_oldest(usize::from(answer.told.released), shelf);
+        answer.orders = orders(
+            self.terms,
+            before,
+            answer.told.started,
+            self.entity.running(),
+        );
     }
 }
 

@@ -124,7 +124,8 @@ fn tell(cell: &mut Text, led: &Led, polled: Option<bool>) {
     frames(cell, &led.sent, polled);
     match &led.answer {
         Ok(answer) => {
-            words::told(cell, answer.lost, answer.unserved, answer.notes.as_slice());
+            let told = &answer.told;
+            words::told(cell, told.lost, told.unserved, told.notes.as_slice());
             words::orders(cell, answer.orders.as_slice());
         }
         Err(refusal) => cell.item(words::refusal_name(*refusal)),

@@ -46,7 +46,9 @@ impl ShelvedLink {
         requires { Works self.old }
         ensures { Works self.new }
     {
-        self.link.receive(received, &mut self.shelf)
+        let mut answer = Answer::nothing();
+        self.link.receive(received, &mut answer, &mut self.shelf);
+        answer
     }
 
     /// Layer 3 asks for something.
@@ -54,7 +56,10 @@ impl ShelvedLink {
         requires { Works self.old }
         ensures { Works self.new }
     {
-        self.link.request(request, &mut self.shelf, ROOM)
+        let mut answer = Answer::nothing();
+        self.link
+            .request(request, &mut answer, &mut self.shelf, ROOM)?;
+        Ok(answer)
     }
 
     /// A timer expires.
@@ -62,7 +67,9 @@ impl ShelvedLink {
         requires { Works self.old }
         ensures { Works self.new }
     {
-        self.link.expire(timer, &mut self.shelf)
+        let mut answer = Answer::nothing();
+        self.link.expire(timer, &mut answer, &mut self.shelf);
+        answer
     }
 
     /// The next frame is sent.
@@ -78,7 +85,9 @@ impl ShelvedLink {
         requires { Works self.old }
         ensures { Works self.new }
     {
-        self.link.clear(&mut self.shelf)
+        let mut answer = Answer::nothing();
+        self.link.clear(&mut answer, &mut self.shelf);
+        answer
     }
 }
 

@@ -1,8 +1,9 @@
 //! The report of an event.
 
-ghost use Rattle.std.specs.Prelude.{◌≡◌, ◌≤◌, [], false, length, take, map};
+ghost use Rattle.std.specs.Prelude.{◌≡◌, ◌≤◌, [], true, false, length, take, map};
 ghost use Rattle.std.specs.Option.{option_copied};
-ghost use Rattle.lapd_line.specs.Reports.{report_told};
+ghost use Rattle.lapd_frame.specs.ShortLists.{listed};
+ghost use Rattle.lapd_line.specs.Reports.{report_told, told_in};
 ghost use Rattle.model_line.specs.Event.{nothing};
 ghost use Rattle.lapd_c.specs.Notes.{plain_note};
 ghost use Rattle.lapd_c.specs.Timers.{plain_order};
@@ -10,8 +11,8 @@ ghost use Rattle.lapd_c.specs.Reports.{Shows, ShowsPull, SameButContents, conten
 
 use crate::plain::notes::{PlainNote, cause_number};
 use crate::plain::timers::PlainOrder;
-use lapd_card::Report;
-use lapd_frame::{Note, Order};
+use lapd_card::{BareReport, Report};
+use lapd_frame::{Note, Order, ShortList};
 
 /// The most octets of contents that a configuration allows.
 const MOST_OCTETS: usize = 260;
@@ -75,6 +76,34 @@ impl PlainReport {
         self.deliver(told.delivered);
     }
 
+    /// Shows the same of a report without references, with its contents.
+    #[inline(always)]
+    pub fn show_bare(&mut self, told: &BareReport, delivered: Option<&[u8]>)
+        ensures { length (contents_of (option_copied delivered.entry)) ≤ 260
+            → Shows self.new (record (told_in [] told.now) { contents = option_copied delivered.entry }) }
+    {
+        self.note_count = write_note_list(&mut self.notes, told.notes());
+        self.order_count = write_order_list(&mut self.orders, told.orders());
+        self.cause = cause_number(told.cause());
+        self.lost = told.lost();
+        self.begun = 0;
+        self.deliver(delivered);
+    }
+
+    /// Shows that a call gave a frame, with these orders.
+    #[inline(always)]
+    pub fn show_next(&mut self, orders: ShortList<Order>)
+        ensures { ShowsPull self.new true (listed orders) }
+    {
+        self.note_count = 0;
+        self.order_count = write_order_list(&mut self.orders, orders);
+        self.cause = 0;
+        self.lost = 0;
+        self.begun = 1;
+        self.delivered = 0;
+        self.length = 0;
+    }
+
     /// Shows what a pull was answered with: whether it began a frame, and at most four orders.
     ///
     /// It stands apart, as `show` does.
@@ -119,6 +148,34 @@ impl PlainReport {
                 self.length = count as u16;
                 self.contents[..count].copy_from_slice(&contents[..count]);
             }
+        }
+    }
+}
+
+// Mostly there are none, and then nothing is done with the list.
+#[inline(always)]
+fn write_note_list(places: &mut [PlainNote; 4], notes: ShortList<Note>) -> u8
+    ensures count { result ≡ length (listed notes) }
+    ensures notes { take result places.new ≡ map plain_note (listed notes) }
+{
+    match notes {
+        ShortList::None => 0,
+        ShortList::One(_) | ShortList::Two(_) | ShortList::Three(_) | ShortList::Four(_) => {
+            write_notes(places, notes.as_slice())
+        }
+    }
+}
+
+// As above, of orders.
+#[inline(always)]
+fn write_order_list(places: &mut [PlainOrder; 4], orders: ShortList<Order>) -> u8
+    ensures count { result ≡ length (listed orders) }
+    ensures orders { take result places.new ≡ map plain_order (listed orders) }
+{
+    match orders {
+        ShortList::None => 0,
+        ShortList::One(_) | ShortList::Two(_) | ShortList::Three(_) | ShortList::Four(_) => {
+            write_orders(places, orders.as_slice())
         }
     }
 }

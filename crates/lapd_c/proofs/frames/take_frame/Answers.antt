@@ -1,19 +1,26 @@
 -- Hand-written answers for `take_frame`: the frame is heard by the configuration of the machine.
-use Rattle.lapd_c.proofs.Vocabulary.{refl, ap, subst, ◌∙◌, told, Event, answer, moment_counted, moment_of, counters_in, FrameCardStands, comes}
+use Rattle.lapd_c.proofs.Vocabulary.{◌≤◌, ℕ, List, [], length, Option, Some, refl, ap, subst, ◌∙◌, Event, answer, moment_counted, moment_of, counters_in, FrameCardStands, comes, Shows, contents_of}
+use Rattle.lapd_line.specs.Reports.{told_in, octets_of}
 use Rattle.model_card.specs.Machine.{after}
+use Rattle.model_line.specs.Came.{came}
 use Rattle.lapd_c.proofs.Kinded.{comes_at}
-use Rattle.lapd_c.proofs.Served.{shown}
+use Rattle.lapd_c.proofs.Served.{shown_told}
 use Rattle.lapd_c.proofs.frames.take_frame.Goals as goal
 
 pub returns-clause-served : goal.returns-clause-served
 returns-clause-served c = λ m s w.
-    let is = comes_at c.args.line c.args.octets.now c.args.card.now m s in (
+    let is = comes_at c.args.line c.args.octets.now c.args.card.now m s in
+    let delivered =
+    c.contents.ensures
+    ∙ ap (λ d. (told_in (octets_of (Some (came d.n201 c.args.octets.now))) c.hear.new.report).contents) c.hear.ensures.after.config in (
       refl,
-      subst (λ (e : Event). FrameCardStands c.frame-told.new.self (after e m)) is (c.frame-told.ensures.after.stands m s),
-      shown m (comes c.args.line c.args.octets.now m) c.frame-told.result c.show.new.self s.reached.config (c.frame-told.ensures.told m s ∙ ap (λ (e : Event). answer e m) is) c.show.ensures,
+      subst (λ (e : Event). FrameCardStands c.hear.new.self (after e m)) is (c.hear.ensures.after.stands m s),
+      shown_told m (comes c.args.line c.args.octets.now m) (told_in (octets_of (Some (came c.args.card.now.config.n201 c.args.octets.now))) c.hear.new.report) c.show_bare.new.self s.reached.config
+          (c.hear.ensures.told m s ∙ ap (λ (e : Event). answer e m) is)
+          (subst (λ (o : Option (List ℕ)). length (contents_of o) ≤ 260 → Shows c.show_bare.new.self (record (told_in [] c.hear.new.report) { contents = o })) delivered c.show_bare.ensures),
     )
 
 pub returns-clause-counted : goal.returns-clause-counted
 returns-clause-counted c = λ m s w.
-    c.frame-told.ensures.after.counted m s
+    c.hear.ensures.after.counted m s
     ∙ ap (λ (e : Event). moment_counted (counters_in c.args.card.now.lines) (moment_of m e)) (comes_at c.args.line c.args.octets.now c.args.card.now m s)

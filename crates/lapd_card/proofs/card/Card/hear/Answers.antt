@@ -29,10 +29,10 @@ pub returns-in-Nothing-clause-frames : goal.returns-in-Nothing-clause-frames
 returns-in-Nothing-clause-frames g c = λ m s. priced m (at c.args.line (port.octet c.args.octet)) s.reached (subst (λ d. c.args.line < d.lines) (sym s.frames.config) c.requires)
 
 pub heard-requires : goal.heard-requires
-heard-requires g c = record { within = (subst (λ d. c.args.line < line_count d) (sym c.self.view_is) c.requires); something = refl }
+heard-requires g c = record { clear = c.nothing-bare.ensures; within = (subst (λ d. c.args.line < line_count d) (sym c.self.view_is) c.requires); something = refl }
 
 pub returns-in-Dropped-clause-told : goal.returns-in-Dropped-clause-told
-returns-in-Dropped-clause-told g c = λ m s. ap port.told (told_if_there c.self.inside.ports.items c.args.line c.octet.new.self (Some c.heard.result) (port-in g.S.Shelf.store c.self.invariant c.self.view_is c.requires)) ∙ octet_told g.S.Shelf.store (record { past = c.self.invariant; within = (subst (λ d. c.args.line < line_count d) (sym c.self.view_is) c.requires); is = c.index_mut.ensures.value }) c.octet.ensures.gained c.octet.ensures.after (Some c.heard.result) (subst (λ h. Tells g.S.Shelf.store c.args.line h c.self.inside.frames (Some c.heard.result)) (sym (is_dropped (latest_in c.octet.new.self) c.in-Dropped.cause c.in-Dropped.ensures.told)) c.heard.ensures.told) m (stood g.S.Shelf.store c.self.view_is m s)
+returns-in-Dropped-clause-told g c = λ m s. ap port.told (told_if_there c.self.inside.ports.items c.args.line c.octet.new.self (Some c.heard.new.report) (port-in g.S.Shelf.store c.self.invariant c.self.view_is c.requires)) ∙ octet_told g.S.Shelf.store (record { past = c.self.invariant; within = (subst (λ d. c.args.line < line_count d) (sym c.self.view_is) c.requires); is = c.index_mut.ensures.value }) c.octet.ensures.gained c.octet.ensures.after (Some c.heard.new.report) (subst (λ h. Tells g.S.Shelf.store c.args.line h c.self.inside.frames (Some c.heard.new.report)) (sym (is_dropped (latest_in c.octet.new.self) c.in-Dropped.cause c.in-Dropped.ensures.told)) c.heard.ensures.told) m (stood g.S.Shelf.store c.self.view_is m s)
 
 pub returns-in-Dropped-clause-after : goal.returns-in-Dropped-clause-after
 returns-in-Dropped-clause-after g c = seen g.S.Shelf.store c.self.view_is (octet_leads g.S.Shelf.store (record { past = c.self.invariant; within = (subst (λ d. c.args.line < line_count d) (sym c.self.view_is) c.requires); is = c.index_mut.ensures.value }) c.octet.ensures.gained c.octet.ensures.after c.heard.new.self (subst (λ h. LeadsIfHeard g.S.Shelf.store c.args.line h c.self.inside.frames c.heard.new.self) (sym (is_dropped (latest_in c.octet.new.self) c.in-Dropped.cause c.in-Dropped.ensures.told)) c.heard.ensures.after))
@@ -47,10 +47,10 @@ pub index-requires : goal.index-requires
 index-requires g c = port-there g.S.Shelf.store _ c.args.self.now c.args.line _ c.self.invariant c.self.view_is c.requires c.self.inside.ports.ok.0
 
 pub heard-requires-in-Frame : goal.heard-requires-in-Frame
-heard-requires-in-Frame g c = record { within = (subst (λ d. c.args.line < line_count d) (sym c.self.view_is) c.requires); something = subst (λ h. IsSome h) (sym (c.latest.ensures ∙ ap latest_in (port_put c.self.inside.ports.items c.args.line c.octet.new.self c.index.result.now (port-in g.S.Shelf.store c.self.invariant c.self.view_is c.requires) c.index.ensures))) (ended_something (latest_in c.octet.new.self) c.octet.ensures.told c.in-Frame.is) }
+heard-requires-in-Frame g c = record { clear = c.nothing-bare-in-Frame.ensures; within = (subst (λ d. c.args.line < line_count d) (sym c.self.view_is) c.requires); something = subst (λ h. IsSome h) (sym (c.latest.ensures ∙ ap latest_in (port_put c.self.inside.ports.items c.args.line c.octet.new.self c.index.result.now (port-in g.S.Shelf.store c.self.invariant c.self.view_is c.requires) c.index.ensures))) (ended_something (latest_in c.octet.new.self) c.octet.ensures.told c.in-Frame.is) }
 
 pub returns-in-Frame-clause-told : goal.returns-in-Frame-clause-told
-returns-in-Frame-clause-told g c = λ m s. ap port.told (told_if_there c.self.inside.ports.items c.args.line c.octet.new.self (Some c.heard-in-Frame.result) (port-in g.S.Shelf.store c.self.invariant c.self.view_is c.requires)) ∙ octet_told g.S.Shelf.store (record { past = c.self.invariant; within = (subst (λ d. c.args.line < line_count d) (sym c.self.view_is) c.requires); is = c.index_mut.ensures.value }) c.octet.ensures.gained c.octet.ensures.after (Some c.heard-in-Frame.result) (if_tells g.S.Shelf.store c.args.line c.self.inside.frames c.heard-in-Frame.result (latest_in c.octet.new.self) (ended_something (latest_in c.octet.new.self) c.octet.ensures.told c.in-Frame.is) (subst (λ h. IfSome h (λ e. (m : Card) → frame.Stands g.S.Shelf.store c.self.inside.frames m → line.told (told_in (octets_of h) c.heard-in-Frame.result) ≡ answer (frames.at c.args.line (line.hears e)) m)) (c.latest.ensures ∙ ap latest_in (port_put c.self.inside.ports.items c.args.line c.octet.new.self c.index.result.now (port-in g.S.Shelf.store c.self.invariant c.self.view_is c.requires) c.index.ensures)) c.heard-in-Frame.ensures.told)) m (stood g.S.Shelf.store c.self.view_is m s)
+returns-in-Frame-clause-told g c = λ m s. ap port.told (told_if_there c.self.inside.ports.items c.args.line c.octet.new.self (Some c.heard-in-Frame.new.report) (port-in g.S.Shelf.store c.self.invariant c.self.view_is c.requires)) ∙ octet_told g.S.Shelf.store (record { past = c.self.invariant; within = (subst (λ d. c.args.line < line_count d) (sym c.self.view_is) c.requires); is = c.index_mut.ensures.value }) c.octet.ensures.gained c.octet.ensures.after (Some c.heard-in-Frame.new.report) (if_tells g.S.Shelf.store c.args.line c.self.inside.frames c.heard-in-Frame.new.report (latest_in c.octet.new.self) (ended_something (latest_in c.octet.new.self) c.octet.ensures.told c.in-Frame.is) (subst (λ h. IfSome h (λ e. (m : Card) → frame.Stands g.S.Shelf.store c.self.inside.frames m → line.told (told_in (octets_of h) c.heard-in-Frame.new.report) ≡ answer (frames.at c.args.line (line.hears e)) m)) (c.latest.ensures ∙ ap latest_in (port_put c.self.inside.ports.items c.args.line c.octet.new.self c.index.result.now (port-in g.S.Shelf.store c.self.invariant c.self.view_is c.requires) c.index.ensures)) c.heard-in-Frame.ensures.told)) m (stood g.S.Shelf.store c.self.view_is m s)
 
 pub returns-in-Frame-clause-after : goal.returns-in-Frame-clause-after
 returns-in-Frame-clause-after g c = seen g.S.Shelf.store c.self.view_is (octet_leads g.S.Shelf.store (record { past = c.self.invariant; within = (subst (λ d. c.args.line < line_count d) (sym c.self.view_is) c.requires); is = c.index_mut.ensures.value }) c.octet.ensures.gained c.octet.ensures.after c.heard-in-Frame.new.self (if_leads g.S.Shelf.store c.args.line c.self.inside.frames c.heard-in-Frame.new.self (latest_in c.octet.new.self) (ended_something (latest_in c.octet.new.self) c.octet.ensures.told c.in-Frame.is) (subst (λ h. IfSome h (λ e. frame.Leads g.S.Shelf.store (frames.at c.args.line (line.hears e)) c.self.inside.frames c.heard-in-Frame.new.self)) (c.latest.ensures ∙ ap latest_in (port_put c.self.inside.ports.items c.args.line c.octet.new.self c.index.result.now (port-in g.S.Shelf.store c.self.invariant c.self.view_is c.requires) c.index.ensures)) c.heard-in-Frame.ensures.after)))

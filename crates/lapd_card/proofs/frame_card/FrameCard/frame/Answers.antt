@@ -1,30 +1,16 @@
 -- Hand-written answers for `FrameCard::frame`.
-use Rattle.lapd_card.proofs.Vocabulary.{◌≡◌, List, ap, subst, Owned, config_of, report_told, frames_by_event}
-use Rattle.lapd_line.specs.Stands as line
+use Rattle.lapd_card.proofs.Vocabulary.{Some, ap, ◌∙◌, told_in, frames_by_event}
+use Rattle.lapd_line.specs.Reports.{octets_of}
 use Rattle.model_line.specs.Came.{came}
-use Rattle.model_line.specs.Event.{told, hears}
-use Rattle.model_line.specs.Line as machine
-use Rattle.model_line.specs.Machine.{answer}
-use Rattle.lapd_card.proofs.OneLine.{line-there, one_serves, has_config}
-use Rattle.lapd_card.proofs.OneEvent.{past_after, event_leads, event_told}
-use Rattle.lapd_card.proofs.Served.{heard_takes}
+use Rattle.model_line.specs.Event.{told}
 use Rattle.lapd_card.proofs.Headline.{at_line}
 use Rattle.lapd_card.proofs.frame_card.FrameCard.frame.Goals as goal
 
-pub index_mut-requires : goal.index_mut-requires
-index_mut-requires g c = line-there g.S.Shelf.store _ c.args.self.now c.args.line _ c.self.invariant c.self.view_is c.requires c.self.inside.lines.ok.0
-
-pub frame-requires : goal.frame-requires
-frame-requires g c = one_serves g.S.Shelf.store (record { past = c.self.invariant; same = c.self.view_is; within = c.requires; is = c.index_mut.ensures.value })
-
-pub invariant_of-self : goal.invariant_of-self
-invariant_of-self g c = past_after g.S.Shelf.store c.self.view_is (event_leads g.S.Shelf.store (record { past = c.self.invariant; same = c.self.view_is; within = c.requires; is = c.index_mut.ensures.value }) (hears (came c.args.self.now.config.n201 c.args.octets.now)) (heard_takes (came c.args.self.now.config.n201 c.args.octets.now)) (subst (λ n. line.Leads (hears (came n c.args.octets.now)) c.index_mut.result.now (g.S.Shelf.store c.self.inside.shelf) c.frame.new.self (g.S.Shelf.store c.frame.new.shelf)) (ap (λ d. d.n201) (has_config g.S.Shelf.store (record { past = c.self.invariant; same = c.self.view_is; within = c.requires; is = c.index_mut.ensures.value }))) c.frame.ensures.after)) c.self.invariant
-
 pub returns-clause-told : goal.returns-clause-told
-returns-clause-told g c = event_told g.S.Shelf.store (record { past = c.self.invariant; same = c.self.view_is; within = c.requires; is = c.index_mut.ensures.value }) (hears (came c.args.self.now.config.n201 c.args.octets.now)) (heard_takes (came c.args.self.now.config.n201 c.args.octets.now)) (subst (λ n. (others : List Owned) (l : machine.Line) → line.Stands c.index_mut.result.now (g.S.Shelf.store c.self.inside.shelf) others l → told (report_told c.frame.result) ≡ answer (config_of c.index_mut.result.now) (hears (came n c.args.octets.now)) l) (ap (λ d. d.n201) (has_config g.S.Shelf.store (record { past = c.self.invariant; same = c.self.view_is; within = c.requires; is = c.index_mut.ensures.value }))) c.frame.ensures.told)
-
-pub returns-clause-after : goal.returns-clause-after
-returns-clause-after g c = event_leads g.S.Shelf.store (record { past = c.self.invariant; same = c.self.view_is; within = c.requires; is = c.index_mut.ensures.value }) (hears (came c.args.self.now.config.n201 c.args.octets.now)) (heard_takes (came c.args.self.now.config.n201 c.args.octets.now)) (subst (λ n. line.Leads (hears (came n c.args.octets.now)) c.index_mut.result.now (g.S.Shelf.store c.self.inside.shelf) c.frame.new.self (g.S.Shelf.store c.frame.new.shelf)) (ap (λ d. d.n201) (has_config g.S.Shelf.store (record { past = c.self.invariant; same = c.self.view_is; within = c.requires; is = c.index_mut.ensures.value }))) c.frame.ensures.after)
+returns-clause-told g c = λ m s.
+    ap told c.lend.ensures
+    ∙ ap (λ d. told (told_in (octets_of (Some (came d.n201 c.args.octets.now))) c.hear.new.report)) c.hear.ensures.after.config
+    ∙ c.hear.ensures.told m s
 
 pub returns-clause-frames : goal.returns-clause-frames
 returns-clause-frames g c = at_line g.S.Shelf.store c.requires (λ m s w. frames_by_event.heard m c.args.line (came c.args.self.now.config.n201 c.args.octets.now) s w)

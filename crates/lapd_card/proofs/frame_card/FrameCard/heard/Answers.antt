@@ -8,7 +8,7 @@ pub index_mut-requires : goal.index_mut-requires
 index_mut-requires g c = line-there g.S.Shelf.store _ c.args.self.now c.args.line _ c.self.invariant c.self.view_is c.requires.within c.self.inside.lines.ok.0
 
 pub heard-requires : goal.heard-requires
-heard-requires g c = one_serves g.S.Shelf.store (record { past = c.self.invariant; same = c.self.view_is; within = c.requires.within; is = c.index_mut.ensures.value })
+heard-requires g c = record { clear = c.requires.clear; stands = one_serves g.S.Shelf.store (record { past = c.self.invariant; same = c.self.view_is; within = c.requires.within; is = c.index_mut.ensures.value }) }
 
 pub invariant_of-self : goal.invariant_of-self
 invariant_of-self g c = heard_past g.S.Shelf.store (record { past = c.self.invariant; same = c.self.view_is; within = c.requires.within; is = c.index_mut.ensures.value }) (heard_of c.args.heard) _ _ c.requires.something c.heard.ensures.after

@@ -11,4 +11,4 @@ returns-clause-told c = λ m.
 
 pub returns-clause-after : goal.returns-clause-after
 returns-clause-after c = λ store.
-    dropped_leads store (cause_of c.args.fault) c.dropped.result (c.dropped.ensures.told [] ∙ ap dropped c.cause_of.ensures) c.dropped.ensures.line
+    dropped_leads store (cause_of c.args.fault) c.dropped.new.report (c.dropped.ensures.told [] ∙ ap dropped c.cause_of.ensures) c.dropped.ensures.line

@@ -1,14 +1,14 @@
 -- Hand-written answers for `FrameLine::frame`.
-use Rattle.lapd_line.proofs.Vocabulary.{ap, ◌∙◌, subst, told, told_in, LeadsIfHeard, answer_if_heard, config_of}
+use Rattle.lapd_line.proofs.Vocabulary.{Option, ap, sym, subst, ◌∙◌, told, told_in, LeadsIfHeard, answer_if_heard, config_of}
+use Rattle.lapd_line.specs.Reports.{octets_of}
 use Rattle.lapd_line.proofs.frame_line.FrameLine.frame.Goals as goal
 
 pub returns-clause-told : goal.returns-clause-told
 returns-clause-told g c = λ others m st.
-    ap told c.report.ensures
-    ∙ ap (λ octets. told (told_in octets c.heard.result)) c.octets_of.ensures
+    ap (λ h. told (told_in (octets_of h) c.heard.new.report)) (sym c.came.ensures)
     ∙ c.heard.ensures.told others m st
-    ∙ ap (λ h. answer_if_heard (config_of c.args.self.now) h m) c.came-heard.ensures
+    ∙ ap (λ h. answer_if_heard (config_of c.args.self.now) h m) c.came.ensures
 
 pub returns-clause-after : goal.returns-clause-after
 returns-clause-after g c =
-    subst (λ h. LeadsIfHeard h c.args.self.now (g.S.Shelf.store c.args.shelf.now) c.heard.new.self (g.S.Shelf.store c.heard.new.shelf)) c.came-heard.ensures c.heard.ensures.after
+    subst (λ h. LeadsIfHeard h c.args.self.now (g.S.Shelf.store c.args.shelf.now) c.heard.new.self (g.S.Shelf.store c.heard.new.shelf)) c.came.ensures c.heard.ensures.after

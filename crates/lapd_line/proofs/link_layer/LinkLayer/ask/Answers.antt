@@ -2,6 +2,8 @@
 use Rattle.lapd_line.proofs.Vocabulary.{[], nat_le, sym, arith, used_slots}
 use Rattle.lapd_link.specs.Events as link
 use Rattle.lapd_line.proofs.LayerSteps.{links_standing}
+use Rattle.lapd_line.proofs.AddressSteps.{nothing_after}
+use Rattle.lapd_line.proofs.ReportSteps.{link_told}
 use Rattle.lapd_line.proofs.LayerRequests.{no_link, asked, asked_serves}
 use Rattle.lapd_line.proofs.link_layer.LinkLayer.ask.Goals as goal
 
@@ -18,8 +20,8 @@ returns-in-Ok-clause-granted g c = λ others m st.
 
 pub returns-in-Ok-clause-served : goal.returns-in-Ok-clause-served
 returns-in-Ok-clause-served g c =
-    asked_serves c.args.self.now (g.S.Shelf.store c.args.shelf.now) (g.S.Shelf.store c.request.new.shelf) c.request.new.self c.wake.new.self c.args.service c.args.tei c.in-Some.place c.link_number-number.result (nat_le c.args.slots (used_slots (g.S.Shelf.store c.args.shelf.now))) (link.request_of c.args.request) c.in-Ok.answer c.of_link.result
-    c.requires.stands (sym c.in-Some.ensures.place) c.link_number-number.ensures c.wake.ensures c.in-Ok.ensures.granted c.in-Ok.ensures.served (c.of_link.ensures [])
+    asked_serves c.args.self.now (g.S.Shelf.store c.args.shelf.now) (g.S.Shelf.store c.request.new.shelf) c.request.new.self c.wake.new.self c.args.service c.args.tei c.in-Some.place c.link_number-number.result (nat_le c.args.slots (used_slots (g.S.Shelf.store c.args.shelf.now))) (link.request_of c.args.request) c.request.new.answer _
+    c.requires.stands (sym c.in-Some.ensures.place) c.link_number-number.ensures c.wake.ensures c.in-Ok.ensures.granted c.in-Ok.ensures.served (link_told [] [] c.request.new.answer c.args.report.now.start c.args.report.now.cause c.requires.clear.cause (nothing_after [] c.args.report.now.start (omega arith)))
 
 pub returns-in-Err-clause-refused : goal.returns-in-Err-clause-refused
 returns-in-Err-clause-refused g c = λ others m st.

@@ -22,7 +22,7 @@ pub returns-clause-granted : goal.returns-clause-granted
 returns-clause-granted g c = granted_as _ _ _ (refl {a = request_of c.args.request}) ((asks g c).rows c.args.self.now.config (nat_le c.args.slots (used_slots (g.S.Shelf.store c.args.shelf.now)))) c.ask.result c.ask.ensures.granted
 
 pub returns-clause-served : goal.returns-clause-served
-returns-clause-served g c = aimed_as (request_of c.args.request) _ _ _ _ c.ask.result (asks g c).aim c.ask.ensures.served
+returns-clause-served g c = aimed_as (request_of c.args.request) _ _ _ _ _ c.ask.result (asks g c).aim c.ask.ensures.served
 
 pub returns-in-Unit-clause-refused : goal.returns-in-Unit-clause-refused
 returns-in-Unit-clause-refused g c = refused_as _ _ _ (ap request_of c.in-Unit.is) (λ m. refl) c.unit.result c.unit.ensures.refused
@@ -55,4 +55,4 @@ pub returns-in-Deactivate-clause-granted : goal.returns-in-Deactivate-clause-gra
 returns-in-Deactivate-clause-granted g c = granted_as _ _ _ (ap request_of c.in-Deactivate.is) (λ m. refl) c.deactivate.result c.deactivate.ensures.granted
 
 pub returns-in-Deactivate-clause-served : goal.returns-in-Deactivate-clause-served
-returns-in-Deactivate-clause-served g c = aimed_as (request_of c.args.request) _ _ _ _ c.deactivate.result (ap (λ r. aim_of_request (request_of r)) c.in-Deactivate.is) c.deactivate.ensures.served
+returns-in-Deactivate-clause-served g c = aimed_as (request_of c.args.request) _ _ _ _ _ c.deactivate.result (ap (λ r. aim_of_request (request_of r)) c.in-Deactivate.is) c.deactivate.ensures.served

@@ -1,6 +1,7 @@
 -- Hand-written answers for `LinkLayer::unit`.
 use Rattle.lapd_line.proofs.Vocabulary.{[], refl, arith}
 use Rattle.lapd_line.proofs.UnitSteps.{refused_so, placed, unit_serves}
+use Rattle.lapd_line.proofs.ReportSteps.{clear_tells_nothing}
 use Rattle.lapd_line.proofs.link_layer.LinkLayer.unit.Goals as goal
 
 pub returns-in-Some-clause-refused : goal.returns-in-Some-clause-refused
@@ -31,6 +32,6 @@ pub returns-clause-served : goal.returns-clause-served
 returns-clause-served g c =
     let s = g.S.Shelf.store c.args.shelf.now in
     let t = g.S.Shelf.store c.put.new.self in
-    unit_serves c.args.self.now s t c.push.new.self c.args.slots c.args.service c.args.tei c.in-Some-put.slot c.args.contents.now c.nothing.result
+    unit_serves c.args.self.now s t c.push.new.self c.args.slots c.args.service c.args.tei c.in-Some-put.slot c.args.contents.now c.args.report.now
     (refused_so c.args.self.now s c.args.service c.args.tei c.args.contents.now c.args.slots c.used.result _ c.used.ensures.count c.in_default.ensures)
-    c.in-Some-put.ensures.free c.in-Some-put.ensures.stored c.put.ensures.limits c.push.ensures (c.nothing.ensures [])
+    c.in-Some-put.ensures.free c.in-Some-put.ensures.stored c.put.ensures.limits c.push.ensures (clear_tells_nothing [] c.requires.clear)

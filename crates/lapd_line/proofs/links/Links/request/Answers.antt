@@ -15,5 +15,5 @@ returns-clause-granted g c = on_ok c.request.result (refuses c.self.view_is c.re
 pub returns-clause-served : goal.returns-clause-served
 returns-clause-served g c =
     both_ok c.request.result
-    (λ answer stands told. serves c.self.view_is c.requires.within c.index_mut.ensures.value stands told c.request.ensures.terms c.request.ensures.limits)
+    (λ stands told. serves c.self.view_is c.requires.within c.index_mut.ensures.value stands told c.request.ensures.terms c.request.ensures.limits)
     c.request.ensures.stands c.request.ensures.told

@@ -1,0 +1,15 @@
+-- Hand-written answers for `FrameCard::lend`.
+use Rattle.lapd_card.proofs.Vocabulary.{Some, ap, ◌∙◌, told_in}
+use Rattle.lapd_line.specs.Reports.{octets_of}
+use Rattle.model_line.specs.Came.{came}
+use Rattle.lapd_card.proofs.OneLine.{line-there, has_config}
+use Rattle.lapd_card.proofs.frame_card.FrameCard.lend.Goals as goal
+
+pub index-requires : goal.index-requires
+index-requires g c = line-there g.S.Shelf.store _ c.args.self.now c.args.line _ c.self.invariant c.self.view_is c.requires c.self.inside.lines.ok.0
+
+pub returns : goal.returns
+returns g c =
+    c.lend.ensures
+    ∙ ap (λ d. told_in (octets_of (Some (came d.n201 c.args.octets.now))) c.args.bare.now)
+    (has_config g.S.Shelf.store (record { past = c.self.invariant; same = c.self.view_is; within = c.requires; is = c.index.ensures }))

@@ -1,0 +1,62 @@
+-- What is written into a report in which nothing is told yet.
+use Rattle.lapd_line.proofs.Vocabulary.{◌≡◌, ℕ, ◌||◌, Bool, true, false, false≢true, List, [], Option, Some, None, drop, refl, sym, ap, ◌∙◌, Cause, listed, Answer, told_with, LineTold, nothing, told_of_link, TeiOutcome, told_of, told_of_management, BareReport, told_in}
+use Rattle.std.specs.Option.{option_or}
+use Rattle.std.specs.Prelude.{if◌then◌else◌}
+use Rattle.model_line.specs.Effect.{unserved_cause}
+use Rattle.lapd_line.specs.Reports.{IsClear}
+
+none_else : (o : Option Cause) → option_or o None ≡ o
+none_else None = refl
+none_else (Some cause) = refl
+
+-- a cause alone,
+pub cause_alone : {r : BareReport} (octets : List ℕ) (cause : Option Cause) → IsClear r → told_in octets (record r { cause = cause }) ≡ record nothing { cause = cause }
+cause_alone {r} octets cause clear = λ i. record {
+  notes = clear.answer.told.notes i;
+  contents = option_or (if clear.answer.told.delivered i then Some (drop r.start octets) else None) (if clear.answer.told.unit i then Some (drop r.start octets) else None);
+  cause = option_or (unserved_cause (clear.answer.told.unserved i)) cause;
+  orders = clear.answer.orders i;
+  lost = clear.answer.told.lost i;
+}
+
+-- or not even that,
+pub clear_tells_nothing : {r : BareReport} (octets : List ℕ) → IsClear r → told_in octets r ≡ nothing
+clear_tells_nothing {r} octets clear = cause_alone octets r.cause clear ∙ ap (λ c. record nothing { cause = c }) clear.cause
+
+-- or the answer of a link
+pub link_told : (octets info : List ℕ) (answer : Answer) (start : ℕ) (cause : Option Cause) → cause ≡ None → info ≡ drop start octets
+    → told_in octets (record { answer = answer; start = start; cause = cause }) ≡ told_of_link (told_with info answer)
+link_told octets info answer start cause none is =
+    let same = sym is in
+    let alone = ap (option_or (unserved_cause answer.told.unserved)) none ∙ none_else (unserved_cause answer.told.unserved) in λ i. record {
+      notes = listed answer.told.notes;
+      contents = option_or (if answer.told.delivered then Some (same i) else None) (if answer.told.unit then Some (same i) else None);
+      cause = alone i;
+      orders = listed answer.orders;
+      lost = answer.told.lost;
+    }
+
+-- or of TEI management
+pub management_told : {r : BareReport} (octets : List ℕ) (told : TeiOutcome) → IsClear r
+    → told_in octets (record r { answer = record r.answer { told = record r.answer.told { notes = told.notes; lost = told.lost; unserved = told.unserved }; orders = told.orders } }) ≡ told_of_management (told_of told)
+management_told {r} octets told clear =
+    let alone = ap (option_or (unserved_cause told.unserved)) clear.cause ∙ none_else (unserved_cause told.unserved) in λ i. record {
+      notes = listed told.notes;
+      contents = option_or (if clear.answer.told.delivered i then Some (drop r.start octets) else None) (if clear.answer.told.unit i then Some (drop r.start octets) else None);
+      cause = alone i;
+      orders = listed told.orders;
+      lost = told.lost;
+    }
+
+-- contents are lent where they were delivered
+pub some_lent : (delivered unit : Bool) (contents : List ℕ) → (delivered || unit) ≡ true
+    → Some contents ≡ option_or (if delivered then Some contents else None) (if unit then Some contents else None)
+some_lent true unit contents is = refl
+some_lent false true contents is = refl
+some_lent false false contents is = absurd (false≢true is)
+
+pub none_lent : (delivered unit : Bool) (contents : List ℕ) → (delivered || unit) ≡ false
+    → None ≡ option_or (if delivered then Some contents else None) (if unit then Some contents else None)
+none_lent true unit contents is = absurd (false≢true (sym is))
+none_lent false true contents is = absurd (false≢true (sym is))
+none_lent false false contents is = refl

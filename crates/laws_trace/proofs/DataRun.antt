@@ -385,8 +385,7 @@ pub record AtEnd (c : Config) (events : List card.Event) (number : ℕ) (service
   pub knows : Knows (link_of service tei (line_at number (after_all (cards.fresh c) events))) contents gone
   pub reaches : Reaches c service tei none_yet (trace_of c events number) (quiet told_count contents gone)
 
-pub at-end : (c : Config) (events : List card.Event) (number : ℕ) → IsInRange c → AreAtLines (cards.fresh c) events → number < c.lines → (service : Service) (tei : ℕ)
-    → AtEnd c events number service tei
+pub at-end : (c : Config) (events : List card.Event) (number : ℕ) → IsInRange c → AreAtLines (cards.fresh c) events → number < c.lines → (service : Service) (tei : ℕ) → AtEnd c events number service tei
 at-end c events number ranged all within service tei =
     let start : line_at number (cards.fresh c) ≡ fresh_line c = get_or-replicate c.lines number (fresh_line c) (fresh_line c) within in
     let off : link_of service tei (line_at number (cards.fresh c)) ≡ fresh =

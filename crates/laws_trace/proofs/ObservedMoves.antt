@@ -1,5 +1,4 @@
--- How an event of a line moves what an observer knows of a link: as the parts of it that follow the state, the numbers, what
--- layer 3 asked and how often T200 expired.
+-- How an event moves what an observer knows of a link: the state, the numbers, what layer 3 asked and how often T200 expired.
 use Rattle.std.proofs.Common.{◌≡◌, ℕ, ◌+◌, ◌==◌, ◌&&◌, ◌||◌, not, Bool, true, false, cond, length, Option, Some, None, refl, sym, subst}
 use Rattle.std.specs.Prelude.{is_some, nat_lt}
 use Rattle.std.specs.Option.{option_map_or}

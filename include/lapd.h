@@ -358,7 +358,7 @@ enum {
     LAPD_CHECK = 7,     /* ask which terminals have the TEI (clause 5.3.3.2) */
     LAPD_BUSY = 8,      /* take no I-frames on the link for now (clause 5.6.6) */
     LAPD_READY = 9,     /* take I-frames again */
-    LAPD_DEACTIVATE = 10 /* the line is down: give the link up; the TEI stays (annex B, persistent deactivation) */
+    LAPD_DEACTIVATE = 10 /* the line is down: give the link up (annex B, persistent deactivation) */
 };
 
 /* Asks for something at a line; the contents are copied. LAPD_REFUSED_BAD_TEI to LAPD_REFUSED_CONTROL_FULL, or
@@ -413,7 +413,7 @@ LAPD_STATUS lapd_room(lapd_card *card, uint32_t line, uint8_t service, uint8_t t
 
 /* How a frame begins, and how long it is. */
 typedef struct lapd_head {
-    uint16_t length;   /* octets from its address to its information, without its check: 3 or more */
+    uint16_t length;   /* octets from its address to its information, without its check: 3 or more, or 0 for no frame */
     uint8_t octets[4]; /* its address and its control field; where that has one octet, the first of the information, or 0 */
 } lapd_head;
 
@@ -649,8 +649,10 @@ LAPD_INLINE_STATUS lapd_ready(lapd_card *card, uint32_t line, uint8_t service, u
     return lapd_request_with(card, line, LAPD_READY, service, tei, LAPD_NULL, 0, report);
 }
 
-/* The line is down, as where layer 1 lost its synchronization: gives the link up, with all contents and control frames that wait
- * on it. It is in state 4 then, its timer stops, and its release is told as its state has it; the TEI stays. Of a whole line:
+/* The line is down, as where layer 1 lost its synchronization: gives the link up, in each state, with all contents and
+ * control frames that wait on it. It is in state 4 then, its timer stops, and its release is told as its state has it. The
+ * TEI stays, unless a check of it that runs takes it off the line; unit data and messages of the line go on waiting.
+ * LAPD_REFUSED_BAD_TEI and LAPD_REFUSED_NO_LINK alone refuse it. Of a whole line:
  *
  *     uint8_t place = 0;
  *     for (lapd_link link; lapd_next_link(&card, line, &place, &link) == LAPD_OK;)

@@ -1,7 +1,7 @@
 /* ---- Cards and clocks: each has a machine of its own -------------------------------------------------------------- */
 
 /* Where what is handed over lies in a machine's memory: the handle, a report, and whatever else a call has. */
-enum { HANDLE = PLACES, REPORT = PLACES + 16, OTHER = PLACES + 320, HEAP = OTHER + OTHER_OCTETS };
+enum { HANDLE = PLACES, REPORT = PLACES + 16, OTHER = REPORT + REPORT_OCTETS, HEAP = OTHER + OTHER_OCTETS };
 
 /* A machine whose heap has so many octets, on which nothing was started; NULL where there is no memory. */
 static machine *new_machine(u64 heap) {
@@ -120,7 +120,7 @@ uint32_t lapd_exchange(lapd_card *card, uint32_t line, const uint8_t *in, size_t
         if (status != LAPD_OK)
             return status;
         get_size_t(instance, STEPS, &last);
-        memcpy(out + from, instance->data + OUT, last / 2);
+        memcpy(out + from, instance->data + OUT, at_most(last / 2, run));
         *steps = 2 * from + last;
         get_lapd_report(instance, REPORT, report);
         if (lapd_tells(report) || *steps == 2 * in_length)

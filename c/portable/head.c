@@ -45,9 +45,9 @@ typedef int64_t s64;
 #define FUNC_PROLOGUE const u32 limit = (u32)instance->octets; (void)limit
 #define FUNC_EPILOGUE
 
-/* A load or a store has a place and how far ahead of it it goes, less than AHEAD; so much more than AHEAD is behind a machine's
- * memory. So the test of a place needs no sum and no width, and serves all that goes ahead of it. */
-enum { AHEAD = 512, BEHIND = AHEAD + 8 };
+/* Only the place of a load or a store is tested, not how far ahead of it it goes: that is less than AHEAD, and it takes WIDEST
+ * octets at most. So what passes the test stays inside the block that was allocated, which has BEHIND octets more. */
+enum { BEHIND = AHEAD + WIDEST };
 #ifdef LAPD_UNTESTED
 #define TEST(at) (void)limit
 #define TEST_BLOCK(at, count) (void)0

@@ -30,12 +30,12 @@ IN_OUT = {("lapd_next_link", "place")}
 MOST = {"lapd_frame": numbers()["LAPD_MOST_FRAME"] + 1, "lapd_request": numbers()["LAPD_MOST_OCTETS"] + 1,
         "lapd_next_frame": numbers()["LAPD_MOST_FRAME"]}
 # Octets of an exchange that are handed over at a time, and the room for a report.
-RUN, REPORT = 256, 304
+RUN, REPORT = 256, -(-structs()["lapd_report"].octets // 16) * 16
 # Octets of stack in a machine's memory, where C's own has the rest; calls were seen to take less than half, and one that takes
 # more ends the program, as the stack lies at the memory's beginning.
 STACK = 8192
-# As c/portable/head.c has it: a load or a store goes less than so far ahead of the place that is tested.
-AHEAD = 512
+# A load or a store goes less than so far ahead of the place that is tested, and takes eight octets at most.
+AHEAD, WIDEST = 512, 8
 WIDTH = {"uint8_t": 8, "uint16_t": 16, "uint32_t": 32, "uint64_t": 64, "size_t": 64}
 LOADS = {8: "i32_load8_u", 16: "i32_load16_u", 32: "i32_load", 64: "i64_load"}
 STORES = {8: "i32_store8", 16: "i32_store16", 32: "i32_store", 64: "i64_store"}
@@ -94,6 +94,7 @@ def moved(kind: str, at: str, ahead: int, value: str, is_put: bool) -> str:
     width = WIDTH[kind]
     if width == 8:
         return f"instance->data[{to}] = {value};" if is_put else f"{value} = instance->data[{to}];"
+    assert ahead < AHEAD
     words = f"(instance, limit, {at}, {ahead}"
     cast = "u32" if width < 64 else "u64"
     return f"{STORES[width]}{words}, ({cast}){value});" if is_put else f"{value} = ({kind}){LOADS[width]}{words});"
@@ -199,7 +200,7 @@ class Call:
         if it.is_const:
             self.before.append(f"memcpy(instance->data + {at}, {it.name}, at_most({length}, {most}));")
         else:
-            self.last.append(f"memcpy({it.name}, instance->data + {at}, *{rest[0].name});")
+            self.last.append(f"memcpy({it.name}, instance->data + {at}, at_most(*{rest[0].name}, at_most({length}, {most})));")
 
     def text(self) -> str:
         words = ", ".join(f"{'const ' * one.is_const}{tag(one.kind) if one.kind in structs() else one.kind} "
@@ -256,7 +257,7 @@ def other_octets() -> int:
 def own_octets(made: Machine) -> int:
     """So many octets a machine takes beside its heap: its data and stack, what is handed over, what is behind it, and 64 of
     its own."""
-    return -(-made.heap_base // 16) * 16 + 16 + REPORT + other_octets() + AHEAD + 64
+    return -(-made.heap_base // 16) * 16 + 16 + REPORT + other_octets() + AHEAD + WIDEST + 64
 
 
 def asked_for(memory: str, rest: str) -> str:
@@ -270,9 +271,9 @@ def portable(made: Machine, head: str) -> str:
     movers = marshalling()
     loads = asked_for(content("c/portable/memory.c"), made.functions + movers)
     return "\n".join([
-        head, '#include "lapd.h"\n', content("c/portable/head.c"), memory(), struct, loads,
+        head, '#include "lapd.h"\n', f"enum {{ AHEAD = {AHEAD}, WIDEST = {WIDEST} }};\n", content("c/portable/head.c"), memory(), struct, loads,
         "/* ---- What wasm2c made of the proved library ---- */\n", made.functions,
-        f"enum {{ PLACES = {-(-made.heap_base // 16) * 16}, OTHER_OCTETS = {other_octets()}, RUN = {RUN} }};\n",
+        f"enum {{ PLACES = {-(-made.heap_base // 16) * 16}, REPORT_OCTETS = {REPORT}, OTHER_OCTETS = {other_octets()}, RUN = {RUN} }};\n",
         "/* So many octets of the caller's, or as many of them as say all that a call asks. */\n"
         "static inline size_t at_most(size_t count, size_t most) {\n    return count < most ? count : most;\n}\n",
         movers, content("c/portable/card.c"), *(it.text() for it in calls())])
@@ -300,8 +301,8 @@ lapd.h says what each function does. Cards and clocks lie in one static region: 
 (131072 if left out), or -DLAPD_MALLOC takes malloc, or -DLAPD_OWN_MEMORY the program's rattle_alloc and rattle_dealloc. A
 card takes lapd_card_octets(&config) octets and {own} more (one for frames lapd_card_octets_frames(&config) and as many), a clock
 lapd_clock_octets(&config) and {own} more. Starts and ends run one at a time, unless the functions of memory allow more; else
-cards of several threads have nothing in common. Each access to a card's memory is tested, and ends the program by abort()
-where it lies outside, which no run has shown; -DLAPD_UNTESTED leaves that out. A compiler that does not tell the order of
+cards of several threads have nothing in common. No access leaves a card's block: one that would ends the program by abort(),
+which no run has shown; -DLAPD_UNTESTED leaves that test out. A compiler that does not tell the order of
 octets as GCC does wants -DLAPD_BIG_END_FIRST=0 or 1.
 """
 

@@ -12,11 +12,12 @@
 //!
 //! # Open
 //!
-//! What is told after an error, but error F of a lost UA, and whether turns come to an end then; a lost UA where the
-//! end that was called was granted data before; a timer of the called end that expires while its UA waits to go; that
-//! a given T200 is long enough; a release where something waits or is on its way; losses in a call whose layer 3 asks
-//! for anything but data, own busy and its end, where other links or lines are at work, or which begin elsewhere than
-//! from nothing.
+//! What is told after an error, but error F of a lost UA; whether turns come to an end, and T200 stops, after an error,
+//! where an end is busy, and where a call is released; a lost UA where the end that was called asked for something or
+//! one of its timers expired before the other heard UA; a timer of the called end that expires while its UA waits to go;
+//! that a given T200 is long enough; a release where something waits or is on its way, or where the other end asks for
+//! something or its timers expire; losses in a call whose layer 3 asks for anything but data, own busy and its end, where
+//! both ends call, where other links or lines are at work, or which begin elsewhere than from nothing.
 #![tactic(auto)]
 
 mod answering;

@@ -2,7 +2,7 @@
  * calls.c: calls that no script makes. The links of a line, as lapd_next_link tells them, are those that lapd_state has
  * a state of, in order, from each place on; contents of a report go back with the same report; the room of a link is
  * what it refuses contents by; the frame begun last is the one that goes; what is counted is what
- * came, went and was told; lengths of timers that are out of range change
+ * came, went and was told; a line goes down as docs/EMBEDDING.md has it; lengths of timers that are out of range change
  * nothing; and the version is the header's. For tests alone.
  */
 #include <stdio.h>
@@ -221,6 +221,47 @@ static void counts(void) {
     wants(lapd_counters(&card, 1, &counters) == LAPD_OK && counters.values[LAPD_HEARD_SABME] == 0, "another line counts");
 }
 
+static lapd_clock timers;
+static unsigned released;
+
+static uint64_t now(void) { return 0; }
+
+static void layer_3(const lapd_report *told) {
+    wants(told->note_count == 1 && told->notes[0].note == LAPD_RELEASE_INDICATION, "a link that is given up tells something else");
+    released++;
+}
+
+/* As docs/EMBEDDING.md has it. */
+static void goes_down(uint32_t line) {
+    uint8_t place = 0;
+    for (lapd_link link; lapd_next_link(&card, line, &place, &link) == LAPD_OK;)
+        if (lapd_deactivate(&card, line, link.service, link.tei, &report) == LAPD_OK && lapd_tells(&report)) {
+            lapd_clock_apply_report(&timers, line, &report, now());
+            layer_3(&report);
+        }
+}
+
+/* How many links of the line are up. */
+static unsigned count_up(uint32_t line) {
+    uint8_t place = 0;
+    unsigned count = 0;
+    for (lapd_link link; lapd_next_link(&card, line, &place, &link) == LAPD_OK;)
+        count += link.state != 4;
+    return count;
+}
+
+/* A line that goes down: each link that was up tells its release, and none is up behind it. */
+static void line_down(void) {
+    unsigned up = count_up(0);
+    wants(up > 0, "no link is up");
+    wants(lapd_clock_start(&timers, &config) == LAPD_OK, "no clock");
+    goes_down(0);
+    wants(released == up && count_up(0) == 0, "a link is up on a line that is down");
+    goes_down(0);
+    wants(released == up, "a link is given up twice");
+    lapd_clock_free(&timers);
+}
+
 int main(void) {
     static const uint8_t teis[] = {0, 1, 63, 64, 65, 100, 125, 126};
     wants(lapd_version() == LAPD_VERSION, "the library has another version");
@@ -237,6 +278,7 @@ int main(void) {
     echo();
     rooms();
     counts();
+    line_down();
     look_at(0, 2 * sizeof teis);
     wants(lapd_remove(&card, 0, 126, &report) == LAPD_OK, "the TEI stays");
     look_at(0, 2 * sizeof teis - 2);

@@ -1,14 +1,28 @@
 /*
  * gateway.h: the data link layer of a gateway with many D-channels, whose drivers give and take whole frames: a card, its
- * clock, and what is due in which order. Time is what the caller says it is, in milliseconds from any origin.
+ * clock, and what is due in which order.
  *
- * Whatever happens at a line is handed over as it comes: gateway_frame, gateway_failed, gateway_ask; and gateway_pass at the
- * moment of gateway_next at the latest. Each carries out the orders for timers, tells layer 3, and gives what waits at the line.
+ *     gateway own = GATEWAY_NONE;
+ *     own.on_report = layer_3;
+ *     uint32_t status = gateway_start(&own, &config);
+ *     ... each frame that came: gateway_frame; then gateway_advance; then, of each line whose controller has room,
+ *         gateway_take until it answers LAPD_NO_FRAME; and so on, at the moment of gateway_next at the latest ...
+ *     gateway_end(&own);
+ *
+ * Time is what the caller says it is, in milliseconds from any origin, and does not go back: each call takes the moment
+ * that is now, from which the timers run that it starts. A gateway has no lock: one call at a time, except that
+ * on_report may make each but gateway_start and gateway_end.
+ *
+ * What calls answer:
+ *
+ *  - LAPD_OK: the call did what it says.
+ *  - Else, as lapd.h says of it, what was wrong, and nothing has changed: LAPD_NO_CARD or LAPD_NO_CLOCK (the gateway was
+ *    not started), LAPD_WRONG_LINE, LAPD_WRONG_TIME (now is after LAPD_LATEST), and what stands at each call.
+ *  - LAPD_NO_PLACE: the call did what it says, but a timer found no place on the clock and does not run. Tests see none.
  */
 #ifndef GATEWAY_H
 #define GATEWAY_H
 
-#include <stdbool.h>
 #include <stddef.h>
 #include <stdint.h>
 
@@ -16,32 +30,48 @@
 
 typedef struct gateway gateway;
 
+/* A gateway, which begins as GATEWAY_NONE; its callback is set before the start. */
 struct gateway {
-    /* A frame goes to the driver of a line, which keeps it until it can send it. It calls nothing of the gateway's. */
-    void (*goes)(gateway *own, uint32_t line, const uint8_t *frame, size_t length);
-    /* What an event led to, where it led to anything but timer orders: notes, a drop, a loss, contents. It may ask. */
-    void (*is_told)(gateway *own, uint32_t line, const lapd_report *report);
+    /* What an event at a line led to, where it led to notes, contents, a drop or a loss. Its timer orders are carried out. */
+    void (*on_report)(gateway *own, uint32_t line, const lapd_report *report);
     lapd_card card;
     lapd_clock timers;
-    uint64_t now;
 };
 
-/* Starts the card and the clock; the callbacks are set before. LAPD_OK, or why there are none. */
-uint32_t gateway_start(gateway *own, const lapd_config *config);
+#define GATEWAY_NONE { NULL, LAPD_CARD_NONE, LAPD_CLOCK_NONE }
 
-/* A frame came without its check, which was good; or the controller told a fault in place of one. */
-bool gateway_frame(gateway *own, uint32_t line, const uint8_t *frame, size_t length);
-bool gateway_failed(gateway *own, uint32_t line, uint8_t cause);
+/* Starts the card and the clock. LAPD_SECOND_START, the first bad field of the configuration (LAPD_BAD_LINES to
+ * LAPD_BAD_SIDE) or LAPD_NO_MEMORY: none that was not there before is there. */
+LAPD_STATUS gateway_start(gateway *own, const lapd_config *config);
 
-/* Layer 3 or management asks for something, as by lapd_request_with: LAPD_OK, or why it is refused. */
-uint32_t gateway_ask(gateway *own, uint32_t line, uint8_t request, uint8_t service, uint8_t tei, const uint8_t *contents, size_t length);
-
-/* Time goes on to a moment: each timer that falls due until then expires at its own. */
-bool gateway_pass(gateway *own, uint64_t moment);
-
-/* When the next timer falls due; UINT64_MAX where none runs. */
-uint64_t gateway_next(gateway *own);
-
+/* Gives back what the start took; the gateway can be started again. Where it was not started nothing happens. */
 void gateway_end(gateway *own);
+
+/* A frame came, without its check, which was good. */
+LAPD_STATUS gateway_frame(gateway *own, uint64_t now, uint32_t line, const uint8_t *frame, size_t length);
+
+/* The controller of a line told a fault in place of a frame. LAPD_WRONG_CAUSE, as of lapd_frame_failed. */
+LAPD_STATUS gateway_frame_failed(gateway *own, uint64_t now, uint32_t line, uint8_t cause);
+
+/* Layer 3 or management asks for something, as by lapd_request_with. LAPD_REFUSED_BAD_TEI to LAPD_REFUSED_CONTROL_FULL, or
+ * LAPD_REFUSED_WRONG_SIDE, where it is refused; LAPD_WRONG_REQUEST, LAPD_WRONG_SERVICE, LAPD_WRONG_LENGTH. */
+LAPD_STATUS gateway_ask(gateway *own, uint64_t now, uint32_t line, uint8_t request, uint8_t service, uint8_t tei,
+                        const uint8_t *contents, size_t length);
+
+/* Layer 1 of a line is lost: each of its links is given up, with what waits on it, and on_report hears of each that was
+ * not down. TEIs stay. What waits for all terminals does so on: where it is not to go later, take it and throw it away. */
+LAPD_STATUS gateway_down(gateway *own, uint64_t now, uint32_t line);
+
+/* Each timer that is due expires, and what starts anew runs from now on, however late the call is. Hand over first what has
+ * come meanwhile: a frame that still waits in a driver is not heard, and a link whose answer is in it asks again. */
+LAPD_STATUS gateway_advance(gateway *own, uint64_t now);
+
+/* When the next timer falls due, so when to advance at the latest. LAPD_NO_TIMER: none runs. */
+LAPD_STATUS gateway_next(gateway *own, uint64_t *moment);
+
+/* Takes the next frame of a line to send, without a check. It counts as sent, and T200 runs, from now on: take one when
+ * the controller has room for it. Any other call may have left one at any line. LAPD_NO_FRAME: none waits.
+ * LAPD_WRONG_LENGTH: `room` is less than n201 and four; LAPD_MOST_FRAME is always enough. */
+LAPD_STATUS gateway_take(gateway *own, uint64_t now, uint32_t line, uint8_t *frame, size_t room, size_t *length);
 
 #endif

@@ -1,0 +1,161 @@
+/*
+ * gateway_calls.c: what the header of examples/c/gateway.h says of each call: what it answers, from when timers run, and
+ * that a call that comes late asks a silent terminal once. Starts are refused each block of memory in turn.
+ */
+#include <stdio.h>
+#include <stdlib.h>
+#include <string.h>
+
+#include "gateway.h"
+#include "lapd_memory.h"
+
+static const lapd_config config = {.lines = 2, .terminals = 2, .k = 1, .k16 = 3, .queue = 8, .unit_queue = 4,
+                                   .control = 4, .slots = 16, .n201 = 260, .n200 = 3, .side = LAPD_NETWORK};
+static const uint8_t sabme[] = {0x00, 0x81, 0x7F}, ua[] = {0x00, 0x81, 0x73}, poll[] = {0x02, 0x81, 0x01, 0x01};
+
+static gateway own = GATEWAY_NONE;
+static unsigned notes[LAPD_XID_INDICATION + 1], drops;
+
+/* ---- Memory, of which the start is refused a block ---------------------------------------------------------------- */
+
+static long left = -1, taken; /* blocks until one is refused, and blocks that are not given back */
+
+static rattle_tried answer(void *at) {
+    static char nothing;
+    rattle_tried tried = {at != NULL, at != NULL ? at : &nothing};
+    taken += tried.there;
+    return tried;
+}
+
+rattle_tried rattle_alloc(size_t octets, size_t alignment) {
+    return answer(left-- == 0 ? NULL : malloc(octets > 0 ? octets : alignment));
+}
+
+rattle_tried rattle_realloc(void *at, size_t old_octets, size_t octets, size_t alignment) {
+    (void)old_octets;
+    rattle_tried tried = answer(left-- == 0 ? NULL : realloc(at, octets > 0 ? octets : alignment));
+    taken -= tried.there; /* the old block */
+    return tried;
+}
+
+void rattle_dealloc(void *at) {
+    taken--;
+    free(at);
+}
+
+/* ---- What is asked of each call ----------------------------------------------------------------------------------- */
+
+static void want(bool is, const char *what) {
+    if (!is) {
+        fprintf(stderr, "gateway_calls: not so: %s\n", what);
+        exit(1);
+    }
+}
+#define WANT(is) want(is, #is)
+
+static void on_report(gateway *gate, uint32_t line, const lapd_report *report) {
+    WANT(gate == &own && line == 0);
+    for (unsigned i = 0; i < report->note_count; i++)
+        notes[report->notes[i].note]++;
+    drops += report->cause != 0;
+}
+
+static bool takes(uint64_t now, const uint8_t *frame, size_t length) {
+    uint8_t out[LAPD_MOST_FRAME];
+    size_t octets;
+    return gateway_take(&own, now, 0, out, sizeof out, &octets) == LAPD_OK && octets == length
+           && memcmp(out, frame, length) == 0;
+}
+
+static bool takes_none(uint64_t now) {
+    uint8_t out[LAPD_MOST_FRAME];
+    size_t octets;
+    return gateway_take(&own, now, 0, out, sizeof out, &octets) == LAPD_NO_FRAME;
+}
+
+static bool is_next(uint64_t wanted) {
+    uint64_t moment;
+    return gateway_next(&own, &moment) == LAPD_OK && moment == wanted;
+}
+
+static uint8_t state(void) {
+    uint8_t state = 0;
+    WANT(lapd_state(&own.card, 0, LAPD_CALL, 64, &state) == LAPD_OK);
+    return state;
+}
+
+/* Each block of the card and of the clock is refused in turn; then both are there. */
+static void starts(void) {
+    uint64_t moment;
+    uint32_t status;
+    unsigned refused = 0;
+    own.on_report = on_report;
+    for (long block = 0; left = block, (status = gateway_start(&own, &config)) == LAPD_NO_MEMORY; block++) {
+        WANT(taken == 0 && gateway_frame(&own, 0, 0, sabme, sizeof sabme) == LAPD_NO_CARD);
+        refused++;
+    }
+    left = -1;
+    WANT(status == LAPD_OK && refused > 10);
+    WANT(gateway_start(&own, &config) == LAPD_SECOND_START);
+    WANT(gateway_advance(&own, LAPD_LATEST) == LAPD_OK);
+    WANT(gateway_next(&own, &moment) == LAPD_NO_TIMER);
+}
+
+/* A wrong call changes nothing. */
+static void wrong_calls(uint64_t now) {
+    uint8_t out[LAPD_MOST_FRAME];
+    size_t length;
+    WANT(gateway_frame(&own, now, config.lines, sabme, sizeof sabme) == LAPD_WRONG_LINE);
+    WANT(gateway_frame_failed(&own, now, 0, LAPD_TEI) == LAPD_WRONG_CAUSE);
+    WANT(gateway_ask(&own, now, 0, 0, LAPD_CALL, 64, NULL, 0) == LAPD_WRONG_REQUEST);
+    WANT(gateway_ask(&own, now, 0, LAPD_DATA, LAPD_CALL, 65, sabme, sizeof sabme) == LAPD_REFUSED_NO_LINK);
+    WANT(gateway_down(&own, now, config.lines) == LAPD_WRONG_LINE);
+    WANT(gateway_take(&own, now, 0, out, sizeof out - 1, &length) == LAPD_WRONG_LENGTH);
+    now = LAPD_LATEST + 1;
+    WANT(gateway_frame(&own, now, 0, sabme, sizeof sabme) == LAPD_WRONG_TIME);
+    WANT(gateway_frame_failed(&own, now, 0, LAPD_FCS) == LAPD_WRONG_TIME);
+    WANT(gateway_ask(&own, now, 0, LAPD_REMOVE, LAPD_CALL, 64, NULL, 0) == LAPD_WRONG_TIME);
+    WANT(gateway_down(&own, now, 0) == LAPD_WRONG_TIME);
+    WANT(gateway_take(&own, now, 0, out, sizeof out, &length) == LAPD_WRONG_TIME);
+    WANT(gateway_advance(&own, UINT64_MAX) == LAPD_WRONG_TIME);
+}
+
+/* A link comes up at 9 s, so T203 runs until 19 s; all calls then come 20 s late, and the terminal is asked once. */
+static void time_passes(void) {
+    WANT(gateway_ask(&own, 0, 0, LAPD_ASSIGN, LAPD_CALL, 64, NULL, 0) == LAPD_OK);
+    WANT(gateway_frame(&own, 9000, 0, sabme, sizeof sabme) == LAPD_OK);
+    WANT(notes[LAPD_ESTABLISH_INDICATION] == 1 && is_next(19000));
+    wrong_calls(9000);
+    WANT(takes(9000, ua, sizeof ua) && takes_none(9000) && is_next(19000));
+    WANT(gateway_advance(&own, 18999) == LAPD_OK && takes_none(18999) && state() == 7);
+    WANT(gateway_advance(&own, 39000) == LAPD_OK && state() == 8);
+    WANT(takes(39500, poll, sizeof poll) && takes_none(39500) && is_next(40000));
+    WANT(notes[LAPD_RELEASE_INDICATION] == 0 && notes[LAPD_ERROR_INDICATION] == 0);
+}
+
+/* The line goes down, twice: its link is released once. */
+static void goes_down(void) {
+    uint64_t moment;
+    WANT(gateway_frame_failed(&own, 39600, 0, LAPD_FCS) == LAPD_OK && drops == 1);
+    WANT(gateway_down(&own, 39700, 0) == LAPD_OK && state() == 4);
+    WANT(notes[LAPD_RELEASE_INDICATION] == 1 && gateway_next(&own, &moment) == LAPD_NO_TIMER);
+    WANT(gateway_down(&own, 39800, 0) == LAPD_OK && notes[LAPD_RELEASE_INDICATION] == 1);
+    WANT(gateway_ask(&own, 39800, 0, LAPD_DATA, LAPD_CALL, 64, ua, sizeof ua) == LAPD_REFUSED_WRONG_STATE);
+    WANT(gateway_frame(&own, 39900, 0, sabme, sizeof sabme) == LAPD_OK && state() == 7);
+}
+
+static void ends(void) {
+    uint64_t moment;
+    gateway_end(&own);
+    gateway_end(&own);
+    WANT(taken == 0 && gateway_down(&own, 40000, 0) == LAPD_NO_CARD);
+    WANT(gateway_advance(&own, 40000) == LAPD_NO_CLOCK && gateway_next(&own, &moment) == LAPD_NO_CLOCK);
+}
+
+int main(void) {
+    starts();
+    time_passes();
+    goes_down();
+    ends();
+    return 0;
+}

@@ -1,13 +1,13 @@
 /*
- * exchange.c: a small line card in C. One D-channel over standard input and output: for each octet that comes, one goes.
- * Timers are the library's clock, by the system's monotonic time (linecard.c). Layer 3 answers each message of a terminal
- * with the same message.
+ * exchange.c: a small line card in C. One D-channel over standard input and output: for each octet that comes, one
+ * goes. Timers are the library's clock, by the system's monotonic time (linecard.c). Layer 3 answers each message of a
+ * terminal with the same message.
  *
  *     exchange [RECORD [CAPTURE]] < OCTETS > OCTETS
  *
- * Standard error tells what layer 3 is told. With RECORD, all that happens is written there as a script of docs/FORMAT.md:
- * `lapdsim run < RECORD` then shows the same. With CAPTURE, how the frames of both ways begin is written there for Wireshark
- * (pcap.c).
+ * Standard error tells what layer 3 is told. With RECORD, all that happens is written there as a script of
+ * docs/FORMAT.md: `lapdsim run < RECORD` then shows the same. With CAPTURE, how the frames of both ways begin is
+ * written there for Wireshark (pcap.c).
  */
 #define _POSIX_C_SOURCE 200809L
 
@@ -21,6 +21,15 @@
 
 enum { MOST_AT_A_TIME = 64, MOST_OF_A_CAPTURE = 4 };
 
+static const char usage[] = "usage: exchange [RECORD [CAPTURE]] < OCTETS > OCTETS\n";
+static const char help[] =
+    "\n"
+    "A line card with one D-channel: for each octet that comes, one goes. Each message of a terminal goes back to it.\n"
+    "Standard error tells what layer 3 is told.\n"
+    "\n"
+    "  RECORD   a file for all that happens, as a script: lapdsim run < RECORD shows the same\n"
+    "  CAPTURE  a file for how the frames of both ways begin, for Wireshark\n";
+
 static FILE *capture; /* or NULL */
 static uint64_t heard;
 
@@ -31,13 +40,16 @@ static bool message_came(linecard *own, const lapd_note *note, const uint8_t *co
     return linecard_send(own, note, octets, length);
 }
 
-static linecard own = {.program = "exchange", .message_came = message_came, .card = LAPD_CARD_NONE, .timers = LAPD_CLOCK_NONE};
+static linecard own = {.program = "exchange", .message_came = message_came,
+                       .card = LAPD_CARD_NONE, .timers = LAPD_CLOCK_NONE};
 
 static bool write_all(const uint8_t *octets, size_t length) {
     while (length > 0) {
         ssize_t written = write(STDOUT_FILENO, octets, length);
-        if (written < 0 && errno != EINTR)
+        if (written < 0 && errno != EINTR) {
+            perror("exchange: the line");
             return false;
+        }
         octets += written > 0 ? written : 0;
         length -= written > 0 ? (size_t)written : 0;
     }
@@ -53,8 +65,10 @@ static bool exchange(const uint8_t *in, uint8_t *out, size_t length) {
             return false;
         for (; own.record != NULL && before < steps; before++)
             before % 2 == 0 ? fprintf(own.record, "rx 0 %02X\n", in[before / 2]) : fprintf(own.record, "pull 0 1\n");
-        if (capture != NULL && !pcap_heads(capture, own.now, LAPD_NETWORK, &own.card, 0, &report, &heard))
+        if (capture != NULL && !pcap_heads(capture, own.now, LAPD_NETWORK, &own.card, 0, &report, &heard)) {
+            fprintf(stderr, "exchange: the capture is not whole: a frame was left out\n");
             return false;
+        }
         if (!linecard_tell(&own, &report))
             return false;
     }
@@ -79,17 +93,30 @@ static bool serve(void) {
     return true;
 }
 
-int main(int words, char **argv) {
-    if (words > 3 || (words > 1 && (own.record = fopen(argv[1], "w")) == NULL)
-        || (words > 2 && (capture = fopen(argv[2], "wb")) == NULL)) {
-        fprintf(stderr, "usage: exchange [RECORD [CAPTURE]] < OCTETS > OCTETS\n");
-        return 2;
-    }
+/* Starts the card, serves the line, and ends; whether all went well. */
+static bool run(void) {
     if (own.record != NULL)
         fprintf(own.record, "card " LINECARD_NUMBERS "\n");
     if (capture != NULL)
         pcap_begin(capture);
-    bool good = linecard_is_ok(&own, lapd_card_start(&own.card, &linecard_config), "card") && linecard_begin(&own) && serve();
-    bool is_kept = capture == NULL || (!ferror(capture) && fclose(capture) == 0);
-    return !linecard_end(&own) || !is_kept || !good;
+    uint32_t status = lapd_card_start(&own.card, &linecard_config);
+    bool is_started = linecard_is_ok(&own, status, "card") && linecard_begin(&own);
+    bool is_good = is_started && pcap_begin_heads(&own.card, 0, &heard) && serve();
+    bool is_captured = linecard_close(&own, capture, "capture");
+    return linecard_end(&own) && is_captured && is_good;
+}
+
+int main(int words, char **word) {
+    if (words == 2 && strcmp(word[1], "--help") == 0) {
+        printf("%s%s", usage, help);
+        return 0;
+    }
+    if (words > 3 || (words > 1 && strncmp(word[1], "--", 2) == 0)) {
+        fputs(usage, stderr);
+        return 2;
+    }
+    if ((words > 1 && (own.record = linecard_open(&own, word[1])) == NULL)
+        || (words > 2 && (capture = linecard_open(&own, word[2])) == NULL))
+        return 1;
+    return !run();
 }

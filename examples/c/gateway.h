@@ -1,6 +1,6 @@
 /*
- * gateway.h: the data link layer of a gateway with many D-channels, whose drivers give and take whole frames: a card, its
- * clock, and what is due in which order.
+ * gateway.h: the data link layer of a gateway with many D-channels, whose drivers give and take whole frames: a card,
+ * its clock, and what is due in which order.
  *
  *     gateway own = GATEWAY_NONE;
  *     own.on_report = layer_3;
@@ -16,9 +16,10 @@
  * What calls answer:
  *
  *  - LAPD_OK: the call did what it says.
- *  - Else, as lapd.h says of it, what was wrong, and nothing has changed: LAPD_NO_CARD or LAPD_NO_CLOCK (the gateway was
- *    not started), LAPD_WRONG_LINE, LAPD_WRONG_TIME (now is after LAPD_LATEST), and what stands at each call.
- *  - LAPD_NO_PLACE: the call did what it says, but a timer found no place on the clock and does not run. Tests see none.
+ *  - Else, as lapd.h says of it, what was wrong, and nothing has changed: LAPD_NO_CARD or LAPD_NO_CLOCK (the gateway
+ *    was not started), LAPD_WRONG_LINE, LAPD_WRONG_TIME (now is after LAPD_LATEST), and what stands at each call.
+ *  - LAPD_NO_PLACE: the call did what it says, but a timer found no place on the clock and does not run. Tests see
+ *    none.
  */
 #ifndef GATEWAY_H
 #define GATEWAY_H
@@ -32,7 +33,7 @@ typedef struct gateway gateway;
 
 /* A gateway, which begins as GATEWAY_NONE; its callback is set before the start. */
 struct gateway {
-    /* What an event at a line led to, where it led to notes, contents, a drop or a loss. Its timer orders are carried out. */
+    /* What an event at a line led to, where it led to notes, contents, a drop or a loss. Its orders are carried out. */
     void (*on_report)(gateway *own, uint32_t line, const lapd_report *report);
     lapd_card card;
     lapd_clock timers;
@@ -53,25 +54,25 @@ LAPD_STATUS gateway_frame(gateway *own, uint64_t now, uint32_t line, const uint8
 /* The controller of a line told a fault in place of a frame. LAPD_WRONG_CAUSE, as of lapd_frame_failed. */
 LAPD_STATUS gateway_frame_failed(gateway *own, uint64_t now, uint32_t line, uint8_t cause);
 
-/* Layer 3 or management asks for something, as by lapd_request_with. LAPD_REFUSED_BAD_TEI to LAPD_REFUSED_CONTROL_FULL, or
- * LAPD_REFUSED_WRONG_SIDE, where it is refused; LAPD_WRONG_REQUEST, LAPD_WRONG_SERVICE, LAPD_WRONG_LENGTH. */
+/* Layer 3 or management asks for something, as by lapd_request_with: LAPD_REFUSED_BAD_TEI to LAPD_REFUSED_CONTROL_FULL,
+ * or LAPD_REFUSED_WRONG_SIDE, where it is refused; LAPD_WRONG_REQUEST, LAPD_WRONG_SERVICE, LAPD_WRONG_LENGTH. */
 LAPD_STATUS gateway_ask(gateway *own, uint64_t now, uint32_t line, uint8_t request, uint8_t service, uint8_t tei,
                         const uint8_t *contents, size_t length);
 
 /* Layer 1 of a line is lost: each of its links is given up, with what waits on it, and on_report hears of each that was
- * not down. TEIs stay. What waits for all terminals does so on: where it is not to go later, take it and throw it away. */
+ * not down. TEIs stay, and so does what waits for all terminals: take it and throw it away if it is not to go later. */
 LAPD_STATUS gateway_down(gateway *own, uint64_t now, uint32_t line);
 
-/* Each timer that is due expires, and what starts anew runs from now on, however late the call is. Hand over first what has
- * come meanwhile: a frame that still waits in a driver is not heard, and a link whose answer is in it asks again. */
+/* Each timer that is due expires, once, and what it starts runs from now on, however late the call is. Hand over first
+ * what has come meanwhile: a link whose answer still waits in a driver would ask again, or be given up. */
 LAPD_STATUS gateway_advance(gateway *own, uint64_t now);
 
 /* When the next timer falls due, so when to advance at the latest. LAPD_NO_TIMER: none runs. */
 LAPD_STATUS gateway_next(gateway *own, uint64_t *moment);
 
-/* Takes the next frame of a line to send, without a check. It counts as sent, and T200 runs, from now on: take one when
- * the controller has room for it. Any other call may have left one at any line. LAPD_NO_FRAME: none waits.
- * LAPD_WRONG_LENGTH: `room` is less than n201 and four; LAPD_MOST_FRAME is always enough. */
+/* Takes the next frame of a line to send, without a check. It counts as sent from now on, and T200 of an I-frame runs:
+ * take one when the controller has room for it. Any other call may have left one at any line. LAPD_NO_FRAME: none
+ * waits. LAPD_WRONG_LENGTH: `room` is less than n201 and four; LAPD_MOST_FRAME is always enough. */
 LAPD_STATUS gateway_take(gateway *own, uint64_t now, uint32_t line, uint8_t *frame, size_t room, size_t *length);
 
 #endif

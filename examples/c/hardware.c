@@ -1,15 +1,16 @@
 /*
  * hardware.c: a small line card in C whose controller has flags, stuffed 0s and checks in hardware. One D-channel is
- * standard input, as the drivers of such controllers give and take frames: a socket with one frame a datagram, or a device
- * with one frame a read and a write. Timers are the library's clock, by the system's monotonic time (linecard.c). Layer 3
- * answers every call.
+ * standard input, as the drivers of such controllers give and take frames: a socket with one frame a datagram, or a
+ * device with one frame a read and a write. Timers are the library's clock, by the system's monotonic time
+ * (linecard.c). Layer 3 answers every call (q931.h).
  *
  *     hardware [--check] [RECORD [CAPTURE]] <> LINE
  *
- * With --check two octets stand behind each frame, in place of its check, as DAHDI's D-channels have them; without it the
- * frame is all, as in Linux's LAPD devices. Standard error tells what layer 3 is told. With RECORD, all that happens is
- * written there as a script of docs/FORMAT.md: `lapdsim run < RECORD` then shows the same. With CAPTURE, the frames of both
- * ways are written there for Wireshark (pcap.c). A frame of no octets, or the other side's end, ends the program.
+ * With --check two octets stand behind each frame, in place of its check, as DAHDI's D-channels have them; without it
+ * the frame is all, as in Linux's LAPD devices. Standard error tells what layer 3 is told. With RECORD, all that
+ * happens is written there as a script of docs/FORMAT.md: `lapdsim run < RECORD` then shows the same. With CAPTURE, the
+ * frames of both ways are written there for Wireshark (pcap.c). A frame of no octets, or the other side's end, ends the
+ * program.
  */
 #define _POSIX_C_SOURCE 200809L
 
@@ -21,29 +22,32 @@
 
 #include "linecard.h"
 #include "pcap.h"
+#include "q931.h"
 
 enum { LONGEST_DATAGRAM = 2048 };
+
+static const char usage[] = "usage: hardware [--check] [RECORD [CAPTURE]] <> LINE\n";
+static const char help[] =
+    "\n"
+    "A line card with one D-channel, whose line gives and takes one frame a read and a write. It answers every call.\n"
+    "Standard error tells what layer 3 is told.\n"
+    "\n"
+    "  --check  two octets stand behind each frame, in place of its check\n"
+    "  RECORD   a file for all that happens, as a script: lapdsim run < RECORD shows the same\n"
+    "  CAPTURE  a file for the frames of both ways, for Wireshark\n";
 
 static size_t check_octets;
 static FILE *capture; /* or NULL */
 
-/* A message of Q.931 came on a link, with a call reference of one octet: a call is connected, and cleared as it is asked. */
+/* A message came on a link: it is answered as q931.h has it. */
 static bool message_came(linecard *own, const lapd_note *note, const uint8_t *contents, size_t length) {
-    enum { SETUP = 0x05, CONNECT = 0x07, DISCONNECT = 0x45, RELEASE = 0x4D, RELEASE_COMPLETE = 0x5A };
-    if (length < 4 || contents[0] != 0x08 || contents[1] != 1)
-        return true;
-    uint8_t reference = contents[2] ^ 0x80;
-    const uint8_t connect[] = {0x08, 1, reference, CONNECT, 0x18, 1, 0x89}, release[] = {0x08, 1, reference, RELEASE};
-    const uint8_t complete[] = {0x08, 1, reference, RELEASE_COMPLETE};
-    switch (contents[3]) {
-    case SETUP: return linecard_send(own, note, connect, sizeof connect); /* on channel B1 */
-    case DISCONNECT: return linecard_send(own, note, release, sizeof release);
-    case RELEASE: return linecard_send(own, note, complete, sizeof complete);
-    default: return true;
-    }
+    uint8_t answer[Q931_MOST_ANSWER];
+    size_t octets = q931_answer(contents, length, answer);
+    return octets == 0 || linecard_send(own, note, answer, octets);
 }
 
-static linecard own = {.program = "hardware", .message_came = message_came, .card = LAPD_CARD_NONE, .timers = LAPD_CLOCK_NONE};
+static linecard own = {.program = "hardware", .message_came = message_came,
+                       .card = LAPD_CARD_NONE, .timers = LAPD_CLOCK_NONE};
 
 /* A frame came. A driver that tells of aborts and bad checks hands them to lapd_frame_failed; this one has none. */
 static bool take(const uint8_t *datagram, size_t length) {
@@ -55,7 +59,8 @@ static bool take(const uint8_t *datagram, size_t length) {
     }
     if (capture != NULL)
         pcap_frame(capture, own.now, false, LAPD_NETWORK, datagram, length, length);
-    return linecard_is_ok(&own, lapd_frame(&own.card, 0, datagram, length, &report), "frame") && linecard_tell(&own, &report);
+    uint32_t status = lapd_frame(&own.card, 0, datagram, length, &report);
+    return linecard_is_ok(&own, status, "frame") && linecard_tell(&own, &report);
 }
 
 /* Frames that wait go, as long as the controller has room for one more; is_full says that it has none. */
@@ -100,23 +105,35 @@ static bool serve(void) {
     return good;
 }
 
-int main(int words, char **argv) {
-    if (words > 1 && strcmp(argv[1], "--check") == 0) {
-        check_octets = 2;
-        words--;
-        argv++;
-    }
-    if (words > 3 || (words > 1 && (own.record = fopen(argv[1], "w")) == NULL)
-        || (words > 2 && (capture = fopen(argv[2], "wb")) == NULL)) {
-        fprintf(stderr, "usage: hardware [--check] [RECORD [CAPTURE]] <> LINE\n");
-        return 2;
-    }
-    signal(SIGPIPE, SIG_IGN); /* a write to a side that has ended fails instead */
+/* Starts the card, serves the line, and ends; whether all went well. */
+static bool run(void) {
     if (own.record != NULL)
         fprintf(own.record, "frames " LINECARD_NUMBERS "\n");
     if (capture != NULL)
         pcap_begin(capture);
-    bool good = linecard_is_ok(&own, lapd_card_start_frames(&own.card, &linecard_config), "card") && linecard_begin(&own) && serve();
-    bool is_kept = capture == NULL || (!ferror(capture) && fclose(capture) == 0);
-    return !linecard_end(&own) || !is_kept || !good;
+    uint32_t status = lapd_card_start_frames(&own.card, &linecard_config);
+    bool is_good = linecard_is_ok(&own, status, "card") && linecard_begin(&own) && serve();
+    bool is_captured = linecard_close(&own, capture, "capture");
+    return linecard_end(&own) && is_captured && is_good;
+}
+
+int main(int words, char **word) {
+    if (words == 2 && strcmp(word[1], "--help") == 0) {
+        printf("%s%s", usage, help);
+        return 0;
+    }
+    if (words > 1 && strcmp(word[1], "--check") == 0) {
+        check_octets = 2;
+        words--;
+        word++;
+    }
+    if (words > 3 || (words > 1 && strncmp(word[1], "--", 2) == 0)) {
+        fputs(usage, stderr);
+        return 2;
+    }
+    if ((words > 1 && (own.record = linecard_open(&own, word[1])) == NULL)
+        || (words > 2 && (capture = linecard_open(&own, word[2])) == NULL))
+        return 1;
+    signal(SIGPIPE, SIG_IGN); /* a write to a side that has ended fails instead */
+    return !run();
 }

@@ -3,6 +3,8 @@
 
 #include "linecard.h"
 
+#include <errno.h>
+#include <string.h>
 #include <time.h>
 
 const lapd_config linecard_config = {.lines = 1, .terminals = 8, .k = 7, .k16 = 7, .queue = 8, .unit_queue = 4,
@@ -106,5 +108,24 @@ bool linecard_begin(linecard *own) {
 bool linecard_end(linecard *own) {
     (void)lapd_clock_free(&own->timers);
     (void)lapd_card_free(&own->card);
-    return own->record == NULL || (!ferror(own->record) && fclose(own->record) == 0);
+    return linecard_close(own, own->record, "record");
+}
+
+/* ---- Files -------------------------------------------------------------------------------------------------------- */
+
+FILE *linecard_open(const linecard *own, const char *path) {
+    FILE *file = fopen(path, "wb");
+    if (file == NULL)
+        fprintf(stderr, "%s: %s: %s\n", own->program, path, strerror(errno));
+    return file;
+}
+
+bool linecard_close(const linecard *own, FILE *file, const char *name) {
+    if (file == NULL)
+        return true;
+    bool is_written = !ferror(file);
+    is_written = fclose(file) == 0 && is_written;
+    if (!is_written)
+        fprintf(stderr, "%s: the %s is not whole: it could not be written\n", own->program, name);
+    return is_written;
 }

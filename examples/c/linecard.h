@@ -1,6 +1,6 @@
 /*
- * linecard.h: what exchange.c and hardware.c do alike. A card with one line and its clock: orders go to the clock, notes to
- * layer 3, and each timer expires at its moment. What layer 3 does with a message is each program's own.
+ * linecard.h: what exchange.c and hardware.c do alike. A card with one line and its clock: orders go to the clock,
+ * notes to layer 3, and each timer expires at its moment. What layer 3 does with a message is each program's own.
  */
 #ifndef LINECARD_H
 #define LINECARD_H
@@ -47,6 +47,12 @@ bool linecard_begin(linecard *own);
 
 /* Frees card and clock, and closes the record; whether it was written. */
 bool linecard_end(linecard *own);
+
+/* Opens a file to write; says why not, and answers NULL, where that fails. */
+FILE *linecard_open(const linecard *own, const char *path);
+
+/* Closes a file, if there is one; says so of the file's name, and answers false, where not all of it was written. */
+bool linecard_close(const linecard *own, FILE *file, const char *name);
 
 /* Writes octets as a script has them, and ends the line. */
 void put_octets(FILE *to, const uint8_t *octets, size_t length);

@@ -1,7 +1,8 @@
 /* pcap.c: captures that Wireshark and tshark read. See pcap.h. Every number has its high octet first. */
 #include "pcap.h"
 
-enum { LINK_TYPE = 177, LONGEST = 65535, FROM_OTHER = 0, TO_OTHER = 4, HARDWARE = 8445, PROTOCOL = 0x0030, PSEUDO_HEADER = 16 };
+enum { LINK_TYPE = 177, LONGEST = 65535 };
+enum { PSEUDO_HEADER = 16, FROM_OTHER = 0, TO_OTHER = 4, HARDWARE = 8445, PROTOCOL = 0x0030 };
 
 static void put_number(FILE *to, uint64_t number, int octets) {
     while (octets-- > 0)
@@ -17,7 +18,8 @@ void pcap_begin(FILE *to) {
     put_number(to, LINK_TYPE, 4);
 }
 
-void pcap_frame(FILE *to, uint64_t milliseconds, bool is_sent, uint16_t side, const uint8_t *octets, size_t captured, size_t length) {
+void pcap_frame(FILE *to, uint64_t milliseconds, bool is_sent, uint16_t side, const uint8_t *octets, size_t captured,
+                size_t length) {
     put_number(to, milliseconds / 1000, 4);
     put_number(to, milliseconds % 1000 * 1000, 4);
     put_number(to, PSEUDO_HEADER + captured, 4);
@@ -36,23 +38,26 @@ static void put_head(FILE *to, uint64_t milliseconds, bool is_sent, uint16_t sid
     pcap_frame(to, milliseconds, is_sent, side, head->octets, captured, head->length);
 }
 
-/* How many frames were heard in all. */
-static uint64_t frames_heard(const struct lapd_counters *counters) {
-    uint64_t sum = counters->values[LAPD_HEARD_OVERLONG];
-    for (unsigned kind = LAPD_HEARD_I; kind <= LAPD_HEARD_UNDEFINED; kind++)
-        sum += counters->values[kind];
-    return sum;
-}
-
-bool pcap_heads(FILE *to, uint64_t milliseconds, uint16_t side, lapd_card *card, uint32_t line, const lapd_report *report, uint64_t *heard) {
+bool pcap_begin_heads(lapd_card *card, uint32_t line, uint64_t *heard) {
     struct lapd_counters counters;
     lapd_head head;
-    if (lapd_counters(card, line, &counters) != LAPD_OK || lapd_heard(card, line, &head) != LAPD_OK)
+    if (lapd_heard(card, line, &head) != LAPD_OK || lapd_counters(card, line, &counters) != LAPD_OK)
         return false;
-    if (frames_heard(&counters) != *heard)
+    *heard = counters.values[LAPD_HEARD_OVERLONG];
+    for (unsigned kind = LAPD_HEARD_I; kind <= LAPD_HEARD_UNDEFINED; kind++)
+        *heard += counters.values[kind];
+    return true;
+}
+
+bool pcap_heads(FILE *to, uint64_t milliseconds, uint16_t side, lapd_card *card, uint32_t line,
+                const lapd_report *report, uint64_t *heard) {
+    lapd_head head;
+    uint64_t before = *heard;
+    if (!pcap_begin_heads(card, line, heard))
+        return false;
+    if (*heard != before && lapd_heard(card, line, &head) == LAPD_OK)
         put_head(to, milliseconds, false, side, &head);
-    *heard = frames_heard(&counters);
     if (report->begun && lapd_begun(card, line, &head) == LAPD_OK)
         put_head(to, milliseconds, true, side, &head);
-    return true;
+    return *heard - before <= 1;
 }

@@ -1,5 +1,5 @@
-/* q931.h: what a small layer 3 answers to a message of Q.931 with a call reference of one octet: a call is connected, on
- * channel B1, and cleared as it is asked. */
+/* q931.h: what a small layer 3 answers to a message of Q.931 with a call reference of one octet: a call is connected,
+ * on channel B1, and cleared as it is asked. */
 #ifndef Q931_H
 #define Q931_H
 

@@ -1,6 +1,6 @@
 /*
- * gateway_calls.c: what the header of examples/c/gateway.h says of each call: what it answers, from when timers run, and
- * that a call that comes late asks a silent terminal once. Starts are refused each block of memory in turn.
+ * gateway_calls.c: what examples/c/gateway.h says of each call: what it answers, from when timers run, and that a call
+ * that comes late asks a silent terminal once. Starts are refused each block of memory in turn. For tests alone.
  */
 #include <stdio.h>
 #include <stdlib.h>

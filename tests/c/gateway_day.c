@@ -1,9 +1,9 @@
 /*
  * gateway_day.c: a day of simulated time of examples/c/gateway.c, with 64 basic access lines by frames and a clock. At
- * each line libpri, the ISDN stack of a widespread PBX, is the terminal: it asks for a TEI, comes up, calls and hangs up,
- * and answers polls. A frame takes its time on the line, at 16 kbit/s, and the driver takes the next one then. Frames get
- * spoilt both ways, and lines go down. All that passes is counted here again (counting.c), and compared with the card's
- * counters each hour. For tests alone; libpri's time is this program's.
+ * each line libpri, the ISDN stack of a widespread PBX, is the terminal: it asks for a TEI, comes up, calls and hangs
+ * up, and answers polls. A frame takes its time on the line, at 16 kbit/s, and the driver takes the next one then.
+ * Frames get spoilt both ways, and lines go down. All that passes is counted here again (counting.c), and compared with
+ * the card's counters each hour. For tests alone; libpri's time is this program's.
  *
  *     gateway_day HOURS SEED
  *
@@ -90,8 +90,10 @@ static void on_report(gateway *gate, uint32_t line, const lapd_report *report) {
         if (note->note != LAPD_DATA_INDICATION)
             continue;
         size_t length = q931_answer(report->contents, report->length, answer);
-        if (length != 0)
-            seen.refused += gateway_ask(gate, now, line, LAPD_DATA, note->service, note->tei, answer, length) != LAPD_OK;
+        if (length == 0)
+            continue;
+        uint32_t status = gateway_ask(gate, now, line, LAPD_DATA, note->service, note->tei, answer, length);
+        seen.refused += status != LAPD_OK;
     }
 }
 

@@ -11,10 +11,15 @@
 
 static const lapd_config config = {.lines = 2, .terminals = 2, .k = 1, .k16 = 3, .queue = 8, .unit_queue = 4,
                                    .control = 4, .slots = 16, .n201 = 260, .n200 = 3, .side = LAPD_NETWORK};
+static const uint8_t contents[] = {1, 2, 3};
+/* of TEI 64, and of TEI 65 */
 static const uint8_t sabme[] = {0x00, 0x81, 0x7F}, ua[] = {0x00, 0x81, 0x73}, poll[] = {0x02, 0x81, 0x01, 0x01};
+static const uint8_t data[] = {0x02, 0x81, 0x00, 0x00, 1, 2, 3}, acknowledged[] = {0x02, 0x81, 0x01, 0x02};
+static const uint8_t sabme_65[] = {0x00, 0x83, 0x7F}, ua_65[] = {0x00, 0x83, 0x73};
+static const uint8_t poll_65[] = {0x02, 0x83, 0x01, 0x01};
 
 static gateway own = GATEWAY_NONE;
-static unsigned notes[LAPD_XID_INDICATION + 1], drops;
+static unsigned notes[LAPD_XID_INDICATION + 1], drops, reports;
 
 /* ---- Memory, of which the start is refused a block ---------------------------------------------------------------- */
 
@@ -54,7 +59,8 @@ static void want(bool is, const char *what) {
 #define WANT(is) want(is, #is)
 
 static void on_report(gateway *gate, uint32_t line, const lapd_report *report) {
-    WANT(gate == &own && line == 0);
+    WANT(gate == &own && line == 0 && (report->note_count != 0 || report->cause != 0));
+    reports++;
     for (unsigned i = 0; i < report->note_count; i++)
         notes[report->notes[i].note]++;
     drops += report->cause != 0;
@@ -78,10 +84,12 @@ static bool is_next(uint64_t wanted) {
     return gateway_next(&own, &moment) == LAPD_OK && moment == wanted;
 }
 
-static uint8_t state(void) {
-    uint8_t state = 0;
-    WANT(lapd_state(&own.card, 0, LAPD_CALL, 64, &state) == LAPD_OK);
-    return state;
+/* Whether both links are in this state. */
+static bool are_in(uint8_t wanted) {
+    uint8_t one = 0, two = 0;
+    WANT(lapd_state(&own.card, 0, LAPD_CALL, 64, &one) == LAPD_OK);
+    WANT(lapd_state(&own.card, 0, LAPD_CALL, 65, &two) == LAPD_OK);
+    return one == wanted && two == wanted;
 }
 
 /* Each block of the card and of the clock is refused in turn; then both are there. */
@@ -105,10 +113,11 @@ static void starts(void) {
 static void wrong_calls(uint64_t now) {
     uint8_t out[LAPD_MOST_FRAME];
     size_t length;
+    unsigned before = reports;
     WANT(gateway_frame(&own, now, config.lines, sabme, sizeof sabme) == LAPD_WRONG_LINE);
     WANT(gateway_frame_failed(&own, now, 0, LAPD_TEI) == LAPD_WRONG_CAUSE);
     WANT(gateway_ask(&own, now, 0, 0, LAPD_CALL, 64, NULL, 0) == LAPD_WRONG_REQUEST);
-    WANT(gateway_ask(&own, now, 0, LAPD_DATA, LAPD_CALL, 65, sabme, sizeof sabme) == LAPD_REFUSED_NO_LINK);
+    WANT(gateway_ask(&own, now, 0, LAPD_DATA, LAPD_CALL, 66, contents, sizeof contents) == LAPD_REFUSED_NO_LINK);
     WANT(gateway_down(&own, now, config.lines) == LAPD_WRONG_LINE);
     WANT(gateway_take(&own, now, 0, out, sizeof out - 1, &length) == LAPD_WRONG_LENGTH);
     now = LAPD_LATEST + 1;
@@ -118,42 +127,54 @@ static void wrong_calls(uint64_t now) {
     WANT(gateway_down(&own, now, 0) == LAPD_WRONG_TIME);
     WANT(gateway_take(&own, now, 0, out, sizeof out, &length) == LAPD_WRONG_TIME);
     WANT(gateway_advance(&own, UINT64_MAX) == LAPD_WRONG_TIME);
+    WANT(reports == before);
 }
 
-/* A link comes up at 9 s, so T203 runs until 19 s; all calls then come 20 s late, and the terminal is asked once. */
-static void time_passes(void) {
+/* A link comes up at 9 s, so T203 runs until 19 s; T200 of data runs from when they are taken. */
+static void comes_up(void) {
     WANT(gateway_ask(&own, 0, 0, LAPD_ASSIGN, LAPD_CALL, 64, NULL, 0) == LAPD_OK);
+    WANT(gateway_ask(&own, 0, 0, LAPD_ASSIGN, LAPD_CALL, 65, NULL, 0) == LAPD_OK);
     WANT(gateway_frame(&own, 9000, 0, sabme, sizeof sabme) == LAPD_OK);
     WANT(notes[LAPD_ESTABLISH_INDICATION] == 1 && is_next(19000));
     wrong_calls(9000);
     WANT(takes(9000, ua, sizeof ua) && takes_none(9000) && is_next(19000));
-    WANT(gateway_advance(&own, 18999) == LAPD_OK && takes_none(18999) && state() == 7);
-    WANT(gateway_advance(&own, 39000) == LAPD_OK && state() == 8);
-    WANT(takes(39500, poll, sizeof poll) && takes_none(39500) && is_next(40000));
+    WANT(gateway_ask(&own, 10000, 0, LAPD_DATA, LAPD_CALL, 64, contents, sizeof contents) == LAPD_OK);
+    WANT(is_next(19000) && takes(12000, data, sizeof data) && is_next(13000));
+    WANT(gateway_frame(&own, 12500, 0, acknowledged, sizeof acknowledged) == LAPD_OK && is_next(22500));
+    WANT(gateway_frame(&own, 12500, 0, sabme_65, sizeof sabme_65) == LAPD_OK && are_in(7));
+    WANT(takes(12500, ua_65, sizeof ua_65));
+}
+
+/* T203 of both links is due; the call comes 20 s late, and asks each terminal once. */
+static void time_passes(void) {
+    WANT(gateway_advance(&own, 22499) == LAPD_OK && takes_none(22499) && are_in(7));
+    WANT(gateway_advance(&own, 42500) == LAPD_OK && are_in(8) && is_next(43500));
+    WANT(takes(42600, poll, sizeof poll) && takes(42600, poll_65, sizeof poll_65) && takes_none(42600));
     WANT(notes[LAPD_RELEASE_INDICATION] == 0 && notes[LAPD_ERROR_INDICATION] == 0);
 }
 
-/* The line goes down, twice: its link is released once. */
+/* The line goes down, twice: its links are released once. */
 static void goes_down(void) {
     uint64_t moment;
-    WANT(gateway_frame_failed(&own, 39600, 0, LAPD_FCS) == LAPD_OK && drops == 1);
-    WANT(gateway_down(&own, 39700, 0) == LAPD_OK && state() == 4);
-    WANT(notes[LAPD_RELEASE_INDICATION] == 1 && gateway_next(&own, &moment) == LAPD_NO_TIMER);
-    WANT(gateway_down(&own, 39800, 0) == LAPD_OK && notes[LAPD_RELEASE_INDICATION] == 1);
-    WANT(gateway_ask(&own, 39800, 0, LAPD_DATA, LAPD_CALL, 64, ua, sizeof ua) == LAPD_REFUSED_WRONG_STATE);
-    WANT(gateway_frame(&own, 39900, 0, sabme, sizeof sabme) == LAPD_OK && state() == 7);
+    WANT(gateway_frame_failed(&own, 42700, 0, LAPD_FCS) == LAPD_OK && drops == 1);
+    WANT(gateway_down(&own, 42700, 0) == LAPD_OK && are_in(4));
+    WANT(notes[LAPD_RELEASE_INDICATION] == 2 && gateway_next(&own, &moment) == LAPD_NO_TIMER);
+    WANT(gateway_down(&own, 42800, 0) == LAPD_OK && notes[LAPD_RELEASE_INDICATION] == 2);
+    WANT(gateway_ask(&own, 42800, 0, LAPD_DATA, LAPD_CALL, 64, contents, sizeof contents) == LAPD_REFUSED_WRONG_STATE);
+    WANT(gateway_frame(&own, 42900, 0, sabme, sizeof sabme) == LAPD_OK && is_next(52900));
 }
 
 static void ends(void) {
     uint64_t moment;
     gateway_end(&own);
     gateway_end(&own);
-    WANT(taken == 0 && gateway_down(&own, 40000, 0) == LAPD_NO_CARD);
-    WANT(gateway_advance(&own, 40000) == LAPD_NO_CLOCK && gateway_next(&own, &moment) == LAPD_NO_CLOCK);
+    WANT(taken == 0 && gateway_down(&own, 43000, 0) == LAPD_NO_CARD);
+    WANT(gateway_advance(&own, 43000) == LAPD_NO_CLOCK && gateway_next(&own, &moment) == LAPD_NO_CLOCK);
 }
 
 int main(void) {
     starts();
+    comes_up();
     time_passes();
     goes_down();
     ends();

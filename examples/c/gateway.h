@@ -5,8 +5,8 @@
  *     gateway own = GATEWAY_NONE;
  *     own.on_report = layer_3;
  *     uint32_t status = gateway_start(&own, &config);
- *     ... each frame that came: gateway_frame; then gateway_advance; then, of each line whose controller has room,
- *         gateway_take until it answers LAPD_NO_FRAME; and so on, at the moment of gateway_next at the latest ...
+ *     ... each frame that came: gateway_frame; then gateway_advance; then, as long as a controller has room for one
+ *         more and a frame waits: gateway_take; and so on, at the moment of gateway_next at the latest ...
  *     gateway_end(&own);
  *
  * Time is what the caller says it is, in milliseconds from any origin, and does not go back: each call takes the moment

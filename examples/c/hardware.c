@@ -80,8 +80,10 @@ static bool give(bool *is_full) {
         if (capture != NULL)
             pcap_frame(capture, own.now, true, LAPD_NETWORK, datagram, length, length);
         memset(datagram + length, 0, check_octets);
-        if (write(STDIN_FILENO, datagram, length + check_octets) < 0 && errno != EPIPE)
+        if (write(STDIN_FILENO, datagram, length + check_octets) < 0 && errno != EPIPE) {
+            perror("hardware: the line");
             return false;
+        }
     }
     return true;
 }

@@ -12,12 +12,10 @@
 //!
 //! # Open
 //!
-//! What is told after an error, but error F of a lost UA; whether turns come to an end, and T200 stops, after an error,
-//! where an end is busy, and where a call is released; a lost UA where the end that was called asked for something or
-//! one of its timers expired before the other heard UA; a timer of the called end that expires while its UA waits to go;
-//! that a given T200 is long enough; a release where something waits or is on its way, or where the other end asks for
-//! something or its timers expire; losses in a call whose layer 3 asks for anything but data, own busy and its end, where
-//! both ends call, where other links or lines are at work, or which begin elsewhere than from nothing.
+//! What is told after an error other than F of a lost UA. Whether rest is reached after an error, with an end busy, or
+//! behind a release. The called end's requests and timers before its UA is heard. A release with something waiting or on
+//! its way, or while the other end does more than answer. Losses where both ends call, with other requests, links or
+//! lines, or from elsewhere than nothing. That a given T200 is long enough.
 #![tactic(auto)]
 
 mod answering;

@@ -652,15 +652,24 @@ LAPD_INLINE_STATUS lapd_ready(lapd_card *card, uint32_t line, uint8_t service, u
 /* The line is down, as where layer 1 lost its synchronization: gives the link up, in each state, with all contents and
  * control frames that wait on it. It is in state 4 then, its timer stops, and its release is told as its state has it. The
  * TEI stays, unless a check of it that runs takes it off the line; unit data and messages of the line go on waiting.
- * LAPD_REFUSED_BAD_TEI and LAPD_REFUSED_NO_LINK alone refuse it. Of a whole line:
- *
- *     uint8_t place = 0;
- *     for (lapd_link link; lapd_next_link(&card, line, &place, &link) == LAPD_OK;)
- *         if (lapd_deactivate(&card, line, link.service, link.tei, &report) == LAPD_OK)
- *             ... the report's notes and orders ...
- */
+ * LAPD_REFUSED_BAD_TEI and LAPD_REFUSED_NO_LINK alone refuse it. */
 LAPD_INLINE_STATUS lapd_deactivate(lapd_card *card, uint32_t line, uint8_t service, uint8_t tei, lapd_report *report) {
     return lapd_request_with(card, line, LAPD_DEACTIVATE, service, tei, LAPD_NULL, 0, report);
+}
+
+/*
+ * The same of a whole line, a link a call, since a report has no room for the releases of all: gives up the next link from a
+ * place on, which is 0 for the first, and afterwards as the call leaves it. LAPD_NO_MORE_LINKS: all are given up, after two
+ * calls for each TEI of the line, at most.
+ *
+ *     uint8_t place = 0;
+ *     while (lapd_line_down(&card, line, &place, &report) == LAPD_OK)
+ *         ... the report's note, if any, and its orders ...
+ */
+LAPD_INLINE_STATUS lapd_line_down(lapd_card *card, uint32_t line, uint8_t *place, lapd_report *report) {
+    lapd_link link;
+    uint32_t status = lapd_next_link(card, line, place, &link);
+    return status == LAPD_OK ? lapd_deactivate(card, line, link.service, link.tei, report) : status;
 }
 
 /* A status in words: a refusal by its name in docs/FORMAT.md. */

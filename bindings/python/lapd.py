@@ -225,7 +225,7 @@ _TAKES: Dict[str, List[Any]] = {
     "lapd_exchange": [_AT, _U32, _AT, _SIZE, _AT, _SIZE, _AT, _AT],
     "lapd_frame": [_AT, _U32, _AT, _SIZE, _AT], "lapd_frame_failed": [_AT, _U32, _U8, _AT],
     "lapd_next_frame": [_AT, _U32, _AT, _SIZE, _AT, _AT], "lapd_expire": [_AT, _U32, _AT, _AT],
-    "lapd_request_with": [_AT, _U32, _U8, _U8, _U8, _AT, _SIZE, _AT],
+    "lapd_request_with": [_AT, _U32, _U8, _U8, _U8, _AT, _SIZE, _AT], "lapd_line_down": [_AT, _U32, _AT, _AT],
     "lapd_state": [_AT, _U32, _U8, _U8, _AT], "lapd_next_link": [_AT, _U32, _AT, _AT],
     "lapd_room": [_AT, _U32, _U8, _U8, _AT], "lapd_begun": [_AT, _U32, _AT], "lapd_heard": [_AT, _U32, _AT],
     "lapd_counters": [_AT, _U32, _AT], "lapd_stored": [_AT, _AT], "lapd_limit": [_AT, _AT], "lapd_lines": [_AT, _AT],
@@ -506,6 +506,13 @@ class AnyCard(_Owner):
 
     def deactivate(self, line: int, tei: int, service: Service = Service.CALL) -> Report:
         return self._ask(line, Request.DEACTIVATE, service, tei)
+
+    def line_down(self, line: int) -> List[Report]:
+        """The line is down: gives up each of its links, and answers what those that were not down led to."""
+        place, reports, told = ctypes.c_uint8(), [], ctypes.byref(self._told)
+        while _unless(Status.NO_MORE_LINKS, "lapd_line_down", self._at, line, ctypes.byref(place), told):
+            reports.append(_report(self._told))
+        return [it for it in reports if it]
 
     def expire(self, line: int, timer: Timer) -> Report:
         return self._event("lapd_expire", line, ctypes.byref(_raw_timer(timer)))

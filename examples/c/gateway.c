@@ -65,12 +65,11 @@ uint32_t gateway_ask(gateway *own, uint64_t now, uint32_t line, uint8_t request,
 uint32_t gateway_down(gateway *own, uint64_t now, uint32_t line) {
     uint8_t place = 0;
     uint32_t status, worst = LAPD_OK;
+    lapd_report report;
     if (!is_moment(now))
         return LAPD_WRONG_TIME;
-    for (lapd_link link; (status = lapd_next_link(&own->card, line, &place, &link)) == LAPD_OK;) {
-        lapd_report report;
-        uint32_t answer = lapd_deactivate(&own->card, line, link.service, link.tei, &report);
-        answer = finish(own, now, line, answer, &report);
+    while ((status = lapd_line_down(&own->card, line, &place, &report)) == LAPD_OK) {
+        uint32_t answer = finish(own, now, line, status, &report);
         worst = worst == LAPD_OK ? answer : worst; /* the other links are down all the same */
     }
     return status == LAPD_NO_MORE_LINKS ? worst : status;

@@ -1,5 +1,5 @@
-// asked.cpp: what lapd.hpp can be asked for and no script asks: states, links, rooms, begun frames, ends and second starts; and
-// that one that fails leaves its answer as it was. Status 0 where all is as it should be. For tests alone.
+// asked.cpp: what lapd.hpp can be asked for and no script asks: states, links, rooms, a line that goes down,
+// begun frames, ends and second starts; and that one that fails leaves its answer as it was. Status 0 where all is as it should be. For tests alone.
 #include <cstdio>
 #include <vector>
 
@@ -36,6 +36,11 @@ void asks(lapd::any_card &card) {
     lapd::room room{};
     wants(card.room_of(1, service::call, 64, room) == status::ok && room.pool == 63 && room.queue == 7 && room.va == 0, "a room");
     wants(card.room_of(1, service::call, 65, room) == status::refused_no_link && room.pool == 63, "no room");
+    lapd::report report;
+    size_t calls = 0, told = 0;
+    for (place = 0; card.line_down(1, place, report) == status::ok; calls++)
+        told += report.notes().size();
+    wants(calls == 2 && told == 1 && card.line_down(1, place, report) == status::no_more_links, "a line that goes down");
     uint32_t lines = 0;
     wants(card.lines(lines) == status::ok && lines == 2, "lines");
     wants(card.end() == status::ok && card.end() == status::no_card && card.lines(lines) == status::no_card, "an end");

@@ -234,8 +234,8 @@ static void layer_3(const lapd_report *told) {
 /* As docs/EMBEDDING.md has it. */
 static void goes_down(uint32_t line) {
     uint8_t place = 0;
-    for (lapd_link link; lapd_next_link(&card, line, &place, &link) == LAPD_OK;)
-        if (lapd_deactivate(&card, line, link.service, link.tei, &report) == LAPD_OK && lapd_tells(&report)) {
+    while (lapd_line_down(&card, line, &place, &report) == LAPD_OK)
+        if (lapd_tells(&report)) {
             lapd_clock_apply_report(&timers, line, &report, now());
             layer_3(&report);
         }
@@ -251,7 +251,7 @@ static unsigned count_up(uint32_t line) {
 }
 
 /* A line that goes down: each link that was up tells its release, and none is up behind it. */
-static void line_down(void) {
+static void line_down(unsigned links) {
     unsigned up = count_up(0);
     wants(up > 0, "no link is up");
     wants(lapd_clock_start(&timers, &config) == LAPD_OK, "no clock");
@@ -259,6 +259,13 @@ static void line_down(void) {
     wants(released == up && count_up(0) == 0, "a link is up on a line that is down");
     goes_down(0);
     wants(released == up, "a link is given up twice");
+    uint8_t place = 0;
+    unsigned calls = 0;
+    while (lapd_line_down(&card, 0, &place, &report) == LAPD_OK)
+        calls++;
+    wants(calls == links, "another number of calls than of links");
+    wants(lapd_line_down(&card, 0, &place, &report) == LAPD_NO_MORE_LINKS, "a link behind the last");
+    wants(lapd_line_down(&card, LINES, &place, &report) == LAPD_WRONG_LINE, "no line goes down");
     lapd_clock_free(&timers);
 }
 
@@ -278,7 +285,7 @@ int main(void) {
     echo();
     rooms();
     counts();
-    line_down();
+    line_down(2 * sizeof teis);
     look_at(0, 2 * sizeof teis);
     wants(lapd_remove(&card, 0, 126, &report) == LAPD_OK, "the TEI stays");
     look_at(0, 2 * sizeof teis - 2);

@@ -1,21 +1,26 @@
 """One HTML file of the sources in web/: the modules of the page and of its worker, each joined to one script, with the
 program and the scripts of the menu as data."""
 import base64
+import functools
 import hashlib
 import json
 import os
 import re
+import sys
 from typing import Dict, Iterator, List, Tuple
 
 from .program import ROOT, Fault
 from .svg import MONO, SANS, SHADES
 
+sys.path.insert(0, os.path.join(ROOT, "tests", "scripts"))
+from worked import content, worked
+
 WEB = os.path.join(ROOT, "web")
-SCRIPTS = os.path.join(ROOT, "tests", "scripts")
 IMPORT = re.compile(r'^import \{[^}]*\} from "\./(\w+\.mjs)";\n', re.M)
 NAMED = re.compile(r"^(?:export )?(?:async )?(?:function\*?|class|const|let) (\w+)", re.M)
 EXPORT = re.compile(r"^export ", re.M)
 FIRST = "lapdsim"  # the name of the script that README.md begins with
+SPELLINGS = "language"  # the group of scripts that show how lines may be spelled
 MOST_OCTETS = 600_000
 
 
@@ -62,13 +67,16 @@ def style() -> str:
     return f":root{{{fonts}{colours(0)}}}\n{dark}\n{source('page.css')}"
 
 
+@functools.lru_cache(None)
+def texts() -> Dict[str, bytes]:
+    """The scripts without a fault, by name."""
+    return {FIRST: content(f"{ROOT}/crates/lapdsim/stdin"), **{name: it.text for name, it in worked().items() if not it.fault}}
+
+
 def script_text(name: str) -> bytes:
-    path = f"{ROOT}/crates/lapdsim/stdin" if name == FIRST else f"{SCRIPTS}/{name}.script"
-    try:
-        with open(path, "rb") as it:
-            return it.read()
-    except OSError as error:
-        raise Fault(f"web/menu.txt: {path}: {error.strerror}") from None
+    if name not in texts():
+        raise Fault(f"web/menu.txt: there is no script {name}")
+    return texts()[name]
 
 
 def chosen() -> Iterator[Tuple[str, List[Tuple[str, str]]]]:
@@ -79,14 +87,14 @@ def chosen() -> Iterator[Tuple[str, List[Tuple[str, str]]]]:
 
 
 def others(named: List[str]) -> Iterator[Tuple[str, List[Tuple[str, str]]]]:
-    """The other scripts without a fault, by folder. Those that a text field would change are left out."""
-    for folder in sorted(os.listdir(SCRIPTS)):
-        place = os.path.join(SCRIPTS, folder)
-        files = sorted(os.listdir(place)) if os.path.isdir(place) else []
-        names = [it[: -len(".script")] for it in files if it.endswith(".script") and f"{it[:-len('.script')]}.fault" not in files]
-        left = [it for it in names if f"{folder}/{it}" not in named and is_plain(script_text(f"{folder}/{it}"))]
-        if left:
-            yield f"More: {folder}", [(f"{folder}/{it}", it.replace("-", " ")) for it in left]
+    """The other scripts, by group. Those that a text field would change are left out."""
+    groups: Dict[str, List[Tuple[str, str]]] = {}
+    for name, text in texts().items():
+        group, _, own = name.partition("/")
+        if name not in named and group not in (FIRST, SPELLINGS) and is_plain(text):
+            groups.setdefault(group, []).append((name, own.replace("-", " ")))
+    for group in sorted(groups):
+        yield f"More: {group}", groups[group]
 
 
 def is_plain(octets: bytes) -> bool:

@@ -2,10 +2,11 @@
  * bench.c: has a card through the C library take and give octets in turn, call by call or by lapd_exchange, as tool_bench
  * does with the card from Rattle: see tests/c/speed, which measures both. For tests alone.
  *
- *     bench calls|exchange idle|frames ROUNDS
+ *     bench calls|timed|exchange idle|frames ROUNDS
  *
  * One line. A round of `idle` is 1,024 flags that come, one of `frames` 128 I-frames with 64 octets of information; each
- * octet that comes is followed by one that goes. Prints how many octets came and went, how many contents were delivered,
+ * octet that comes is followed by one that goes. With `timed` a clock is there, which carries out all orders and is asked after
+ * each octet what is due, which is none. Prints how many octets came and went, how many contents were delivered,
  * and the sum of the octets that went.
  */
 #include <stdio.h>
@@ -18,6 +19,7 @@
 enum { FLAGS = 1024, FRAMES = 128, INFORMATION = 64, MOST_STREAM = 16384, CHUNK = 256 };
 
 static lapd_card card = LAPD_CARD_NONE;
+static lapd_clock timers = LAPD_CLOCK_NONE;
 static lapd_report report;
 static uint8_t stream[MOST_STREAM], out[MOST_STREAM];
 static unsigned long long delivered;
@@ -56,6 +58,21 @@ static void by_calls(size_t count) {
     }
 }
 
+static void by_clock(size_t count) {
+    lapd_due due;
+    for (size_t i = 0; i < count; i++) {
+        lapd_octet(&card, 0, stream[i], &report);
+        delivered += report.delivered;
+        if (report.order_count != 0)
+            lapd_clock_apply_report(&timers, 0, &report, 0);
+        if (lapd_clock_due(&timers, 0, &due) == LAPD_OK)
+            lapd_expire(&card, due.line, &due.timer, &report);
+        lapd_pull(&card, 0, &out[i], &report);
+        if (report.order_count != 0)
+            lapd_clock_apply_report(&timers, 0, &report, 0);
+    }
+}
+
 static void by_exchange(size_t count) {
     for (size_t from = 0; from < count; from += CHUNK) {
         size_t length = count - from < CHUNK ? count - from : CHUNK;
@@ -78,30 +95,36 @@ static size_t make_stream(const char *work) {
 static bool start(void) {
     static const lapd_config config = {1, 8, 7, 7, 8, 4, 4, 8, 260, 3, LAPD_NETWORK};
     static const uint8_t sabme[] = {0x00, 0x81, 0x7F};
-    if (lapd_card_start(&card, &config) != LAPD_OK || lapd_assign(&card, 0, 64, &report) != LAPD_OK)
+    if (lapd_card_start(&card, &config) != LAPD_OK || lapd_clock_start(&timers, &config) != LAPD_OK
+        || lapd_assign(&card, 0, 64, &report) != LAPD_OK)
         return false;
     by_calls(make_frames(1, sabme, sizeof sabme, 0));
     uint8_t state;
     return lapd_state(&card, 0, LAPD_CALL, 64, &state) == LAPD_OK && state == 7;
 }
 
+static const struct {
+    const char *name;
+    void (*serve)(size_t count);
+} ways[] = {{"calls", by_calls}, {"timed", by_clock}, {"exchange", by_exchange}};
+
 int main(int words, char **word) {
-    bool is_read = words == 4 && (strcmp(word[1], "calls") == 0 || strcmp(word[1], "exchange") == 0)
-                   && (strcmp(word[2], "idle") == 0 || strcmp(word[2], "frames") == 0);
-    if (!is_read) {
-        fprintf(stderr, "usage: bench calls|exchange idle|frames ROUNDS\n");
+    size_t at = 0;
+    while (words == 4 && at < 3 && strcmp(word[1], ways[at].name) != 0)
+        at++;
+    if (words != 4 || at == 3 || (strcmp(word[2], "idle") != 0 && strcmp(word[2], "frames") != 0)) {
+        fprintf(stderr, "usage: bench calls|timed|exchange idle|frames ROUNDS\n");
         return 2;
     }
     if (!start())
         return 1;
     unsigned long long rounds = strtoull(word[3], NULL, 10), sum = 0;
     size_t count = make_stream(word[2]);
-    void (*way)(size_t) = strcmp(word[1], "calls") == 0 ? by_calls : by_exchange;
     for (unsigned long long round = 0; round < rounds; round++) {
-        way(count);
+        ways[at].serve(count);
         for (size_t i = 0; i < count; i++)
             sum += out[i];
     }
     printf("%llu octets %llu delivered sum %llu\n", 2 * rounds * count, delivered, sum);
-    return lapd_card_free(&card) != LAPD_OK;
+    return lapd_card_free(&card) != LAPD_OK || lapd_clock_free(&timers) != LAPD_OK;
 }

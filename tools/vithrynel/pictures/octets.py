@@ -32,8 +32,8 @@ GOES = [
     Call("Card::pull", "lapd_card", "asks the port whether eight bits are left"),
     Call("FrameLine::load_next", "lapd_line", "takes the next frame, for the port to load"),
     Call("write", "lapd_frame", "writes address and control field"),
-    Call("Framer::load", "lapd_bits", "takes a copy, and works out the check"),
-    Call("Framer::octet", "lapd_bits", "puts stuffed bits in, closes with a flag"),
+    Call("Framer::load", "lapd_bits", "stuffs it whole, with its check and a flag"),
+    Call("Framer::octet", "lapd_bits", "gives the next eight bits, as they are ready"),
 ]
 
 

@@ -88,6 +88,7 @@ def draw(_: str) -> str:
         (("release", ASKED), (": confirmed at once", "soft")),
         (("UI and XID are told, as in every", "soft"),),
         (("state; nothing else is served", "soft"),),
+        (("deactivate", ASKED), (": here from each state", "soft")),
     ])
     state(it, (392, 60, 256, 92), 5, "awaiting establishment", [
         (("T200", TIMER), (": SABME again, N200 times", SENT)),

@@ -17,9 +17,8 @@ use Rattle.model_card.specs.Sound.{IsSound}
 use Rattle.model_card.proofs.CardSound.{always_sound}
 use Rattle.model_card.proofs.EachMoment.{each_moment}
 use Rattle.model_card.proofs.Steps.{has_lines, line_sound}
-use Rattle.laws_card.specs.Brief.{IsIdleAt, GivesWhatWaits, LeavesOthers, OthersStay, TellsCause, CausesAreTold, NoTeiAtFirst}
+use Rattle.laws_card.specs.Brief.{IsIdleAt, GivesWhatWaits, LeavesOthers, OthersStay, TellsCause, CausesAreTold}
 use Rattle.laws_card.proofs.Hearing.{heard-in}
-use Rattle.laws_card.proofs.Knowing.{begins-anew}
 use Rattle.laws_card.proofs.OneEvent.{one-in}
 use Rattle.laws_card.proofs.Serving.{after-config}
 
@@ -52,6 +51,3 @@ others-stay card events s all = each_moment LeavesOthers (λ card e s here. (one
 
 pub causes-are-told : (card : Card) (events : List Event) → IsSound card → AreAtLines card events → CausesAreTold card events
 causes-are-told card events s all = each_moment TellsCause (λ card e s here cause is. ((heard-in card e s here).dropped cause is).answer_is) card events s all
-
-pub no-tei-at-first : (c : Config) → NoTeiAtFirst c
-no-tei-at-first c line tei within = (begins-anew c line within).off tei

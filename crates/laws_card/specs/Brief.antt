@@ -1,12 +1,10 @@
 -- What is promised of a list of events, from a card on, beside what the laws of the trace of a line say of it.
-use Rattle.std.specs.Prelude.{◌≡◌, ◌≢◌, ◌<◌, ℕ, false, List, None, All}
+use Rattle.std.specs.Prelude.{◌≡◌, ◌≢◌, ◌<◌, ℕ, List, None, All}
 use Rattle.model_bits.specs.Stream as stream
 use Rattle.model_bits.specs.declared.heard.Cause.{Cause}
-use Rattle.model_line.specs.declared.config.Config.{Config}
 use Rattle.model_line.specs.Event.{hears, next, told, gave, dropped}
-use Rattle.model_line.specs.Line.{has_tei}
 use Rattle.laws_line.specs.Served.{HasNothing}
-use Rattle.model_card.specs.Card.{Card, fresh, line_at}
+use Rattle.model_card.specs.Card.{Card, line_at}
 use Rattle.model_card.specs.Event.{Event, at}
 use Rattle.model_card.specs.Machine.{after, answer}
 use Rattle.model_card.specs.Run.{Moment, moments, after_all}
@@ -35,7 +33,3 @@ TellsCause m = (cause : Cause) → m.event.what ≡ hears (stream.dropped cause)
 
 abbrev pub CausesAreTold : Card → List Event → Type 0
 CausesAreTold m events = All TellsCause (moments m events)
-
--- As a card begins no TEI is on its lines.
-abbrev pub NoTeiAtFirst : Config → Type 0
-NoTeiAtFirst c = (line tei : ℕ) → line < c.lines → has_tei tei (line_at line (fresh c)) ≡ false

@@ -6,7 +6,7 @@ use Rattle.model_card.specs.Event.{Event}
 use Rattle.model_card.specs.Machine.{after}
 use Rattle.model_card.specs.Run.{IsAtLine, AreAtLines}
 use Rattle.model_card.specs.Sound.{IsSound}
-use Rattle.laws_card.specs.Promises.{IsKept, IsCountedIn, IsServedIn, HasOneEvent, IsDelivered, RunsWhatIsNeeded, NotesTell, TeisAreTold, BeginsAnew, TeisHaveOnePlace}
+use Rattle.laws_card.specs.Promises.{IsKept, IsCountedIn, IsServedIn, HasOneEvent, IsDelivered, RunsWhatIsNeeded, NotesTell, BeginsAnew}
 use Rattle.laws_card.specs.Timers.{AllHaveTheirTimers}
 
 pub record NothingIsLost : Type 0 where
@@ -29,6 +29,4 @@ pub record TimersFollow : Type 0 where
 
 pub record Known : Type 0 where
   pub up : (card : Card) (events : List Event) → IsSound card → AreAtLines card events → NotesTell card events
-  pub on : (card : Card) (events : List Event) → IsSound card → AreAtLines card events → TeisAreTold card events
   pub begins : (c : Config) → BeginsAnew c
-  pub places : (card : Card) (events : List Event) → IsSound card → AreAtLines card events → TeisHaveOnePlace card events

@@ -11,7 +11,6 @@ pub mod WorkedCard
 pub mod Worked
 pub mod WorkedTimers
 pub mod WorkedNotes
-pub mod WorkedPlaces
 pub mod Among
 pub mod PromisesOfTakes
 pub mod Brief

@@ -1,5 +1,5 @@
 -- What is promised of a list of events, from a card on.
-use Rattle.std.specs.Prelude.{◌≡◌, ◌<◌, ℕ, false, List, [], Some, All}
+use Rattle.std.specs.Prelude.{◌≡◌, ◌<◌, ℕ, false, List, [], All}
 use Rattle.lapd_frame.specs.declared.services.Service.{Service}
 use Rattle.lapd_frame.specs.declared.timers.Timer.{Timer}
 use Rattle.laws_link.specs.History.{IsCounted}
@@ -7,7 +7,7 @@ use Rattle.laws_line.specs.Served.{IsServed}
 use Rattle.laws_line.specs.Knowledge.{is_up_of}
 use Rattle.laws_line.specs.Timers.{is_needed}
 use Rattle.model_line.specs.declared.config.Config.{Config}
-use Rattle.model_line.specs.Line.{Line, link_count, link_at, has_tei, tei_at}
+use Rattle.model_line.specs.Line.{Line, link_count, link_at, has_tei}
 use Rattle.model_card.specs.Card.{Card, fresh, line_at}
 use Rattle.model_card.specs.Event.{Event}
 use Rattle.model_card.specs.Numbered.{LinkName}
@@ -16,7 +16,7 @@ use Rattle.model_card.specs.Run.{moments, after_all}
 use Rattle.laws_card.specs.Contents.{link_named, history, accepted_at}
 use Rattle.laws_card.specs.Faithful.{IsFaithful, IsOneEventIn}
 use Rattle.laws_card.specs.Heard.{IsHeardIn}
-use Rattle.laws_card.specs.Knowledge.{up_by_notes, on_by_notes}
+use Rattle.laws_card.specs.Knowledge.{up_by_notes}
 use Rattle.laws_card.specs.Timers.{runs_at_callers}
 
 -- In every moment nothing that was accepted is lost silently.
@@ -50,17 +50,11 @@ RunsWhatIsNeeded m events =
     (line : ℕ) (timer : Timer) → line < m.config.lines →
     runs_at_callers line timer (is_needed timer (line_at line m)) (moments m events) ≡ is_needed timer (line_at line (after_all m events))
 
--- Whoever knows before a run which links are up, and which TEIs are on each line, knows it after it by the notes, and for
--- the TEIs by the requests that were granted.
+-- Whoever knows before a run which links are up knows it after it by the notes.
 abbrev pub NotesTell : Card → List Event → Type 0
 NotesTell m events =
     (line : ℕ) (service : Service) (tei : ℕ) → line < m.config.lines →
     up_by_notes line service tei (is_up_of service tei (line_at line m)) (moments m events) ≡ is_up_of service tei (line_at line (after_all m events))
-
-abbrev pub TeisAreTold : Card → List Event → Type 0
-TeisAreTold m events =
-    (line tei : ℕ) → line < m.config.lines →
-    on_by_notes line tei (has_tei tei (line_at line m)) (moments m events) ≡ has_tei tei (line_at line (after_all m events))
 
 -- As a line begins its links keep nothing, no timer is needed, no link is up, and no TEI is on it.
 pub record IsNew (c : Config) (l : Line) : Type 0 where
@@ -71,9 +65,3 @@ pub record IsNew (c : Config) (l : Line) : Type 0 where
 
 abbrev pub BeginsAnew : Config → Type 0
 BeginsAnew c = (line : ℕ) → line < c.lines → IsNew c (line_at line (fresh c))
-
--- No TEI has two places of a line.
-abbrev pub TeisHaveOnePlace : Card → List Event → Type 0
-TeisHaveOnePlace m events =
-    (line one other tei : ℕ) → line < m.config.lines →
-    tei_at one (line_at line (after_all m events)) ≡ Some tei → tei_at other (line_at line (after_all m events)) ≡ Some tei → one ≡ other

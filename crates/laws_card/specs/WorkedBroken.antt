@@ -1,5 +1,5 @@
 -- Worked values: states, answers and runs that would break the promises, which no card comes to.
-use Rattle.std.specs.Prelude.{◌≡◌, true, false, List, [], ◌∷◌, ◌++◌, ◌≤◌, replicate, Some, refl}
+use Rattle.std.specs.Prelude.{◌≡◌, true, false, List, [], ◌∷◌, ◌++◌, ◌≤◌, replicate}
 use Rattle.std.proofs.Common.{ap, arith}
 use Rattle.model_bits.specs.declared.heard.Cause.TheVariants.{Fcs}
 use Rattle.lapd_frame.specs.declared.services.Service.TheVariants.{Call}
@@ -16,8 +16,7 @@ use Rattle.model_card.specs.Card.{Card, fresh}
 use Rattle.model_card.specs.Event.{Event, at}
 use Rattle.model_card.specs.Run.{after_all}
 use Rattle.laws_card.specs.Among.{IsTakenAmong, IsIdleAmong}
-use Rattle.laws_card.specs.Knowledge.{up_by_notes, on_by_notes}
-use Rattle.laws_card.specs.Promises.{TeisHaveOnePlace}
+use Rattle.laws_card.specs.Knowledge.{up_by_notes}
 use Rattle.laws_card.specs.PromisesOfTakes.{FewAreToGo}
 use Rattle.laws_card.specs.Timers.{runs_at_callers}
 use Rattle.laws_card.specs.Worked.{usual}
@@ -37,16 +36,12 @@ miscounted x = cc x.accepted
 untold : OnlyTells (dropped Fcs) (fresh_line usual) (fresh_line usual) (told nothing) → ⊥
 untold x = let same = ap cause_in x.answer_is in cc same
 
--- `timers_follow`, `notes_tell` and `teis_are_told`: a timer that is needed, and was never started; a link that is up, and a
--- TEI on the line, of which no note told.
+-- `timers_follow` and `notes_tell`: a timer that is needed, and was never started; a link that is up, of which no note told.
 not_started : runs_at_callers 0 (T200 Call 64) false [] ≡ true → ⊥
 not_started e = cc e
 
 not_noted : up_by_notes 0 Call 64 false [] ≡ true → ⊥
 not_noted e = cc e
-
-not_assigned : on_by_notes 0 64 false [] ≡ true → ⊥
-not_assigned e = cc e
 
 -- `gives_what_waits`: a call that gives none where unit data waits.
 abbrev with_unit : Line
@@ -63,18 +58,10 @@ no_call (x ∷ front) back e = cc e
 never_taken : IsTakenAmong (fresh usual) 0 [] (0x00 ∷ 0x81 ∷ 0x73 ∷ []) → ⊥
 never_taken x = no_call x.front x.back x.split
 
--- `one_place`: a TEI that has two places of a line.
+-- `takes_come_to_an_end`: a line on which unit data waits still, after as many calls as are enough.
 abbrev with_line : Line → Card
 with_line l = record (fresh usual) { lines = l ∷ [] }
 
-abbrev two_places : Line
-two_places = record (fresh_line usual) { management = record (fresh_line usual).management { places = Some 64 ∷ Some 64 ∷ [] } }
-
-has_two : TeisHaveOnePlace (with_line two_places) [] → ⊥
-unfolding after_all
-has_two once = cc (once 0 0 1 64 (omega arith) refl refl)
-
--- `takes_come_to_an_end`: a line on which unit data waits still, after as many calls as are enough.
 waits_still : IsIdleAmong (with_line with_unit) 0 [] → ⊥
 unfolding after_all
 waits_still x = cc x.nothing.units

@@ -7,13 +7,12 @@ use Rattle.model_card.specs.Reached.{IsReached}
 use Rattle.model_card.specs.Run.{IsAtLine, AreAtLines}
 use Rattle.model_card.specs.Sound.{IsSound}
 use Rattle.model_card.proofs.Reaching.{reached-sound}
-use Rattle.laws_card.specs.Promises.{IsCountedIn, TeisAreTold, TeisHaveOnePlace}
+use Rattle.laws_card.specs.Promises.{IsCountedIn}
 use Rattle.laws_card.specs.Brief.{GivesWhatWaits}
 use Rattle.laws_card.specs.PromisesOfTakes.{Wherever, WaitingIsTakenMeanwhile, AnswersAreTaken, TakesComeToAnEnd, FewAreToGo}
-use Rattle.laws_card.proofs.Brief.{gives-what-waits, others-stay, causes-are-told, no-tei-at-first}
+use Rattle.laws_card.proofs.Brief.{gives-what-waits, others-stay, causes-are-told}
 use Rattle.laws_card.proofs.Hearing.{heard-all}
 use Rattle.laws_card.proofs.Keeping.{kept, run-counted}
-use Rattle.laws_card.proofs.Knowing.{on-known, one-place}
 use Rattle.laws_card.proofs.OneEvent.{one-all}
 use Rattle.laws_card.proofs.Wherever.{waiting-taken, answers-are-taken, come-to-an-end, few-are}
 use Rattle.laws_promises.specs.Promises.{Promises}
@@ -38,9 +37,6 @@ module _ (m : Card) (events : List Event) (reached : IsReached m) (within : AreA
     counted = front IsCountedIn run-counted;
     others_stay = others-stay m events sound within;
     causes_are_told = causes-are-told m events sound within;
-    teis_are_told = front TeisAreTold on-known;
-    no_tei_at_first = no-tei-at-first m.config;
-    one_place = front TeisHaveOnePlace one-place;
     gives_what_waits = front GivesWhatWaits gives-what-waits;
     waiting_is_taken = front (Wherever WaitingIsTakenMeanwhile) (λ card es s all. (waiting-taken card es s all).meanwhile);
     answers_are_taken = front AnswersAreTaken answers-are-taken;

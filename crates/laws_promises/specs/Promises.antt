@@ -4,12 +4,12 @@
 use Rattle.std.specs.Prelude.{ℕ, List, take}
 use Rattle.model_card.specs.Card.{Card}
 use Rattle.model_card.specs.Event.{Event}
-use Rattle.laws_card.specs.Promises.{IsKept, HasOneEvent, IsDelivered, IsCountedIn, TeisAreTold, TeisHaveOnePlace}
-use Rattle.laws_card.specs.Brief.{OthersStay, CausesAreTold, NoTeiAtFirst, GivesWhatWaits}
+use Rattle.laws_card.specs.Promises.{IsKept, HasOneEvent, IsDelivered, IsCountedIn}
+use Rattle.laws_card.specs.Brief.{OthersStay, CausesAreTold, GivesWhatWaits}
 use Rattle.laws_card.specs.PromisesOfTakes.{Wherever, WaitingIsTakenMeanwhile, AnswersAreTaken, TakesComeToAnEnd, FewAreToGo}
 
--- From a card on: those of a whole list hold in each of its moments; those with a count hold after that many of its
--- events, so after each of them; and those of a configuration hold of a card that has just begun with it.
+-- From a card on: those of a whole list hold in each of its moments; and those with a count hold after that many of
+-- its events, so after each of them.
 pub record Promises (m : Card) (events : List Event) : Type 0 where
   -- Each link keeps its contents without the oldest that a valid N(R) acknowledges, and with those of a granted data
   -- request at the end; or it keeps nothing, and a granted release, a note or the end of its TEI says so. The note is
@@ -40,14 +40,6 @@ pub record Promises (m : Card) (events : List Event) : Type 0 where
   -- Of what is heard and is no frame why it is none is all that is answered; so it changes nothing, as `without_effect` of `drive`
   -- says (clause 2.9).
   pub causes_are_told : CausesAreTold m events
-  -- By notes and by its own granted requests management knows which TEIs are on each line. The notes are that a TEI
-  -- was assigned, that no terminal answered its check, or that two did, the requests those to assign and to remove a
-  -- TEI; so no TEI comes or leaves otherwise (clauses 4.1.1.5 and 5.3.2 to 5.3.4).
-  pub teis_are_told : (count : ℕ) → TeisAreTold m (take count events)
-  -- On a card that has just begun no TEI is on any line. So from there on `teis_are_told` says all of it.
-  pub no_tei_at_first : NoTeiAtFirst m.config
-  -- No TEI has two places of a line.
-  pub one_place : (count : ℕ) → TeisHaveOnePlace m (take count events)
   -- A call for the next frame of a line gives none only where no message of TEI management waits there, no unit data and no
   -- control frame, no I-frame may go, and no acknowledgement is owed; and then nothing changes. An I-frame may go in state 7 while
   -- the terminal is not busy, fewer than k are outstanding, and contents have not gone (clauses 5.6.1, 5.6.3.1 and 5.6.5; which

@@ -12,22 +12,21 @@ use Rattle.model_line.specs.declared.config.Config.{Config}
 use Rattle.model_line.specs.Heard.{heard_side}
 use Rattle.model_line.specs.Sides.{group_told, IsToGroup}
 use Rattle.model_line.specs.Event.{Answer, hears, dropped}
-use Rattle.model_line.specs.Line.{Line, fresh_line, link_in, terms}
+use Rattle.model_line.specs.Line.{Line, fresh_line}
 use Rattle.model_line.specs.Machine as lines
 use Rattle.model_line.specs.Sound as line
-use Rattle.laws_line.specs.Heard.{IsTo, OnlyTells, IsToManagement, contents_in, due}
-use Rattle.laws_line.proofs.Hearing.{sapi-is, dropped-stretch}
+use Rattle.laws_line.specs.Steady.{HearsFrame}
+use Rattle.laws_line.specs.Heard.{OnlyTells, IsToManagement}
+use Rattle.laws_line.proofs.Hearing.{dropped-stretch}
 use Rattle.laws_line.proofs.Grouping.{group-read, managed-read}
-use Rattle.laws_line.proofs.HandedOn.{due-read}
 use Rattle.model_card.specs.Event.{Event}
 use Rattle.model_card.specs.Card.{Card, line_at, is_full}
 use Rattle.model_card.specs.Machine.{after, answer}
-use Rattle.model_card.specs.Run.{IsAtLine, AreAtLines}
+use Rattle.model_card.specs.Run.{IsAtLine}
 use Rattle.model_card.specs.Sound.{IsSound}
-use Rattle.model_card.proofs.EachMoment.{moment_of, each_moment}
+use Rattle.model_card.proofs.EachMoment.{moment_of}
 use Rattle.model_card.proofs.Steps.{has_lines, by_room, line_sound}
-use Rattle.laws_card.specs.Heard.{IsHeardIn}
-use Rattle.laws_card.specs.Promises.{IsDelivered}
+use Rattle.laws_card.specs.Brief.{TellsCause}
 
 -- What is heard makes this of its line, and is answered so.
 record HeardServed (c : Config) (before after : Line) (a : Answer) (e : stream.Event) : Type 0 where
@@ -36,8 +35,6 @@ record HeardServed (c : Config) (before after : Line) (a : Answer) (e : stream.E
   management : (parts : Parts) (octets : List ℕ) → e ≡ stream.frame octets → reading (heard_side c) octets ≡ Ok parts → IsToManagement c parts
       → OnlyTells (dropped Unserved) before after a
   dropped : (cause : Cause) → e ≡ stream.dropped cause → OnlyTells (dropped cause) before after a
-  due_is : (service : Service) (tei place : ℕ) (parts : Parts) (octets : List ℕ) → e ≡ stream.frame octets → reading (heard_side c) octets ≡ Ok parts
-      → IsTo before service tei place parts.address → contents_in a ≡ due (terms c service tei) parts (link_in before service place)
 
 abbrev Serves : Config → Line → stream.Event → Type 0
 Serves c l e = HeardServed c l (lines.after c (hears e) l) (lines.answer c (hears e) l) e
@@ -49,9 +46,6 @@ heard-served c l e ranged s = record {
       subst (λ x. OnlyTells (group_told service parts.info) l (lines.after c (hears x) l) (lines.answer c (hears x) l)) (sym is) (group-read c l parts octets service s read to);
   management = λ parts octets is read to.
       subst (λ x. OnlyTells (dropped Unserved) l (lines.after c (hears x) l) (lines.answer c (hears x) l)) (sym is) (managed-read c l parts octets read to);
-  due_is = λ service tei place parts octets is read to.
-      subst (λ x. contents_in (lines.answer c (hears x) l) ≡ due (terms c service tei) parts (link_in l service place)) (sym is)
-      (due-read c l service tei place parts octets ranged s read to);
 }
 
 module _ (card : Card) (e : Event) (s : IsSound card) (here : IsAtLine card e) where
@@ -74,15 +68,13 @@ module _ (card : Card) (e : Event) (s : IsSound card) (here : IsAtLine card e) w
       (subst (λ what. HeardServed card.config l (lines.after card.config what l) (lines.answer card.config what l) x) (sym is)
       (heard-served card.config l x s.config (line_sound card e.line (has_lines card s) here))))
 
-  pub heard-in : IsHeardIn (moment_of card e)
-  heard-in = record {
-    dropped = λ cause is. (served (stream.dropped cause) is).dropped cause refl;
-    group = λ parts service h to. (served (stream.frame h.octets) h.by).group parts h.octets service refl h.read to;
-    management = λ parts h to. (served (stream.frame h.octets) h.by).management parts h.octets refl h.read to;
-    due = λ service tei place parts b on.
-        (served (stream.frame b.octets) b.by).due_is service tei place parts b.octets refl b.read
-        (record { sapi = sapi-is parts.address.sapi service b.sapi; tei_is = b.tei_is; on_line = on });
-  }
+  pub heard-group : (parts : Parts) (service : Service) → HearsFrame card.config e.what parts → IsToGroup card.config parts service
+      → OnlyTells (group_told service parts.info) l (line_at e.line (after e card)) (answer e card)
+  heard-group parts service h to = (served (stream.frame h.octets) h.by).group parts h.octets service refl h.read to
 
-pub heard-all : (card : Card) (events : List Event) → IsSound card → AreAtLines card events → IsDelivered card events
-heard-all card events s all = each_moment IsHeardIn heard-in card events s all
+  pub tells-cause : TellsCause (moment_of card e)
+  tells-cause = record {
+    no_frame = λ cause is. ((served (stream.dropped cause) is).dropped cause refl).answer_is;
+    management = λ octets frame is read side sapi tei.
+        ((served (stream.frame octets) is).management frame octets refl read (record { side = side; sapi = sapi; group = tei })).answer_is;
+  }

@@ -22,7 +22,7 @@ use Rattle.model_card.specs.Run.{IsAtLine, AreAtLines}
 use Rattle.model_card.specs.Sound.{IsSound}
 use Rattle.model_card.proofs.EachMoment.{moment_of, each_moment}
 use Rattle.model_card.proofs.Steps.{has_lines, by_room, line_sound}
-use Rattle.laws_card.specs.Faithful.{IsOneEventIn}
+use Rattle.laws_card.specs.OneEvent.{IsOneEventIn}
 use Rattle.laws_card.specs.Promises.{HasOneEvent}
 
 -- A request that finds the pool full changes nothing, and is an event of no part; and nothing else takes a slot.

@@ -3,24 +3,16 @@ use Rattle.std.specs.Prelude.{ℕ, List, fold, if◌then◌else◌}
 use Rattle.model_link.specs.Link.{Link}
 use Rattle.laws_link.specs.History.{Share, History, with_share}
 use Rattle.model_line.specs.Counts.{is_pool_full}
-use Rattle.model_line.specs.Line.{Line, link_at}
+use Rattle.model_line.specs.Line.{link_at}
 use Rattle.laws_line.specs.Share as line
 use Rattle.laws_line.specs.Share.{no_share}
 use Rattle.model_card.specs.Card.{Card, line_at}
 use Rattle.model_card.specs.Event.{Event}
-use Rattle.model_card.specs.Machine.{after}
 use Rattle.model_card.specs.Numbered.{LinkName, is_at}
 use Rattle.model_card.specs.Run.{Moment, moments}
 
 abbrev pub link_named : LinkName → Card → Link
 link_named name card = link_at name.number (line_at name.line card)
-
--- The line of a moment's event, before it and after it.
-abbrev pub line_before : Moment → Line
-line_before m = line_at m.event.line m.card
-
-abbrev pub line_after : Moment → Line
-line_after m = line_at m.event.line (after m.event m.card)
 
 -- What a moment is to the contents of a link: what its event is, at the link's own line, except for a request that
 -- finds the pool full.

@@ -6,21 +6,21 @@ use Rattle.model_card.specs.Event.{Event}
 use Rattle.model_card.specs.Machine.{after}
 use Rattle.model_card.specs.Run.{IsAtLine, AreAtLines}
 use Rattle.model_card.specs.Sound.{IsSound}
-use Rattle.laws_card.specs.Promises.{IsKept, IsCountedIn, IsServedIn, HasOneEvent, IsDelivered, RunsWhatIsNeeded, NotesTell, BeginsAnew}
+use Rattle.laws_card.specs.Brief.{OthersStay, CausesAreTold}
+use Rattle.laws_card.specs.Promises.{IsServedIn, HasOneEvent, RunsWhatIsNeeded, NotesTell, BeginsAnew}
 use Rattle.laws_card.specs.Timers.{AllHaveTheirTimers}
-
-pub record NothingIsLost : Type 0 where
-  pub kept : (card : Card) (events : List Event) → IsSound card → AreAtLines card events → IsKept card events
-  pub counted : (card : Card) (events : List Event) → IsSound card → AreAtLines card events → IsCountedIn card events
 
 abbrev pub TakesServe : Type 0
 TakesServe = (card : Card) (events : List Event) → IsSound card → AreAtLines card events → IsServedIn card events
 
+abbrev pub OthersAreLeft : Type 0
+OthersAreLeft = (card : Card) (events : List Event) → IsSound card → AreAtLines card events → OthersStay card events
+
+abbrev pub CausesTold : Type 0
+CausesTold = (card : Card) (events : List Event) → IsSound card → AreAtLines card events → CausesAreTold card events
+
 abbrev pub OneEvent : Type 0
 OneEvent = (card : Card) (events : List Event) → IsSound card → AreAtLines card events → HasOneEvent card events
-
-abbrev pub HeardIsDelivered : Type 0
-HeardIsDelivered = (card : Card) (events : List Event) → IsSound card → AreAtLines card events → IsDelivered card events
 
 pub record TimersFollow : Type 0 where
   pub follow : (card : Card) (events : List Event) → IsSound card → AllHaveTheirTimers card → AreAtLines card events → RunsWhatIsNeeded card events

@@ -1,7 +1,6 @@
 -- What a card does with what it is given and what it hears, and worked values of it and of its machine.
 pub mod Contents
-pub mod Faithful
-pub mod Heard
+pub mod OneEvent
 pub mod Knowledge
 pub mod Promises
 pub mod Timers

@@ -14,17 +14,12 @@ use Rattle.model_card.specs.Numbered.{LinkName}
 use Rattle.model_card.specs.Promises.{HasLink}
 use Rattle.model_card.specs.Run.{moments, after_all}
 use Rattle.laws_card.specs.Contents.{link_named, history, accepted_at}
-use Rattle.laws_card.specs.Faithful.{IsFaithful, IsOneEventIn}
-use Rattle.laws_card.specs.Heard.{IsHeardIn}
+use Rattle.laws_card.specs.OneEvent.{IsOneEventIn}
 use Rattle.laws_card.specs.Knowledge.{up_by_notes}
 use Rattle.laws_card.specs.Timers.{runs_at_callers}
 
--- In every moment nothing that was accepted is lost silently.
-abbrev pub IsKept : Card → List Event → Type 0
-IsKept m events = All IsFaithful (moments m events)
-
--- So each link holds what was accepted since its numbers began, in order, without what went, and V(A) counts those that
--- were acknowledged.
+-- Each link holds what was accepted since its numbers began, in order, without what went, and V(A) counts those that were
+-- acknowledged.
 abbrev pub IsCountedIn : Card → List Event → Type 0
 IsCountedIn m events =
     (name : LinkName) → HasLink m name → IsCounted (history name m (moments m events)) (link_named name (after_all m events))
@@ -36,13 +31,9 @@ abbrev pub IsServedIn : Card → List Event → Type 0
 IsServedIn m events =
     (number : ℕ) → number < m.config.lines → IsServed m.config (accepted_at m events number) (line_at number (after_all m events))
 
--- In every moment one part of one line has one event, and all else is as it was;
+-- In every moment one part of one line has one event, and all else is as it was.
 abbrev pub HasOneEvent : Card → List Event → Type 0
 HasOneEvent m events = All IsOneEventIn (moments m events)
-
--- and what was heard is delivered, once, and from whom, and nothing else.
-abbrev pub IsDelivered : Card → List Event → Type 0
-IsDelivered m events = All IsHeardIn (moments m events)
 
 -- A caller that runs exactly the timers that are needed before a run, and obeys, does so after it.
 abbrev pub RunsWhatIsNeeded : Card → List Event → Type 0

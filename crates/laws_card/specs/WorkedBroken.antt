@@ -1,40 +1,41 @@
 -- Worked values: states, answers and runs that would break the promises, which no card comes to.
-use Rattle.std.specs.Prelude.{◌≡◌, true, false, List, [], ◌∷◌, ◌++◌, ◌≤◌, replicate}
+use Rattle.std.specs.Prelude.{◌≡◌, ◌≢◌, ℕ, zero, suc, ◌<◌, true, false, List, [], ◌∷◌, ◌++◌, ◌≤◌, replicate, refl}
 use Rattle.std.proofs.Common.{ap, arith}
+use Rattle.model_bits.specs.Stream as stream
 use Rattle.model_bits.specs.declared.heard.Cause.TheVariants.{Fcs}
 use Rattle.lapd_frame.specs.declared.services.Service.TheVariants.{Call}
 use Rattle.lapd_frame.specs.declared.timers.Timer.TheVariants.{T200}
 use Rattle.model_link.specs.Link.{Link, fresh as fresh_link}
-use Rattle.laws_link.specs.History.{IsKept, IsCounted}
-use Rattle.model_line.specs.Event.{told, next, nothing, dropped}
+use Rattle.model_line.specs.Event.{told, hears, next, nothing}
 use Rattle.model_line.specs.Laws.{cause_in}
-use Rattle.model_line.specs.Line.{Line, fresh_line}
-use Rattle.laws_line.specs.Heard.{OnlyTells}
+use Rattle.model_line.specs.Line.{Line, fresh_line, place_at, tei_at, link_at}
 use Rattle.laws_line.specs.Served.{HasNothing}
-use Rattle.laws_line.specs.Share.{no_share}
 use Rattle.model_card.specs.Card.{Card, fresh}
 use Rattle.model_card.specs.Event.{Event, at}
 use Rattle.model_card.specs.Run.{after_all}
 use Rattle.laws_card.specs.Among.{IsTakenAmong, IsIdleAmong}
+use Rattle.laws_card.specs.Brief.{LinksStay, TellsCause}
 use Rattle.laws_card.specs.Knowledge.{up_by_notes}
 use Rattle.laws_card.specs.PromisesOfTakes.{FewAreToGo}
 use Rattle.laws_card.specs.Timers.{runs_at_callers}
 use Rattle.laws_card.specs.Worked.{usual}
 
--- `nothing_is_lost`: a link that has let its contents go where nothing emptied it; and one that keeps none of those that were
--- accepted.
-abbrev one_kept : Link
-one_kept = record fresh_link { contents = (1 ∷ []) ∷ [] }
+-- `others_stay`: two links of a line that an event changes.
+abbrev with_links : Link → Line
+with_links link = record (fresh_line usual) { links = link ∷ link ∷ [] }
 
-let_go : IsKept no_share one_kept fresh_link → ⊥
-let_go e = cc e
-
-miscounted : IsCounted (record { accepted = (1 ∷ []) ∷ []; acknowledged = 0 }) fresh_link → ⊥
-miscounted x = cc x.accepted
+both_change : LinksStay 2 (with_links fresh_link) (with_links (record fresh_link { pending = true })) → ⊥
+both_change x = go x.one x.others
+  where
+    go : (one : ℕ)
+        → ((other : ℕ) → other < 2 → other ≢ one → tei_at (place_at other) (with_links (record fresh_link { pending = true })) ≡ tei_at (place_at other) (with_links fresh_link)
+        → link_at other (with_links (record fresh_link { pending = true })) ≡ link_at other (with_links fresh_link)) → ⊥
+    go zero stay = let same = ap (λ (l : Link). l.pending) (stay 1 (omega arith) (λ e. cc e) refl) in cc same
+    go (suc n) stay = let same = ap (λ (l : Link). l.pending) (stay 0 (omega arith) (λ e. cc e) refl) in cc same
 
 -- `causes_are_told`: a wrong check that is not told.
-untold : OnlyTells (dropped Fcs) (fresh_line usual) (fresh_line usual) (told nothing) → ⊥
-untold x = let same = ap cause_in x.answer_is in cc same
+untold : TellsCause (record { card = fresh usual; event = at 0 (hears (stream.dropped Fcs)); answer = told nothing }) → ⊥
+untold x = let same = ap cause_in (x.no_frame Fcs refl) in cc same
 
 -- `timers_follow` and `notes_tell`: a timer that is needed, and was never started; a link that is up, of which no note told.
 not_started : runs_at_callers 0 (T200 Call 64) false [] ≡ true → ⊥

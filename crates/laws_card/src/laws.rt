@@ -1,17 +1,7 @@
 //! What a card does, over whole runs. Each law is the contract of a call that does nothing. Where its comment names a field of
 //! `Promises` (crate `laws_promises`), the comment of the field says it in words.
 
-ghost use Rattle.laws_card.specs.Laws.{NothingIsLost, TakesServe, OneEvent, HeardIsDelivered};
-
-/// Nothing that was accepted is lost silently. Each link keeps its contents without the oldest that a valid N(R)
-/// acknowledges, and with those of a granted data request at the end; or it keeps nothing, and a granted release or
-/// deactivation, a note or the end of its TEI says so. The note is an establishment indication, a release indication or a
-/// release confirm of the link (`kept`; clauses 5.5.3.2, 5.6.3.2 and 5.7). So the contents that each link keeps are those
-/// accepted for it since its numbers began, in order, without what went, and its V(A) counts those that were acknowledged
-/// (`counted`; clause 3.5.2.3).
-pub fn nothing_is_lost()
-    ensures { NothingIsLost }
-{}
+ghost use Rattle.laws_card.specs.Laws.{TakesServe, OneEvent, OthersAreLeft, CausesTold};
 
 /// What is sent is what was accepted, for whom, and in which order. What a call for the next frame takes is the message
 /// of TEI management that has waited longest, else the oldest unit data, else a frame of the first link in turn that
@@ -38,12 +28,13 @@ pub fn one_event()
     ensures { OneEvent }
 {}
 
-/// What was heard is delivered, once, and from whom, and nothing else. Contents of at most N201 octets are handed on,
-/// exactly of an I-frame in sequence that the link may take, and of a UI: the frame's information. What is heard and is
-/// no frame changes nothing, and why it is none is all that is answered. A link may take an I-frame in state 7 or 8
-/// with own busy off. On the user's side a UI of the network to the group is handed on so, too, and a frame of layer 2
-/// management changes nothing. (That what is handed on is noted once, of its link, and that nothing else is,
-/// `what_is_told_was_heard` of `laws_trace` says; clauses 2.9, 3.3.2, 3.3.4, 5.2.2, 5.2.3, 5.6.2 and 5.6.6.)
-pub fn heard_is_delivered()
-    ensures { HeardIsDelivered }
+/// In every moment all lines stay as they are but that of the event, and of its links all but one: `others_stay`.
+pub fn others_stay()
+    ensures { OthersAreLeft }
+{}
+
+/// Of what is heard and is no frame why it is none is all that is answered, and of a frame of TEI management on the user's side
+/// that it is not served: `causes_are_told`.
+pub fn causes_are_told()
+    ensures { CausesTold }
 {}

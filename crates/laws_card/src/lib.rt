@@ -3,7 +3,7 @@
 //!
 //! The machine itself, and the laws that say what a card never does, stand in `model_card`; the laws of a line in
 //! `laws_line`, and those of a link in `laws_link`. `specs/` has the contents of the links from moment to moment
-//! (`Contents`), what holds in a moment (`Faithful`, `Heard`), what holds of a list of events (`Promises`), and in brief, beside
+//! (`Contents`), what holds in a moment (`OneEvent`), what holds of a list of events (`Promises`), and in brief, beside
 //! what the laws of the trace of a line say (`Brief`), which timers a caller runs (`Timers`), what calls for the next frame of a
 //! line come to (`Among`, `PromisesOfTakes`), what notes tell (`Knowledge`), the laws, which say of which cards and lists
 //! (`Laws`, `Machine`), and worked values of the laws and of the machine, also some that break them (`Worked*`). Each law is the
@@ -19,7 +19,7 @@ mod notes;
 mod progress;
 mod timers;
 
-pub use laws::{heard_is_delivered, nothing_is_lost, one_event, takes_serve};
+pub use laws::{causes_are_told, one_event, others_stay, takes_serve};
 pub use machine::cards_are_reached;
 pub use notes::notes_tell;
 pub use progress::takes_serve_wherever;

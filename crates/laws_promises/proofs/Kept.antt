@@ -7,13 +7,9 @@ use Rattle.model_card.specs.Reached.{IsReached}
 use Rattle.model_card.specs.Run.{IsAtLine, AreAtLines}
 use Rattle.model_card.specs.Sound.{IsSound}
 use Rattle.model_card.proofs.Reaching.{reached-sound}
-use Rattle.laws_card.specs.Promises.{IsCountedIn}
 use Rattle.laws_card.specs.Brief.{GivesWhatWaits}
 use Rattle.laws_card.specs.PromisesOfTakes.{Wherever, WaitingIsTakenMeanwhile, AnswersAreTaken, TakesComeToAnEnd, FewAreToGo}
 use Rattle.laws_card.proofs.Brief.{gives-what-waits, others-stay, causes-are-told}
-use Rattle.laws_card.proofs.Hearing.{heard-all}
-use Rattle.laws_card.proofs.Keeping.{kept, run-counted}
-use Rattle.laws_card.proofs.OneEvent.{one-all}
 use Rattle.laws_card.proofs.Wherever.{waiting-taken, answers-are-taken, come-to-an-end, few-are}
 use Rattle.laws_promises.specs.Promises.{Promises}
 
@@ -31,10 +27,6 @@ module _ (m : Card) (events : List Event) (reached : IsReached m) (within : AreA
 
   pub promises-kept : Promises m events
   promises-kept = record {
-    nothing_is_lost = kept m events sound within;
-    one_event = one-all m events sound within;
-    heard_is_delivered = heard-all m events sound within;
-    counted = front IsCountedIn run-counted;
     others_stay = others-stay m events sound within;
     causes_are_told = causes-are-told m events sound within;
     gives_what_waits = front GivesWhatWaits gives-what-waits;

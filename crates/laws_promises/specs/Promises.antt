@@ -4,41 +4,17 @@
 use Rattle.std.specs.Prelude.{ℕ, List, take}
 use Rattle.model_card.specs.Card.{Card}
 use Rattle.model_card.specs.Event.{Event}
-use Rattle.laws_card.specs.Promises.{IsKept, HasOneEvent, IsDelivered, IsCountedIn}
 use Rattle.laws_card.specs.Brief.{OthersStay, CausesAreTold, GivesWhatWaits}
 use Rattle.laws_card.specs.PromisesOfTakes.{Wherever, WaitingIsTakenMeanwhile, AnswersAreTaken, TakesComeToAnEnd, FewAreToGo}
 
 -- From a card on: those of a whole list hold in each of its moments; and those with a count hold after that many of
 -- its events, so after each of them.
 pub record Promises (m : Card) (events : List Event) : Type 0 where
-  -- Each link keeps its contents without the oldest that a valid N(R) acknowledges, and with those of a granted data
-  -- request at the end; or it keeps nothing, and a granted release, a note or the end of its TEI says so. The note is
-  -- an establishment indication, a release indication or a release confirm of the link (clauses 5.5.3.2, 5.6.3.2 and
-  -- 5.7).
-  pub nothing_is_lost : IsKept m events
-  -- In every moment one part of one line has one event, and all else is as it was. A frame for a link of a TEI on the line,
-  -- also one that the grammar does not have, or that is too long, the expiry of a timer of it, or a request of it that is
-  -- granted, is this event of the link, and changes nothing else; the answer tells what the link tells. A message of TEI
-  -- management, the expiry of T201, or a request of management that is granted, is this event of TEI management; the links of
-  -- a TEI that comes or leaves are as ones that begin, the others stay, and noted is what TEI management notes, and what the
-  -- links of a TEI that leaves tell as they end. Unit data whose request was granted waits, whole, behind what waits. A call for
-  -- the next frame leaves its line, and answers, as the machine of the line does; so what `takes_serve` of `laws_card` says of
-  -- that machine's next call is said of each call of the run. Whatever else comes changes nothing, and nothing is told (clauses
-  -- 2.2 to 2.7, 3.6.1, 5.2.2, 5.3, 5.8.5 and the profile).
-  pub one_event : HasOneEvent m events
-  -- Contents of at most N201 octets are handed on, exactly of an I-frame in sequence that the link may take, and of a UI: the
-  -- frame's information. What is heard and is no frame changes nothing, and why it is none is all that is answered. A link may
-  -- take an I-frame in state 7 or 8 with own busy off. On the user's side a UI of the network to the group is handed on so, too,
-  -- and a frame of layer 2 management changes nothing. (That what is handed on is noted once, of its link, and that nothing else
-  -- is, `what_is_told_was_heard` of `laws_trace` says; clauses 2.9, 3.3.2, 3.3.4, 5.2.2, 5.2.3, 5.6.2 and 5.6.6.)
-  pub heard_is_delivered : IsDelivered m events
-  -- The contents that each link keeps are those accepted for it since its numbers began, in order, without what went,
-  -- and its V(A) counts those that were acknowledged (clause 3.5.2.3).
-  pub counted : (count : ℕ) → IsCountedIn m (take count events)
-  -- In every moment all lines stay as they are but that of the event (profile).
+  -- In every moment all lines stay as they are but that of the event; and of its links all but one, except those of a TEI that
+  -- comes or leaves (profile).
   pub others_stay : OthersStay m events
-  -- Of what is heard and is no frame why it is none is all that is answered; so it changes nothing, as `without_effect` of `drive`
-  -- says (clause 2.9).
+  -- Of what is heard and is no frame why it is none is all that is answered, and of a frame of TEI management on the user's
+  -- side that it is not served; so it changes nothing, as `without_effect` of `drive` says (clauses 2.9 and 5.3).
   pub causes_are_told : CausesAreTold m events
   -- A call for the next frame of a line gives none only where no message of TEI management waits there, no unit data and no
   -- control frame, no I-frame may go, and no acknowledgement is owed; and then nothing changes. An I-frame may go in state 7 while

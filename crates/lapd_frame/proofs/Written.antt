@@ -3,11 +3,10 @@ use Rattle.lapd_frame.proofs.Vocabulary.{◌≡◌, ℕ, ◌+◌, ◌≤◌, Lis
 
 -- a head of s octets, then the information
 pub written : (s : ℕ) (head info old middle new front : List ℕ) → take s head ≡ front → length front ≡ s
-    → middle ≡ take s head ++ drop (0 + length (take s head)) old → new ≡ take s middle ++ info ++ drop (s + length info) middle
+    → middle ≡ take s head ++ drop s old → new ≡ take s middle ++ info ++ drop (s + length info) middle
     → new ≡ front ++ info ++ drop (s + length info) old
 written s head info old middle new front e count first second =
-    let place : 0 + length front ≡ s = omega arith in
-    let first_is : middle ≡ front ++ drop s old = first ∙ ap (λ l. l ++ drop (0 + length l) old) e ∙ ap (λ n. front ++ drop n old) place in
+    let first_is : middle ≡ front ++ drop s old = first ∙ ap (λ l. l ++ drop s old) e in
     let before : take s middle ≡ front = ap (take s) first_is ∙ ap (λ n. take n (front ++ drop s old)) (sym count) ∙ take-append_seam front (drop s old) in
     let more : s ≤ s + length info = omega arith in
     let after : drop (s + length info) middle ≡ drop (s + length info) old = ap (drop (s + length info)) first_is ∙ drop-append-drop s old front (s + length info) more count in

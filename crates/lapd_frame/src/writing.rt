@@ -28,9 +28,25 @@ pub fn write(side: Side, frame: &Frame<'_>, out: &mut [u8]) -> usize
     ensures read_again { reading side (take result out.new) ≡ Ok (parts_of frame.now) }
 {
     let start = frame.control.start();
-    put(out, 0, &frame.head(side)[..start]);
+    put_head(out, &frame.head(side), start);
     put(out, start, frame.info);
     start + frame.info.len()
+}
+
+// Writes the first three octets of a head, or all four.
+#[inline(always)]
+fn put_head(out: &mut [u8], head: &[u8; 4], count: usize)
+    requires low { 3 ≤ count }
+    requires high { count ≤ 4 }
+    requires room { count ≤ length out.old }
+    ensures { out.new ≡ take count head.now ++ drop count out.old }
+{
+    out[0] = head[0];
+    out[1] = head[1];
+    out[2] = head[2];
+    if count > 3 {
+        out[3] = head[3];
+    }
 }
 
 // Writes octets at a place.

@@ -66,7 +66,7 @@ impl Link {
         ensures limits { SameLimits (S.store shelf.old) (S.store shelf.new) }
     {
         let before = self.entity.running();
-        hear(&mut self.entity, self.terms, &mut answer.told, received);
+        hear(&mut self.entity, &self.terms, &mut answer.told, received);
         self.settle(before, answer, shelf);
     }
 
@@ -86,7 +86,7 @@ impl Link {
         ensures limits { SameLimits (S.store shelf.old) (S.store shelf.new) }
     {
         let before = self.entity.running();
-        self.entity.expire(self.terms, &mut answer.told, timer);
+        self.entity.expire(&self.terms, &mut answer.told, timer);
         self.settle(before, answer, shelf);
     }
 
@@ -106,7 +106,7 @@ impl Link {
         ensures limits { SameLimits (S.store shelf.old) (S.store shelf.new) }
     {
         let before = self.entity.running();
-        self.entity.clear(self.terms, &mut answer.told);
+        self.entity.clear(&self.terms, &mut answer.told);
         self.settle(before, answer, shelf);
     }
 
@@ -129,7 +129,7 @@ impl Link {
         self.queue
             .release_oldest(usize::from(answer.told.released), shelf);
         answer.orders = orders(
-            self.terms,
+            &self.terms,
             before,
             answer.told.started,
             self.entity.running(),
@@ -139,9 +139,9 @@ impl Link {
 
 // What came goes to its rows.
 #[inline(always)]
-fn hear(entity: &mut Entity, terms: Terms, told: &mut Told, received: Received<'_>)
+fn hear(entity: &mut Entity, terms: &Terms, told: &mut Told, received: Received<'_>)
     requires { HasRoom 2 2 told.old }
-    ensures { Does terms (info_of received.entry) (received_step terms (received_of received.entry)) entity.old told.old entity.new told.new }
+    ensures { Does terms.now (info_of received.entry) (received_step terms.now (received_of received.entry)) entity.old told.old entity.new told.new }
 {
     match received {
         Received::Frame(frame) => entity.frame(

@@ -58,12 +58,12 @@ impl Link {
     {
         let before = self.entity.running();
         let mut told = Told::nothing();
-        match self.entity.offer(self.terms, &mut told, self.queue.len()) {
+        match self.entity.offer(&self.terms, &mut told, self.queue.len()) {
             None => None,
             Some(given) => Some(Offer {
                 frame: given.frame,
                 contents: self.slot_at(given.place),
-                orders: orders(self.terms, before, told.started, self.entity.running()),
+                orders: orders(&self.terms, before, told.started, self.entity.running()),
             }),
         }
     }

@@ -1,59 +1,63 @@
 //! Orders for the timers.
 
-ghost use Rattle.std.specs.Prelude.{◌≡◌, ◌++◌, option_to_list};
+ghost use Rattle.std.specs.Prelude.{◌≡◌, Some};
 ghost use Rattle.lapd_frame.specs.ShortLists.{listed};
-ghost use Rattle.model_link.specs.Told.{timer_at, order_for, orders_for};
+ghost use Rattle.model_link.specs.Told.{timer_at, orders_for};
 
 use lapd_frame::{Order, ShortList, Timer};
 use lapd_link_steps::is_the;
 use model_link::{LinkTimer, Terms};
 
 // Start where the event started a timer and left it running, Stop where it ran before and does not after; T200 first.
+#[inline(always)]
 pub(crate) fn orders(
-    terms: Terms,
+    terms: &Terms,
     before: Option<LinkTimer>,
     started: Option<LinkTimer>,
     after: Option<LinkTimer>,
 ) -> ShortList<Order>
-    ensures { listed result ≡ orders_for terms before started after }
+    ensures { listed result ≡ orders_for terms.now before started after }
 {
-    let t200 = order(terms, LinkTimer::T200, before, started, after);
-    let t203 = order(terms, LinkTimer::T203, before, started, after);
-    in_order(t200, t203)
-}
-
-fn in_order(first: Option<Order>, second: Option<Order>) -> ShortList<Order>
-    ensures { listed result ≡ option_to_list first ++ option_to_list second }
-{
-    match (first, second) {
-        (Some(a), Some(b)) => ShortList::one(a).with(b),
-        (Some(a), None) => ShortList::one(a),
-        (None, Some(b)) => ShortList::one(b),
+    match (before, after) {
         (None, None) => ShortList::none(),
+        (Some(timer), None) => ShortList::one(Order::Stop(line_timer(terms, timer))),
+        (None, Some(timer)) => start(terms, timer, started),
+        (Some(LinkTimer::T200), Some(LinkTimer::T200)) => start(terms, LinkTimer::T200, started),
+        (Some(LinkTimer::T203), Some(LinkTimer::T203)) => start(terms, LinkTimer::T203, started),
+        (Some(LinkTimer::T203), Some(LinkTimer::T200)) => {
+            let stop = Order::Stop(line_timer(terms, LinkTimer::T203));
+            if is_the(LinkTimer::T200, started) {
+                ShortList::Two([Order::Start(line_timer(terms, LinkTimer::T200)), stop])
+            } else {
+                ShortList::One([stop])
+            }
+        }
+        (Some(LinkTimer::T200), Some(LinkTimer::T203)) => {
+            let stop = Order::Stop(line_timer(terms, LinkTimer::T200));
+            if is_the(LinkTimer::T203, started) {
+                ShortList::Two([stop, Order::Start(line_timer(terms, LinkTimer::T203))])
+            } else {
+                ShortList::One([stop])
+            }
+        }
     }
 }
 
-fn order(
-    terms: Terms,
-    timer: LinkTimer,
-    before: Option<LinkTimer>,
-    started: Option<LinkTimer>,
-    after: Option<LinkTimer>,
-) -> Option<Order>
-    ensures { option_to_list result ≡ order_for terms timer before started after }
+// Start, where the event started this timer.
+#[inline(always)]
+fn start(terms: &Terms, timer: LinkTimer, started: Option<LinkTimer>) -> ShortList<Order>
+    ensures { listed result ≡ orders_for terms.now (Some timer) started (Some timer) }
 {
-    if is_the(timer, started) && is_the(timer, after) {
-        return Some(Order::Start(line_timer(terms, timer)));
+    if is_the(timer, started) {
+        ShortList::one(Order::Start(line_timer(terms, timer)))
+    } else {
+        ShortList::none()
     }
-    if is_the(timer, before) && !is_the(timer, after) {
-        return Some(Order::Stop(line_timer(terms, timer)));
-    }
-    None
 }
 
 // A link's timer, as one of the line's.
-fn line_timer(terms: Terms, timer: LinkTimer) -> Timer
-    ensures { result ≡ timer_at terms timer }
+fn line_timer(terms: &Terms, timer: LinkTimer) -> Timer
+    ensures { result ≡ timer_at terms.now timer }
 {
     match timer {
         LinkTimer::T200 => Timer::T200(terms.service, terms.tei),

@@ -126,11 +126,11 @@ impl Link {
     {
         let before = self.entity.running();
         match request {
-            LinkRequest::Establish => self.entity.establish_in_4(self.terms, &mut answer.told),
-            LinkRequest::Release => self.entity.release(self.terms, &mut answer.told),
+            LinkRequest::Establish => self.entity.establish_in_4(&self.terms, &mut answer.told),
+            LinkRequest::Release => self.entity.release(&self.terms, &mut answer.told),
             LinkRequest::Data(octets) => self.keep(octets, shelf),
-            LinkRequest::SetBusy => self.entity.set_busy_in_7_8(self.terms, &mut answer.told),
-            LinkRequest::ClearBusy => self.entity.clear_busy_in_7_8(self.terms, &mut answer.told),
+            LinkRequest::SetBusy => self.entity.set_busy_in_7_8(&self.terms, &mut answer.told),
+            LinkRequest::ClearBusy => self.entity.clear_busy_in_7_8(&self.terms, &mut answer.told),
         }
         self.settle(before, answer, shelf);
     }

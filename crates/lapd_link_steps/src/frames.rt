@@ -12,9 +12,10 @@ use model_link::{State, Terms};
 
 impl Entity {
     /// A frame came with so many octets of information.
+    #[inline(always)]
     pub fn frame(
         &mut self,
-        terms: Terms,
+        terms: &Terms,
         told: &mut Told,
         command: bool,
         control: Control,
@@ -23,7 +24,7 @@ impl Entity {
         requires { HasRoom 2 2 told.old }
         ensures tells { Tells 2 2 told.old told.new }
         ensures does { (info : List ℕ) → length info ≡ octets →
-            Does terms info (frame_step terms command info control) self.old told.old self.new told.new }
+            Does terms.now info (frame_step terms.now command info control) self.old told.old self.new told.new }
     {
         match self.state {
             State::TeiAssigned => self.frame_in_4(terms, told, control, octets),
@@ -35,11 +36,11 @@ impl Entity {
     }
 
     /// A frame came that is undefined (error L), of wrong size (N), or an I-frame that was too long to keep (O).
-    pub fn malformed(&mut self, terms: Terms, told: &mut Told, code: ErrorCode)
+    pub fn malformed(&mut self, terms: &Terms, told: &mut Told, code: ErrorCode)
         requires { HasRoom 2 2 told.old }
         ensures tells { Tells 2 2 told.old told.new }
         ensures does { (info : List ℕ) →
-            Does terms info (malformed_by_state terms code) self.old told.old self.new told.new }
+            Does terms.now info (malformed_by_state terms.now code) self.old told.old self.new told.new }
     {
         match self.state {
             State::TeiAssigned => told.leave_unserved(),

@@ -30,9 +30,9 @@ impl Entity {
     /// The next frame, if there is one, while so many contents are queued: the control frame that has waited longest; else
     /// an I-frame; else the acknowledgement that is owed.
     #[inline(always)]
-    pub fn offer(&mut self, terms: Terms, told: &mut Told, queued: usize) -> Option<Given>
-        requires { terms.k ≤ 127 }
-        ensures { Gives terms (offers.offer_step terms) queued self.old told.old self.new told.new result }
+    pub fn offer(&mut self, terms: &Terms, told: &mut Told, queued: usize) -> Option<Given>
+        requires { terms.now.k ≤ 127 }
+        ensures { Gives terms.now (offers.offer_step terms.now) queued self.old told.old self.new told.new result }
     {
         match self.waiting.pop_front() {
             Some(frame) => Some(Given { frame, place: None }),
@@ -42,9 +42,9 @@ impl Entity {
 
     // The next frame while no control frame waits.
     #[inline(always)]
-    fn offer_numbered(&mut self, terms: Terms, told: &mut Told, queued: usize) -> Option<Given>
-        requires { terms.k ≤ 127 }
-        ensures { Gives terms (offers.offer_among terms []) queued self.old told.old self.new told.new result }
+    fn offer_numbered(&mut self, terms: &Terms, told: &mut Told, queued: usize) -> Option<Given>
+        requires { terms.now.k ≤ 127 }
+        ensures { Gives terms.now (offers.offer_among terms.now []) queued self.old told.old self.new told.new result }
     {
         if self.may_send_information(terms, queued) {
             return Some(self.send_information(told));
@@ -66,10 +66,10 @@ impl Entity {
     }
 
     // Whether an I-frame may be sent.
-    fn may_send_information(&self, terms: Terms, queued: usize) -> bool
-        ensures window { IsTrue result → outstanding_of self.now.window < terms.k }
+    fn may_send_information(&self, terms: &Terms, queued: usize) -> bool
+        ensures window { IsTrue result → outstanding_of self.now.window < terms.now.k }
         ensures machine { (messages : List (List ℕ)) (t : Told) (p : Past) → length messages ≡ queued → t.released ≡ 0 →
-            Fits terms messages self.now t p → result ≡ offers.may_send_information terms (link_of self.now p) }
+            Fits terms.now messages self.now t p → result ≡ offers.may_send_information terms.now (link_of self.now p) }
     {
         matches!(self.state, State::Established)
             && !self.peer_busy

@@ -15,10 +15,10 @@ use model_link::{State, Terms};
 
 impl Entity {
     /// Layer 3 asks for the release. In states 5 and 6 nothing is done.
-    pub fn release(&mut self, terms: Terms, told: &mut Told)
+    pub fn release(&mut self, terms: &Terms, told: &mut Told)
         requires { HasRoom 2 2 told.old }
         ensures tells { Tells 2 2 told.old told.new }
-        ensures does { (info : List ℕ) → Does terms info (released_by_state terms) self.old told.old self.new told.new }
+        ensures does { (info : List ℕ) → Does terms.now info (released_by_state terms.now) self.old told.old self.new told.new }
     {
         match self.state {
             State::TeiAssigned => told.release_confirm(terms),
@@ -30,20 +30,20 @@ impl Entity {
     }
 
     /// The TEI leaves the line: layer 3 is told as the state has it, and the entity is as one that begins.
-    pub fn clear(&mut self, terms: Terms, told: &mut Told)
+    pub fn clear(&mut self, terms: &Terms, told: &mut Told)
         requires { HasRoom 2 2 told.old }
         ensures tells { Tells 2 2 told.old told.new }
-        ensures does { (info : List ℕ) → Does terms info (cleared_step terms) self.old told.old self.new told.new }
+        ensures does { (info : List ℕ) → Does terms.now info (cleared_step terms.now) self.old told.old self.new told.new }
     {
         self.tell_clearing(terms, told);
         self.begin_anew(told);
     }
 
-    fn tell_clearing(&self, terms: Terms, told: &mut Told)
+    fn tell_clearing(&self, terms: &Terms, told: &mut Told)
         requires { HasRoom 1 0 told.old }
         ensures tells { Tells 1 0 told.old told.new }
         ensures does { (info : List ℕ) →
-            Does terms info (told_of_clearing_by_state terms) self.now told.old self.now told.new }
+            Does terms.now info (told_of_clearing_by_state terms.now) self.now told.old self.now told.new }
     {
         match self.state {
             State::TeiAssigned => {}

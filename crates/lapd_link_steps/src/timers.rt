@@ -23,10 +23,10 @@ pub fn is_the(timer: LinkTimer, other: Option<LinkTimer>) -> bool
 impl Entity {
     /// A timer expires. One that does not run changes nothing.
     #[tactic(auto, using(crate::proofs::Steps::where_yes))]
-    pub fn expire(&mut self, terms: Terms, told: &mut Told, timer: LinkTimer)
+    pub fn expire(&mut self, terms: &Terms, told: &mut Told, timer: LinkTimer)
         requires { HasRoom 2 2 told.old }
         ensures tells { Tells 2 2 told.old told.new }
-        ensures does { (info : List ℕ) → Does terms info (expired_step terms timer) self.old told.old self.new told.new }
+        ensures does { (info : List ℕ) → Does terms.now info (expired_step terms.now timer) self.old told.old self.new told.new }
     {
         if self.runs(timer) {
             self.expire_running(terms, told, timer);
@@ -40,10 +40,10 @@ impl Entity {
         is_the(timer, self.running)
     }
 
-    fn expire_running(&mut self, terms: Terms, told: &mut Told, timer: LinkTimer)
+    fn expire_running(&mut self, terms: &Terms, told: &mut Told, timer: LinkTimer)
         requires { HasRoom 2 2 told.old }
         ensures tells { Tells 2 2 told.old told.new }
-        ensures does { (info : List ℕ) → Does terms info (expire_running timer terms) self.old told.old self.new told.new }
+        ensures does { (info : List ℕ) → Does terms.now info (expire_running timer terms.now) self.old told.old self.new told.new }
     {
         match (self.state, timer) {
             (State::AwaitingEstablishment, LinkTimer::T200) => self.t200_in_5(terms, told),

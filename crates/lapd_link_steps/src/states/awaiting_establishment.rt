@@ -13,9 +13,10 @@ use model_link::{LinkTimer, State, Terms};
 
 impl Entity {
     // A frame with so many octets of information.
+    #[cold]
     pub(crate) fn frame_in_5(
         &mut self,
-        terms: Terms,
+        terms: &Terms,
         told: &mut Told,
         control: Control,
         octets: usize,
@@ -23,7 +24,7 @@ impl Entity {
         requires { HasRoom 1 1 told.old }
         ensures tells { Tells 1 1 told.old told.new }
         ensures does { (info : List ℕ) → length info ≡ octets →
-            Does terms info (row.frame_in_5 terms info control) self.old told.old self.new told.new }
+            Does terms.now info (row.frame_in_5 terms.now info control) self.old told.old self.new told.new }
     {
         match control {
             Control::Sabme { pf } => self.response(terms, told, Control::Ua { pf }),
@@ -43,10 +44,10 @@ impl Entity {
     }
 
     // The terminal accepts the SABME.
-    fn accepted_in_5(&mut self, terms: Terms, told: &mut Told)
+    fn accepted_in_5(&mut self, terms: &Terms, told: &mut Told)
         requires { HasRoom 1 0 told.old }
         ensures tells { Tells 1 0 told.old told.new }
-        ensures does { (info : List ℕ) → Does terms info (row.frame_in_5 terms info (Ua true)) self.old told.old self.new told.new }
+        ensures does { (info : List ℕ) → Does terms.now info (row.frame_in_5 terms.now info (Ua true)) self.old told.old self.new told.new }
     {
         self.tell_establishment(terms, told);
         self.zero_numbers(told);
@@ -55,10 +56,10 @@ impl Entity {
     }
 
     // Layer 3 is told where it asked, or where contents are lost.
-    fn tell_establishment(&mut self, terms: Terms, told: &mut Told)
+    fn tell_establishment(&mut self, terms: &Terms, told: &mut Told)
         requires { HasRoom 1 0 told.old }
         ensures tells { Tells 1 0 told.old told.new }
-        ensures does { (info : List ℕ) → Does terms info (told_of_establishment terms) self.old told.old self.new told.new }
+        ensures does { (info : List ℕ) → Does terms.now info (told_of_establishment terms.now) self.old told.old self.new told.new }
     {
         if self.asked {
             told.establish_confirm(terms);
@@ -68,10 +69,10 @@ impl Entity {
     }
 
     // The terminal declines it.
-    fn declined_in_5(&mut self, terms: Terms, told: &mut Told)
+    fn declined_in_5(&mut self, terms: &Terms, told: &mut Told)
         requires { HasRoom 1 0 told.old }
         ensures tells { Tells 1 0 told.old told.new }
-        ensures does { (info : List ℕ) → Does terms info (row.frame_in_5 terms info (Dm true)) self.old told.old self.new told.new }
+        ensures does { (info : List ℕ) → Does terms.now info (row.frame_in_5 terms.now info (Dm true)) self.old told.old self.new told.new }
     {
         self.discard(told);
         told.release_indication(terms);
@@ -79,10 +80,10 @@ impl Entity {
         self.enter(State::TeiAssigned);
     }
 
-    pub(crate) fn t200_in_5(&mut self, terms: Terms, told: &mut Told)
+    pub(crate) fn t200_in_5(&mut self, terms: &Terms, told: &mut Told)
         requires { HasRoom 2 1 told.old }
         ensures tells { Tells 2 1 told.old told.new }
-        ensures does { (info : List ℕ) → Does terms info (row.t200_in_5 terms) self.old told.old self.new told.new }
+        ensures does { (info : List ℕ) → Does terms.now info (row.t200_in_5 terms.now) self.old told.old self.new told.new }
     {
         if self.repeats < terms.n200 {
             self.command(terms, told, Control::Sabme { pf: true });

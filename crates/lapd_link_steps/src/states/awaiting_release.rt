@@ -12,9 +12,10 @@ use model_link::{LinkTimer, State, Terms};
 
 impl Entity {
     // A frame with so many octets of information.
+    #[cold]
     pub(crate) fn frame_in_6(
         &mut self,
-        terms: Terms,
+        terms: &Terms,
         told: &mut Told,
         control: Control,
         octets: usize,
@@ -22,7 +23,7 @@ impl Entity {
         requires { HasRoom 1 1 told.old }
         ensures tells { Tells 1 1 told.old told.new }
         ensures does { (info : List ℕ) → length info ≡ octets →
-            Does terms info (row.frame_in_6 terms info control) self.old told.old self.new told.new }
+            Does terms.now info (row.frame_in_6 terms.now info control) self.old told.old self.new told.new }
     {
         match control {
             Control::Sabme { pf } => self.response(terms, told, Control::Dm { pf }),
@@ -42,20 +43,20 @@ impl Entity {
     }
 
     // The terminal answers the DISC.
-    fn released_in_6(&mut self, terms: Terms, told: &mut Told)
+    fn released_in_6(&mut self, terms: &Terms, told: &mut Told)
         requires { HasRoom 1 0 told.old }
         ensures tells { Tells 1 0 told.old told.new }
-        ensures does { (info : List ℕ) → Does terms info (row.frame_in_6 terms info (Ua true)) self.old told.old self.new told.new }
+        ensures does { (info : List ℕ) → Does terms.now info (row.frame_in_6 terms.now info (Ua true)) self.old told.old self.new told.new }
     {
         told.release_confirm(terms);
         self.no_timer(told);
         self.enter(State::TeiAssigned);
     }
 
-    pub(crate) fn t200_in_6(&mut self, terms: Terms, told: &mut Told)
+    pub(crate) fn t200_in_6(&mut self, terms: &Terms, told: &mut Told)
         requires { HasRoom 2 1 told.old }
         ensures tells { Tells 2 1 told.old told.new }
-        ensures does { (info : List ℕ) → Does terms info (row.t200_in_6 terms) self.old told.old self.new told.new }
+        ensures does { (info : List ℕ) → Does terms.now info (row.t200_in_6 terms.now) self.old told.old self.new told.new }
     {
         if self.repeats < terms.n200 {
             self.command(terms, told, Control::Disc { pf: true });

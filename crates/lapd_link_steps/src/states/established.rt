@@ -18,6 +18,7 @@ use model_link::{LinkTimer, State, Terms};
 
 impl Entity {
     // What a valid N(R) does, by the frame that brought it. It is the same for a final frame and another.
+    #[inline(always)]
     pub(crate) fn acknowledged_in_7(&mut self, told: &mut Told, nr: Seq, by: Bearer)
         requires { IsValid (va_of self.old.window) nr (vs_of self.old.window) }
         ensures tells { Tells 0 0 told.old told.new }
@@ -45,6 +46,7 @@ impl Entity {
     }
 
     // RR, or an I-frame while the terminal is not busy.
+    #[inline(always)]
     fn acknowledged_by_rr_in_7(&mut self, told: &mut Told, nr: Seq)
         requires { IsValid (va_of self.old.window) nr (vs_of self.old.window) }
         ensures tells { Tells 0 0 told.old told.new }
@@ -83,10 +85,10 @@ impl Entity {
         self.start_timer(told, LinkTimer::T203);
     }
 
-    pub(crate) fn timer_in_7(&mut self, terms: Terms, told: &mut Told)
+    pub(crate) fn timer_in_7(&mut self, terms: &Terms, told: &mut Told)
         requires { HasRoom 0 1 told.old }
         ensures tells { Tells 0 1 told.old told.new }
-        ensures does { (info : List ℕ) → Does terms info (row.timer_in_7 terms) self.old told.old self.new told.new }
+        ensures does { (info : List ℕ) → Does terms.now info (row.timer_in_7 terms.now) self.old told.old self.new told.new }
     {
         self.repeats_are_0();
         self.enquire(terms, told);
@@ -97,11 +99,12 @@ impl Entity {
 
 impl Told {
     // A final response that no command asked for.
+    #[inline(always)]
     #[tactic(auto, using(crate::proofs::Steps::bit_yes, crate::proofs::Steps::bit_no))]
-    pub(crate) fn unsolicited(&mut self, terms: Terms, last: bool)
+    pub(crate) fn unsolicited(&mut self, terms: &Terms, last: bool)
         requires { HasRoom 1 0 self.old }
         ensures tells { Tells 1 0 self.old self.new }
-        ensures does { (info : List ℕ) (e : Entity) → Does terms info (row.unsolicited terms last) e self.old e self.new }
+        ensures does { (info : List ℕ) (e : Entity) → Does terms.now info (row.unsolicited terms.now last) e self.old e self.new }
     {
         if last {
             self.error(terms, ErrorCode::A);

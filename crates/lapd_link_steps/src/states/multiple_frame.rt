@@ -15,10 +15,11 @@ use model_link::{LinkTimer, State, Terms};
 impl Told {
     // UA, which no command asked for.
     #[tactic(auto, using(crate::proofs::Steps::bit_yes, crate::proofs::Steps::bit_no))]
-    pub(crate) fn ua_in_7_8(&mut self, terms: Terms, pf: bool)
+    #[cold]
+    pub(crate) fn ua_in_7_8(&mut self, terms: &Terms, pf: bool)
         requires { HasRoom 1 0 self.old }
         ensures tells { Tells 1 0 self.old self.new }
-        ensures does { Adds (row.ua_in_7_8 terms pf) self.old self.new }
+        ensures does { Adds (row.ua_in_7_8 terms.now pf) self.old self.new }
     {
         if pf {
             self.error(terms, ErrorCode::C);
@@ -49,7 +50,7 @@ impl Entity {
     #[inline(always)]
     pub(crate) fn frame_in_7_8(
         &mut self,
-        terms: Terms,
+        terms: &Terms,
         told: &mut Told,
         recovering: bool,
         command: bool,
@@ -59,7 +60,7 @@ impl Entity {
         requires { HasRoom 2 2 told.old }
         ensures tells { Tells 2 2 told.old told.new }
         ensures does { (info : List ℕ) → length info ≡ octets →
-            Does terms info (row.frame_in_7_8 (particulars recovering terms) terms command info control) self.old told.old self.new told.new }
+            Does terms.now info (row.frame_in_7_8 (particulars recovering terms.now) terms.now command info control) self.old told.old self.new told.new }
     {
         match control {
             Control::Information { ns, nr, pf } => {
@@ -93,9 +94,10 @@ impl Entity {
     }
 
     // A supervisory frame came, before its N(R) has its effect. Whether it is final.
+    #[inline(always)]
     fn supervised(
         &mut self,
-        terms: Terms,
+        terms: &Terms,
         told: &mut Told,
         recovering: bool,
         busy: bool,
@@ -106,7 +108,7 @@ impl Entity {
         ensures tells { Tells 1 1 told.old told.new }
         ensures last { result ≡ row.is_final command pf }
         ensures does { (info : List ℕ) →
-            Does terms info (supervised (particulars recovering terms) terms busy command pf) self.old told.old self.new told.new }
+            Does terms.now info (supervised (particulars recovering terms.now) terms.now busy command pf) self.old told.old self.new told.new }
     {
         let last = is_final(command, pf);
         self.peer_busy_is(busy);
@@ -122,7 +124,7 @@ impl Entity {
     #[inline(always)]
     fn number(
         &mut self,
-        terms: Terms,
+        terms: &Terms,
         told: &mut Told,
         recovering: bool,
         nr: Seq,
@@ -132,7 +134,7 @@ impl Entity {
         requires { HasRoom 1 1 told.old }
         ensures tells { Tells 1 1 told.old told.new }
         ensures does { (info : List ℕ) →
-            Does terms info (by_number terms nr (effect_of (particulars recovering terms) by last)) self.old told.old self.new told.new }
+            Does terms.now info (by_number terms.now nr (effect_of (particulars recovering terms.now) by last)) self.old told.old self.new told.new }
     {
         if !self.names(nr) {
             return self.failed(terms, told, ErrorCode::J);
@@ -144,10 +146,11 @@ impl Entity {
     }
 
     // DM with F=1.
-    fn dm_in_7_8(&mut self, terms: Terms, told: &mut Told, recovering: bool)
+    #[cold]
+    fn dm_in_7_8(&mut self, terms: &Terms, told: &mut Told, recovering: bool)
         requires { HasRoom 1 1 told.old }
         ensures tells { Tells 1 1 told.old told.new }
-        ensures does { (info : List ℕ) → Does terms info (particulars recovering terms).by_dm self.old told.old self.new told.new }
+        ensures does { (info : List ℕ) → Does terms.now info (particulars recovering terms.now).by_dm self.old told.old self.new told.new }
     {
         if recovering {
             return self.failed(terms, told, ErrorCode::B);
@@ -156,10 +159,10 @@ impl Entity {
     }
 
     // Layer 3 asks for the release.
-    pub(crate) fn release_in_7_8(&mut self, terms: Terms, told: &mut Told)
+    pub(crate) fn release_in_7_8(&mut self, terms: &Terms, told: &mut Told)
         requires { HasRoom 0 1 told.old }
         ensures tells { Tells 0 1 told.old told.new }
-        ensures does { (info : List ℕ) → Does terms info (row.release_in_7_8 terms) self.old told.old self.new told.new }
+        ensures does { (info : List ℕ) → Does terms.now info (row.release_in_7_8 terms.now) self.old told.old self.new told.new }
     {
         self.discard(told);
         self.pending_is(false);
@@ -170,10 +173,10 @@ impl Entity {
     }
 
     /// Layer 3 can take no more contents, in states 7 and 8.
-    pub fn set_busy_in_7_8(&mut self, terms: Terms, told: &mut Told)
+    pub fn set_busy_in_7_8(&mut self, terms: &Terms, told: &mut Told)
         requires { HasRoom 0 1 told.old }
         ensures tells { Tells 0 1 told.old told.new }
-        ensures does { (info : List ℕ) → Does terms info (row.set_busy_in_7_8 terms) self.old told.old self.new told.new }
+        ensures does { (info : List ℕ) → Does terms.now info (row.set_busy_in_7_8 terms.now) self.old told.old self.new told.new }
     {
         if self.own_busy {
             return;
@@ -183,10 +186,10 @@ impl Entity {
     }
 
     /// Layer 3 can take contents again, in states 7 and 8.
-    pub fn clear_busy_in_7_8(&mut self, terms: Terms, told: &mut Told)
+    pub fn clear_busy_in_7_8(&mut self, terms: &Terms, told: &mut Told)
         requires { HasRoom 0 1 told.old }
         ensures tells { Tells 0 1 told.old told.new }
-        ensures does { (info : List ℕ) → Does terms info (row.clear_busy_in_7_8 terms) self.old told.old self.new told.new }
+        ensures does { (info : List ℕ) → Does terms.now info (row.clear_busy_in_7_8 terms.now) self.old told.old self.new told.new }
     {
         if !self.own_busy {
             return;
@@ -196,10 +199,11 @@ impl Entity {
     }
 
     // The terminal establishes the link again.
-    pub(crate) fn sabme_in_7_8(&mut self, terms: Terms, told: &mut Told, pf: bool)
+    #[cold]
+    pub(crate) fn sabme_in_7_8(&mut self, terms: &Terms, told: &mut Told, pf: bool)
         requires { HasRoom 2 1 told.old }
         ensures tells { Tells 2 1 told.old told.new }
-        ensures does { (info : List ℕ) → Does terms info (row.sabme_in_7_8 terms pf) self.old told.old self.new told.new }
+        ensures does { (info : List ℕ) → Does terms.now info (row.sabme_in_7_8 terms.now pf) self.old told.old self.new told.new }
     {
         self.response(terms, told, Control::Ua { pf });
         self.clear_flags();
@@ -211,10 +215,10 @@ impl Entity {
     }
 
     // Where contents are outstanding, all are lost, and layer 3 is told.
-    pub(crate) fn discard_outstanding(&mut self, terms: Terms, told: &mut Told)
+    pub(crate) fn discard_outstanding(&mut self, terms: &Terms, told: &mut Told)
         requires { HasRoom 1 0 told.old }
         ensures tells { Tells 1 0 told.old told.new }
-        ensures does { (info : List ℕ) → Does terms info (renewed terms) self.old told.old self.new told.new }
+        ensures does { (info : List ℕ) → Does terms.now info (renewed terms.now) self.old told.old self.new told.new }
     {
         if self.window.is_settled() {
             return;
@@ -224,10 +228,11 @@ impl Entity {
     }
 
     // The terminal releases the link.
-    pub(crate) fn disc_in_7_8(&mut self, terms: Terms, told: &mut Told, pf: bool)
+    #[cold]
+    pub(crate) fn disc_in_7_8(&mut self, terms: &Terms, told: &mut Told, pf: bool)
         requires { HasRoom 1 1 told.old }
         ensures tells { Tells 1 1 told.old told.new }
-        ensures does { (info : List ℕ) → Does terms info (row.disc_in_7_8 terms pf) self.old told.old self.new told.new }
+        ensures does { (info : List ℕ) → Does terms.now info (row.disc_in_7_8 terms.now pf) self.old told.old self.new told.new }
     {
         self.discard(told);
         self.pending_is(false);
@@ -238,21 +243,23 @@ impl Entity {
     }
 
     // An error that is told, and after which the link is established again.
-    pub(crate) fn failed(&mut self, terms: Terms, told: &mut Told, code: ErrorCode)
+    #[cold]
+    pub(crate) fn failed(&mut self, terms: &Terms, told: &mut Told, code: ErrorCode)
         requires { HasRoom 1 1 told.old }
         ensures tells { Tells 1 1 told.old told.new }
-        ensures does { (info : List ℕ) → Does terms info (row.failed terms code) self.old told.old self.new told.new }
+        ensures does { (info : List ℕ) → Does terms.now info (row.failed terms.now code) self.old told.old self.new told.new }
     {
         told.error(terms, code);
         self.re_establish(terms, told);
     }
 
     // A command with P=1 is answered.
+    #[inline(always)]
     #[tactic(auto, using(crate::proofs::Steps::bit_yes, crate::proofs::Steps::bit_no))]
-    pub(crate) fn answered(&mut self, terms: Terms, told: &mut Told, command: bool, pf: bool)
+    pub(crate) fn answered(&mut self, terms: &Terms, told: &mut Told, command: bool, pf: bool)
         requires { HasRoom 0 1 told.old }
         ensures tells { Tells 0 1 told.old told.new }
-        ensures does { (info : List ℕ) → Does terms info (row.answered terms command pf) self.old told.old self.new told.new }
+        ensures does { (info : List ℕ) → Does terms.now info (row.answered terms.now command pf) self.old told.old self.new told.new }
     {
         if command && pf {
             self.answer(terms, told);
@@ -260,10 +267,10 @@ impl Entity {
     }
 
     // The contents of an I-frame.
-    pub(crate) fn contents_in_7_8(&mut self, terms: Terms, told: &mut Told, ns: Seq, pf: bool)
+    pub(crate) fn contents_in_7_8(&mut self, terms: &Terms, told: &mut Told, ns: Seq, pf: bool)
         requires { HasRoom 1 1 told.old }
         ensures tells { Tells 1 1 told.old told.new }
-        ensures does { (info : List ℕ) → Does terms info (row.contents_in_7_8 terms ns pf info) self.old told.old self.new told.new }
+        ensures does { (info : List ℕ) → Does terms.now info (row.contents_in_7_8 terms.now ns pf info) self.old told.old self.new told.new }
     {
         if self.own_busy {
             return self.answer_if(terms, told, pf);
@@ -276,10 +283,10 @@ impl Entity {
 
     // P=1 is answered.
     #[tactic(auto, using(crate::proofs::Steps::bit_yes, crate::proofs::Steps::bit_no))]
-    fn answer_if(&mut self, terms: Terms, told: &mut Told, pf: bool)
+    fn answer_if(&mut self, terms: &Terms, told: &mut Told, pf: bool)
         requires { HasRoom 0 1 told.old }
         ensures tells { Tells 0 1 told.old told.new }
-        ensures does { (info : List ℕ) → Does terms info (row.dropped terms pf) self.old told.old self.new told.new }
+        ensures does { (info : List ℕ) → Does terms.now info (row.dropped terms.now pf) self.old told.old self.new told.new }
     {
         if pf {
             self.answer(terms, told);
@@ -287,10 +294,10 @@ impl Entity {
     }
 
     // The next in sequence is delivered.
-    fn in_sequence(&mut self, terms: Terms, told: &mut Told, pf: bool)
+    fn in_sequence(&mut self, terms: &Terms, told: &mut Told, pf: bool)
         requires { HasRoom 1 1 told.old }
         ensures tells { Tells 1 1 told.old told.new }
-        ensures does { (info : List ℕ) → Does terms info (row.in_sequence terms pf info) self.old told.old self.new told.new }
+        ensures does { (info : List ℕ) → Does terms.now info (row.in_sequence terms.now pf info) self.old told.old self.new told.new }
     {
         self.count_received();
         self.rejecting_is(false);
@@ -303,10 +310,11 @@ impl Entity {
     }
 
     // Another is asked for again, once.
-    fn out_of_sequence(&mut self, terms: Terms, told: &mut Told, pf: bool)
+    #[cold]
+    fn out_of_sequence(&mut self, terms: &Terms, told: &mut Told, pf: bool)
         requires { HasRoom 0 1 told.old }
         ensures tells { Tells 0 1 told.old told.new }
-        ensures does { (info : List ℕ) → Does terms info (row.out_of_sequence terms pf) self.old told.old self.new told.new }
+        ensures does { (info : List ℕ) → Does terms.now info (row.out_of_sequence terms.now pf) self.old told.old self.new told.new }
     {
         if self.rejecting {
             return self.answer_if(terms, told, pf);

@@ -12,9 +12,10 @@ use model_link::{LinkTimer, State, Terms};
 
 impl Entity {
     // A frame with so many octets of information.
+    #[cold]
     pub(crate) fn frame_in_4(
         &mut self,
-        terms: Terms,
+        terms: &Terms,
         told: &mut Told,
         control: Control,
         octets: usize,
@@ -22,7 +23,7 @@ impl Entity {
         requires { HasRoom 1 1 told.old }
         ensures tells { Tells 1 1 told.old told.new }
         ensures does { (info : List ℕ) → length info ≡ octets →
-            Does terms info (row.frame_in_4 terms info control) self.old told.old self.new told.new }
+            Does terms.now info (row.frame_in_4 terms.now info control) self.old told.old self.new told.new }
     {
         match control {
             Control::Sabme { pf } => self.sabme_in_4(terms, told, pf),
@@ -36,10 +37,10 @@ impl Entity {
     }
 
     // The terminal establishes the link.
-    fn sabme_in_4(&mut self, terms: Terms, told: &mut Told, pf: bool)
+    fn sabme_in_4(&mut self, terms: &Terms, told: &mut Told, pf: bool)
         requires { HasRoom 1 1 told.old }
         ensures tells { Tells 1 1 told.old told.new }
-        ensures does { (info : List ℕ) → Does terms info (row.frame_in_4 terms info (Sabme pf)) self.old told.old self.new told.new }
+        ensures does { (info : List ℕ) → Does terms.now info (row.frame_in_4 terms.now info (Sabme pf)) self.old told.old self.new told.new }
     {
         self.response(terms, told, Control::Ua { pf });
         self.clear_flags();
@@ -50,10 +51,10 @@ impl Entity {
     }
 
     /// Layer 3 asks for the establishment, in state 4.
-    pub fn establish_in_4(&mut self, terms: Terms, told: &mut Told)
+    pub fn establish_in_4(&mut self, terms: &Terms, told: &mut Told)
         requires { HasRoom 0 1 told.old }
         ensures tells { Tells 0 1 told.old told.new }
-        ensures does { (info : List ℕ) → Does terms info (row.establish_in_4 terms) self.old told.old self.new told.new }
+        ensures does { (info : List ℕ) → Does terms.now info (row.establish_in_4 terms.now) self.old told.old self.new told.new }
     {
         self.clear_flags();
         self.command(terms, told, Control::Sabme { pf: true });

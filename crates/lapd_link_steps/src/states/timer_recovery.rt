@@ -61,10 +61,10 @@ impl Entity {
         self.enter(State::Established);
     }
 
-    pub(crate) fn t200_in_8(&mut self, terms: Terms, told: &mut Told)
+    pub(crate) fn t200_in_8(&mut self, terms: &Terms, told: &mut Told)
         requires { HasRoom 1 1 told.old }
         ensures tells { Tells 1 1 told.old told.new }
-        ensures does { (info : List ℕ) → Does terms info (row.t200_in_8 terms) self.old told.old self.new told.new }
+        ensures does { (info : List ℕ) → Does terms.now info (row.t200_in_8 terms.now) self.old told.old self.new told.new }
     {
         if self.repeats < terms.n200 {
             self.enquire(terms, told);

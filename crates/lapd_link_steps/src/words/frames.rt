@@ -13,22 +13,22 @@ use model_link::{ControlFrame, LinkTimer, State, Terms};
 
 impl Entity {
     // Puts a frame into the ring. Where the ring is full, it is lost.
-    pub(crate) fn send(&mut self, terms: Terms, told: &mut Told, frame: ControlFrame)
+    pub(crate) fn send(&mut self, terms: &Terms, told: &mut Told, frame: ControlFrame)
         requires { HasRoom 0 1 told.old }
         ensures tells { Tells 0 1 told.old told.new }
         ensures repeats { self.new.repeats ≡ self.old.repeats }
-        ensures does { (info : List ℕ) → Does terms info (word.send terms frame) self.old told.old self.new told.new }
+        ensures does { (info : List ℕ) → Does terms.now info (word.send terms.now frame) self.old told.old self.new told.new }
     {
         if self.waiting.try_push_back(frame).is_err() {
             told.lost += 1;
         }
     }
 
-    pub(crate) fn command(&mut self, terms: Terms, told: &mut Told, control: Control)
+    pub(crate) fn command(&mut self, terms: &Terms, told: &mut Told, control: Control)
         requires { HasRoom 0 1 told.old }
         ensures tells { Tells 0 1 told.old told.new }
         ensures repeats { self.new.repeats ≡ self.old.repeats }
-        ensures does { (info : List ℕ) → Does terms info (word.send terms (word.command control)) self.old told.old self.new told.new }
+        ensures does { (info : List ℕ) → Does terms.now info (word.send terms.now (word.command control)) self.old told.old self.new told.new }
     {
         self.send(
             terms,
@@ -40,10 +40,10 @@ impl Entity {
         );
     }
 
-    pub(crate) fn response(&mut self, terms: Terms, told: &mut Told, control: Control)
+    pub(crate) fn response(&mut self, terms: &Terms, told: &mut Told, control: Control)
         requires { HasRoom 0 1 told.old }
         ensures tells { Tells 0 1 told.old told.new }
-        ensures does { (info : List ℕ) → Does terms info (word.send terms (word.response control)) self.old told.old self.new told.new }
+        ensures does { (info : List ℕ) → Does terms.now info (word.send terms.now (word.response control)) self.old told.old self.new told.new }
     {
         self.send(
             terms,
@@ -67,11 +67,11 @@ impl Entity {
     }
 
     // Asks for the terminal's state.
-    pub(crate) fn enquire(&mut self, terms: Terms, told: &mut Told)
+    pub(crate) fn enquire(&mut self, terms: &Terms, told: &mut Told)
         requires { HasRoom 0 1 told.old }
         ensures tells { Tells 0 1 told.old told.new }
         ensures repeats { self.new.repeats ≡ self.old.repeats }
-        ensures does { (info : List ℕ) → Does terms info (word.enquire terms) self.old told.old self.new told.new }
+        ensures does { (info : List ℕ) → Does terms.now info (word.enquire terms.now) self.old told.old self.new told.new }
     {
         let ready = self.ready_to_receive(true);
         self.command(terms, told, ready);
@@ -79,10 +79,10 @@ impl Entity {
     }
 
     // Answers a command with P.
-    pub(crate) fn answer(&mut self, terms: Terms, told: &mut Told)
+    pub(crate) fn answer(&mut self, terms: &Terms, told: &mut Told)
         requires { HasRoom 0 1 told.old }
         ensures tells { Tells 0 1 told.old told.new }
-        ensures does { (info : List ℕ) → Does terms info (word.answer terms) self.old told.old self.new told.new }
+        ensures does { (info : List ℕ) → Does terms.now info (word.answer terms.now) self.old told.old self.new told.new }
     {
         let ready = self.ready_to_receive(true);
         self.response(terms, told, ready);
@@ -90,10 +90,10 @@ impl Entity {
     }
 
     // Reports, unasked, whether own busy is on.
-    pub(crate) fn report_ready(&mut self, terms: Terms, told: &mut Told)
+    pub(crate) fn report_ready(&mut self, terms: &Terms, told: &mut Told)
         requires { HasRoom 0 1 told.old }
         ensures tells { Tells 0 1 told.old told.new }
-        ensures does { (info : List ℕ) → Does terms info (word.report_ready terms) self.old told.old self.new told.new }
+        ensures does { (info : List ℕ) → Does terms.now info (word.report_ready terms.now) self.old told.old self.new told.new }
     {
         let ready = self.ready_to_receive(false);
         self.response(terms, told, ready);
@@ -101,20 +101,20 @@ impl Entity {
     }
 
     // Asks for the I-frames from V(R) on again.
-    pub(crate) fn reject(&mut self, terms: Terms, told: &mut Told, pf: bool)
+    pub(crate) fn reject(&mut self, terms: &Terms, told: &mut Told, pf: bool)
         requires { HasRoom 0 1 told.old }
         ensures tells { Tells 0 1 told.old told.new }
-        ensures does { (info : List ℕ) → Does terms info (word.reject terms pf) self.old told.old self.new told.new }
+        ensures does { (info : List ℕ) → Does terms.now info (word.reject terms.now pf) self.old told.old self.new told.new }
     {
         self.response(terms, told, Control::Reject { nr: self.vr, pf });
         self.pending_is(false);
     }
 
     // Begins the establishment again.
-    pub(crate) fn re_establish(&mut self, terms: Terms, told: &mut Told)
+    pub(crate) fn re_establish(&mut self, terms: &Terms, told: &mut Told)
         requires { HasRoom 0 1 told.old }
         ensures tells { Tells 0 1 told.old told.new }
-        ensures does { (info : List ℕ) → Does terms info (word.re_establish terms) self.old told.old self.new told.new }
+        ensures does { (info : List ℕ) → Does terms.now info (word.re_establish terms.now) self.old told.old self.new told.new }
     {
         self.clear_flags();
         self.command(terms, told, Control::Sabme { pf: true });

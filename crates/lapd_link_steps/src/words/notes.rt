@@ -18,61 +18,61 @@ impl Told {
         self.notes.push(note);
     }
 
-    pub(crate) fn establish_indication(&mut self, terms: Terms)
+    pub(crate) fn establish_indication(&mut self, terms: &Terms)
         requires { HasRoom 1 0 self.old }
         ensures tells { Tells 1 0 self.old self.new }
-        ensures does { Adds (word.establish_indication terms) self.old self.new }
+        ensures does { Adds (word.establish_indication terms.now) self.old self.new }
     {
         self.note(Note::EstablishIndication(terms.service, terms.tei));
     }
 
-    pub(crate) fn establish_confirm(&mut self, terms: Terms)
+    pub(crate) fn establish_confirm(&mut self, terms: &Terms)
         requires { HasRoom 1 0 self.old }
         ensures tells { Tells 1 0 self.old self.new }
-        ensures does { Adds (word.establish_confirm terms) self.old self.new }
+        ensures does { Adds (word.establish_confirm terms.now) self.old self.new }
     {
         self.note(Note::EstablishConfirm(terms.service, terms.tei));
     }
 
-    pub(crate) fn release_indication(&mut self, terms: Terms)
+    pub(crate) fn release_indication(&mut self, terms: &Terms)
         requires { HasRoom 1 0 self.old }
         ensures tells { Tells 1 0 self.old self.new }
-        ensures does { Adds (word.release_indication terms) self.old self.new }
+        ensures does { Adds (word.release_indication terms.now) self.old self.new }
     {
         self.note(Note::ReleaseIndication(terms.service, terms.tei));
     }
 
-    pub(crate) fn release_confirm(&mut self, terms: Terms)
+    pub(crate) fn release_confirm(&mut self, terms: &Terms)
         requires { HasRoom 1 0 self.old }
         ensures tells { Tells 1 0 self.old self.new }
-        ensures does { Adds (word.release_confirm terms) self.old self.new }
+        ensures does { Adds (word.release_confirm terms.now) self.old self.new }
     {
         self.note(Note::ReleaseConfirm(terms.service, terms.tei));
     }
 
-    pub(crate) fn error(&mut self, terms: Terms, code: ErrorCode)
+    pub(crate) fn error(&mut self, terms: &Terms, code: ErrorCode)
         requires { HasRoom 1 0 self.old }
         ensures tells { Tells 1 0 self.old self.new }
-        ensures does { Adds (word.error terms code) self.old self.new }
+        ensures does { Adds (word.error terms.now code) self.old self.new }
     {
         self.note(Note::Error(terms.service, terms.tei, code));
     }
 
     // The information of an I-frame is delivered.
-    pub(crate) fn deliver(&mut self, terms: Terms)
+    pub(crate) fn deliver(&mut self, terms: &Terms)
         requires { HasRoom 1 0 self.old }
         ensures tells { Tells 1 0 self.old self.new }
-        ensures does { (info : List ℕ) (e : Entity) → Does terms info (word.deliver terms info) e self.old e self.new }
+        ensures does { (info : List ℕ) (e : Entity) → Does terms.now info (word.deliver terms.now info) e self.old e self.new }
     {
         self.notes.push(Note::Data(terms.service, terms.tei));
         self.delivered = true;
     }
 
     // That of a UI frame is told.
-    pub(crate) fn deliver_unit(&mut self, terms: Terms)
+    pub(crate) fn deliver_unit(&mut self, terms: &Terms)
         requires { HasRoom 1 0 self.old }
         ensures tells { Tells 1 0 self.old self.new }
-        ensures does { (info : List ℕ) (e : Entity) → Does terms info (word.deliver_unit terms info) e self.old e self.new }
+        ensures does { (info : List ℕ) (e : Entity) → Does terms.now info (word.deliver_unit terms.now info) e self.old e self.new }
     {
         self.notes.push(Note::Unit(terms.service, terms.tei));
         self.unit = true;
@@ -87,11 +87,11 @@ impl Told {
     }
 
     // UI in any state: unit data, where it is not too long.
-    pub(crate) fn unit_data(&mut self, terms: Terms, octets: usize)
+    pub(crate) fn unit_data(&mut self, terms: &Terms, octets: usize)
         requires { HasRoom 1 0 self.old }
         ensures tells { Tells 1 0 self.old self.new }
         ensures does { (info : List ℕ) (e : Entity) → length info ≡ octets →
-            Does terms info (word.unit_data terms info) e self.old e self.new }
+            Does terms.now info (word.unit_data terms.now info) e self.old e self.new }
     {
         if usize::from(terms.n201) < octets {
             return self.leave_unserved();
@@ -100,10 +100,10 @@ impl Told {
     }
 
     // XID in any state: it is told, and not answered.
-    pub(crate) fn xid(&mut self, terms: Terms)
+    pub(crate) fn xid(&mut self, terms: &Terms)
         requires { HasRoom 1 0 self.old }
         ensures tells { Tells 1 0 self.old self.new }
-        ensures does { Adds (word.xid terms) self.old self.new }
+        ensures does { Adds (word.xid terms.now) self.old self.new }
     {
         self.note(Note::Xid(terms.service, terms.tei));
     }

@@ -4,7 +4,7 @@ use Rattle.lapd_link_steps.proofs.Steps.{with_known}
 use Rattle.lapd_link_steps.proofs.entity.Entity.frame_in_4.Goals as goal
 
 pub returns-in-Sabme-clause-does : goal.returns-in-Sabme-clause-does
-returns-in-Sabme-clause-does c = λ info len. with_known (row.frame_in_4 c.args.terms info) c.args.control _ c.in-Sabme.is (c.sabme_in_4.ensures.does info)
+returns-in-Sabme-clause-does c = λ info len. with_known (row.frame_in_4 c.args.terms.now info) c.args.control _ c.in-Sabme.is (c.sabme_in_4.ensures.does info)
 
 pub returns-in-Ui-clause-does : goal.returns-in-Ui-clause-does
-returns-in-Ui-clause-does c = λ info len. with_known (row.frame_in_4 c.args.terms info) c.args.control _ c.in-Ui.is (c.unit_data.ensures.does info _ len)
+returns-in-Ui-clause-does c = λ info len. with_known (row.frame_in_4 c.args.terms.now info) c.args.control _ c.in-Ui.is (c.unit_data.ensures.does info _ len)

@@ -8,44 +8,44 @@ use Rattle.lapd_link_steps.proofs.entity.Entity.frame_in_7_8.Goals as goal
 
 pub returns-then-from-octets-clause-does : goal.returns-then-from-octets-clause-does
 returns-then-from-octets-clause-does c = λ info len.
-    with_known (row.frame_in_7_8 (particulars c.args.recovering c.args.terms) c.args.terms c.args.command info) c.args.control _ c.in-Information.is
-    (bit_yes _ (row.contents_in_7_8 c.args.terms c.in-Information.ns c.in-Information.pf info then by_number c.args.terms c.in-Information.nr (effect_of (particulars c.args.recovering c.args.terms) Information false))
-    (lt-ltb c.args.terms.n201 (length info) (omega (arith, len, c.from.ensures, c.if-from-octets.true)))
+    with_known (row.frame_in_7_8 (particulars c.args.recovering c.args.terms.now) c.args.terms.now c.args.command info) c.args.control _ c.in-Information.is
+    (bit_yes _ (row.contents_in_7_8 c.args.terms.now c.in-Information.ns c.in-Information.pf info then by_number c.args.terms.now c.in-Information.nr (effect_of (particulars c.args.recovering c.args.terms.now) Information false))
+    (lt-ltb c.args.terms.now.n201 (length info) (omega (arith, len, c.from.ensures, c.if-from-octets.true)))
     (c.failed.ensures.does info))
 
 pub returns-else-from-octets-clause-does : goal.returns-else-from-octets-clause-does
 returns-else-from-octets-clause-does c = λ info len.
-    with_known (row.frame_in_7_8 (particulars c.args.recovering c.args.terms) c.args.terms c.args.command info) c.args.control _ c.in-Information.is
-    (bit_no _ (row.failed c.args.terms code.O)
-    (le-ltb c.args.terms.n201 (length info) (omega (arith, len, c.from.ensures, c.if-from-octets.false)))
+    with_known (row.frame_in_7_8 (particulars c.args.recovering c.args.terms.now) c.args.terms.now c.args.command info) c.args.control _ c.in-Information.is
+    (bit_no _ (row.failed c.args.terms.now code.O)
+    (le-ltb c.args.terms.now.n201 (length info) (omega (arith, len, c.from.ensures, c.if-from-octets.false)))
     (c.contents_in_7_8.ensures.does info ▹ c.number.ensures.does info))
 
 pub returns-in-ReceiveReady-clause-does : goal.returns-in-ReceiveReady-clause-does
 returns-in-ReceiveReady-clause-does c = λ info len.
-    with_known (row.frame_in_7_8 (particulars c.args.recovering c.args.terms) c.args.terms c.args.command info) c.args.control _ c.in-ReceiveReady.is
+    with_known (row.frame_in_7_8 (particulars c.args.recovering c.args.terms.now) c.args.terms.now c.args.command info) c.args.control _ c.in-ReceiveReady.is
     (c.supervised-last.ensures.does info
-    ▹ with_known (λ last. by_number c.args.terms c.in-ReceiveReady.nr (effect_of (particulars c.args.recovering c.args.terms) Rr last)) _ _ (sym c.supervised-last.ensures.last) (c.number-in-ReceiveReady.ensures.does info))
+    ▹ with_known (λ last. by_number c.args.terms.now c.in-ReceiveReady.nr (effect_of (particulars c.args.recovering c.args.terms.now) Rr last)) _ _ (sym c.supervised-last.ensures.last) (c.number-in-ReceiveReady.ensures.does info))
 
 pub returns-in-ReceiveNotReady-clause-does : goal.returns-in-ReceiveNotReady-clause-does
 returns-in-ReceiveNotReady-clause-does c = λ info len.
-    with_known (row.frame_in_7_8 (particulars c.args.recovering c.args.terms) c.args.terms c.args.command info) c.args.control _ c.in-ReceiveNotReady.is
+    with_known (row.frame_in_7_8 (particulars c.args.recovering c.args.terms.now) c.args.terms.now c.args.command info) c.args.control _ c.in-ReceiveNotReady.is
     (c.supervised-last-in-ReceiveNotReady.ensures.does info
-    ▹ with_known (λ last. by_number c.args.terms c.in-ReceiveNotReady.nr (effect_of (particulars c.args.recovering c.args.terms) Rnr last)) _ _ (sym c.supervised-last-in-ReceiveNotReady.ensures.last) (c.number-in-ReceiveNotReady.ensures.does info))
+    ▹ with_known (λ last. by_number c.args.terms.now c.in-ReceiveNotReady.nr (effect_of (particulars c.args.recovering c.args.terms.now) Rnr last)) _ _ (sym c.supervised-last-in-ReceiveNotReady.ensures.last) (c.number-in-ReceiveNotReady.ensures.does info))
 
 pub returns-in-Reject-clause-does : goal.returns-in-Reject-clause-does
 returns-in-Reject-clause-does c = λ info len.
-    with_known (row.frame_in_7_8 (particulars c.args.recovering c.args.terms) c.args.terms c.args.command info) c.args.control _ c.in-Reject.is
+    with_known (row.frame_in_7_8 (particulars c.args.recovering c.args.terms.now) c.args.terms.now c.args.command info) c.args.control _ c.in-Reject.is
     (c.supervised-last-in-Reject.ensures.does info
-    ▹ with_known (λ last. by_number c.args.terms c.in-Reject.nr (effect_of (particulars c.args.recovering c.args.terms) Rej last)) _ _ (sym c.supervised-last-in-Reject.ensures.last) (c.number-in-Reject.ensures.does info))
+    ▹ with_known (λ last. by_number c.args.terms.now c.in-Reject.nr (effect_of (particulars c.args.recovering c.args.terms.now) Rej last)) _ _ (sym c.supervised-last-in-Reject.ensures.last) (c.number-in-Reject.ensures.does info))
 
 pub returns-in-Sabme-clause-does : goal.returns-in-Sabme-clause-does
-returns-in-Sabme-clause-does c = λ info len. with_known (row.frame_in_7_8 (particulars c.args.recovering c.args.terms) c.args.terms c.args.command info) c.args.control _ c.in-Sabme.is (c.sabme_in_7_8.ensures.does info)
+returns-in-Sabme-clause-does c = λ info len. with_known (row.frame_in_7_8 (particulars c.args.recovering c.args.terms.now) c.args.terms.now c.args.command info) c.args.control _ c.in-Sabme.is (c.sabme_in_7_8.ensures.does info)
 
 pub returns-in-Disc-clause-does : goal.returns-in-Disc-clause-does
-returns-in-Disc-clause-does c = λ info len. with_known (row.frame_in_7_8 (particulars c.args.recovering c.args.terms) c.args.terms c.args.command info) c.args.control _ c.in-Disc.is (c.disc_in_7_8.ensures.does info)
+returns-in-Disc-clause-does c = λ info len. with_known (row.frame_in_7_8 (particulars c.args.recovering c.args.terms.now) c.args.terms.now c.args.command info) c.args.control _ c.in-Disc.is (c.disc_in_7_8.ensures.does info)
 
 pub returns-in-Frmr-clause-does : goal.returns-in-Frmr-clause-does
-returns-in-Frmr-clause-does c = λ info len. with_known (row.frame_in_7_8 (particulars c.args.recovering c.args.terms) c.args.terms c.args.command info) c.args.control _ c.in-Frmr.is (c.failed-in-Frmr.ensures.does info)
+returns-in-Frmr-clause-does c = λ info len. with_known (row.frame_in_7_8 (particulars c.args.recovering c.args.terms.now) c.args.terms.now c.args.command info) c.args.control _ c.in-Frmr.is (c.failed-in-Frmr.ensures.does info)
 
 pub returns-in-Dm-false-clause-does : goal.returns-in-Dm-false-clause-does
-returns-in-Dm-false-clause-does c = λ info len. with_known (row.frame_in_7_8 (particulars c.args.recovering c.args.terms) c.args.terms c.args.command info) c.args.control (Dm false) (c.in-Dm-false.is ∙ ap Dm c.in-Dm-false.pf-test) (c.failed-in-Dm-false.ensures.does info)
+returns-in-Dm-false-clause-does c = λ info len. with_known (row.frame_in_7_8 (particulars c.args.recovering c.args.terms.now) c.args.terms.now c.args.command info) c.args.control (Dm false) (c.in-Dm-false.is ∙ ap Dm c.in-Dm-false.pf-test) (c.failed-in-Dm-false.ensures.does info)

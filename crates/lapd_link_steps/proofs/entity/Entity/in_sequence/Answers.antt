@@ -8,4 +8,4 @@ pub returns-then-pf-clause-does : goal.returns-then-pf-clause-does
 returns-then-pf-clause-does c = λ info. c.count_received.ensures _ _ _ ▹ c.rejecting_is.ensures _ _ _ ▹ c.deliver.ensures.does info _ ▹ bit_yes _ (word.pending_is true) c.if-pf.true (c.answer.ensures.does info)
 
 pub returns-else-pf-clause-does : goal.returns-else-pf-clause-does
-returns-else-pf-clause-does c = λ info. c.count_received.ensures _ _ _ ▹ c.rejecting_is.ensures _ _ _ ▹ c.deliver.ensures.does info _ ▹ bit_no _ (word.answer c.args.terms) c.if-pf.false (c.pending_is.ensures.does _ _ _)
+returns-else-pf-clause-does c = λ info. c.count_received.ensures _ _ _ ▹ c.rejecting_is.ensures _ _ _ ▹ c.deliver.ensures.does info _ ▹ bit_no _ (word.answer c.args.terms.now) c.if-pf.false (c.pending_is.ensures.does _ _ _)

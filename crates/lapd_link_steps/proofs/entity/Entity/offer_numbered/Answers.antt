@@ -5,6 +5,6 @@ use Rattle.lapd_link_steps.proofs.entity.Entity.offer_numbered.Goals as goal
 
 pub returns-then-may_send_information : goal.returns-then-may_send_information
 returns-then-may_send_information c =
-    gives_where (may_send_information c.args.terms) (depending_on is_pending send_acknowledgement nothing)
+    gives_where (may_send_information c.args.terms.now) (depending_on is_pending send_acknowledgement nothing)
     (λ messages p many none fits. sym (c.may_send_information.ensures.machine messages c.args.told.now p many none fits) ∙ c.if-may_send_information.true)
-    (c.send_information.ensures c.args.terms c.args.queued)
+    (c.send_information.ensures c.args.terms.now c.args.queued)

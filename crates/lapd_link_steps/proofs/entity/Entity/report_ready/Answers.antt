@@ -8,6 +8,6 @@ pub returns-clause-does : goal.returns-clause-does
 returns-clause-does c = λ info.
     same_step
     (λ messages p fits.
-    ap (λ (ready : Control). (word.send c.args.terms (word.response ready) then word.pending_is false) (course_of info c.args.self.now c.args.told.now p))
+    ap (λ (ready : Control). (word.send c.args.terms.now (word.response ready) then word.pending_is false) (course_of info c.args.self.now c.args.told.now p))
     (c.ready_to_receive-ready.ensures p fits.received))
     (c.response.ensures.does info ▹ c.pending_is.ensures.does _ _ _)

@@ -5,10 +5,10 @@ use Rattle.lapd_link_steps.proofs.entity.Entity.supervised.Goals as goal
 
 pub returns-then-recovering-clause-does : goal.returns-then-recovering-clause-does
 returns-then-recovering-clause-does c = λ info.
-    with_known (λ b. supervised (particulars b c.args.terms) c.args.terms c.args.busy c.args.command c.args.pf) c.args.recovering true c.if-recovering.true
+    with_known (λ b. supervised (particulars b c.args.terms.now) c.args.terms.now c.args.busy c.args.command c.args.pf) c.args.recovering true c.if-recovering.true
     (c.peer_busy_is.ensures _ _ _ ▹ c.answered.ensures.does info ▹ does_nothing)
 
 pub returns-clause-does : goal.returns-clause-does
 returns-clause-does c = λ info.
-    with_known (λ b. supervised (particulars b c.args.terms) c.args.terms c.args.busy c.args.command c.args.pf) c.args.recovering false c.if-recovering.false
-    (c.peer_busy_is.ensures _ _ _ ▹ c.answered.ensures.does info ▹ with_known (unsolicited c.args.terms) _ _ (sym c.is_final-last.ensures) (c.unsolicited.ensures.does info _))
+    with_known (λ b. supervised (particulars b c.args.terms.now) c.args.terms.now c.args.busy c.args.command c.args.pf) c.args.recovering false c.if-recovering.false
+    (c.peer_busy_is.ensures _ _ _ ▹ c.answered.ensures.does info ▹ with_known (unsolicited c.args.terms.now) _ _ (sym c.is_final-last.ensures) (c.unsolicited.ensures.does info _))

@@ -7,12 +7,12 @@ use Rattle.lapd_link_steps.proofs.entity.Entity.t200_in_6.Goals as goal
 
 pub returns-then-self-terms-clause-does : goal.returns-then-self-terms-clause-does
 returns-then-self-terms-clause-does c = λ info.
-    where_yes (may_repeat c.args.terms) (word.error c.args.terms code.H then word.release_confirm c.args.terms then word.no_timer then word.enter TeiAssigned)
-    (λ messages p fits. lt-ltb c.args.self.now.repeats c.args.terms.n200 c.if-self-terms.true)
+    where_yes (may_repeat c.args.terms.now) (word.error c.args.terms.now code.H then word.release_confirm c.args.terms.now then word.no_timer then word.enter TeiAssigned)
+    (λ messages p fits. lt-ltb c.args.self.now.repeats c.args.terms.now.n200 c.if-self-terms.true)
     (c.command.ensures.does info ▹ c.repeated.ensures _ _ _ ▹ c.start_timer.ensures.does _ info)
 
 pub returns-clause-does : goal.returns-clause-does
 returns-clause-does c = λ info.
-    where_no (may_repeat c.args.terms) (word.send c.args.terms (word.command (Disc true)) then word.repeated then word.start T200)
-    (λ messages p fits. le-ltb c.args.self.now.repeats c.args.terms.n200 c.if-self-terms.false)
+    where_no (may_repeat c.args.terms.now) (word.send c.args.terms.now (word.command (Disc true)) then word.repeated then word.start T200)
+    (λ messages p fits. le-ltb c.args.self.now.repeats c.args.terms.now.n200 c.if-self-terms.false)
     (c.error.ensures.does _ _ _ ▹ c.release_confirm.ensures.does _ _ _ ▹ c.no_timer.ensures.does _ info ▹ c.enter.ensures _ _ _)

@@ -7,12 +7,12 @@ use Rattle.lapd_link_steps.proofs.entity.Entity.t200_in_8.Goals as goal
 
 pub returns-then-self-terms-clause-does : goal.returns-then-self-terms-clause-does
 returns-then-self-terms-clause-does c = λ info.
-    where_yes (may_repeat c.args.terms) (failed c.args.terms code.I)
-    (λ messages p fits. lt-ltb c.args.self.now.repeats c.args.terms.n200 c.if-self-terms.true)
+    where_yes (may_repeat c.args.terms.now) (failed c.args.terms.now code.I)
+    (λ messages p fits. lt-ltb c.args.self.now.repeats c.args.terms.now.n200 c.if-self-terms.true)
     (c.enquire.ensures.does info ▹ c.repeated.ensures _ _ _ ▹ c.start_timer.ensures.does _ info)
 
 pub returns-clause-does : goal.returns-clause-does
 returns-clause-does c = λ info.
-    where_no (may_repeat c.args.terms) (word.enquire c.args.terms then word.repeated then word.start T200)
-    (λ messages p fits. le-ltb c.args.self.now.repeats c.args.terms.n200 c.if-self-terms.false)
+    where_no (may_repeat c.args.terms.now) (word.enquire c.args.terms.now then word.repeated then word.start T200)
+    (λ messages p fits. le-ltb c.args.self.now.repeats c.args.terms.now.n200 c.if-self-terms.false)
     (c.failed.ensures.does info)

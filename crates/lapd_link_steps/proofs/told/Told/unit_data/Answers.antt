@@ -5,8 +5,8 @@ use Rattle.lapd_link_steps.proofs.told.Told.unit_data.Goals as goal
 
 pub returns-then-from-octets-clause-does : goal.returns-then-from-octets-clause-does
 returns-then-from-octets-clause-does c = λ info e len.
-    bit_yes _ (deliver_unit c.args.terms info) (lt-ltb c.args.terms.n201 (length info) (omega (arith, len, c.from.ensures, c.if-from-octets.true))) (c.leave_unserved.ensures.does _ _ _)
+    bit_yes _ (deliver_unit c.args.terms.now info) (lt-ltb c.args.terms.now.n201 (length info) (omega (arith, len, c.from.ensures, c.if-from-octets.true))) (c.leave_unserved.ensures.does _ _ _)
 
 pub returns-clause-does : goal.returns-clause-does
 returns-clause-does c = λ info e len.
-    bit_no _ leave_unserved (le-ltb c.args.terms.n201 (length info) (omega (arith, len, c.from.ensures, c.if-from-octets.false))) (c.deliver_unit.ensures.does info e)
+    bit_no _ leave_unserved (le-ltb c.args.terms.now.n201 (length info) (omega (arith, len, c.from.ensures, c.if-from-octets.false))) (c.deliver_unit.ensures.does info e)

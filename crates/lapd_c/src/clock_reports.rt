@@ -87,6 +87,7 @@ fn first_fault_in(orders: &[PlainOrder]) -> u32
     OK
 }
 
+#[inline(always)]
 fn fault_in(order: &PlainOrder) -> u32
     ensures { result ≡ fault_in (order_in order.now) }
 {

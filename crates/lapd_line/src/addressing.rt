@@ -126,7 +126,7 @@ impl LinkLayer {
 
     /// A frame of the grammar that is for no link, nor for layer 2 management. On the user's side it may bring unit data
     /// that the network sends to the group.
-    #[inline(never)]
+    #[cold]
     fn for_nobody(&self, frame: Frame<'_>, cause: Cause, report: &mut BareReport)
         requires { IsClear report.old }
         ensures { (octets : List ℕ) → frame.entry.info.now ≡ drop (start_of frame.entry.control) octets
@@ -162,7 +162,7 @@ impl LinkLayer {
     }
 
     /// Octets that spell no frame: `len` of them.
-    #[inline(never)]
+    #[cold]
     fn faulty<S: Shelf>(
         &mut self,
         fault: ReadFault,
@@ -196,7 +196,7 @@ impl LinkLayer {
     }
 
     /// A frame that is longer than the line has room for, by its first four octets.
-    #[inline(never)]
+    #[cold]
     fn overlong<S: Shelf>(&mut self, head: &[u8; 4], report: &mut BareReport, shelf: &mut S)
         requires stands { Standing self.old (S.store shelf.old) }
         requires clear { IsClear report.old }
@@ -216,6 +216,7 @@ impl LinkLayer {
     }
 
     /// A frame with an address that is not served as a frame.
+    #[cold]
     fn malformed<S: Shelf>(
         &mut self,
         address: Address,
@@ -242,6 +243,7 @@ impl LinkLayer {
     }
 
     /// A UI or XID frame that is too long to keep: no link serves it (profile).
+    #[cold]
     fn unserved<S: Shelf>(&mut self, address: Address, report: &mut BareReport, shelf: &mut S)
         requires stands { Standing self.old (S.store shelf.old) }
         requires clear { IsClear report.old }
@@ -255,7 +257,7 @@ impl LinkLayer {
 
     /// A frame of layer 2 management.
     /// UI alone is served, on the network's side.
-    #[inline(never)]
+    #[cold]
     fn message<S: Shelf>(
         &mut self,
         control: Control,

@@ -13,16 +13,16 @@ use model_bits::Cause;
 #[inline(always)]
 pub(crate) fn count_told(
     counters: &mut Counters,
-    notes: ShortList<Note>,
+    notes: &ShortList<Note>,
     cause: Option<Cause>,
     lost: u8,
 )
-    ensures { counters.new ≡ with_all counters.old (told_shown (listed notes) cause lost) }
+    ensures { counters.new ≡ with_all counters.old (told_shown (listed notes.now) cause lost) }
 {
     match notes {
         ShortList::None => counters.told(&[], cause, lost),
         ShortList::One(_) | ShortList::Two(_) | ShortList::Three(_) | ShortList::Four(_) => {
-            count_noted(counters, notes, cause, lost);
+            count_noted(counters, *notes, cause, lost);
         }
     }
 }

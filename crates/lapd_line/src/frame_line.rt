@@ -126,7 +126,7 @@ impl FrameLine {
         ensures { self.new ≡ with_counted self.old (bare_shown report.now) }
     {
         let told = &report.answer.told;
-        count_told(&mut self.counters, told.notes, report.cause(), told.lost);
+        count_told(&mut self.counters, &told.notes, report.cause(), told.lost);
     }
 
     /// Takes a frame that a controller brings, from its address to its information, without its check, and tells in the report

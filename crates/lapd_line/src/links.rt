@@ -57,6 +57,7 @@ impl Links {
     }
 
     /// Something came from the terminal of a link.
+    #[inline(always)]
     pub(crate) fn receive<S: Shelf>(
         &mut self,
         number: usize,

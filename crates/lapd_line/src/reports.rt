@@ -106,17 +106,17 @@ impl BareReport {
     }
 
     /// What layer 3 and management are told, in order.
-    pub fn notes(&self) -> ShortList<Note>
-        ensures { listed result ≡ (told_in [] self.now).notes }
+    pub fn note_list(&self) -> &ShortList<Note>
+        ensures { listed result.now ≡ (told_in [] self.now).notes }
     {
-        self.answer.told.notes
+        &self.answer.told.notes
     }
 
     /// What is to be done with timers, in order.
-    pub fn orders(&self) -> ShortList<Order>
-        ensures { listed result ≡ (told_in [] self.now).orders }
+    pub fn order_list(&self) -> &ShortList<Order>
+        ensures { listed result.now ≡ (told_in [] self.now).orders }
     {
-        self.answer.orders
+        &self.answer.orders
     }
 
     /// Why something was dropped.

@@ -68,12 +68,12 @@ impl PlainReport {
         requires orders { length (report_told told.now).orders ≤ 4 }
         ensures { length (contents_of (report_told told.now).contents) ≤ 260 → Shows self.new (report_told told.now) }
     {
+        self.show_nothing();
+        self.deliver(told.delivered);
         self.note_count = write_notes(&mut self.notes, told.notes());
         self.order_count = write_orders(&mut self.orders, told.orders());
         self.cause = cause_number(told.cause);
         self.lost = told.lost;
-        self.begun = 0;
-        self.deliver(told.delivered);
     }
 
     /// Shows the same of a report without references, with its contents.
@@ -82,12 +82,12 @@ impl PlainReport {
         ensures { length (contents_of (option_copied delivered.entry)) ≤ 260
             → Shows self.new (record (told_in [] told.now) { contents = option_copied delivered.entry }) }
     {
-        self.note_count = write_note_list(&mut self.notes, told.notes());
-        self.order_count = write_order_list(&mut self.orders, told.orders());
+        self.show_nothing();
+        self.deliver(delivered);
+        self.note_count = write_note_list(&mut self.notes, told.note_list());
+        self.order_count = write_order_list(&mut self.orders, told.order_list());
         self.cause = cause_number(told.cause());
         self.lost = told.lost();
-        self.begun = 0;
-        self.deliver(delivered);
     }
 
     /// Shows that a call gave a frame, with these orders.
@@ -96,7 +96,7 @@ impl PlainReport {
         ensures { ShowsPull self.new true (listed orders) }
     {
         self.note_count = 0;
-        self.order_count = write_order_list(&mut self.orders, orders);
+        self.order_count = write_order_list(&mut self.orders, &orders);
         self.cause = 0;
         self.lost = 0;
         self.begun = 1;
@@ -129,7 +129,11 @@ impl PlainReport {
         &self.orders[..usize::from(self.order_count)]
     }
 
+    // The contents, where nothing is shown as delivered yet.
+    #[inline(always)]
     fn deliver(&mut self, delivered: Option<&[u8]>)
+        requires mark { self.old.delivered ≡ 0 }
+        requires length { self.old.length ≡ 0 }
         ensures rest { SameButContents self.old self.new }
         ensures mark { self.new.delivered ≡ mark_of (option_copied delivered.entry) }
         ensures length { length (contents_of (option_copied delivered.entry)) ≤ 260
@@ -137,50 +141,56 @@ impl PlainReport {
         ensures contents { length (contents_of (option_copied delivered.entry)) ≤ 260
             → contents_in self.new ≡ option_copied delivered.entry }
     {
-        match delivered {
-            None => {
-                self.delivered = 0;
-                self.length = 0;
-            }
-            Some(contents) => {
-                let count = contents.len().min(MOST_OCTETS);
-                self.delivered = 1;
-                self.length = count as u16;
-                self.contents[..count].copy_from_slice(&contents[..count]);
-            }
+        if let Some(contents) = delivered {
+            let count = contents.len().min(MOST_OCTETS);
+            self.delivered = 1;
+            self.length = count as u16;
+            self.contents[..count].copy_from_slice(&contents[..count]);
         }
     }
 }
 
 // Mostly there are none, and then nothing is done with the list.
 #[inline(always)]
-fn write_note_list(places: &mut [PlainNote; 4], notes: ShortList<Note>) -> u8
-    ensures count { result ≡ length (listed notes) }
-    ensures notes { take result places.new ≡ map plain_note (listed notes) }
+fn write_note_list(places: &mut [PlainNote; 4], notes: &ShortList<Note>) -> u8
+    ensures count { result ≡ length (listed notes.now) }
+    ensures notes { take result places.new ≡ map plain_note (listed notes.now) }
 {
     match notes {
         ShortList::None => 0,
-        ShortList::One(_) | ShortList::Two(_) | ShortList::Three(_) | ShortList::Four(_) => {
-            write_notes(places, notes.as_slice())
-        }
+        ShortList::One(notes) => write_notes(places, notes),
+        ShortList::Two(notes) => write_notes(places, notes),
+        ShortList::Three(notes) => write_notes(places, notes),
+        ShortList::Four(notes) => write_notes(places, notes),
     }
 }
 
-// As above, of orders.
+// Mostly there is one, and then it is written in place.
 #[inline(always)]
-fn write_order_list(places: &mut [PlainOrder; 4], orders: ShortList<Order>) -> u8
-    ensures count { result ≡ length (listed orders) }
-    ensures orders { take result places.new ≡ map plain_order (listed orders) }
+fn write_order_list(places: &mut [PlainOrder; 4], orders: &ShortList<Order>) -> u8
+    ensures count { result ≡ length (listed orders.now) }
+    ensures orders { take result places.new ≡ map plain_order (listed orders.now) }
 {
     match orders {
         ShortList::None => 0,
-        ShortList::One(_) | ShortList::Two(_) | ShortList::Three(_) | ShortList::Four(_) => {
-            write_orders(places, orders.as_slice())
-        }
+        ShortList::One(orders) => write_orders(places, orders),
+        ShortList::Two(orders) => write_several_orders(places, orders),
+        ShortList::Three(orders) => write_several_orders(places, orders),
+        ShortList::Four(orders) => write_several_orders(places, orders),
     }
 }
 
+#[inline(never)]
+fn write_several_orders(places: &mut [PlainOrder; 4], orders: &[Order]) -> u8
+    requires { length orders.now ≤ 4 }
+    ensures count { result ≡ length orders.now }
+    ensures orders { take result places.new ≡ map plain_order orders.now }
+{
+    write_orders(places, orders)
+}
+
 // Writes notes to the first places, and answers how many there are.
+#[inline(never)]
 fn write_notes(places: &mut [PlainNote; 4], notes: &[Note]) -> u8
     requires { length notes.now ≤ 4 }
     ensures count { result ≡ length notes.now }
@@ -193,6 +203,7 @@ fn write_notes(places: &mut [PlainNote; 4], notes: &[Note]) -> u8
 }
 
 // Writes orders to the first places, and answers how many there are.
+#[inline(always)]
 fn write_orders(places: &mut [PlainOrder; 4], orders: &[Order]) -> u8
     requires { length orders.now ≤ 4 }
     ensures count { result ≡ length orders.now }

@@ -70,6 +70,7 @@ pub mod BothMet
 pub mod RecoveryMet
 pub mod RecoveryMetAgain
 pub mod CountedMet
+pub mod RestingMet
 pub mod ArrivingMet
 pub mod AnsweringMet
 pub mod EndingMet

@@ -282,10 +282,6 @@ module _ (service : Service) (tei : ℕ) (c d : Config) (p q : ℕ) (face : Face
   unfolding told_of_calls
   calls-are j = refl
 
-  no-calls : told_of_calls service tei 0 ≡ []
-  unfolding told_of_calls
-  no-calls = refl
-
   pub so-far : (n : ℕ) (w : Wire) → Goes n w → NearSoFar w × FarSoFar (told_of_calls service tei n) w
   so-far n w (inl (e, h)) = (
     nothing-yet _ (heard_in w.near) (not-told service tei c d p q face back rt ru down [] refl w h),

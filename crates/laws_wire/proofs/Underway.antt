@@ -246,9 +246,6 @@ module _ (service : Service) (tei : ℕ) where
     abbrev pub Up : Type 0 → Type 0 → Wire → Type 0
     Up A B w = SureUp c d p q first_near first_far A B w
 
-    Nowhere : Type 0
-    Nowhere = false ≡ true
-
     kept-far : (act : Act) → LosesNothing (at_far act) → LosesNothing (at_near act)
     kept-far loses h = h
     kept-far (requests r) h = tt

@@ -1,0 +1,65 @@
+-- The premises of the laws on how turns come to an end are met, by worked calls.
+use Rattle.std.proofs.Common.{◌≡◌, ◌≤◌, ℕ, ◌*◌, false, List, [], ◌∷◌, ◌++◌, refl, sym, subst, arith}
+use Rattle.std.specs.Prelude.{All}
+use Rattle.std.specs.List.{list_any}
+use Rattle.std.proofs.lemmas.List.Elements.{All-nil, All-cons}
+use Rattle.lapd_frame.specs.declared.services.Service.TheVariants.{Call}
+use Rattle.lapd_frame.specs.Reading.{reading, header_of, control_of, unnumbered_of, supervisory_of}
+use Rattle.lapd_seq.specs.Circle.{distance_of, named}
+use Rattle.lapd_seq.specs.Numbers.{seq}
+use Rattle.lapd_tei.specs.Events as teis
+use Rattle.model_line.specs.Event.{LineTold}
+use Rattle.model_line.specs.Machine as lines
+use Rattle.model_line.specs.Request.{Data}
+use Rattle.laws_wire.specs.Wire.{requests, Doing, at_near, doing_all, IsStill}
+use Rattle.laws_wire.specs.Call.{confirmed, indicated, data_told}
+use Rattle.laws_wire.specs.Facing.{granted_of}
+use Rattle.laws_wire.specs.Losing.{is_error, HasNoError}
+use Rattle.laws_wire.specs.Recovering.{rounds}
+use Rattle.laws_wire.specs.Resting.{moves, expiries, most_frames}
+use Rattle.laws_wire.specs.Timely.{StayTimely}
+use Rattle.laws_wire.specs.Worked.{user, network, begins, establishes}
+use Rattle.laws_wire.specs.WorkedResting.{rejects_one, two_accepted}
+use Rattle.laws_wire.proofs.PremisesMet.{can, all-rough}
+use Rattle.laws_wire.proofs.RestedRun.{moves-come-to-an-end}
+use Rattle.laws_wire.proofs.RestedTimely.{timely-rounds-come-to-rest}
+
+abbrev IsFair : LineTold → Type 0
+IsFair t = list_any is_error t.notes ≡ false
+
+-- An I-frame is lost, and both go again.
+near-told : (doing_all rejects_one begins).near.told ≡ confirmed Call 0 ∷ []
+unfolding lines.after lines.answer lines.takes_slot reading header_of control_of unnumbered_of supervisory_of teis.course teis.refusal seq distance_of named doing_all
+near-told = refl
+
+far-told : (doing_all rejects_one begins).far.told ≡ indicated Call 0 ∷ data_told Call 0 (0xAB ∷ []) ∷ data_told Call 0 (0xCD ∷ []) ∷ []
+unfolding lines.after lines.answer lines.takes_slot reading header_of control_of unnumbered_of supervisory_of teis.course teis.refusal seq distance_of named doing_all
+far-told = refl
+
+near-fair : HasNoError (doing_all rejects_one begins).near
+near-fair = subst (All IsFair) (sym near-told) (All-cons IsFair (confirmed Call 0) [] refl (All-nil IsFair))
+
+far-fair : HasNoError (doing_all rejects_one begins).far
+far-fair =
+    let one : LineTold = data_told Call 0 (0xAB ∷ []) in
+    let two : LineTold = data_told Call 0 (0xCD ∷ []) in
+    subst (All IsFair) (sym far-told)
+    (All-cons IsFair (indicated Call 0) (one ∷ two ∷ []) refl (All-cons IsFair one (two ∷ []) refl (All-cons IsFair two [] refl (All-nil IsFair))))
+
+bounded : moves rejects_one begins ≤ 2 * most_frames 7 (expiries rejects_one) (granted_of (doing_all rejects_one begins))
+bounded =
+    moves-come-to-an-end Call user network 0 0 0 7 rejects_one can
+    (all-rough rejects_one (tt, (tt, (tt, (tt, ((refl, refl), ((refl, refl), (tt, (tt, (tt, (tt, (tt, (tt, (tt, (tt, (tt, (tt, (tt, (tt, tt)))))))))))))))))))
+    (omega arith) (omega arith) near-fair far-fair
+
+-- Two contents are accepted, and no frame has gone.
+abbrev accepts_two : List Doing
+accepts_two = establishes ++ at_near (requests (Data Call 0 (1 ∷ []))) ∷ at_near (requests (Data Call 0 (2 ∷ []))) ∷ []
+
+timely : StayTimely accepts_two begins
+unfolding StayTimely
+timely = (tt, ((tt, tt), ((tt, tt), (tt, (tt, (tt, tt))))))
+
+rest-comes : (n : ℕ) × (n ≤ 2 * most_frames 7 (expiries accepts_two) (granted_of two_accepted)) × IsStill (rounds n two_accepted)
+rest-comes =
+    timely-rounds-come-to-rest Call user network 0 0 0 7 accepts_two can (all-rough accepts_two (tt, (tt, (tt, (tt, ((refl, refl), ((refl, refl), tt))))))) (omega arith) (omega arith) timely

@@ -311,9 +311,11 @@ abbrev IsFrontOf : Service → ℕ → List Seen → List Seen → Socket → So
 IsFrontOf service tei a b s r = IsFront (data_noted service tei a) (kept_by service tei (as_station s) (as_station r) ++ data_granted service tei b)
 
 pub delivered-though-damaged : DeliveredThoughDamaged
-delivered-though-damaged service tei w hs rest can near far =
+delivered-though-damaged service tei w hs rest can =
     let ran = all-ran service tei w hs w [] [] [] [] (stays-so w.near) (stays-so w.far) can in
-    let x = delivered-in-order service tei (as_wire w) ran.run rest ran.can (subst (StaysEstablished service tei) (sym ran.near) near) (subst (StaysEstablished service tei) (sym ran.far) far) in (
-      subst (λ a. IsFrontOf service tei a (seen_far hs w) w.far w.near) ran.near (subst (λ b. IsFrontOf service tei (order.seen_near ran.run (as_wire w)) b w.far w.near) ran.far x.0),
-      subst (λ a. IsFrontOf service tei a (seen_near hs w) w.near w.far) ran.far (subst (λ b. IsFrontOf service tei (order.seen_far ran.run (as_wire w)) b w.near w.far) ran.near x.1),
+    let x = delivered-in-order service tei (as_wire w) ran.run rest ran.can in (
+      λ near. subst (λ a. IsFrontOf service tei a (seen_far hs w) w.far w.near) ran.near
+          (subst (λ b. IsFrontOf service tei (order.seen_near ran.run (as_wire w)) b w.far w.near) ran.far (x.0 (subst (StaysEstablished service tei) (sym ran.near) near))),
+      λ far. subst (λ a. IsFrontOf service tei a (seen_near hs w) w.near w.far) ran.far
+          (subst (λ b. IsFrontOf service tei (order.seen_far ran.run (as_wire w)) b w.near w.far) ran.near (x.1 (subst (StaysEstablished service tei) (sym ran.far) far))),
     )

@@ -26,7 +26,7 @@ use Rattle.laws_circuit.specs.Damaged.{Noisy, Deed, happens, completes, elsewher
 unfoldable use Rattle.laws_circuit.specs.Damaged.{ArePossible}
 use Rattle.laws_circuit.specs.WorkedCall as call
 use Rattle.laws_circuit.specs.WorkedCall.{establishes}
-use Rattle.laws_circuit.specs.WorkedDamaged.{begins, goes_again, near_stays, far_stays}
+use Rattle.laws_circuit.specs.WorkedDamaged.{begins, goes_again, far_stays}
 use Rattle.laws_circuit.proofs.Damaged.{delivered-though-damaged}
 use Rattle.laws_circuit.proofs.PremisesMet.{can, by-mutes}
 use Rattle.laws_circuit.proofs.Ran as ran
@@ -180,4 +180,4 @@ rests =
 
 -- so the law says what the worked values show
 pub in-order : IsFront (data_noted Call 0 (seen_far goes_again begins)) (kept_by Call 0 (as_station begins.near) (as_station begins.far) ++ data_granted Call 0 (seen_near goes_again begins))
-in-order = (delivered-though-damaged Call 0 begins goes_again rests (all-so goes_again begins computed) near_stays far_stays).1
+in-order = (delivered-though-damaged Call 0 begins goes_again rests (all-so goes_again begins computed)).1 far_stays

@@ -129,10 +129,10 @@ abbrev pub as_wire : Noisy → Wire
 as_wire w = record { near = as_station w.near; far = as_station w.far }
 
 -- What is told at each is in order (`Order` of `laws_order`), so long as every frame of the link that is heard whole was pulled
--- whole.
+-- whole, up to where its own establishment ends or is renewed.
 abbrev pub DeliveredThoughDamaged : Type 0
 DeliveredThoughDamaged =
     (service : Service) (tei : ℕ) (w : Noisy) (hs : List Happening) → FaceAtRest service tei (as_wire w) → ArePossible service tei hs w →
-    let near = seen_near hs w in let far = seen_far hs w in StaysEstablished service tei near → StaysEstablished service tei far →
-    IsFront (data_noted service tei near) (kept_by service tei (as_station w.far) (as_station w.near) ++ data_granted service tei far)
-    × IsFront (data_noted service tei far) (kept_by service tei (as_station w.near) (as_station w.far) ++ data_granted service tei near)
+    let near = seen_near hs w in let far = seen_far hs w in let n = as_station w.near in let m = as_station w.far in
+    (StaysEstablished service tei near → IsFront (data_noted service tei near) (kept_by service tei m n ++ data_granted service tei far))
+    × (StaysEstablished service tei far → IsFront (data_noted service tei far) (kept_by service tei n m ++ data_granted service tei near))

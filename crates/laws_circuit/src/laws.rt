@@ -34,8 +34,8 @@ pub fn all_is_told_in_beats()
 /// terminals may be heard. Of all that comes one thing alone is assumed: a frame of the link that is heard whole, its check
 /// right, was pulled whole; it is one of those that the other's pulls began, behind all that were heard before it. (That is
 /// what the check is for, Q.921 clause 2.7; where errors make a frame of which it shows nothing, that frame is told,
-/// `specs/WorkedDamaged`.) As long as the establishment is neither ended nor renewed, as said there, the contents that each
-/// end is told of are a beginning of those that the other's link kept for it at first and of those that the other's layer 3
+/// `specs/WorkedDamaged`.) As long as the establishment is neither ended nor renewed at an end, as said there, the contents it
+/// is told of are a beginning of those that the other's link kept for it at first and of those that the other's layer 3
 /// was granted to send since: in order, each once, and nothing else.
 pub fn delivered_though_damaged()
     ensures { DeliveredThoughDamaged }

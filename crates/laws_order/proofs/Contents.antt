@@ -23,10 +23,10 @@ use Rattle.laws_wire.proofs.Joint as joint
 
 module _ (t : Terms) (l : Link) where
   abbrev Grows : List (List ℕ) → Course → Type 0
-  Grows more c = c.link.contents ≡ l.contents ++ more
+  Grows more c = (c.link.contents ≡ l.contents ++ more) × (c.link.r ≡ l.r)
 
   by-up : (c : Course) → Up l l.a l.r c → IsTrue (is_multiple_frame c.link.state) → Grows [] c
-  by-up c h up = (h.stay up).same ∙ sym (append-nil l.contents)
+  by-up c h up = ((h.stay up).same ∙ sym (append-nil l.contents), (h.stay up).received)
 
   -- a request
   released : (here : State) → IsTrue (is_multiple_frame here) → IsTrue (is_multiple_frame (Requests.release_in here t (begun l)).link.state) → ⊥
@@ -40,7 +40,7 @@ module _ (t : Terms) (l : Link) where
       → Grows (contents_of request) (Requests.granted t request (begun l))
   granted was Establish up = absurd (true≢false (sym up))
   granted was Release up = absurd (released l.state was up)
-  granted was (Data octets) up = refl
+  granted was (Data octets) up = (refl, refl)
   granted was SetBusy up = by-up _ ((set_busy_up t l {S = still l.s}).leads (begun l) (at-first t l)) up
   granted was ClearBusy up = by-up _ ((clear_busy_up t l {S = still l.s}).leads (begun l) (at-first t l)) up
 
@@ -48,10 +48,10 @@ module _ (t : Terms) (l : Link) where
       → IsTrue (is_multiple_frame (elim o as (λ o. Course) [ None ↦ Requests.granted t request (begun l) | Some _ ↦ begun l ]).link.state)
       → Grows (cond (is_some o) [] (contents_of request)) (elim o as (λ o. Course) [ None ↦ Requests.granted t request (begun l) | Some _ ↦ begun l ])
   asked was request None up = granted was request up
-  asked was request (Some why) up = sym (append-nil l.contents)
+  asked was request (Some why) up = (sym (append-nil l.contents), refl)
 
   pub request-grows : IsTrue (is_multiple_frame l.state) → (request : Request) (full : Bool) → IsTrue (is_multiple_frame (after t (requested request full) l).state)
-      → (after t (requested request full) l).contents ≡ l.contents ++ accepted t (requested request full) l
+      → ((after t (requested request full) l).contents ≡ l.contents ++ accepted t (requested request full) l) × ((after t (requested request full) l).r ≡ l.r)
   request-grows was request full up = asked was request (Requests.refusal t l full request) up
 
   pub request-delivers : (request : Request) (full : Bool) → (course t (requested request full) l).delivered ≡ None
@@ -59,12 +59,15 @@ module _ (t : Terms) (l : Link) where
 
   -- a timer
   pub timer-same : IsTrue (is_multiple_frame l.state) → (timer : LinkTimer) → IsTrue (is_multiple_frame (after t (expired timer) l).state)
-      → (after t (expired timer) l).contents ≡ l.contents
-  timer-same was timer up = (joint.timer-goes t l was timer up).same ∙ append-nil l.contents
+      → ((after t (expired timer) l).contents ≡ l.contents) × ((after t (expired timer) l).r ≡ l.r)
+  timer-same was timer up = let x = joint.timer-goes t l was timer up in (x.same ∙ append-nil l.contents, x.received)
+
+  pub timer-delivers : (timer : LinkTimer) → (course t (expired timer) l).delivered ≡ None
+  timer-delivers timer = none-delivered t l (course t (expired timer) l) (event-delivers t l (expired timer))
 
   -- an offer
-  pub offer-same : IsInRange t → IsSound t l → (after t offer l).contents ≡ l.contents
-  offer-same ranges sound = (offer-gave t ranges l sound l.waiting refl).same
+  pub offer-same : IsInRange t → IsSound t l → ((after t offer l).contents ≡ l.contents) × ((after t offer l).r ≡ l.r)
+  offer-same ranges sound = let x = offer-gave t ranges l sound l.waiting refl in (x.same, x.received)
 
   -- a frame of a link that faces it
   pub frame-same : IsTrue (is_multiple_frame l.state) → (f : Parts) (m : ℕ) → Means m f.control → IsTrue (is_multiple_frame (after t (received (frame f)) l).state)

@@ -52,7 +52,7 @@ use Rattle.laws_trace.proofs.ReadAgain.{read-again}
 use Rattle.laws_wire.specs.Wire.{frames_by}
 use Rattle.laws_order.specs.Happenings.{is_of_link, of_link_in}
 use Rattle.laws_order.specs.Order.{data_noted, data_granted, ends_by_note, ends_by, of_link_on}
-use Rattle.laws_order.proofs.LinkEnds.{or-true, Ended, own, Leaves, IsNoRelease, event-leaves, undefined-ends, wrong-size-ends, overlong-ends, unit-data-stays}
+use Rattle.laws_order.proofs.LinkEnds.{or-true, Ended, own, Leaves, IsNoRelease, event-leaves, Fallen, undefined-falls, wrong-size-falls, overlong-falls, release-falls, unit-data-stays}
 use Rattle.laws_order.proofs.Shown.{fits, same-frames, noted-is, asked_in, granted-is, ends-is, request-ends}
 
 -- Where the notes of a link that was up say that it is down, one of them ends it.
@@ -133,7 +133,7 @@ module _ (c : Config) (service : Service) (tei : ℕ) where
       (λ info. ap (λ b. cond {A = List Parts} (b && not (is_ui g.frame.control)) (record { address = address_at t g.frame.command; control = g.frame.control; info = info } ∷ []) []) away)
       (λ fault. refl) (unwrap_or g.contents [])
 
-  all-foreign : (frames : List (List ℕ)) → All (IsForeign c service tei) frames → of_link_on service tei c.side frames ≡ []
+  pub all-foreign : (frames : List (List ℕ)) → All (IsForeign c service tei) frames → of_link_on service tei c.side frames ≡ []
   all-foreign [] h = refl
   all-foreign (x ∷ xs) h =
       ap (λ fs. fs ++ of_link_on service tei c.side xs) (foreign x (All-head (IsForeign c service tei) x xs h))
@@ -157,6 +157,7 @@ module _ (c : Config) (service : Service) (tei : ℕ) where
     pub noted : data_noted service tei (seen e a) ≡ option_to_list (links.told Own event k).delivered
     pub granted : data_granted service tei (seen e a) ≡ accepted Own event k
     pub frames : frames_by a ≡ frames_given c Own event k
+    pub ends : Ended Own (links.told Own event k).notes → list_any (ends_by service tei) (seen e a) ≡ true
 
   pub record LeavesIt (k k' : Link) (e : Event) (a : Answer) : Type 0 where
     pub is : k' ≡ k
@@ -164,8 +165,12 @@ module _ (c : Config) (service : Service) (tei : ℕ) where
     pub granted : data_granted service tei (seen e a) ≡ []
     pub frames : of_link_on service tei c.side (frames_by a) ≡ []
 
+  -- or it ends it, and leaves it in state 4, 5 or 6
+  abbrev pub IsOver : Link → Event → Answer → Type 0
+  IsOver k' e a = (list_any (ends_by service tei) (seen e a) ≡ true) × (is_multiple_frame k'.state ≡ false)
+
   abbrev pub Does : Link → Link → Event → Answer → Type 0
-  Does k k' e a = (list_any (ends_by service tei) (seen e a) ≡ true) ⊎ LeavesIt k k' e a ⊎ Has k k' e a
+  Does k k' e a = IsOver k' e a ⊎ LeavesIt k k' e a ⊎ Has k k' e a
 
   -- What event of the link it is: one that the grammar does not have, a release, unit data, or another.
   data Comes (e : Event) (a : Answer) (ev : link.Event) : Type 0 where
@@ -222,7 +227,10 @@ module _ (c : Config) (service : Service) (tei : ℕ) where
     asked-none next away = refl
 
     ended-does : k' ≡ fresh → Does k k' e a
-    ended-does new = inl (ends-is service tei e a (fits c e l) (fresh-ends service tei l (lines.after c e l) (notes_of a) up new (known-up c e l service tei s)))
+    ended-does new = inl (
+      ends-is service tei e a (fits c e l) (fresh-ends service tei l (lines.after c e l) (notes_of a) up new (known-up c e l service tei s)),
+      ap (λ (y : Link). is_multiple_frame y.state) new,
+    )
 
     none-does : HasNone c service tei e l (lines.after c e l) a → Does k k' e a
     none-does x = go x.is
@@ -244,8 +252,17 @@ module _ (c : Config) (service : Service) (tei : ℕ) where
           noted-is service tei e a (fits c e l) ∙ ap (λ b. cond b (option_to_list (contents_in a)) []) (data-noted c ranged l s e service tei k.r (λ up. refl) x)
           ∙ by-delivered (links.told Own x.event k).delivered (links.told Own x.event k).unit (contents_in a) x.contents
 
-      ended-one : Ended Own (links.told Own x.event k).notes → Does k k' e a
-      ended-one h = inl (ends-is service tei e a (fits c e l) (ap (list_any (ends_by_note service tei)) x.notes ∙ h))
+      ends-one : Ended Own (links.told Own x.event k).notes → list_any (ends_by service tei) (seen e a) ≡ true
+      ends-one h = ends-is service tei e a (fits c e l) (ap (list_any (ends_by_note service tei)) x.notes ∙ h)
+
+      state-one : (ev : link.Event) → x.event ≡ ev → k'.state ≡ (links.after Own ev k).state
+      state-one ev is = ap (λ (y : Link). y.state) (x.is ∙ ap (λ ev. links.after Own ev k) is)
+
+      fallen-one : (ev : link.Event) → x.event ≡ ev → Fallen Own ev k → Does k k' e a
+      fallen-one ev is h = inl (
+        ends-one (subst (λ ev. Ended Own (links.told Own ev k).notes) (sym is) h.0),
+        ap is_multiple_frame (state-one ev is) ∙ h.1,
+      )
 
       granted-one : (ev : link.Event) → IsBy c e a service tei ev → IsKind e ev → asked_in service tei e a ≡ accepted Own ev k
       granted-one (link.received (link.frame f)) by kind = ap (λ e'. asked_in service tei e' a) kind.1
@@ -272,21 +289,26 @@ module _ (c : Config) (service : Service) (tei : ℕ) where
               ∙ link-grants c service tei x.place contents l x.placed none
 
       malformed-one : (x.event ≡ link.received link.undefined) ⊎ (x.event ≡ link.received link.wrong_size) ⊎ (x.event ≡ link.received link.overlong) → Does k k' e a
-      malformed-one (inl is) = ended-one (subst (λ ev. Ended Own (links.told Own ev k).notes) (sym is) (undefined-ends Own k up))
-      malformed-one (inr (inl is)) = ended-one (subst (λ ev. Ended Own (links.told Own ev k).notes) (sym is) (wrong-size-ends Own k up))
-      malformed-one (inr (inr is)) = ended-one (subst (λ ev. Ended Own (links.told Own ev k).notes) (sym is) (overlong-ends Own k up))
+      malformed-one (inl is) = fallen-one (link.received link.undefined) is (undefined-falls Own k up)
+      malformed-one (inr (inl is)) = fallen-one (link.received link.wrong_size) is (wrong-size-falls Own k up)
+      malformed-one (inr (inr is)) = fallen-one (link.received link.overlong) is (overlong-falls Own k up)
 
       plain-one : IsKind e x.event → Leaves Own (links.told Own x.event k).notes (links.after Own x.event k).state → Does k k' e a
-      plain-one kind (inl h) = ended-one h
-      plain-one kind (inr still) = inr (inr (record {
-        event = x.event;
-        kind = kind;
-        is = x.is;
-        up = subst (λ (y : Link). IsTrue (is_multiple_frame y.state)) (sym x.is) still;
-        noted = noted-one;
-        granted = granted-is service tei e a ∙ granted-one x.event x.by kind;
-        frames = same-frames a ∙ x.begins;
-      }))
+      plain-one kind leaves = go (is_multiple_frame (links.after Own x.event k).state) refl leaves
+        where
+          go : (b : Bool) → is_multiple_frame (links.after Own x.event k).state ≡ b → Leaves Own (links.told Own x.event k).notes (links.after Own x.event k).state → Does k k' e a
+          go false down (inl h) = fallen-one x.event refl (h, down)
+          go false down (inr still) = absurd (true≢false (sym still ∙ down))
+          go true still h = inr (inr (record {
+            event = x.event;
+            kind = kind;
+            is = x.is;
+            up = ap is_multiple_frame (state-one x.event refl) ∙ still;
+            noted = noted-one;
+            granted = granted-is service tei e a ∙ granted-one x.event x.by kind;
+            frames = same-frames a ∙ x.begins;
+            ends = ends-one;
+          }))
 
       unit-one : (f : Parts) → x.event ≡ link.received (link.frame f) → is_ui f.control ≡ true → (octets : List ℕ) → e ≡ hears (stream.frame octets) → Does k k' e a
       unit-one f is ui octets heard =
@@ -298,13 +320,15 @@ module _ (c : Config) (service : Service) (tei : ℕ) where
             frames = ap (of_link_on service tei c.side) (same-frames a ∙ x.begins ∙ ap (λ ev. frames_given c Own ev k) is);
           }))
 
-      release-one : e ≡ request (of_link service tei link.Release) → is_granted a ≡ true → Does k k' e a
-      release-one is g =
-          inl (subst (λ e'. list_any (ends_by service tei) (seen e' a) ≡ true) (sym is) (request-ends service tei (of_link service tei link.Release) a g (own Own)))
+      release-one : (full : Bool) → x.event ≡ link.requested link.Release full → e ≡ request (of_link service tei link.Release) → is_granted a ≡ true → Does k k' e a
+      release-one full asked is g = inl (
+        subst (λ e'. list_any (ends_by service tei) (seen e' a) ≡ true) (sym is) (request-ends service tei (of_link service tei link.Release) a g (own Own)),
+        ap is_multiple_frame (state-one (link.requested link.Release full) asked) ∙ release-falls Own k up full,
+      )
 
       one-does : Comes e a x.event → Does k k' e a
       one-does (is_malformed is) = malformed-one is
-      one-does (is_release full is asked g) = release-one asked g
+      one-does (is_release full is asked g) = release-one full is asked g
       one-does (is_unit f is ui octets heard) = unit-one f is ui octets heard
       one-does (is_plain kind may) = plain-one kind (event-leaves Own k up x.event may)
 

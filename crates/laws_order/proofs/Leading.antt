@@ -28,15 +28,15 @@ use Rattle.laws_order.specs.Happenings.{is_of_link, of_link_in, of_link_at, Deed
 use Rattle.laws_order.specs.Order.{data_noted, data_granted, of_link_on, link_here}
 use Rattle.laws_order.proofs.Contents.{frame-same}
 use Rattle.laws_order.proofs.Does.{Has, Does, IsKind}
-use Rattle.laws_order.proofs.Pairs.{whole-is, facing, Pair, Led, Ends, happens-well, station-does, leaves-still, leaves-granted, linked, granted-by, up-by, expired-still, asked-still, offer-still}
+use Rattle.laws_order.proofs.Pairs.{whole-is, facing, Pair, Led, Falls, happens-well, station-does, leaves-still, leaves-granted, linked, granted-by, up-by, expired-still, asked-still, offer-still}
 
 module _ (service : Service) (tei : ℕ) where
   -- The same is seen, and the same end stands there.
-  seen-so : (w w' : Wire) (dn dm : List (List ℕ)) (t u : List Seen) → t ≡ u → Ends service tei t ⊎ Led service tei w w' dn dm t → Ends service tei u ⊎ Led service tei w w' dn dm u
-  seen-so w w' dn dm t u e h = subst (λ t. Ends service tei t ⊎ Led service tei w w' dn dm t) e h
+  seen-so : (w w' : Wire) (dn dm : List (List ℕ)) (t u : List Seen) → t ≡ u → Falls service tei w' t ⊎ Led service tei w w' dn dm t → Falls service tei w' u ⊎ Led service tei w w' dn dm u
+  seen-so w w' dn dm t u e h = subst (λ t. Falls service tei w' t ⊎ Led service tei w w' dn dm t) e h
 
   -- An event that is no frame of the link.
-  abbrev NotHeard : Config → Event → Type 0
+  abbrev pub NotHeard : Config → Event → Type 0
   NotHeard c e = (octets : List ℕ) → e ≡ hears (stream.frame octets) → of_link_at service tei (heard_side c) octets ≡ []
 
   module _ (w : Wire) (dn dm : List (List ℕ)) (h : Pair service tei w dn dm) (e : Event) where
@@ -75,20 +75,20 @@ module _ (service : Service) (tei : ℕ) where
     by-kind x none link.offer is kind = led (offer-still service tei s h.near h.joined.near_up e x dn m h.joined is)
     by-kind x none link.cleared is kind = absurd kind
 
-    pub event-led : NotHeard s.card.config e → Ends service tei t ⊎ Led service tei w w' dn dm t
+    pub event-led : NotHeard s.card.config e → Falls service tei w' t ⊎ Led service tei w w' dn dm t
     event-led none = go (station-does service tei s h.near h.joined.near_up e)
       where
-        go : Does s.card.config service tei (link_here service tei s) (link_here service tei (happens e s)) e (answered e s) → Ends service tei t ⊎ Led service tei w w' dn dm t
+        go : Does s.card.config service tei (link_here service tei s) (link_here service tei (happens e s)) e (answered e s) → Falls service tei w' t ⊎ Led service tei w w' dn dm t
         go (inl ended) = inl ended
         go (inr (inl x)) = inr (led (leaves-still service tei s h.near h.joined.near_up e dn m x h.joined, leaves-granted service tei s h.near h.joined.near_up e x))
         go (inr (inr x)) = inr (by-kind x none x.event refl x.kind)
 
   -- What is read of octets: a frame of the link, or none.
-  data Read (r : Result Parts ReadFault) : Type 0 where
+  pub data Read (r : Result Parts ReadFault) : Type 0 where
     none_of_it : of_link_in service tei r ≡ [] → Read r
     one_of_it : (f : Parts) → of_link_in service tei r ≡ f ∷ [] → Read r
 
-  read : (r : Result Parts ReadFault) → Read r
+  pub read : (r : Result Parts ReadFault) → Read r
   read (Ok f) = go (is_of_link service tei f) refl
     where
       go : (b : Bool) → is_of_link service tei f ≡ b → Read (Ok f)
@@ -191,11 +191,11 @@ module _ (service : Service) (tei : ℕ) where
       by-it x link.offer is kind = cc kind
       by-it x link.cleared is kind = absurd kind
 
-      pub frame-led : Ends service tei shown ⊎ Led service tei before later dn dm shown
+      pub frame-led : Falls service tei later shown ⊎ Led service tei before later dn dm shown
       frame-led = go (station-does service tei near h.near h.joined.near_up heard)
         where
           go : Does near.card.config service tei (link_here service tei near) (link_here service tei (comes octets near)) heard (answered heard near)
-              → Ends service tei shown ⊎ Led service tei before later dn dm shown
+              → Falls service tei later shown ⊎ Led service tei before later dn dm shown
           go (inl ended) = inl ended
           go (inr (inl x)) =
               inr (arrives (
@@ -231,7 +231,7 @@ module _ (service : Service) (tei : ℕ) where
       }
 
   takes-led : (near far : Station) (way : List (List ℕ)) (dn dm : List (List ℕ)) → let w : Wire = record { near = near; far = record far { way = way } } in
-      Pair service tei w dn dm → let t = seen_by (acts takes) w in Ends service tei t ⊎ Led service tei w (befalling (acts takes) w) dn dm t
+      Pair service tei w dn dm → let t = seen_by (acts takes) w in Falls service tei (befalling (acts takes) w) t ⊎ Led service tei w (befalling (acts takes) w) dn dm t
   takes-led near far [] dn dm h = inr (unchanged (record { near = near; far = record far { way = [] } }) dn dm h)
   takes-led near far (octets ∷ rest) dn dm h =
       let w : Wire = record { near = near; far = record far { way = octets ∷ rest } } in
@@ -240,7 +240,7 @@ module _ (service : Service) (tei : ℕ) where
       seen-so w (befalling (acts takes) w) dn dm t (t ++ []) (sym (append-nil t)) (frame-led near far octets rest dn dm h)
 
   -- another line
-  other-line : (s : Station) (e : card.Event) → IsElsewhere s e → line_at s.line (after e s.card) ≡ line_at s.line s.card
+  pub other-line : (s : Station) (e : card.Event) → IsElsewhere s e → line_at s.line (after e s.card) ≡ line_at s.line s.card
   other-line s e is =
       by_room (λ ls a. get_or ls s.line (fresh_line s.card.config) ≡ line_at s.line s.card) e s.card (λ full. refl)
       (λ room. get_or-set_other s.card.lines e.line s.line (lines.after s.card.config e.what (line_at e.line s.card)) (fresh_line s.card.config) (λ same. is.other (sym same)))
@@ -264,13 +264,13 @@ module _ (service : Service) (tei : ℕ) where
       }
 
   -- Whatever happens at the near end.
-  not-heard : (c : Config) (what : stream.Event) → IsNotOf service tei c what → NotHeard c (hears what)
+  pub not-heard : (c : Config) (what : stream.Event) → IsNotOf service tei c what → NotHeard c (hears what)
   not-heard c (stream.frame heard) is octets e = let same : heard ≡ octets = cc e in ap (of_link_at service tei (heard_side c)) (sym same) ∙ is
   not-heard c (stream.overlong head) is octets e = cc e
   not-heard c (stream.dropped cause) is octets e = cc e
 
   pub near-led : (deed : Deed) (w : Wire) (dn dm : List (List ℕ)) → IsPossibleAt service tei w.near deed → Pair service tei w dn dm
-      → let t = seen_by deed w in Ends service tei t ⊎ Led service tei w (befalling deed w) dn dm t
+      → let t = seen_by deed w in Falls service tei (befalling deed w) t ⊎ Led service tei w (befalling deed w) dn dm t
   near-led (acts (requests r)) w dn dm is h =
       let t = seen (request r) (answered (request r) w.near) in
       seen-so w _ dn dm t (t ++ []) (sym (append-nil t)) (event-led w dn dm h (request r) (λ octets e. cc e))

@@ -17,13 +17,13 @@ use Rattle.model_link.specs.declared.timers.LinkTimer.{LinkTimer}
 use Rattle.model_link.specs.declared.timers.LinkTimer.TheVariants.{T200, T203}
 use Rattle.model_link.specs.declared.terms.Terms.{Terms}
 use Rattle.model_link.specs.Link.{Link, is_multiple_frame, may_repeat}
-use Rattle.model_link.specs.Events.{Event, received, frame, undefined, wrong_size, overlong, expired, requested, offer, cleared, Request, Establish, Release, Data, SetBusy, ClearBusy}
+use Rattle.model_link.specs.Events.{Event, Received, received, frame, undefined, wrong_size, overlong, expired, requested, offer, cleared, Request, Establish, Release, Data, SetBusy, ClearBusy}
 use Rattle.model_link.specs.Machine
 use Rattle.model_link.specs.Machine.{after, told}
 use Rattle.model_link.specs.Steps.{Course, begun}
 use Rattle.model_link.specs.Told.{runs}
 use Rattle.laws_link.specs.Flags.{takes_contents}
-use Rattle.laws_link.specs.States.{as_heard, is_overlong, is_invalid, receipt_of, by_frame, by_expiry, by_request, state_after}
+use Rattle.laws_link.specs.States.{as_heard, is_overlong, is_invalid, receipt_of, is_faulty, by_frame, by_received, by_expiry, by_request, state_after}
 use Rattle.laws_link.specs.Steady.{is_anew}
 use Rattle.laws_link.specs.Telling.{error, establish_indication, numbered_as, final_as, told_by, told_by_frame, told_malformed, told_expired, told_cleared}
 use Rattle.laws_link.proofs.Follows.{event-follows}
@@ -189,6 +189,10 @@ module _ (t : Terms) where
   clears Established up = one-ends (notes.ReleaseIndication t.service t.tei) own
   clears TimerRecovery up = one-ends (notes.ReleaseIndication t.service t.tei) own
 
+  -- An event ends it, and leaves it in state 4, 5 or 6.
+  abbrev pub Fallen : Event → Link → Type 0
+  Fallen e l = Ended (told t e l).notes × (is_multiple_frame (after t e l).state ≡ false)
+
   module _ (l : Link) (up : IsTrue (is_multiple_frame l.state)) where
     abbrev Goes : Event → Type 0
     Goes e = Leaves (told_by t e l (state_after t e l)) (state_after t e l)
@@ -213,15 +217,63 @@ module _ (t : Terms) where
         subst (λ ns. Leaves ns (after t e l).state) (sym x.tells)
         (subst (λ to. Leaves (told_by t (as_heard t e) l to) to) (sym x.state) (by-event e may))
 
-    -- What the grammar does not have, or was too long, ends it.
-    pub undefined-ends : Ended (told t (received undefined) l).notes
-    undefined-ends = subst Ended (sym (event-follows t (received undefined) l).leaves.tells) (malformed l.state up code.L refl)
+    -- What the grammar does not have, or was too long, ends it, and so does a release.
+    malformed-falls : (r : Received) (why : ErrorCode) → is_anew why ≡ true → as_heard t (received r) ≡ received r → is_faulty r l ≡ true
+        → told_by t (received r) l (after t (received r) l).state ≡ told_malformed l.state t why → Fallen (received r) l
+    malformed-falls r why anew same faulty tells =
+        let x = (event-follows t (received r) l).leaves in (
+          subst Ended (sym (x.tells ∙ ap (λ e. told_by t e l (after t (received r) l).state) same ∙ tells)) (malformed l.state up why anew),
+          ap is_multiple_frame (x.state ∙ ap (λ e. state_after t e l) same) ∙ ap (λ b. is_multiple_frame (cond b AwaitingEstablishment (by_received l.state r))) (both-are (is_multiple_frame l.state) (is_faulty r l) up faulty),
+        )
+      where
+        both-are : (a b : Bool) → a ≡ true → b ≡ true → (a && b) ≡ true
+        both-are a b x y = ap (λ a. a && b) x ∙ y
 
-    pub wrong-size-ends : Ended (told t (received wrong_size) l).notes
-    wrong-size-ends = subst Ended (sym (event-follows t (received wrong_size) l).leaves.tells) (malformed l.state up code.N refl)
+    pub undefined-falls : Fallen (received undefined) l
+    undefined-falls = malformed-falls undefined code.L refl refl refl refl
 
-    pub overlong-ends : Ended (told t (received overlong) l).notes
-    overlong-ends = subst Ended (sym (event-follows t (received overlong) l).leaves.tells) (malformed l.state up code.O refl)
+    pub wrong-size-falls : Fallen (received wrong_size) l
+    wrong-size-falls = malformed-falls wrong_size code.N refl refl refl refl
+
+    pub overlong-falls : Fallen (received overlong) l
+    overlong-falls = malformed-falls overlong code.O refl refl refl refl
+
+    -- So do SABME and DISC.
+    by-sabme : (here : State) → IsTrue (is_multiple_frame here) → (command : Bool) (octets : List ℕ) (p taken : Bool) (to : State)
+        → Ended (told_by_frame here t command octets (Sabme p) taken l to)
+    by-sabme Established up command octets p taken to = before (error t code.F) (cond (l.s == l.a) [] (establish_indication t)) (error-ends code.F refl)
+    by-sabme TimerRecovery up command octets p taken to = before (error t code.F) (cond (l.s == l.a) [] (establish_indication t)) (error-ends code.F refl)
+    by-sabme TeiAssigned up command octets p taken to = absurd (true≢false (sym up))
+    by-sabme AwaitingEstablishment up command octets p taken to = absurd (true≢false (sym up))
+    by-sabme AwaitingRelease up command octets p taken to = absurd (true≢false (sym up))
+
+    pub sabme-ends : (f : Parts) (p : Bool) → Ended (told t (received (frame (record f { control = Sabme p }))) l).notes
+    sabme-ends f p =
+        subst Ended (sym (event-follows t (received (frame (record f { control = Sabme p }))) l).leaves.tells)
+        (by-sabme l.state up f.address.command f.info p false (after t (received (frame (record f { control = Sabme p }))) l).state)
+
+    by-disc : (here : State) → IsTrue (is_multiple_frame here) → (command : Bool) (octets : List ℕ) (p taken : Bool) (to : State)
+        → Ended (told_by_frame here t command octets (Disc p) taken l to)
+    by-disc Established up command octets p taken to = one-ends (notes.ReleaseIndication t.service t.tei) own
+    by-disc TimerRecovery up command octets p taken to = one-ends (notes.ReleaseIndication t.service t.tei) own
+    by-disc TeiAssigned up command octets p taken to = absurd (true≢false (sym up))
+    by-disc AwaitingEstablishment up command octets p taken to = absurd (true≢false (sym up))
+    by-disc AwaitingRelease up command octets p taken to = absurd (true≢false (sym up))
+
+    pub disc-ends : (f : Parts) (p : Bool) → Ended (told t (received (frame (record f { control = Disc p }))) l).notes
+    disc-ends f p =
+        subst Ended (sym (event-follows t (received (frame (record f { control = Disc p }))) l).leaves.tells)
+        (by-disc l.state up f.address.command f.info p false (after t (received (frame (record f { control = Disc p }))) l).state)
+
+    pub release-falls : (full : Bool) → is_multiple_frame (after t (requested Release full) l).state ≡ false
+    release-falls full = ap is_multiple_frame (event-follows t (requested Release full) l).leaves.state ∙ by-state l.state up
+      where
+        by-state : (here : State) → IsTrue (is_multiple_frame here) → is_multiple_frame (by_request here Release) ≡ false
+        by-state Established up = refl
+        by-state TimerRecovery up = refl
+        by-state TeiAssigned up = refl
+        by-state AwaitingEstablishment up = refl
+        by-state AwaitingRelease up = refl
 
   -- UI leaves a link as it was, and delivers no contents of an I-frame.
   module _ (l : Link) where

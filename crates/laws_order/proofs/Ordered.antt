@@ -1,33 +1,28 @@
 -- Whole runs of two cards whose links face each other.
-use Rattle.std.proofs.Common.{◌≡◌, ℕ, zero, suc, ◌+◌, ◌<◌, ◌||◌, Bool, true, false, IsTrue, List, [], ◌∷◌, ◌++◌, take, drop, Option, None, Some, refl, sym, ap, ◌∙◌, subst, append-nil, append_assoc, true≢false, ◌⊎◌, inl, inr}
+use Rattle.std.proofs.Common.{◌≡◌, ℕ, zero, suc, ◌+◌, ◌<◌, ◌≤◌, ◌||◌, Bool, true, false, List, [], ◌∷◌, ◌++◌, take, drop, refl, sym, ap, ◌∙◌, subst, append-nil, append_assoc, true≢false, ◌⊎◌, inl, inr}
 use Rattle.std.specs.Prelude.{All}
 use Rattle.std.specs.List.{list_any}
-use Rattle.std.specs.Option.{option_map_or}
 use Rattle.std.proofs.lemmas.List.Concat.{flat_map-append}
 use Rattle.std.proofs.lemmas.List.Elements.{All-nil, All-cons, All-head, All-tail}
 use Rattle.std.proofs.lemmas.List.Folds.{list_any-append}
 use Rattle.lapd_frame.specs.declared.services.Service.{Service}
 use Rattle.lapd_frame.specs.Grammar.{other_side}
-use Rattle.lapd_tei.proofs.Tables.{place_of-is}
-use Rattle.model_link.specs.Link.{Link, fresh, is_multiple_frame}
-use Rattle.model_link.specs.Sound as link_sound
+use Rattle.model_link.specs.Link.{Link, is_multiple_frame}
 use Rattle.model_link.proofs.Direction.{Direction, frames_of, line_of}
 use Rattle.model_link.proofs.Joined.{joined-turned}
-use Rattle.model_link.proofs.Lines.{Carried, Rising}
+use Rattle.model_link.proofs.Lines.{Carried, Rising, rising-low}
 use Rattle.model_line.specs.declared.config.Config.{Config}
-use Rattle.model_line.specs.Line.{Line, link_in, place_in, terms}
-use Rattle.model_line.specs.Sound as line_sound
-use Rattle.model_line.proofs.LinksSound.{sound_in}
-use Rattle.model_line.proofs.Ranges.{terms_in_range}
-use Rattle.model_card.specs.Card.{line_at}
-use Rattle.model_card.proofs.Steps.{has_lines, line_sound as sound-line}
+use Rattle.model_line.specs.Line.{terms}
 use Rattle.laws_trace.specs.Trace.{Seen, IsFront}
 use Rattle.laws_wire.specs.Wire.{Station, Wire, requests, times_out, gives, takes, loses, turned, with_first_of}
 use Rattle.laws_wire.proofs.Spelled.{twice-other}
 use Rattle.laws_order.specs.Happenings.{Deed, acts, disturbed, elsewhere, IsNotOf, IsPossibleAt, befalling, Happening, by_near, by_far, IsPossible, seen_by, seen_near, seen_far}
 use Rattle.laws_order.specs.Order.{noted_in, granted_in, data_noted, data_granted, ends_by, StaysEstablished, link_here, IsAtRest, HasReceivedOf, FaceAtRest, kept_by, DeliveredInOrder}
 use Rattle.laws_order.proofs.Leading.{near-led}
-use Rattle.laws_order.proofs.Pairs.{facing, Pair, Led, Ends}
+use Rattle.laws_order.proofs.Lasting.{carried-brought, rising-speaks}
+use Rattle.laws_order.proofs.NearOver.{Lasts, near-goes}
+use Rattle.laws_order.proofs.OneLasts.{far-goes}
+use Rattle.laws_order.proofs.Pairs.{facing, Pair, Led, Falls, IsWell, proper}
 
 -- Nothing that happens moves a card to another line, or changes what it is configured with.
 pub record StaysAt (s s' : Station) : Type 0 where
@@ -41,7 +36,7 @@ first-place : (way : List (List ℕ)) (s : Station) → StaysAt s (with_first_of
 first-place [] s = same-place s
 first-place (octets ∷ rest) s = record { config = refl; line = refl }
 
-near-place : (deed : Deed) (w : Wire) → StaysAt w.near (befalling deed w).near
+pub near-place : (deed : Deed) (w : Wire) → StaysAt w.near (befalling deed w).near
 near-place (acts (requests r)) w = record { config = refl; line = refl }
 near-place (acts (times_out timer)) w = record { config = refl; line = refl }
 near-place (acts gives) w = record { config = refl; line = refl }
@@ -50,7 +45,7 @@ near-place (acts loses) w = record { config = refl; line = refl }
 near-place (disturbed what) w = record { config = refl; line = refl }
 near-place (elsewhere e) w = record { config = refl; line = refl }
 
-far-place : (deed : Deed) (w : Wire) → StaysAt w.far (befalling deed w).far
+pub far-place : (deed : Deed) (w : Wire) → StaysAt w.far (befalling deed w).far
 far-place (acts (requests r)) w = same-place w.far
 far-place (acts (times_out timer)) w = same-place w.far
 far-place (acts gives) w = same-place w.far
@@ -64,7 +59,7 @@ both-parts zero xs = refl
 both-parts (suc n) [] = refl
 both-parts (suc n) (x ∷ xs) = ap (λ ys. x ∷ ys) (both-parts n xs)
 
-or-parts : (a b : Bool) → (a || b) ≡ false → (a ≡ false) × (b ≡ false)
+pub or-parts : (a b : Bool) → (a || b) ≡ false → (a ≡ false) × (b ≡ false)
 or-parts true b e = absurd (true≢false e)
 or-parts false b e = (refl, e)
 
@@ -84,7 +79,7 @@ module _ (service : Service) (tei : ℕ) where
   still-possible w w' near far (by_near deed) is = possible-at w.near w'.near near deed is
   still-possible w w' near far (by_far deed) is = possible-at w.far w'.far far deed is
 
-  all-possible : (w w' : Wire) → StaysAt w.near w'.near → StaysAt w.far w'.far → (hs : List Happening) → All (IsOpen w) hs → All (IsOpen w') hs
+  pub all-possible : (w w' : Wire) → StaysAt w.near w'.near → StaysAt w.far w'.far → (hs : List Happening) → All (IsOpen w) hs → All (IsOpen w') hs
   all-possible w w' near far [] all = All-nil (IsOpen w')
   all-possible w w' near far (h ∷ hs) all =
       All-cons (IsOpen w') h hs (still-possible w w' near far h (All-head (IsOpen w) h hs all))
@@ -130,82 +125,136 @@ module _ (service : Service) (tei : ℕ) where
         ∙ ap (λ xs. xs ++ h.rest) (append_assoc d (data_noted service tei t) (data_noted service tei t') ∙ ap (λ xs. d ++ xs) (sym (noted-append t t')));
   }
 
-  abbrev AreInOrder : List Happening → Wire → List (List ℕ) → List (List ℕ) → Type 0
-  AreInOrder hs w dn dm = IsFrontOf dn (seen_near hs w) w.far (seen_far hs w) × IsFrontOf dm (seen_far hs w) w.near (seen_near hs w)
-
   both-stay : (t u : List Seen) → StaysEstablished service tei (t ++ u) → StaysEstablished service tei t × StaysEstablished service tei u
   both-stay t u h = or-parts (list_any (ends_by service tei) t) (list_any (ends_by service tei) u) (sym (list_any-append (ends_by service tei) t u) ∙ h)
-
-  not-ended : (t : List Seen) (A : Type 0) → StaysEstablished service tei t → Ends service tei t ⊎ A → A
-  not-ended t A stays (inl ended) = absurd (true≢false (sym ended ∙ stays))
-  not-ended t A stays (inr x) = x
 
   unmoved : (s s' : Station) → link_here service tei s' ≡ link_here service tei s → contents_at s' ≡ contents_at s ++ []
   unmoved s s' same = ap (λ (y : Link). y.contents) same ∙ sym (append-nil (contents_at s))
 
+  -- What happens at one end leaves the link at the other.
+  other-link : (deed : Deed) (w : Wire) → link_here service tei (befalling deed w).far ≡ link_here service tei w.far
+  other-link (acts (requests r)) w = refl
+  other-link (acts (times_out timer)) w = refl
+  other-link (acts gives) w = refl
+  other-link (acts takes) w = refl
+  other-link (acts loses) w = refl
+  other-link (disturbed what) w = refl
+  other-link (elsewhere e) w = refl
+
+  -- where the near end's establishment is over
+  module _ (contents : List (List ℕ)) (a k : ℕ) (small : k ≤ 127) where
+    lasting-run : (hs : List Happening) (w : Wire) (dm : List (List ℕ)) → Lasts service tei contents a k small w dm
+        → is_multiple_frame (link_here service tei w.near).state ≡ false → All (IsOpen w) hs → StaysEstablished service tei (seen_far hs w)
+        → IsFront (dm ++ data_noted service tei (seen_far hs w)) contents
+    unfolding seen_far
+    lasting-run [] w dm h down all stays =
+        let r = (link_here service tei w.far).r in
+        record { rest = drop r contents; whole_is = both-parts r contents ∙ ap (λ ds. ds ++ drop r contents) (sym (append-nil dm ∙ h.delivered)) }
+    lasting-run (by_near deed ∷ hs) w dm h down all stays =
+        let w' = befalling deed w in
+        let x = near-goes service tei contents a k small deed w dm (All-head (IsOpen w) (by_near deed) hs all) h in
+        let down' = x.0 down in
+        lasting-run hs w' dm (x.1 down') down' (all-possible w w' (near-place deed w) (far-place deed w) hs (All-tail (IsOpen w) (by_near deed) hs all)) stays
+    lasting-run (by_far deed ∷ hs) w dm h down all stays =
+        let v = turned w in
+        let w' = turned (befalling deed v) in
+        let t = seen_by deed v in
+        let stay = both-stay t (seen_far hs w') stays in
+        let x = far-goes service tei contents a k small deed w dm (All-head (IsOpen w) (by_far deed) hs all) h stay.0 in
+        let rest = lasting-run hs w' (dm ++ data_noted service tei t) x (ap (λ (y : Link). is_multiple_frame y.state) (other-link deed v) ∙ down)
+        (all-possible w w' (far-place deed v) (near-place deed v) hs (All-tail (IsOpen w) (by_far deed) hs all)) stay.1 in
+        record {
+          rest = rest.rest;
+          whole_is = rest.whole_is ∙ ap (λ xs. xs ++ rest.rest) (append_assoc dm (data_noted service tei t) (data_noted service tei (seen_far hs w')) ∙ ap (λ xs. dm ++ xs) (sym (noted-append t (seen_far hs w'))));
+        }
+
+  -- as both ends are up
+  pair-lasts : (w : Wire) (dn dm : List (List ℕ)) → (h : Pair service tei w dn dm)
+      → Lasts service tei (contents_at w.near) (link_here service tei w.near).a (terms w.near.card.config service tei).k h.joined.near_ranges.k_high w dm
+  pair-lasts w dn dm h =
+      let n = facing service tei w.near dn in
+      let m = facing service tei w.far dm in
+      record {
+        near = h.near;
+        far = h.far;
+        sides = h.sides;
+        up = h.joined.far_up;
+        line = carried-brought n.link.contents (n.link.a + n.terms.k) m.link.r (line_of n) h.joined.there.carried;
+        low = rising-low n.link.a m.link.r (line_of m) h.joined.there.rising;
+        speech = rising-speaks n.link.a m.link.r (line_of m) h.joined.there.rising;
+        delivered = h.joined.there.delivered;
+        accepted = h.joined.there.accepted;
+      }
+
+  abbrev IsInOrder : List Happening → Wire → List (List ℕ) → Type 0
+  IsInOrder hs w dm = IsFrontOf dm (seen_far hs w) w.near (seen_near hs w)
+
+  with-more : (ds cs gs : List (List ℕ)) → IsFront ds cs → IsFront ds (cs ++ gs)
+  with-more ds cs gs h = record { rest = h.rest ++ gs; whole_is = ap (λ xs. xs ++ gs) h.whole_is ∙ append_assoc ds h.rest gs }
+
+  -- As long as the establishment lasts at the far end, whatever becomes of it at the near one.
   pub all-led : (hs : List Happening) (w : Wire) (dn dm : List (List ℕ)) → Pair service tei w dn dm → All (IsOpen w) hs
-      → StaysEstablished service tei (seen_near hs w) → StaysEstablished service tei (seen_far hs w) → AreInOrder hs w dn dm
+      → StaysEstablished service tei (seen_far hs w) → IsInOrder hs w dm
   unfolding seen_near seen_far
-  all-led [] w dn dm h all near far = (front-now w dn dm h, front-now (turned w) dm dn (turned-pair w dn dm h))
-  all-led (by_near deed ∷ hs) w dn dm h all near far =
-      let w' = befalling deed w in
-      let t = seen_by deed w in
-      let stay = both-stay t (seen_near hs w') near in
-      let x = not-ended t (Led service tei w w' dn dm t) stay.0 (near-led service tei deed w dn dm (All-head (IsOpen w) (by_near deed) hs all) h) in
-      let rest = all-led hs w' (dn ++ data_noted service tei t) dm x.pair
-      (all-possible w w' (near-place deed w) (far-place deed w) hs (All-tail (IsOpen w) (by_near deed) hs all)) stay.1 far in (
-        front-before dn t (seen_near hs w') (contents_at w.far) (contents_at w'.far) [] (seen_far hs w') (unmoved w.far w'.far x.other) rest.0,
-        front-before dm [] (seen_far hs w') (contents_at w.near) (contents_at w'.near) t (seen_near hs w') x.granted
-            (subst (λ ds. IsFront (ds ++ data_noted service tei (seen_far hs w')) (contents_at w'.near ++ data_granted service tei (seen_near hs w'))) (sym (append-nil dm)) rest.1),
-      )
-  all-led (by_far deed ∷ hs) w dn dm h all near far =
-      let v = turned w in
-      let w' = turned (befalling deed v) in
-      let t = seen_by deed v in
-      let stay = both-stay t (seen_far hs w') far in
-      let x = not-ended t (Led service tei v (befalling deed v) dm dn t) stay.0
-      (near-led service tei deed v dm dn (All-head (IsOpen w) (by_far deed) hs all) (turned-pair w dn dm h)) in
-      let rest = all-led hs w' dn (dm ++ data_noted service tei t) (turned-pair (befalling deed v) (dm ++ data_noted service tei t) dn x.pair)
-      (all-possible w w' (far-place deed v) (near-place deed v) hs (All-tail (IsOpen w) (by_far deed) hs all)) near stay.1 in (
-        front-before dn [] (seen_near hs w') (contents_at w.far) (contents_at w'.far) t (seen_far hs w') x.granted
-            (subst (λ ds. IsFront (ds ++ data_noted service tei (seen_near hs w')) (contents_at w'.far ++ data_granted service tei (seen_far hs w'))) (sym (append-nil dn)) rest.0),
-        front-before dm t (seen_far hs w') (contents_at w.near) (contents_at w'.near) [] (seen_near hs w') (unmoved w.near w'.near x.other) rest.1,
-      )
+  all-led [] w dn dm h all far = front-now (turned w) dm dn (turned-pair w dn dm h)
+  all-led (by_near deed ∷ hs) w dn dm h all far =
+      go (λ x. all-led hs (befalling deed w) (dn ++ data_noted service tei (seen_by deed w)) dm x.pair
+      (all-possible w (befalling deed w) (near-place deed w) (far-place deed w) hs (All-tail (IsOpen w) (by_near deed) hs all)) far)
+      (near-led service tei deed w dn dm (All-head (IsOpen w) (by_near deed) hs all) h)
+    where
+      w' : Wire
+      w' = befalling deed w
+
+      t : List Seen
+      t = seen_by deed w
+
+      later : All (IsOpen w') hs
+      later = all-possible w w' (near-place deed w) (far-place deed w) hs (All-tail (IsOpen w) (by_near deed) hs all)
+
+      go : (Led service tei w w' dn dm t → IsInOrder hs w' dm) → Falls service tei w' t ⊎ Led service tei w w' dn dm t → IsInOrder (by_near deed ∷ hs) w dm
+      go later-on (inl fallen) =
+          let a = (link_here service tei w.near).a in
+          let k = (terms w.near.card.config service tei).k in
+          let small = h.joined.near_ranges.k_high in
+          let x = near-goes service tei (contents_at w.near) a k small deed w dm (All-head (IsOpen w) (by_near deed) hs all) (pair-lasts w dn dm h) in
+          with-more (dm ++ data_noted service tei (seen_far hs w')) (contents_at w.near) (data_granted service tei (t ++ seen_near hs w'))
+          (lasting-run (contents_at w.near) a k small hs w' dm (x.1 fallen.1) fallen.1 later far)
+      go later-on (inr x) =
+          front-before dm [] (seen_far hs w') (contents_at w.near) (contents_at w'.near) t (seen_near hs w') x.granted
+          (subst (λ ds. IsFront (ds ++ data_noted service tei (seen_far hs w')) (contents_at w'.near ++ data_granted service tei (seen_near hs w'))) (sym (append-nil dm))
+          (later-on x))
+  all-led (by_far deed ∷ hs) w dn dm h all far =
+      go (λ x stays. all-led hs (turned (befalling deed (turned w))) dn (dm ++ data_noted service tei (seen_by deed (turned w)))
+      (turned-pair (befalling deed (turned w)) (dm ++ data_noted service tei (seen_by deed (turned w))) dn x.pair)
+      (all-possible w (turned (befalling deed (turned w))) (far-place deed (turned w)) (near-place deed (turned w)) hs (All-tail (IsOpen w) (by_far deed) hs all)) stays)
+      (near-led service tei deed (turned w) dm dn (All-head (IsOpen w) (by_far deed) hs all) (turned-pair w dn dm h))
+    where
+      v : Wire
+      v = turned w
+
+      w' : Wire
+      w' = turned (befalling deed v)
+
+      t : List Seen
+      t = seen_by deed v
+
+      stay : StaysEstablished service tei t × StaysEstablished service tei (seen_far hs w')
+      stay = both-stay t (seen_far hs w') far
+
+      go : (Led service tei v (befalling deed v) dm dn t → StaysEstablished service tei (seen_far hs w') → IsInOrder hs w' (dm ++ data_noted service tei t))
+          → Falls service tei (befalling deed v) t ⊎ Led service tei v (befalling deed v) dm dn t → IsInOrder (by_far deed ∷ hs) w dm
+      go later-on (inl fallen) = absurd (true≢false (sym fallen.0 ∙ stay.0))
+      go later-on (inr x) =
+          front-before dm t (seen_far hs w') (contents_at w.near) (contents_at w'.near) [] (seen_near hs w') (unmoved w.near w'.near x.other)
+          (later-on x stay.1)
 
   -- The beginning.
   module _ (s : Station) (b : IsAtRest service tei s) where
-    abbrev k : Link
-    k = link_here service tei s
-
-    abbrev l : Line
-    l = line_at s.line s.card
-
-    abbrev c : Config
-    c = s.card.config
-
-    its-line : line_sound.IsSound c l
-    its-line = sound-line s.card s.line (has_lines s.card b.sound) b.within
-
-    record IsProper : Type 0 where
-      ranges : link_sound.IsInRange (terms c service tei)
-      sound : link_sound.IsSound (terms c service tei) k
-
-    proper : IsProper
-    proper = go (place_in l tei) refl b.up
-      where
-        go : (o : Option ℕ) → place_in l tei ≡ o → IsTrue (is_multiple_frame (option_map_or (link_in l service) o fresh).state) → IsProper
-        go None e up = absurd (true≢false (sym up))
-        go (Some place) e up =
-            let at = (place_of-is l.management.places tei place e).1 in
-            record {
-              ranges = terms_in_range c b.sound.config service tei (its-line.management.table.range place tei at);
-              sound =
-                  subst (link_sound.IsSound (terms c service tei)) (sym (ap (λ o. option_map_or (link_in l service) o fresh) e))
-                  (sound_in c b.sound.config l its-line service tei place at);
-            }
+    well : IsWell s
+    well = record { sound = b.sound; within = b.within }
 
     nothing-on : line_of (facing service tei s []) ≡ []
-    nothing-on = ap (λ way. way ++ frames_of (terms c service tei) k.waiting) b.way ∙ ap (λ ws. frames_of (terms c service tei) ws) b.waiting
+    nothing-on = ap (λ way. way ++ frames_of (terms s.card.config service tei) (link_here service tei s).waiting) b.way ∙ ap (λ ws. frames_of (terms s.card.config service tei) ws) b.waiting
 
   -- what the second station has received of the contents of the first
   abbrev had : Station → Station → List (List ℕ)
@@ -225,11 +274,11 @@ module _ (service : Service) (tei : ℕ) where
 
   begins-pair : (w : Wire) (h : FaceAtRest service tei w) → Pair service tei w (had w.far w.near) (had w.near w.far)
   begins-pair w h =
-      let n = proper w.near h.near in
-      let m = proper w.far h.far in
+      let n = proper service tei w.near (well w.near h.near) h.near.up in
+      let m = proper service tei w.far (well w.far h.far) h.far.up in
       record {
-        near = record { sound = h.near.sound; within = h.near.within };
-        far = record { sound = h.far.sound; within = h.far.within };
+        near = well w.near h.near;
+        far = well w.far h.far;
         sides = h.sides;
         joined = record {
           near_ranges = n.ranges;
@@ -260,9 +309,57 @@ module _ (service : Service) (tei : ℕ) where
             (sym (append_assoc front kept gs) ∙ ap (λ cs. cs ++ gs) (sym whole) ∙ h.whole_is ∙ append_assoc front ds h.rest);
       }
 
+  told-far : (hs : List Happening) (w : Wire) → FaceAtRest service tei w → All (IsOpen w) hs → StaysEstablished service tei (seen_far hs w)
+      → IsFront (data_noted service tei (seen_far hs w)) (kept_by service tei w.near w.far ++ data_granted service tei (seen_near hs w))
+  told-far hs w h all far =
+      since w.near w.far (data_noted service tei (seen_far hs w)) (data_granted service tei (seen_near hs w))
+      (all-led hs w (had w.far w.near) (had w.near w.far) (begins-pair w h) all far)
+
+  -- The same from the other end.
+  abbrev swapped : Happening → Happening
+  swapped (by_near deed) = by_far deed
+  swapped (by_far deed) = by_near deed
+
+  abbrev all_swapped : List Happening → List Happening
+  all_swapped [] = []
+  all_swapped (h ∷ hs) = swapped h ∷ all_swapped hs
+
+  near-is : (hs : List Happening) (w : Wire) → seen_near hs w ≡ seen_far (all_swapped hs) (turned w)
+  unfolding seen_near seen_far
+  near-is [] w = refl
+  near-is (by_near deed ∷ hs) w = ap (λ t. seen_by deed w ++ t) (near-is hs (befalling deed w))
+  near-is (by_far deed ∷ hs) w = near-is hs (turned (befalling deed (turned w)))
+
+  far-is : (hs : List Happening) (w : Wire) → seen_far hs w ≡ seen_near (all_swapped hs) (turned w)
+  unfolding seen_near seen_far
+  far-is [] w = refl
+  far-is (by_near deed ∷ hs) w = far-is hs (befalling deed w)
+  far-is (by_far deed ∷ hs) w = ap (λ t. seen_by deed (turned w) ++ t) (far-is hs (turned (befalling deed (turned w))))
+
+  one-swapped : (w : Wire) (h : Happening) → IsOpen w h → IsOpen (turned w) (swapped h)
+  one-swapped w (by_near deed) is = is
+  one-swapped w (by_far deed) is = is
+
+  possible-swapped : (w : Wire) (hs : List Happening) → All (IsOpen w) hs → All (IsOpen (turned w)) (all_swapped hs)
+  possible-swapped w [] all = All-nil (IsOpen (turned w))
+  possible-swapped w (h ∷ hs) all =
+      All-cons (IsOpen (turned w)) (swapped h) (all_swapped hs) (one-swapped w h (All-head (IsOpen w) h hs all)) (possible-swapped w hs (All-tail (IsOpen w) h hs all))
+
+  rest-turned : (w : Wire) → FaceAtRest service tei w → FaceAtRest service tei (turned w)
+  rest-turned w h = record {
+    near = h.far;
+    far = h.near;
+    sides = sym (ap other_side h.sides ∙ twice-other w.near.card.config.side);
+    there = h.back;
+    back = h.there;
+  }
+
+  told-near : (hs : List Happening) (w : Wire) → FaceAtRest service tei w → All (IsOpen w) hs → StaysEstablished service tei (seen_near hs w)
+      → IsFront (data_noted service tei (seen_near hs w)) (kept_by service tei w.far w.near ++ data_granted service tei (seen_far hs w))
+  told-near hs w h all near =
+      subst (λ t. IsFront (data_noted service tei t) (kept_by service tei w.far w.near ++ data_granted service tei (seen_far hs w))) (sym (near-is hs w))
+      (subst (λ t. IsFront (data_noted service tei (seen_far (all_swapped hs) (turned w))) (kept_by service tei w.far w.near ++ data_granted service tei t)) (sym (far-is hs w))
+      (told-far (all_swapped hs) (turned w) (rest-turned w h) (possible-swapped w hs all) (subst (StaysEstablished service tei) (near-is hs w) near)))
+
 pub delivered-in-order : DeliveredInOrder
-delivered-in-order service tei w hs h all near far =
-    let x = all-led service tei hs w (had service tei w.far w.near) (had service tei w.near w.far) (begins-pair service tei w h) all near far in (
-      since service tei w.far w.near (data_noted service tei (seen_near hs w)) (data_granted service tei (seen_far hs w)) x.0,
-      since service tei w.near w.far (data_noted service tei (seen_far hs w)) (data_granted service tei (seen_near hs w)) x.1,
-    )
+delivered-in-order service tei w hs h all = (told-near service tei hs w h all, told-far service tei hs w h all)

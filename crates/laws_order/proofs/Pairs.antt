@@ -1,7 +1,8 @@
 -- Two cards whose links face each other: what each thing that happens makes of the two ends.
-use Rattle.std.proofs.Common.{◌≡◌, ℕ, ◌+◌, ◌<◌, ◌==◌, ◌&&◌, not, Bool, true, false, cond, IsTrue, List, [], ◌∷◌, ◌++◌, map, length, take, get_or, set, Option, Some, None, IfSome, refl, sym, ap, ◌∙◌, subst, arith, append-nil, eq-eqb, inl, inr}
+use Rattle.std.proofs.Common.{◌≡◌, ℕ, ◌+◌, ◌<◌, ◌==◌, ◌&&◌, not, Bool, true, false, cond, IsTrue, List, [], ◌∷◌, ◌++◌, map, length, take, get_or, set, Option, Some, None, IfSome, refl, sym, ap, ◌∙◌, subst, arith, append-nil, eq-eqb, true≢false, inl, inr}
 use Rattle.std.specs.Prelude.{All, option_to_list, unwrap_or, nat_lt}
 use Rattle.std.specs.List.{list_any}
+use Rattle.std.specs.Option.{option_map_or}
 use Rattle.std.proofs.lemmas.List.{get_or-set_same}
 use Rattle.std.proofs.lemmas.List.Concat.{flat_map-append}
 use Rattle.std.proofs.lemmas.List.Elements.{All-nil, All-cons, All-head}
@@ -14,10 +15,11 @@ use Rattle.lapd_frame.specs.declared.services.Service.{Service}
 use Rattle.lapd_frame.specs.Grammar.{Parts, other_side}
 use Rattle.lapd_frame.specs.Services.{sapi_of}
 use Rattle.lapd_frame.proofs.Spelling.{reading-again}
+use Rattle.lapd_tei.proofs.Tables.{place_of-is}
 use Rattle.model_link.specs.declared.terms.Terms.{Terms}
 use Rattle.model_link.specs.declared.timers.LinkTimer.{LinkTimer}
 use Rattle.model_link.specs.Events as link
-use Rattle.model_link.specs.Link.{Link, is_multiple_frame, frame_of}
+use Rattle.model_link.specs.Link.{Link, fresh, is_multiple_frame, frame_of}
 use Rattle.model_link.specs.Machine as links
 use Rattle.model_link.specs.Sound as link_sound
 use Rattle.model_link.specs.Told.{Given}
@@ -30,14 +32,17 @@ use Rattle.model_link.proofs.Lines.{Means, Rising}
 use Rattle.model_line.specs.Came.{came, is_too_short}
 use Rattle.model_line.specs.declared.config.Config.{Config}
 use Rattle.model_line.specs.Event.{Event}
-use Rattle.model_line.specs.Line.{Line, fresh_line, link_of, terms}
+use Rattle.model_line.specs.Line.{Line, fresh_line, link_in, link_of, place_in, terms}
 use Rattle.model_line.specs.Machine as lines
+use Rattle.model_line.specs.Sound as line_sound
 use Rattle.model_line.specs.Taken as taken
+use Rattle.model_line.proofs.LinksSound.{sound_in}
+use Rattle.model_line.proofs.Ranges.{terms_in_range}
 use Rattle.model_card.specs.Card.{line_at}
 use Rattle.model_card.specs.Event.{at}
 use Rattle.model_card.specs.Sound as card_sound
 use Rattle.model_card.proofs.CardSound.{after_is_sound}
-use Rattle.model_card.proofs.Steps.{has_lines, by_room, line_sound}
+use Rattle.model_card.proofs.Steps.{has_lines, by_room, line_sound as line_sound_at}
 use Rattle.laws_link.specs.Accepted.{accepted}
 use Rattle.laws_trace.specs.Trace.{Seen, seen}
 use Rattle.laws_trace.specs.Units.{is_ui}
@@ -60,7 +65,7 @@ whole-is n201 octets heard e = go (is_too_short octets) (nat_lt (n201 + 4) (leng
     go false false e = cc e
 
 -- What goes between two links that face each other is no unit data.
-abbrev IsPlain : Parts → Type 0
+abbrev pub IsPlain : Parts → Type 0
 IsPlain f = is_ui f.control ≡ false
 
 means-plain : (m : ℕ) (control : Control) → Means m control → is_ui control ≡ false
@@ -81,6 +86,21 @@ amid [] [] zs a r h = All-nil IsPlain
 amid [] (y ∷ ys) zs a r (m, up, means, h) = All-cons IsPlain y ys (means-plain m y.control means) (amid [] ys zs m r h)
 amid (x ∷ xs) ys zs a r (m, up, means, h) = amid xs ys zs m r h
 
+-- The frame that an offer gives is one of the link.
+module _ (c : Config) (service : Service) (tei : ℕ) where
+  pub given-again : (o : Option Given) → IfSome o (λ g. link_sound.IsGiven (terms c service tei) g.frame g.contents) → All IsPlain (frame_given (terms c service tei) o)
+      → of_link_on service tei c.side (map (taken.frame_of c (terms c service tei)) (option_to_list o)) ≡ frame_given (terms c service tei) o
+  given-again None whole plain = refl
+  given-again (Some g) whole plain =
+      let f : Parts = record (frame_of (terms c service tei) g.frame) { info = unwrap_or g.contents [] } in
+      let not-ui = All-head IsPlain f [] plain in
+      let its : is_of_link service tei f ≡ true =
+      ap (λ b. (b && tei == tei) && not (is_ui f.control)) (eq-eqb (sapi_of service) (sapi_of service) refl)
+      ∙ ap (λ b. b && not (is_ui f.control)) (eq-eqb tei tei refl) ∙ ap not not-ui in
+      append-nil (of_link_at service tei c.side (taken.frame_of c (terms c service tei) g))
+      ∙ ap (of_link_in service tei) (reading-again c.side f (taken.frame_of c (terms c service tei) g) (record { is_frame = whole.whole; octets_are = refl }))
+      ∙ ap (λ b. cond {A = List Parts} b (f ∷ []) []) its
+
 pub record IsWell (s : Station) : Type 0 where
   pub sound : card_sound.IsSound s.card
   pub within : s.line < s.card.config.lines
@@ -88,8 +108,35 @@ pub record IsWell (s : Station) : Type 0 where
 pub happens-well : (s : Station) → IsWell s → (e : Event) → IsWell (happens e s)
 happens-well s h e = record { sound = after_is_sound s.card (at s.line e) h.sound h.within; within = h.within }
 
+-- A link in state 7 or 8 at a sound line is one of a TEI that is there, so it is sound.
+module _ (service : Service) (tei : ℕ) (s : Station) (well : IsWell s) where
+  abbrev its : Terms
+  its = terms s.card.config service tei
+
+  pub record IsProper : Type 0 where
+    pub ranges : link_sound.IsInRange its
+    pub sound : link_sound.IsSound its (link_here service tei s)
+
+  line-well : line_sound.IsSound s.card.config (line_at s.line s.card)
+  line-well = line_sound_at s.card s.line (has_lines s.card well.sound) well.within
+
+  pub proper : IsTrue (is_multiple_frame (link_here service tei s).state) → IsProper
+  proper up = go (place_in (line_at s.line s.card) tei) refl up
+    where
+      go : (o : Option ℕ) → place_in (line_at s.line s.card) tei ≡ o
+          → IsTrue (is_multiple_frame (option_map_or (link_in (line_at s.line s.card) service) o fresh).state) → IsProper
+      go None e up = absurd (true≢false (sym up))
+      go (Some place) e up =
+          let at = (place_of-is (line_at s.line s.card).management.places tei place e).1 in
+          record {
+            ranges = terms_in_range s.card.config well.sound.config service tei (line-well.management.table.range place tei at);
+            sound =
+                subst (link_sound.IsSound its) (sym (ap (λ o. option_map_or (link_in (line_at s.line s.card) service) o fresh) e))
+                (sound_in s.card.config well.sound.config (line_at s.line s.card) line-well service tei place at);
+          }
+
 module _ (service : Service) (tei : ℕ) where
-  abbrev way_here : Station → List Parts
+  abbrev pub way_here : Station → List Parts
   way_here s = of_link_on service tei s.card.config.side s.way
 
   -- The end of the two links that a station is, of which this was delivered.
@@ -108,8 +155,9 @@ module _ (service : Service) (tei : ℕ) where
     pub granted : (link_here service tei w'.near).contents ≡ (link_here service tei w.near).contents ++ data_granted service tei t
     pub other : link_here service tei w'.far ≡ link_here service tei w.far
 
-  abbrev pub Ends : List Seen → Type 0
-  Ends t = list_any (ends_by service tei) t ≡ true
+  -- It ends the establishment at the near end, and leaves its link in state 4, 5 or 6.
+  abbrev pub Falls : Wire → List Seen → Type 0
+  Falls w' t = (list_any (ends_by service tei) t ≡ true) × (is_multiple_frame (link_here service tei w'.near).state ≡ false)
 
   -- What an event is to the link, at a station.
   module _ (s : Station) (well : IsWell s) (up : IsTrue (is_multiple_frame (link_here service tei s).state)) (e : Event) where
@@ -130,7 +178,7 @@ module _ (service : Service) (tei : ℕ) where
         by_room (λ ls a. Does c service tei k (link_of service tei (get_or ls s.line (fresh_line c))) e a) (at s.line e) s.card
         (λ full. inr (inl (record { is = refl; noted = none-noted service tei e PoolFull; granted = none-granted service tei e PoolFull; frames = refl })))
         (λ room. subst (λ x. Does c service tei k (link_of service tei x) e (lines.answer c e l)) (sym now)
-        (line-does c service tei well.sound.config l (line_sound s.card s.line (has_lines s.card well.sound) well.within) e up))
+        (line-does c service tei well.sound.config l (line_sound_at s.card s.line (has_lines s.card well.sound) well.within) e up))
 
     way-then : way_here (happens e s) ≡ way_here s ++ of_link_on service tei c.side (frames_by (answered e s))
     way-then = flat_map-append (of_link_at service tei c.side) s.way (frames_by (answered e s))
@@ -188,7 +236,7 @@ module _ (service : Service) (tei : ℕ) where
           let ev = link.expired timer in
           let up' = up-by ev is in (
             linked dn m ev is refl (done-at (two.at_near (two.expires timer)) (record { near = facing s dn; far = m }) (up', h.far_up) h),
-            granted-by ev is (timer-same Own k up timer up' ∙ sym (append-nil k.contents)),
+            granted-by ev is ((timer-same Own k up timer up').0 ∙ sym (append-nil k.contents)),
           )
 
       pub asked-still : (dn : List (List ℕ)) (m : End) → Joined (facing s dn) m → (asked : link.Request) (full : Bool) → x.event ≡ link.requested asked full → Still dn m × Granted
@@ -196,22 +244,8 @@ module _ (service : Service) (tei : ℕ) where
           let ev = link.requested asked full in
           let up' = up-by ev is in (
             linked dn m ev is refl (done-at (two.at_near (two.asks asked full)) (record { near = facing s dn; far = m }) (up', h.far_up) h),
-            granted-by ev is (request-grows Own k up asked full up'),
+            granted-by ev is (request-grows Own k up asked full up').0,
           )
-
-      -- an offer: the frame that it gives is one of the link
-      given-again : (o : Option Given) → IfSome o (λ g. link_sound.IsGiven Own g.frame g.contents) → All IsPlain (frame_given Own o)
-          → of_link_on service tei c.side (map (taken.frame_of c Own) (option_to_list o)) ≡ frame_given Own o
-      given-again None whole plain = refl
-      given-again (Some g) whole plain =
-          let f : Parts = record (frame_of Own g.frame) { info = unwrap_or g.contents [] } in
-          let not-ui = All-head IsPlain f [] plain in
-          let its : is_of_link service tei f ≡ true =
-          ap (λ b. (b && tei == tei) && not (is_ui f.control)) (eq-eqb (sapi_of service) (sapi_of service) refl)
-          ∙ ap (λ b. b && not (is_ui f.control)) (eq-eqb tei tei refl) ∙ ap not not-ui in
-          append-nil (of_link_at service tei c.side (taken.frame_of c Own g))
-          ∙ ap (of_link_in service tei) (reading-again c.side f (taken.frame_of c Own g) (record { is_frame = whole.whole; octets_are = refl }))
-          ∙ ap (λ b. cond {A = List Parts} b (f ∷ []) []) its
 
       pub offer-still : (dn : List (List ℕ)) (m : End) → Joined (facing s dn) m → x.event ≡ link.offer → Still dn m × Granted
       offer-still dn m h is =
@@ -221,11 +255,11 @@ module _ (service : Service) (tei : ℕ) where
           let sent : Joined (with_sent (facing s dn)) m = done-at (two.at_near two.sends) (record { near = facing s dn; far = m }) (up', h.far_up) h in
           let plain : All IsPlain (frame_given Own given) =
           amid (way_here s) (frame_given Own given) (frames_of Own (links.after Own ev k).waiting) m.link.a (links.after Own ev k).r sent.back.rising in
-          let again = given-again given (given_is_frame Own h.near_ranges k h.near_sound) plain in (
+          let again = given-again c service tei given (given_is_frame Own h.near_ranges k h.near_sound) plain in (
             subst (λ n. Joined n m)
                 (sym (same-end dn (links.after Own ev k) (way_here s ++ frame_given Own given) dn
                 (x.is ∙ ap (λ ev. links.after Own ev k) is)
                 (way-then ∙ ap (λ fs. way_here s ++ of_link_on service tei c.side fs) (x.frames ∙ ap (λ ev. frames_given c Own ev k) is) ∙ ap (λ fs. way_here s ++ fs) again)
                 (ap (λ ds. dn ++ ds) (x.noted ∙ ap (λ ev. option_to_list (links.told Own ev k).delivered) is ∙ ap option_to_list (offer-tells_nothing Own k).1) ∙ append-nil dn))) sent,
-            granted-by ev is (offer-same Own k h.near_ranges h.near_sound ∙ sym (append-nil k.contents)),
+            granted-by ev is ((offer-same Own k h.near_ranges h.near_sound).0 ∙ sym (append-nil k.contents)),
           )

@@ -14,7 +14,7 @@ use Rattle.lapd_tei.specs.Events as teis
 use Rattle.model_link.specs.Link.{is_multiple_frame}
 use Rattle.model_line.specs.declared.config.Config.{Config}
 use Rattle.model_line.specs.Machine as lines
-use Rattle.model_line.specs.Request.{Assign, Establish, Data}
+use Rattle.model_line.specs.Request.{Assign, Establish}
 use Rattle.model_line.specs.Came.{came}
 use Rattle.model_line.specs.Event.{hears, expiry, request, next}
 use Rattle.model_card.specs.Event.{at}
@@ -22,11 +22,14 @@ use Rattle.model_card.proofs.CardSound.{fresh_is_sound}
 use Rattle.laws_trace.specs.Trace.{IsFront}
 use Rattle.laws_wire.specs.Call.{station, assigned, calling}
 use Rattle.laws_wire.specs.Wire.{Station, Wire, Act, requests, times_out, gives, takes, loses, turned, acting, Doing, at_near, at_far, doing, doing_all, with_first_of}
-use Rattle.laws_order.specs.Happenings.{IsElsewhere, Happening, IsPossible, happening_all, seen_near, seen_far}
+use Rattle.laws_order.specs.Happenings.{acts, disturbed, elsewhere, IsElsewhere, Happening, by_near, by_far, IsPossible, happening_all, seen_near, seen_far}
 use Rattle.laws_order.specs.Order.{data_noted, data_granted, link_here, of_link_on, HasReceivedOf, FaceAtRest, kept_by}
-use Rattle.laws_order.specs.Worked.{network, user, faces, calls_both, others_speak, both_send, is_busy, busy_run, call_near as near_stays, call_far as far_stays, owes, sends_more, more_near_stays, more_far_stays}
+use Rattle.laws_order.specs.Worked.{network, user, faces, calls_both, others_speak, both_send, is_busy, busy_run, call_far as far_stays, owes, sends_one, sends_more, more_far_stays}
+use Rattle.laws_order.specs.Release.{IsToldOfRelease, news}
+use Rattle.laws_order.specs.WorkedRelease.{releases, released, takes_two, far_lasts, awaits, both_release, both_begin_nothing}
 use Rattle.laws_order.proofs.Ordered.{delivered-in-order}
 use Rattle.laws_order.proofs.Pairs.{IsWell, happens-well}
+use Rattle.laws_order.proofs.Released.{releases-end}
 
 record AreWell (w : Wire) : Type 0 where
   near : IsWell w.near
@@ -153,15 +156,37 @@ possible = all-of faces busy_run (both faces others_speak (both_send ++ is_busy)
 
 -- so the law says what the worked values show
 call-in-order : IsFront (data_noted Call 0 (seen_far busy_run faces)) (kept_by Call 0 faces.near faces.far ++ data_granted Call 0 (seen_near busy_run faces))
-call-in-order = (delivered-in-order Call 0 faces busy_run call-rests possible near_stays far_stays).1
+call-in-order = (delivered-in-order Call 0 faces busy_run call-rests possible).1 far_stays
+
+-- Runs in which only frames, timers and requests come.
+abbrev OnlyActs : List Happening → Type 0
+OnlyActs [] = Unit {0}
+OnlyActs (by_near (acts act) ∷ hs) = OnlyActs hs
+OnlyActs (by_far (acts act) ∷ hs) = OnlyActs hs
+OnlyActs (h ∷ hs) = ⊥
+
+all-happened : (hs : List Happening) → OnlyActs hs → (w : Wire) → AreWell w → AreWell (happening_all hs w)
+unfolding happening_all
+all-happened [] only w h = h
+all-happened (by_near (acts act) ∷ hs) only w h = all-happened hs only (acting act w) (acted act w h)
+all-happened (by_far (acts act) ∷ hs) only w h = all-happened hs only (doing (at_far act) w) (done (at_far act) w h)
+all-happened (by_near (disturbed what) ∷ hs) only w h = absurd only
+all-happened (by_near (elsewhere e) ∷ hs) only w h = absurd only
+all-happened (by_far (disturbed what) ∷ hs) only w h = absurd only
+all-happened (by_far (elsewhere e) ∷ hs) only w h = absurd only
+
+acts-possible : (w : Wire) (hs : List Happening) → OnlyActs hs → All (IsOpen w) hs
+acts-possible w [] only = All-nil (IsOpen w)
+acts-possible w (by_near (acts act) ∷ hs) only = All-cons (IsOpen w) (by_near (acts act)) hs tt (acts-possible w hs only)
+acts-possible w (by_far (acts act) ∷ hs) only = All-cons (IsOpen w) (by_far (acts act)) hs tt (acts-possible w hs only)
+acts-possible w (by_near (disturbed what) ∷ hs) only = absurd only
+acts-possible w (by_near (elsewhere e) ∷ hs) only = absurd only
+acts-possible w (by_far (disturbed what) ∷ hs) only = absurd only
+acts-possible w (by_far (elsewhere e) ∷ hs) only = absurd only
 
 -- and where something is received that is not acknowledged
 sent-well : AreWell owes
-unfolding lines.after lines.answer lines.takes_slot reading header_of control_of unnumbered_of supervisory_of teis.course teis.refusal seq distance_of named doing_all happening_all
-sent-well = acted-far takes (acting gives (acting (requests (Data Call 0 (1 ∷ []))) faces)) (acted gives (acting (requests (Data Call 0 (1 ∷ []))) faces) (acted (requests (Data Call 0 (1 ∷ []))) faces well))
-  where
-    acted-far : (act : Act) (w : Wire) → AreWell w → AreWell (doing (at_far act) w)
-    acted-far act w h = done (at_far act) w h
+sent-well = all-happened sends_one tt faces well
 
 owing-looks : Looks Call owes
 unfolding lines.after lines.answer lines.takes_slot reading header_of control_of unnumbered_of supervisory_of teis.course teis.refusal seq distance_of named doing_all happening_all
@@ -178,8 +203,15 @@ owing-looks = record {
   back = record { acknowledged = leb-true 0 0 refl; kept = leb-true 0 0 refl; window = leb-true 0 7 refl };
 }
 
-more-possible : All (IsOpen owes) sends_more
-more-possible = all-of owes sends_more (tt, (tt, (tt, (tt, (tt, tt)))))
-
 more-in-order : IsFront (data_noted Call 0 (seen_far sends_more owes)) (kept_by Call 0 owes.near owes.far ++ data_granted Call 0 (seen_near sends_more owes))
-more-in-order = (delivered-in-order Call 0 owes sends_more (rests Call owes sent-well owing-looks) more-possible more_near_stays more_far_stays).1
+more-in-order = (delivered-in-order Call 0 owes sends_more (rests Call owes sent-well owing-looks) (acts-possible owes sends_more tt)).1 more_far_stays
+
+-- and where the near end releases its link in the midst of data: of the far end up to its indication, and of both from there on
+cut-in-order : IsFront (data_noted Call 0 (seen_far (releases ++ takes_two) faces))
+    (kept_by Call 0 faces.near faces.far ++ data_granted Call 0 (seen_near (releases ++ takes_two) faces))
+cut-in-order = (delivered-in-order Call 0 faces (releases ++ takes_two) call-rests (acts-possible faces (releases ++ takes_two) tt)).1 far_lasts
+
+release-told : IsToldOfRelease Call 0 (news Call 0 (seen_near both_release released))
+release-told =
+    let at = (all-happened releases tt faces well).near in
+    (releases-end Call 0 released both_release (record { sound = at.sound; within = at.within }) awaits (acts-possible released both_release tt) both_begin_nothing).0

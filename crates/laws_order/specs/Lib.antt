@@ -1,5 +1,7 @@
 -- Two cards on one wire at which anything happens, and the order of what is told there.
 pub mod Happenings
 pub mod Order
+pub mod Release
 pub mod Worked
+pub mod WorkedRelease
 pub mod WorkedBroken

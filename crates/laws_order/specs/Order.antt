@@ -94,11 +94,12 @@ pub record FaceAtRest (service : Service) (tei : ℕ) (w : Wire) : Type 0 where
 abbrev pub kept_by : Service → ℕ → Station → Station → List (List ℕ)
 kept_by service tei s u = drop (link_here service tei u).r (link_here service tei s).contents
 
--- As long as the establishment neither ends nor is renewed at either end, the contents that each is told of are a beginning of
--- those that the other kept for it then, and of those that it was granted to send since, in order, each once.
+-- As long as the establishment neither ends nor is renewed at an end, whatever becomes of it at the other, the contents that this end
+-- is told of are a beginning of those that the other kept for it then, and of those that it was granted to send since, in order, each
+-- once. So where layer 3 of one is granted the release, with anything waiting or on its way, the other is told so up to its own end.
 abbrev pub DeliveredInOrder : Type 0
 DeliveredInOrder =
     (service : Service) (tei : ℕ) (w : Wire) (hs : List Happening) → FaceAtRest service tei w → All (IsPossible service tei w) hs →
-    let near = seen_near hs w in let far = seen_far hs w in StaysEstablished service tei near → StaysEstablished service tei far →
-    IsFront (data_noted service tei near) (kept_by service tei w.far w.near ++ data_granted service tei far)
-    × IsFront (data_noted service tei far) (kept_by service tei w.near w.far ++ data_granted service tei near)
+    let near = seen_near hs w in let far = seen_far hs w in
+    (StaysEstablished service tei near → IsFront (data_noted service tei near) (kept_by service tei w.far w.near ++ data_granted service tei far))
+    × (StaysEstablished service tei far → IsFront (data_noted service tei far) (kept_by service tei w.near w.far ++ data_granted service tei near))

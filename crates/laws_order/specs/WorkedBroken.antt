@@ -1,15 +1,17 @@
 -- Worked values: what would be told where a premise is left out. Each computes.
-use Rattle.std.specs.Prelude.{◌≡◌, ℕ, List, [], ◌∷◌, ◌++◌, refl}
+use Rattle.std.specs.Prelude.{◌≡◌, ℕ, false, List, [], ◌∷◌, ◌++◌, refl}
+use Rattle.std.specs.List.{list_any}
 use Rattle.lapd_frame.specs.declared.services.Service.TheVariants.{Call}
 use Rattle.lapd_frame.specs.Reading.{reading, header_of, control_of, unnumbered_of, supervisory_of}
 use Rattle.lapd_seq.specs.Circle.{distance_of, named}
 use Rattle.lapd_seq.specs.Numbers.{seq}
 use Rattle.lapd_tei.specs.Events as teis
 use Rattle.model_line.specs.Machine as lines
+use Rattle.model_line.specs.Request.{Data}
 use Rattle.laws_trace.specs.Trace.{IsFront}
-use Rattle.laws_wire.specs.Wire.{Wire, takes, doing_all}
-use Rattle.laws_order.specs.Happenings.{acts, Happening, by_far, happening_all, seen_near, seen_far}
-use Rattle.laws_order.specs.Order.{data_noted, data_granted, kept_by, StaysEstablished}
+use Rattle.laws_wire.specs.Wire.{Wire, requests, gives, takes, doing_all}
+use Rattle.laws_order.specs.Happenings.{acts, Happening, by_near, by_far, happening_all, seen_near, seen_far}
+use Rattle.laws_order.specs.Order.{data_noted, data_granted, ends_by, kept_by, StaysEstablished}
 use Rattle.laws_order.specs.Worked.{faces}
 
 -- An I-frame that is on its way from an earlier establishment, with N(S) 0, is told as if it were of this one.
@@ -39,6 +41,30 @@ nothing = []
 
 not_a_front : IsFront ((0x99 ∷ []) ∷ []) nothing → ⊥
 not_a_front x = cc x.whole_is
+
+-- So the far end has received more than the near one keeps; then what the near end sends next is acknowledged, and not told.
+abbrev ahead : Wire
+ahead = happening_all comes_late with_old
+
+abbrev skips : List Happening
+skips =
+    by_near (acts (requests (Data Call 0 (5 ∷ [])))) ∷ by_near (acts gives) ∷ by_far (acts takes) ∷ by_far (acts gives) ∷ by_near (acts takes)
+    ∷ by_near (acts (requests (Data Call 0 (6 ∷ [])))) ∷ by_near (acts gives) ∷ by_far (acts takes) ∷ []
+
+told_six : data_noted Call 0 (seen_far skips ahead) ≡ (6 ∷ []) ∷ []
+unfolding lines.after lines.answer lines.takes_slot reading header_of control_of unnumbered_of supervisory_of teis.course teis.refusal seq distance_of named doing_all happening_all seen_near seen_far
+told_six = refl
+
+granted_both : kept_by Call 0 ahead.near ahead.far ++ data_granted Call 0 (seen_near skips ahead) ≡ (5 ∷ []) ∷ (6 ∷ []) ∷ []
+unfolding lines.after lines.answer lines.takes_slot reading header_of control_of unnumbered_of supervisory_of teis.course teis.refusal seq distance_of named doing_all happening_all seen_near seen_far
+granted_both = refl
+
+both_last : list_any (ends_by Call 0) (seen_near skips ahead ++ seen_far skips ahead) ≡ false
+unfolding lines.after lines.answer lines.takes_slot reading header_of control_of unnumbered_of supervisory_of teis.course teis.refusal seq distance_of named doing_all happening_all seen_near seen_far
+both_last = refl
+
+five_left_out : IsFront {X = List ℕ} ((6 ∷ []) ∷ []) ((5 ∷ []) ∷ (6 ∷ []) ∷ []) → ⊥
+five_left_out x = cc x.whole_is
 
 -- Twice the same, another order, and what was granted but left out.
 twice : IsFront {X = List ℕ} ((1 ∷ []) ∷ (1 ∷ []) ∷ []) ((1 ∷ []) ∷ (2 ∷ []) ∷ []) → ⊥

@@ -1,6 +1,7 @@
-//! What is delivered is in order. The law is the contract of a call that does nothing.
+//! What is delivered is in order, up to a release. Each law is the contract of a call that does nothing.
 
 ghost use Rattle.laws_order.specs.Order.{DeliveredInOrder};
+ghost use Rattle.laws_order.specs.Release.{ReleasedIsOver, ReleasesEnd};
 
 /// What is delivered is in order, whatever else happens. A line of a card of one side faces a line of a card of the
 /// other; their configurations may differ else. At both the link of the same service and TEI is in state 7 or 8; none of its
@@ -10,11 +11,26 @@ ghost use Rattle.laws_order.specs.Order.{DeliveredInOrder};
 /// any kind, of any link and TEI, expiries of any timer, and any events at the other lines; on the wire frames that the two
 /// cards give, of all links, of TEI management and unit data, are given, taken or lost, and whatever else is heard that is no
 /// frame of the link: faults, more octets than a frame has, and frames of other terminals on the line, of TEI management and
-/// unit data, from wherever. As long as layer 3 of neither is granted the release of the link, and neither end tells a note that
-/// ends the establishment or renews it, the contents that each is told of are a beginning of those that the other's link kept
+/// unit data, from wherever. As long as layer 3 of an end is not granted the release of the link, and this end tells no note that
+/// ends the establishment or renews it, the contents that it is told of are a beginning of those that the other's link kept
 /// at first, without those that were received, and of those that the other's layer 3 was granted to send since: in order, each
-/// once, and nothing else (Q.921 clauses 5.6 and 5.8.1). Of a frame that is on its way from an earlier establishment it would be told all the same
-/// (`specs/WorkedBroken`). Behind such a note nothing is said up to the next moment of rest.
+/// once, and nothing else (Q.921 clauses 5.6 and 5.8.1). So it is whatever becomes of the establishment at the other end: where
+/// its release is granted there, with contents waiting and frames on their way, this end is told so up to its own indication.
+/// Of a frame that is on its way from an earlier establishment it would be told all the same (`specs/WorkedBroken`). Behind its
+/// end [`releases_end`] says what is told.
 pub fn delivered_in_order()
     ensures { DeliveredInOrder }
+{}
+
+/// A release ends it. At an end of the wire the link is in state 6, as from where layer 3 is granted the release of a link in
+/// state 7 or 8, whatever it kept, and whatever is on its way (Q.921 clause 5.5.3.2). Then anything happens at both ends, as in
+/// [`delivered_in_order`]; the other releases, too, or does anything else. Until layer 3 of this end is granted an establishment or
+/// another release, or is told of an establishment, it is told of the link that the release is confirmed, once, with error H
+/// before it where DISC was repeated N200 times in vain, and no data (`released`). An end at which the link is in state 4, as
+/// behind any note that it is released, is told nothing of it and no data (`over`). Left out are errors C and D, by which each UA
+/// is told that answers nothing: D in state 6, C and D in state 4 (clause 5.8.7), as where both release and DISC goes twice
+/// (`specs/WorkedRelease`); unit data and XID are told in every state.
+pub fn releases_end()
+    ensures released { ReleasesEnd }
+    ensures over { ReleasedIsOver }
 {}

@@ -1,17 +1,17 @@
 //! The order of what is told at two cards on one wire, whatever else happens at both.
 //!
-//! `specs/` has all that can happen to two cards, at any of their lines (`Happenings`), the law (`Order`), a worked run
-//! that meets its premises and uses them (`Worked`), and one that breaks what it says where a premise is left out
-//! (`WorkedBroken`). What a card does at an event is the machine of `model_card`, of frames; the wire is that of
-//! `laws_wire`, and what is seen at an end is as in the trace of `laws_trace`. The law is the contract of a call that does
+//! `specs/` has all that can happen to two cards, at any of their lines (`Happenings`), the laws (`Order`, `Release`), worked
+//! runs that meet their premises and use them (`Worked`, `WorkedRelease`), and one that breaks what is said where a premise
+//! is left out (`WorkedBroken`). What a card does at an event is the machine of `model_card`, of frames; the wire is that of
+//! `laws_wire`, and what is seen at an end is as in the trace of `laws_trace`. Each law is the contract of a call that does
 //! nothing.
 //!
 //! # Open
 //!
-//! That what was granted is told in the end; an establishment whose called end sends before the other has taken its UA;
-//! what is told behind a release that was granted.
+//! That what was granted is told in the end, or a release; an establishment whose called end sends before the other has
+//! taken its UA.
 #![tactic(auto)]
 
 mod laws;
 
-pub use laws::delivered_in_order;
+pub use laws::{delivered_in_order, releases_end};

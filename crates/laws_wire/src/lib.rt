@@ -13,9 +13,9 @@
 //! # Open
 //!
 //! What is told after an error other than F of a lost UA. Whether rest is reached after an error, with an end busy, or
-//! behind a release. The called end's requests and timers before its UA is heard. A release with something waiting or on
-//! its way, or while the other end does more than answer. Losses where both ends call, with other requests, links or
-//! lines, or from elsewhere than nothing. That a given T200 is long enough.
+//! behind a release. The called end's requests and timers before its UA is heard. That both are told of a release with
+//! something waiting or on its way. Losses where both ends call, with other requests, links or lines, or from elsewhere
+//! than nothing. That a given T200 is long enough.
 #![tactic(auto)]
 
 mod answering;

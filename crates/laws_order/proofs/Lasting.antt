@@ -1,0 +1,186 @@
+-- Two cards of which one end, the far one, lasts in its establishment, whatever has become of the near one's: what goes to it.
+use Rattle.std.proofs.Common.{◌≡◌, ℕ, zero, suc, ◌+◌, ◌<◌, ◌≤◌, false, List, [], ◌∷◌, ◌++◌, length, take, Option, Some, None, refl, sym, ap, ◌∙◌, arith, append-nil, inl, inr}
+use Rattle.std.specs.Prelude.{slice_get, option_to_list}
+use Rattle.std.proofs.lemmas.Option.{slice_get_within}
+use Rattle.lapd_frame.specs.declared.controls.Control.{Control}
+use Rattle.lapd_frame.specs.declared.controls.Control.TheVariants.{Information, ReceiveReady, ReceiveNotReady, Reject, Sabme, Disc, Ui, Ua, Dm, Frmr, Xid}
+use Rattle.lapd_frame.specs.Grammar.{Parts}
+use Rattle.model_link.proofs.Direction.{carries-next}
+use Rattle.model_link.proofs.Lines.{Carries, Piece, Carried, Means, Rising}
+use Rattle.model_link.proofs.Taking.{Advance, HasNumber}
+use Rattle.laws_trace.specs.Units.{is_ui}
+use Rattle.laws_order.proofs.Down.{Speaks, Unheeded}
+use Rattle.laws_order.proofs.Putting.{Each, Answered, Reporting}
+
+-- What an end says that does not speak any more: SABME and DISC, behind reports.
+abbrev pub Calls : Control → Type 0
+Calls (ReceiveReady nr pf) = Unit {0}
+Calls (ReceiveNotReady nr pf) = Unit {0}
+Calls (Reject nr pf) = Unit {0}
+Calls (Sabme p) = Unit {0}
+Calls (Disc p) = Unit {0}
+Calls other = ⊥
+
+pub calls-report : Reporting Calls
+calls-report = record { ready = λ nr pf. tt; not_ready = λ nr pf. tt; reject = λ nr pf. tt }
+
+pub speaks-report : Reporting Speaks
+speaks-report = record { ready = λ nr pf. tt; not_ready = λ nr pf. tt; reject = λ nr pf. tt }
+
+pub calls-plain : (control : Control) → Calls control → is_ui control ≡ false
+calls-plain (ReceiveReady nr pf) h = refl
+calls-plain (ReceiveNotReady nr pf) h = refl
+calls-plain (Reject nr pf) h = refl
+calls-plain (Sabme p) h = refl
+calls-plain (Disc p) h = refl
+calls-plain other h = absurd h
+
+pub speaks-plain : (control : Control) → Speaks control → is_ui control ≡ false
+speaks-plain (Information ns nr p) h = refl
+speaks-plain (ReceiveReady nr pf) h = refl
+speaks-plain (ReceiveNotReady nr pf) h = refl
+speaks-plain (Reject nr pf) h = refl
+speaks-plain other h = absurd h
+
+-- What speaks is answered by reports alone, and is not heeded by a link in states 4 to 6.
+pub speaks-answered : (P : Control → Type 0) (control : Control) → Speaks control → Answered P control
+speaks-answered P (Information ns nr p) h = tt
+speaks-answered P (ReceiveReady nr pf) h = tt
+speaks-answered P (ReceiveNotReady nr pf) h = tt
+speaks-answered P (Reject nr pf) h = tt
+speaks-answered P other h = absurd h
+
+pub speaks-unheeded : (control : Control) → Speaks control → Unheeded control
+speaks-unheeded (Information ns nr p) h = tt
+speaks-unheeded (ReceiveReady nr pf) h = tt
+speaks-unheeded (ReceiveNotReady nr pf) h = tt
+speaks-unheeded (Reject nr pf) h = tt
+speaks-unheeded other h = absurd h
+
+means-speaks : (m : ℕ) (control : Control) → Means m control → Speaks control
+means-speaks m (Information ns nr p) h = tt
+means-speaks m (ReceiveReady nr pf) h = tt
+means-speaks m (ReceiveNotReady nr pf) h = tt
+means-speaks m (Reject nr pf) h = tt
+means-speaks m other h = absurd h
+
+pub rising-speaks : (a r : ℕ) (fs : List Parts) → Rising a r fs → Each Speaks fs
+rising-speaks a r [] h = tt
+rising-speaks a r (f ∷ fs) (m, up, means, h) = (means-speaks m f.control means, rising-speaks m r fs h)
+
+-- What is on the line to the far end, of which V(R) is r: I-frames as they were sent, reports, SABME and DISC.
+abbrev pub Brings : List (List ℕ) → ℕ → ℕ → ℕ → List ℕ → Control → Type 0
+Brings contents high r top octets (Information ns nr p) = Carries contents high r top ns octets
+Brings contents high r top octets (ReceiveReady nr pf) = Unit {0}
+Brings contents high r top octets (ReceiveNotReady nr pf) = Unit {0}
+Brings contents high r top octets (Reject nr pf) = Unit {0}
+Brings contents high r top octets (Sabme p) = Unit {0}
+Brings contents high r top octets (Disc p) = Unit {0}
+Brings contents high r top octets other = ⊥
+
+abbrev pub Brought : List (List ℕ) → ℕ → ℕ → List Parts → Type 0
+Brought contents high r [] = Unit {0}
+Brought contents high r (f ∷ fs) = (top : ℕ) × (r ≤ top) × Brings contents high r top f.info f.control × Brought contents high top fs
+
+module _ (contents : List (List ℕ)) (high : ℕ) where
+  piece-brings : (r top : ℕ) (octets : List ℕ) (control : Control) → Piece contents high r top octets control → Brings contents high r top octets control
+  piece-brings r top octets (Information ns nr p) h = h
+  piece-brings r top octets (ReceiveReady nr pf) h = tt
+  piece-brings r top octets (ReceiveNotReady nr pf) h = tt
+  piece-brings r top octets (Reject nr pf) h = tt
+  piece-brings r top octets other h = absurd h
+
+  pub carried-brought : (r : ℕ) (fs : List Parts) → Carried contents high r fs → Brought contents high r fs
+  carried-brought r [] h = tt
+  carried-brought r (f ∷ fs) (top, up, piece, h) = (top, up, piece-brings r top f.info f.control piece, carried-brought top fs h)
+
+  brings-lower : (r r' top : ℕ) (octets : List ℕ) (control : Control) → r' ≤ r → Brings contents high r top octets control → Brings contents high r' top octets control
+  brings-lower r r' top octets (Information ns nr p) le h =
+      record { number = h.number; is_seq = h.is_seq; near = omega (arith, h.near); below = h.below; same = h.same; next = h.next }
+  brings-lower r r' top octets (ReceiveReady nr pf) le h = tt
+  brings-lower r r' top octets (ReceiveNotReady nr pf) le h = tt
+  brings-lower r r' top octets (Reject nr pf) le h = tt
+  brings-lower r r' top octets (Sabme p) le h = tt
+  brings-lower r r' top octets (Disc p) le h = tt
+  brings-lower r r' top octets (Ui p) le h = absurd h
+  brings-lower r r' top octets (Ua f) le h = absurd h
+  brings-lower r r' top octets (Dm f) le h = absurd h
+  brings-lower r r' top octets (Frmr f) le h = absurd h
+  brings-lower r r' top octets (Xid pf) le h = absurd h
+
+  pub brought-lower : (r r' : ℕ) (fs : List Parts) → r' ≤ r → Brought contents high r fs → Brought contents high r' fs
+  brought-lower r r' [] le h = tt
+  brought-lower r r' (f ∷ fs) le (top, up, piece, h) = (top, omega (arith, le, up), brings-lower r r' top f.info f.control le piece, h)
+
+  pub brought-tail : (r : ℕ) (f : Parts) (fs : List Parts) → Brought contents high r (f ∷ fs) → Brought contents high r fs
+  brought-tail r f fs (top, up, piece, h) = brought-lower top r fs up h
+
+  pub brought-front : (r : ℕ) (fs gs : List Parts) → Brought contents high r (fs ++ gs) → Brought contents high r fs
+  brought-front r [] gs h = tt
+  brought-front r (f ∷ fs) gs (top, up, piece, h) = (top, up, piece, brought-front top fs gs h)
+
+  calls-brings : (r top : ℕ) (octets : List ℕ) (control : Control) → Calls control → Brings contents high r top octets control
+  calls-brings r top octets (ReceiveReady nr pf) h = tt
+  calls-brings r top octets (ReceiveNotReady nr pf) h = tt
+  calls-brings r top octets (Reject nr pf) h = tt
+  calls-brings r top octets (Sabme p) h = tt
+  calls-brings r top octets (Disc p) h = tt
+  calls-brings r top octets other h = absurd h
+
+  pub brought-more : (r : ℕ) (fs gs : List Parts) → Brought contents high r fs → Each Calls gs → Brought contents high r (fs ++ gs)
+  brought-more r [] [] h k = tt
+  brought-more r [] (g ∷ gs) h k = (r, omega arith, calls-brings r r g.info g.control k.0, brought-more r [] gs tt k.1)
+  brought-more r (f ∷ fs) gs (top, up, piece, h) k = (top, up, piece, brought-more top fs gs h k)
+
+  brings-plain : (r top : ℕ) (octets : List ℕ) (control : Control) → Brings contents high r top octets control → is_ui control ≡ false
+  brings-plain r top octets (Ui p) h = absurd h
+  brings-plain r top octets (Ua f) h = absurd h
+  brings-plain r top octets (Dm f) h = absurd h
+  brings-plain r top octets (Frmr f) h = absurd h
+  brings-plain r top octets (Xid pf) h = absurd h
+  brings-plain r top octets other h = refl
+
+  pub brought-plain : (r : ℕ) (fs : List Parts) → Brought contents high r fs → Each (λ control. is_ui control ≡ false) fs
+  brought-plain r [] h = tt
+  brought-plain r (f ∷ fs) (top, up, piece, h) = (brings-plain r top f.info f.control piece, brought-plain top fs h)
+
+-- the contents up to a number, and the next one
+take-next : (xs : List (List ℕ)) (i : ℕ) (x : List ℕ) → slice_get xs i ≡ Some x → take i xs ++ x ∷ [] ≡ take (suc i) xs
+take-next [] i x e = absurd (cc e)
+take-next (y ∷ xs) zero x e = let same : y ≡ x = cc e in ap (λ z. z ∷ []) (sym same)
+take-next (y ∷ xs) (suc i) x e = ap (λ ys. y ∷ ys) (take-next xs i x e)
+
+-- What the far end takes of the first frame on the line.
+pub record Takes (contents : List (List ℕ)) (top r r' : ℕ) (d : Option (List ℕ)) : Type 0 where
+  pub up : r ≤ r'
+  pub to : r' ≤ top
+  pub accepted : r' ≤ length contents
+  pub delivered : take r contents ++ option_to_list d ≡ take r' contents
+
+pub kept-so : (contents : List (List ℕ)) (r r' top : ℕ) (d : Option (List ℕ)) → r ≤ top → r ≤ length contents → r' ≡ r → d ≡ None → Takes contents top r r' d
+kept-so contents r r' top d up accepted still none = record {
+  up = omega (arith, still);
+  to = omega (arith, still, up);
+  accepted = omega (arith, still, accepted);
+  delivered = ap (λ o. take r contents ++ option_to_list o) none ∙ append-nil (take r contents) ∙ ap (λ i. take i contents) (sym still);
+}
+
+numbered : (contents : List (List ℕ)) (a k r top : ℕ) (octets : List ℕ) (control : Control) → k ≤ 127 → a ≤ r → Brings contents (a + k) r top octets control
+    → HasNumber r control → (slice_get contents r ≡ Some octets) × (r + 1 ≤ top)
+numbered contents a k r top octets (Information ns nr p) small low h is = carries-next contents (a + k) r top a k ns octets refl small low h is
+numbered contents a k r top octets other small low h is = absurd is
+
+pub takes-so : (contents : List (List ℕ)) (a k r r' top : ℕ) (octets : List ℕ) (control : Control) (d : Option (List ℕ)) → k ≤ 127 → a ≤ r → r ≤ top
+    → r ≤ length contents → Brings contents (a + k) r top octets control → Advance control octets r r' d → Takes contents top r r' d
+takes-so contents a k r r' top octets control d small low up accepted brings (inl (still, none)) = kept-so contents r r' top d up accepted still none
+takes-so contents a k r r' top octets control d small low up accepted brings (inr (one, some, is)) =
+    let known = numbered contents a k r top octets control small low brings is in
+    let inside : r < length contents = slice_get_within contents r octets known.0 in
+    let most : r + 1 ≤ top = known.1 in
+    let after : suc r ≡ r' = omega (arith, one) in
+    record {
+      up = omega (arith, one);
+      to = omega (arith, one, most);
+      accepted = omega (arith, one, inside);
+      delivered = ap (λ o. take r contents ++ option_to_list o) some ∙ take-next contents r octets known.0 ∙ ap (λ i. take i contents) after;
+    }

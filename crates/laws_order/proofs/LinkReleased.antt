@@ -1,0 +1,178 @@
+-- What each event tells of a link in state 6, and in state 4.
+use Rattle.std.proofs.Common.{◌≡◌, ℕ, ◌||◌, Bool, true, false, cond, List, [], ◌∷◌, refl, sym, ap, ◌∙◌, subst, ◌⊎◌, inl, inr}
+use Rattle.std.specs.Prelude.{filter, nat_lt, length}
+use Rattle.std.specs.List.{list_any}
+use Rattle.lapd_frame.specs.declared.controls.Control.{Control}
+use Rattle.lapd_frame.specs.declared.controls.Control.TheVariants.{Information, ReceiveReady, ReceiveNotReady, Reject, Sabme, Disc, Ui, Ua, Dm, Frmr, Xid}
+use Rattle.lapd_frame.specs.declared.notes.ErrorCode.TheVariants as code
+use Rattle.lapd_frame.specs.declared.notes.Note.{Note}
+use Rattle.lapd_frame.specs.declared.notes.Note.TheVariants as notes
+use Rattle.model_link.specs.declared.states.State.{State}
+use Rattle.model_link.specs.declared.states.State.TheVariants.{TeiAssigned, AwaitingRelease}
+use Rattle.model_link.specs.declared.timers.LinkTimer.{LinkTimer}
+use Rattle.model_link.specs.declared.timers.LinkTimer.TheVariants.{T200, T203}
+use Rattle.model_link.specs.declared.terms.Terms.{Terms}
+use Rattle.model_link.specs.Events.{Event, received, frame, undefined, wrong_size, overlong, Request, Establish, Release, Data, SetBusy, ClearBusy, expired, requested, offer, cleared}
+use Rattle.model_link.specs.Link.{Link, may_repeat}
+use Rattle.model_link.specs.Machine.{after, told}
+use Rattle.model_link.specs.Told.{runs}
+use Rattle.laws_link.specs.States.{as_heard, is_overlong, by_frame, by_expiry, by_request, state_after}
+use Rattle.laws_link.specs.Telling.{told_in_4, told_in_6, unasked, told_by, told_expired, told_requested}
+use Rattle.laws_link.proofs.Follows.{event-follows}
+use Rattle.laws_line.specs.Heard.{is_data_of}
+use Rattle.laws_trace.proofs.LinkLed.{own-is}
+use Rattle.laws_order.specs.Release.{is_news, begins_by_note}
+
+module _ (t : Terms) where
+  abbrev News : List Note → List Note
+  News ns = filter (is_news t.service t.tei) ns
+
+  -- These notes tell this of the link, and no data.
+  pub record Tells (ns told : List Note) : Type 0 where
+    pub news : News ns ≡ told
+    pub no_data : list_any (is_data_of t.service t.tei) ns ≡ false
+
+  abbrev pub confirm : List Note
+  confirm = notes.ReleaseConfirm t.service t.tei ∷ []
+
+  abbrev pub given_up : List Note
+  given_up = notes.Error t.service t.tei code.H ∷ confirm
+
+  -- In state 6 a link stays there and tells nothing, or it comes to state 4, which it tells.
+  abbrev pub In6 : List Note → State → Type 0
+  In6 ns to = ((to ≡ AwaitingRelease) × Tells ns []) ⊎ ((to ≡ TeiAssigned) × (Tells ns confirm ⊎ Tells ns given_up))
+
+  abbrev pub In4 : List Note → State → Type 0
+  In4 ns to = (to ≡ TeiAssigned) × Tells ns []
+
+  abbrev pub Begins : List Note → Type 0
+  Begins ns = list_any (begins_by_note t.service t.tei) ns ≡ true
+
+  silent : Tells [] []
+  silent = record { news = refl; no_data = refl }
+
+  confirms : Tells confirm confirm
+  confirms = record { news = rw (own-is t.service t.tei) refl; no_data = refl }
+
+  gives-up : Tells given_up given_up
+  gives-up = record { news = rw (own-is t.service t.tei) refl; no_data = refl }
+
+  unasked-silent : (f : Bool) → Tells (unasked t f) []
+  unasked-silent true = record { news = rw (own-is t.service t.tei) refl; no_data = refl }
+  unasked-silent false = record { news = rw (own-is t.service t.tei) refl; no_data = refl }
+
+  unit-silent : (b : Bool) → Tells (cond b [] (notes.Unit t.service t.tei ∷ [])) []
+  unit-silent true = silent
+  unit-silent false = record { news = refl; no_data = refl }
+
+  xid-silent : Tells (notes.Xid t.service t.tei ∷ []) []
+  xid-silent = record { news = refl; no_data = refl }
+
+  frame-6 : (command : Bool) (octets : List ℕ) (control : Control) → In6 (told_in_6 t octets control) (by_frame AwaitingRelease command control)
+  frame-6 command octets (Ua true) = inr (refl, inl confirms)
+  frame-6 command octets (Ua false) = inl (refl, unasked-silent false)
+  frame-6 command octets (Dm true) = inr (refl, inl confirms)
+  frame-6 command octets (Dm false) = inl (refl, silent)
+  frame-6 command octets (Ui p) = inl (refl, unit-silent (nat_lt t.n201 (length octets)))
+  frame-6 command octets (Xid pf) = inl (refl, xid-silent)
+  frame-6 command octets (Information ns nr p) = inl (refl, silent)
+  frame-6 command octets (ReceiveReady nr pf) = inl (refl, silent)
+  frame-6 command octets (ReceiveNotReady nr pf) = inl (refl, silent)
+  frame-6 command octets (Reject nr pf) = inl (refl, silent)
+  frame-6 command octets (Sabme p) = inl (refl, silent)
+  frame-6 command octets (Disc p) = inl (refl, silent)
+  frame-6 command octets (Frmr f) = inl (refl, silent)
+
+  frame-4 : (command : Bool) (octets : List ℕ) (control : Control) → Begins (told_in_4 t octets control) ⊎ In4 (told_in_4 t octets control) (by_frame TeiAssigned command control)
+  frame-4 command octets (Sabme p) = inl (ap (λ b. b || false) (own-is t.service t.tei))
+  frame-4 command octets (Ua f) = inr (refl, unasked-silent f)
+  frame-4 command octets (Ui p) = inr (refl, unit-silent (nat_lt t.n201 (length octets)))
+  frame-4 command octets (Xid pf) = inr (refl, xid-silent)
+  frame-4 command octets other = inr (refl, silent)
+
+  expired-6 : (timer : LinkTimer) (again ran : Bool) → let to = cond ran (by_expiry AwaitingRelease timer again) AwaitingRelease in In6 (told_expired AwaitingRelease t to) to
+  expired-6 T200 true true = inl (refl, silent)
+  expired-6 T200 false true = inr (refl, inr gives-up)
+  expired-6 T203 true true = inl (refl, silent)
+  expired-6 T203 false true = inl (refl, silent)
+  expired-6 timer again false = inl (refl, silent)
+
+  asked-6 : (request : Request) → In6 (told_requested AwaitingRelease t request) (by_request AwaitingRelease request)
+  asked-6 Establish = inl (refl, silent)
+  asked-6 Release = inl (refl, silent)
+  asked-6 (Data contents) = inl (refl, silent)
+  asked-6 SetBusy = inl (refl, silent)
+  asked-6 ClearBusy = inl (refl, silent)
+
+  expired-4 : (timer : LinkTimer) (again ran : Bool) → let to = cond ran (by_expiry TeiAssigned timer again) TeiAssigned in In4 (told_expired TeiAssigned t to) to
+  expired-4 timer again true = (refl, silent)
+  expired-4 timer again false = (refl, silent)
+
+  abbrev pub AsksNothing : Event → Type 0
+  AsksNothing (requested Establish full) = ⊥
+  AsksNothing (requested Release full) = ⊥
+  AsksNothing other = Unit {0}
+
+  asked-4 : (request : Request) (full : Bool) → AsksNothing (requested request full) → In4 (told_requested TeiAssigned t request) (by_request TeiAssigned request)
+  asked-4 Establish full none = absurd none
+  asked-4 Release full none = absurd none
+  asked-4 (Data contents) full none = (refl, silent)
+  asked-4 SetBusy full none = (refl, silent)
+  asked-4 ClearBusy full none = (refl, silent)
+
+  module _ (l : Link) where
+    abbrev Now : Event → List Note
+    Now e = (told t e l).notes
+
+    tells : (e : Event) → Now e ≡ told_by t (as_heard t e) l (after t e l).state
+    tells e = (event-follows t e l).leaves.tells
+
+    leads : (e : Event) → (after t e l).state ≡ state_after t (as_heard t e) l
+    leads e = (event-follows t e l).leaves.state
+
+    module _ (x : Link) (e : Event) where
+      abbrev Told : State → List Note
+      Told to = told_by t (as_heard t e) x to
+
+      abbrev To : State
+      To = state_after t (as_heard t e) x
+
+    -- of a link of which the state is known
+    known-6 : (x : Link) → x.state ≡ AwaitingRelease → (e : Event) → In6 (Told x e (To x e)) (To x e)
+    known-6 x is (received (frame f)) = go (is_overlong t f.control f.info)
+      where
+        go : (long : Bool) → let e = received (cond long overlong (frame f)) in In6 (told_by t e x (state_after t e x)) (state_after t e x)
+        go true = rw is (inl (refl, silent))
+        go false = rw is (frame-6 f.address.command f.info f.control)
+    known-6 x is (received undefined) = rw is (inl (refl, silent))
+    known-6 x is (received wrong_size) = rw is (inl (refl, silent))
+    known-6 x is (received overlong) = rw is (inl (refl, silent))
+    known-6 x is (expired timer) = rw is (expired-6 timer (may_repeat t x) (runs timer x.running))
+    known-6 x is (requested request full) = rw is (asked-6 request)
+    known-6 x is offer = inl (is, silent)
+    known-6 x is cleared = rw is (inr (refl, inl confirms))
+
+    known-4 : (x : Link) → x.state ≡ TeiAssigned → (e : Event) → AsksNothing e → Begins (Told x e (To x e)) ⊎ In4 (Told x e (To x e)) (To x e)
+    known-4 x is (received (frame f)) none = go (is_overlong t f.control f.info)
+      where
+        go : (long : Bool) → let e = received (cond long overlong (frame f)) in
+            Begins (told_by t e x (state_after t e x)) ⊎ In4 (told_by t e x (state_after t e x)) (state_after t e x)
+        go true = rw is (inr (refl, silent))
+        go false = rw is (frame-4 f.address.command f.info f.control)
+    known-4 x is (received undefined) none = rw is (inr (refl, silent))
+    known-4 x is (received wrong_size) none = rw is (inr (refl, silent))
+    known-4 x is (received overlong) none = rw is (inr (refl, silent))
+    known-4 x is (expired timer) none = rw is (inr (expired-4 timer (may_repeat t x) (runs timer x.running)))
+    known-4 x is (requested request full) none = rw is (inr (asked-4 request full none))
+    known-4 x is offer none = inr (is, silent)
+    known-4 x is cleared none = rw is (inr (refl, silent))
+
+    pub in-6 : l.state ≡ AwaitingRelease → (e : Event) → In6 (Now e) (after t e l).state
+    in-6 is e =
+        subst (λ ns. In6 ns (after t e l).state) (sym (tells e ∙ ap (λ to. told_by t (as_heard t e) l to) (leads e)))
+        (subst (In6 (Told l e (To l e))) (sym (leads e)) (known-6 l is e))
+
+    pub in-4 : l.state ≡ TeiAssigned → (e : Event) → AsksNothing e → Begins (Now e) ⊎ In4 (Now e) (after t e l).state
+    in-4 is e none =
+        subst (λ ns. Begins ns ⊎ In4 ns (after t e l).state) (sym (tells e ∙ ap (λ to. told_by t (as_heard t e) l to) (leads e)))
+        (subst (λ to. Begins (Told l e (To l e)) ⊎ In4 (Told l e (To l e)) to) (sym (leads e)) (known-4 l is e none))

@@ -1,0 +1,189 @@
+-- The far end lasts in its establishment, and that of the near end is over: what happens at the near end.
+use Rattle.std.proofs.Common.{◌≡◌, ℕ, ◌+◌, ◌≤◌, false, IsTrue, List, [], ◌∷◌, ◌++◌, length, take, sym, ap, ◌∙◌, subst, true≢false, ◌⊎◌, inl, inr}
+use Rattle.model_bits.specs.Stream as stream
+use Rattle.lapd_frame.specs.declared.controls.Control.{Control}
+use Rattle.lapd_frame.specs.declared.services.Service.{Service}
+use Rattle.lapd_frame.specs.Grammar.{Parts, other_side}
+use Rattle.lapd_frame.specs.Reading.{reading}
+use Rattle.model_link.specs.declared.states.State.{State}
+use Rattle.model_link.specs.declared.states.State.TheVariants.{TeiAssigned, AwaitingEstablishment, AwaitingRelease, Established, TimerRecovery}
+use Rattle.model_link.specs.Link.{Link, is_multiple_frame}
+use Rattle.model_link.proofs.Direction.{frames_of}
+use Rattle.model_line.specs.Came.{came}
+use Rattle.model_line.specs.declared.config.Config.{Config}
+use Rattle.model_line.specs.Event.{Event, hears, expiry, request, next}
+use Rattle.model_line.specs.Heard.{heard_side}
+use Rattle.model_line.specs.Line.{link_of, terms}
+use Rattle.model_card.specs.Event as card
+use Rattle.model_card.proofs.CardSound.{after_is_sound}
+use Rattle.laws_wire.specs.Wire.{Station, Wire, requests, times_out, gives, takes, loses, happens, comes}
+use Rattle.laws_order.specs.Happenings.{of_link_at, Deed, acts, disturbed, elsewhere, IsElsewhere, IsPossibleAt, elsewhere_on, befalling}
+use Rattle.laws_order.specs.Order.{of_link_on, link_here}
+use Rattle.laws_order.proofs.Down.{Speaks}
+use Rattle.laws_order.proofs.Lasting.{Calls, calls-report, calls-plain, speaks-answered, speaks-unheeded, Brought, brought-tail, brought-front, brought-more, brought-plain}
+use Rattle.laws_order.proofs.Leading.{Read, read, none_of_it, one_of_it, NotHeard, not-heard, other-line}
+use Rattle.laws_order.proofs.Pairs.{whole-is, IsWell, happens-well, way_here}
+use Rattle.laws_order.proofs.Putting.{Each, Awaited, each-back}
+use Rattle.laws_order.proofs.Saying.{Grown, NotUi, HeardIs, on_line, station-down, station-goes}
+
+all-awaited : (to : State) → Awaited Calls to
+all-awaited AwaitingEstablishment = tt
+all-awaited AwaitingRelease = tt
+all-awaited TeiAssigned = tt
+all-awaited Established = tt
+all-awaited TimerRecovery = tt
+
+module _ (service : Service) (tei : ℕ) where
+  abbrev line_of : Station → List Parts
+  line_of s = on_line service tei s
+
+  -- The first frame on the way of a station is one of the link, or not.
+  pub data IsFirst (s : Station) (octets : List ℕ) (rest : List (List ℕ)) : Type 0 where
+    other_first : of_link_at service tei s.card.config.side octets ≡ [] → line_of (record s { way = octets ∷ rest }) ≡ line_of (record s { way = rest }) → IsFirst s octets rest
+    its_first : (f : Parts) → of_link_at service tei s.card.config.side octets ≡ f ∷ [] → line_of (record s { way = octets ∷ rest }) ≡ f ∷ line_of (record s { way = rest }) → IsFirst s octets rest
+
+  pub first-is : (s : Station) (octets : List ℕ) (rest : List (List ℕ)) → IsFirst s octets rest
+  first-is s octets rest =
+      let others = of_link_on service tei s.card.config.side rest in
+      let waits = frames_of (terms s.card.config service tei) (link_here service tei s).waiting in
+      go others waits (read service tei (reading s.card.config.side octets))
+    where
+      go : (others waits : List Parts) → Read service tei (reading s.card.config.side octets) → IsFirst s octets rest
+      go others waits (none_of_it none) = other_first none (ap (λ xs. (xs ++ of_link_on service tei s.card.config.side rest) ++ frames_of (terms s.card.config service tei) (link_here service tei s).waiting) none)
+      go others waits (one_of_it f one) = its_first f one (ap (λ xs. (xs ++ of_link_on service tei s.card.config.side rest) ++ frames_of (terms s.card.config service tei) (link_here service tei s).waiting) one)
+
+  -- A frame of the link that is heard as a frame comes is the one that comes.
+  pub comes-so : (s u : Station) → u.card.config.side ≡ other_side s.card.config.side → (octets octets' : List ℕ) (f : Parts)
+      → hears (came s.card.config.n201 octets) ≡ hears (stream.frame octets') → of_link_at service tei (heard_side s.card.config) octets' ≡ f ∷ []
+      → of_link_at service tei u.card.config.side octets ≡ f ∷ []
+  comes-so s u sides octets octets' f is its =
+      let whole : came s.card.config.n201 octets ≡ stream.frame octets' = cc is in
+      let same : octets' ≡ octets = whole-is s.card.config.n201 octets octets' whole in
+      ap (λ side. of_link_at service tei side octets) sides ∙ ap (of_link_at service tei (other_side s.card.config.side)) (sym same) ∙ its
+
+  none-heard : (c : Config) (Q : Control → Type 0) (e : Event) → NotHeard service tei c e → HeardIs c service tei Q e
+  none-heard c Q e none octets f is its = let wrong : [] ≡ f ∷ [] = sym (none octets is) ∙ its in absurd (cc wrong)
+
+  -- The far end has been delivered the first of some contents, and has the next of them on the line to it.
+  module _ (contents : List (List ℕ)) (a k : ℕ) (small : k ≤ 127) where
+    pub record Lasts (w : Wire) (dm : List (List ℕ)) : Type 0 where
+      pub near : IsWell w.near
+      pub far : IsWell w.far
+      pub sides : w.far.card.config.side ≡ other_side w.near.card.config.side
+      pub up : IsTrue (is_multiple_frame (link_here service tei w.far).state)
+      pub line : Brought contents (a + k) (link_here service tei w.far).r (line_of w.near)
+      pub low : a ≤ (link_here service tei w.far).r
+      pub speech : Each Speaks (line_of w.far)
+      pub delivered : dm ≡ take (link_here service tei w.far).r contents
+      pub accepted : (link_here service tei w.far).r ≤ length contents
+
+    abbrev IsDown : Wire → Type 0
+    IsDown w = is_multiple_frame (link_here service tei w.near).state ≡ false
+
+    -- The near end, whose establishment is over.
+    abbrev GoesOn : Wire → Wire → List (List ℕ) → Type 0
+    GoesOn w w' dm = (IsDown w → IsDown w') × (IsDown w' → Lasts w' dm)
+
+    by-event : (w : Wire) (dm : List (List ℕ)) → Lasts w dm → (e : Event) (way : List (List ℕ)) → Each Speaks (line_of (record w.far { way = way }))
+        → HeardIs w.near.card.config service tei Speaks e → GoesOn w (record { near = happens e w.near; far = record w.far { way = way } }) dm
+    by-event w dm h e way speech heard = (
+      λ down. station-down service tei w.near h.near e down (λ octets f is its. speaks-unheeded f.control (heard octets f is its)),
+      λ down. record {
+        near = happens-well w.near h.near e;
+        far = record { sound = h.far.sound; within = h.far.within };
+        sides = h.sides;
+        up = h.up;
+        line = then (station-goes service tei w.near h.near e Calls calls-report calls-plain (λ octets f is its. speaks-answered Calls f.control (heard octets f is its))
+            (all-awaited (link_here service tei (happens e w.near)).state) (λ up. absurd (true≢false (sym up ∙ down)))
+            (each-back NotUi (way_here service tei w.near) waits (brought-plain contents (a + k) r (line_of w.near) h.line)));
+        low = h.low;
+        speech = speech;
+        delivered = h.delivered;
+        accepted = h.accepted;
+      },
+    )
+      where
+        waits : List Parts
+        waits = frames_of (terms w.near.card.config service tei) (link_here service tei w.near).waiting
+
+        r : ℕ
+        r = (link_here service tei w.far).r
+
+        then : Grown Calls (line_of w.near) (line_of (happens e w.near)) ⊎ (line_of (happens e w.near) ≡ way_here service tei w.near)
+            → Brought contents (a + k) r (line_of (happens e w.near))
+        then (inl g) = subst (Brought contents (a + k) r) (sym g.is) (brought-more contents (a + k) r (line_of w.near) g.news h.line g.are)
+        then (inr cut) = subst (Brought contents (a + k) r) (sym cut) (brought-front contents (a + k) r (way_here service tei w.near) waits h.line)
+
+    near-takes : (near far : Station) (way : List (List ℕ)) (dm : List (List ℕ)) → let w : Wire = record { near = near; far = record far { way = way } } in
+        Lasts w dm → GoesOn w (befalling (acts takes) w) dm
+    near-takes near far [] dm h = (λ down. down, λ down. h)
+    near-takes near far (octets ∷ rest) dm h = go (first-is far octets rest)
+      where
+        w : Wire
+        w = record { near = near; far = record far { way = octets ∷ rest } }
+
+        e : Event
+        e = hears (came near.card.config.n201 octets)
+
+        go : IsFirst far octets rest → GoesOn w (befalling (acts takes) w) dm
+        go (other_first none same) =
+            by-event w dm h e rest (subst (Each Speaks) same h.speech)
+            (λ octets' f is its. let wrong : [] ≡ f ∷ [] = sym none ∙ comes-so near far h.sides octets octets' f is its in absurd (cc wrong))
+        go (its_first g one more) =
+            let speech : Each Speaks (g ∷ line_of (record far { way = rest })) = subst (Each Speaks) more h.speech in
+            by-event w dm h e rest speech.1
+            (λ octets' f is its. let same : g ≡ f = cc (sym one ∙ comes-so near far h.sides octets octets' f is its) in subst (λ (x : Parts). Speaks x.control) same speech.0)
+
+    near-loses : (near far : Station) (way : List (List ℕ)) (dm : List (List ℕ)) → let w : Wire = record { near = record near { way = way }; far = far } in
+        Lasts w dm → Lasts (befalling (acts loses) w) dm
+    near-loses near far [] dm h = h
+    near-loses near far (octets ∷ rest) dm h = go (first-is near octets rest)
+      where
+        r : ℕ
+        r = (link_here service tei far).r
+
+        less : Brought contents (a + k) r (line_of (record near { way = rest })) → Lasts (record { near = record near { way = rest }; far = far }) dm
+        less line = record {
+          near = record { sound = h.near.sound; within = h.near.within };
+          far = h.far;
+          sides = h.sides;
+          up = h.up;
+          line = line;
+          low = h.low;
+          speech = h.speech;
+          delivered = h.delivered;
+          accepted = h.accepted;
+        }
+
+        go : IsFirst near octets rest → Lasts (record { near = record near { way = rest }; far = far }) dm
+        go (other_first none same) = less (subst (Brought contents (a + k) r) same h.line)
+        go (its_first f one more) = less (brought-tail contents (a + k) r f (line_of (record near { way = rest })) (subst (Brought contents (a + k) r) more h.line))
+
+    near-elsewhere : (w : Wire) (dm : List (List ℕ)) (e : card.Event) → IsElsewhere w.near e → Lasts w dm → GoesOn w (record w { near = elsewhere_on e w.near }) dm
+    near-elsewhere w dm e is h =
+        let s' = elsewhere_on e w.near in
+        let same : link_here service tei s' ≡ link_here service tei w.near = ap (link_of service tei) (other-line service tei w.near e is) in (
+          λ down. ap (λ (y : Link). is_multiple_frame y.state) same ∙ down,
+          λ down. record {
+            near = record { sound = after_is_sound w.near.card e h.near.sound is.within; within = h.near.within };
+            far = h.far;
+            sides = h.sides;
+            up = h.up;
+            line = subst (λ (y : Link). Brought contents (a + k) (link_here service tei w.far).r
+                (way_here service tei w.near ++ frames_of (terms w.near.card.config service tei) y.waiting)) (sym same) h.line;
+            low = h.low;
+            speech = h.speech;
+            delivered = h.delivered;
+            accepted = h.accepted;
+          },
+        )
+
+    pub near-goes : (deed : Deed) (w : Wire) (dm : List (List ℕ)) → IsPossibleAt service tei w.near deed → Lasts w dm → GoesOn w (befalling deed w) dm
+    near-goes (acts (requests r)) w dm is h = by-event w dm h (request r) w.far.way h.speech (none-heard w.near.card.config Speaks (request r) (λ octets e. cc e))
+    near-goes (acts (times_out timer)) w dm is h = by-event w dm h (expiry timer) w.far.way h.speech (none-heard w.near.card.config Speaks (expiry timer) (λ octets e. cc e))
+    near-goes (acts gives) w dm is h = by-event w dm h next w.far.way h.speech (none-heard w.near.card.config Speaks next (λ octets e. cc e))
+    near-goes (acts takes) w dm is h = near-takes w.near w.far w.far.way dm h
+    near-goes (acts loses) w dm is h = (λ down. down, λ down. near-loses w.near w.far w.near.way dm h)
+    near-goes (disturbed what) w dm is h =
+        by-event w dm h (hears what) w.far.way h.speech (none-heard w.near.card.config Speaks (hears what) (not-heard service tei w.near.card.config what is))
+    near-goes (elsewhere e) w dm is h = near-elsewhere w dm e is h

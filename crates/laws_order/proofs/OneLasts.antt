@@ -1,0 +1,304 @@
+-- The far end lasts in its establishment, and that of the near end is over: what happens at the far end.
+use Rattle.std.proofs.Common.{◌≡◌, ℕ, ◌+◌, ◌≤◌, cond, IsTrue, List, [], ◌∷◌, ◌++◌, length, take, Option, None, refl, sym, ap, ◌∙◌, subst, append-nil, true≢false, inl, inr, arith}
+use Rattle.std.specs.Prelude.{option_to_list}
+use Rattle.std.proofs.lemmas.List.Concat.{flat_map-append}
+use Rattle.lapd_seq.specs.declared.numbers.Seq.{Seq}
+use Rattle.lapd_seq.specs.Numbers.{seq}
+use Rattle.lapd_seq.proofs.Callers.{is_seq}
+use Rattle.lapd_frame.specs.declared.controls.Control.{Control}
+use Rattle.lapd_frame.specs.declared.controls.Control.TheVariants.{Information, ReceiveReady, ReceiveNotReady, Reject, Sabme, Disc}
+use Rattle.lapd_frame.specs.declared.services.Service.{Service}
+use Rattle.lapd_frame.specs.Grammar.{Parts, other_side}
+use Rattle.model_link.specs.declared.states.State.{State}
+use Rattle.model_link.specs.declared.states.State.TheVariants.{TeiAssigned, AwaitingEstablishment, AwaitingRelease, Established, TimerRecovery}
+use Rattle.model_link.specs.declared.terms.Terms.{Terms}
+use Rattle.model_link.specs.Events as link
+use Rattle.model_link.specs.Link.{Link, is_multiple_frame}
+use Rattle.model_link.specs.Machine as links
+use Rattle.model_link.proofs.Direction.{frames_of}
+use Rattle.model_link.proofs.Lines.{Means}
+use Rattle.model_link.proofs.Taking.{frame-taken}
+use Rattle.model_line.specs.Came.{came}
+use Rattle.model_line.specs.Event.{Event, hears, expiry, request, next}
+use Rattle.model_line.specs.Line.{link_of, terms}
+use Rattle.model_card.specs.Event as card
+use Rattle.model_card.proofs.CardSound.{after_is_sound}
+use Rattle.laws_trace.specs.Trace.{Seen, seen}
+use Rattle.laws_trace.proofs.OfferTells.{offer-tells_nothing}
+use Rattle.laws_trace.proofs.OneLink.{frames_given}
+use Rattle.laws_wire.specs.Wire.{Station, Wire, requests, times_out, gives, takes, loses, answered, happens, frames_by, turned}
+use Rattle.laws_wire.proofs.Spelled.{twice-other}
+use Rattle.laws_order.specs.Happenings.{of_link_in, of_link_at, Deed, acts, disturbed, elsewhere, IsElsewhere, IsPossibleAt, elsewhere_on, befalling, seen_by}
+use Rattle.laws_order.specs.Order.{data_noted, StaysEstablished, of_link_on, link_here}
+use Rattle.laws_order.proofs.Contents.{request-grows, request-delivers, timer-same, timer-delivers, offer-same}
+use Rattle.laws_order.proofs.Does.{Has, LeavesIt, Does, IsKind}
+use Rattle.laws_order.proofs.Down.{Speaks}
+use Rattle.laws_order.proofs.Lasting.{speaks-report, speaks-plain, speaks-answered, Brings, Brought, brought-lower, brought-tail, Takes, kept-so, takes-so}
+use Rattle.laws_order.proofs.Leading.{NotHeard, not-heard, other-line}
+use Rattle.laws_order.proofs.LinkEnds.{Ended, sabme-ends, disc-ends}
+use Rattle.laws_order.proofs.NearOver.{Lasts, IsFirst, other_first, its_first, first-is, comes-so}
+use Rattle.laws_order.proofs.Pairs.{happens-well, proper, way_here, station-does}
+use Rattle.laws_order.proofs.Putting.{Each, AnsweredAt, Awaited, each-back, each-append}
+use Rattle.laws_order.proofs.Saying.{NotUi, each-as, event-grows, on_line}
+
+none-awaited : (to : State) → IsTrue (is_multiple_frame to) → Awaited Speaks to
+none-awaited Established up = tt
+none-awaited TimerRecovery up = tt
+none-awaited TeiAssigned up = tt
+none-awaited AwaitingEstablishment up = absurd (true≢false (sym up))
+none-awaited AwaitingRelease up = absurd (true≢false (sym up))
+
+-- Each N(R) means its value.
+its-value : (nr : Seq) → nr ≡ seq nr.value
+its-value nr = is_seq nr nr.value (let low = nr.in_range in omega (arith, low))
+
+module _ (service : Service) (tei : ℕ) where
+  abbrev line_of : Station → List Parts
+  line_of s = on_line service tei s
+
+  module _ (contents : List (List ℕ)) (a k : ℕ) (small : k ≤ 127) where
+    abbrev Last : Wire → List (List ℕ) → Type 0
+    Last w dm = Lasts service tei contents a k small w dm
+
+    -- The far end, at which something happens, as it sees the two.
+    module _ (near far : Station) (dm : List (List ℕ)) (e : Event) (way : List (List ℕ)) (near-way : List (List ℕ)) where
+      abbrev w : Wire
+      w = record { near = record near { way = near-way }; far = far }
+
+      abbrev w' : Wire
+      w' = record { near = record near { way = way }; far = happens e far }
+
+      abbrev t : List Seen
+      t = seen e (answered e far)
+
+      abbrev l : Link
+      l = link_here service tei far
+
+      abbrev l' : Link
+      l' = link_here service tei (happens e far)
+
+      abbrev Own : Terms
+      Own = terms far.card.config service tei
+
+      -- what it takes of the line leaves this of it
+      record After (d : Option (List ℕ)) : Type 0 where
+        top : ℕ
+        took : Takes contents top l.r l'.r d
+        rest : Brought contents (a + k) top (line_of (record near { way = way }))
+
+      module _ (h : Last w dm) (stays : StaysEstablished service tei t) where
+        then-lasts : (d : Option (List ℕ)) → After d → IsTrue (is_multiple_frame l'.state) → Each Speaks (line_of (happens e far)) → data_noted service tei t ≡ option_to_list d
+            → Last w' (dm ++ data_noted service tei t)
+        then-lasts d x up speech noted = record {
+          near = record { sound = h.near.sound; within = h.near.within };
+          far = happens-well far h.far e;
+          sides = h.sides;
+          up = up;
+          line = brought-lower contents (a + k) x.top l'.r (line_of (record near { way = way })) x.took.to x.rest;
+          low = let one = h.low in let two = x.took.up in omega (arith, one, two);
+          speech = speech;
+          delivered = ap (λ ds. ds ++ data_noted service tei t) h.delivered ∙ ap (λ ds. take l.r contents ++ ds) noted ∙ x.took.delivered;
+          accepted = x.took.accepted;
+        }
+
+        way-then : way_here service tei (happens e far) ≡ way_here service tei far ++ of_link_on service tei far.card.config.side (frames_by (answered e far))
+        way-then = flat_map-append (of_link_at service tei far.card.config.side) far.way (frames_by (answered e far))
+
+        still : Brought contents (a + k) l.r (line_of (record near { way = way })) → l'.r ≡ l.r → After None
+        still line same = record { top = l.r; took = kept-so contents l.r l'.r l.r None (omega arith) h.accepted same refl; rest = line }
+
+        left : Brought contents (a + k) l.r (line_of (record near { way = way })) → LeavesIt far.card.config service tei l l' e (answered e far) → Last w' (dm ++ data_noted service tei t)
+        left line x =
+            then-lasts None (still line (ap (λ (y : Link). y.r) x.is)) (ap (λ (y : Link). is_multiple_frame y.state) x.is ∙ h.up)
+            (subst (Each Speaks) (sym (ap (λ w. w ++ frames_of Own l'.waiting) (way-then ∙ ap (λ fs. way_here service tei far ++ fs) x.frames ∙ append-nil (way_here service tei far))
+            ∙ ap (λ (y : Link). way_here service tei far ++ frames_of Own y.waiting) x.is)) h.speech) x.noted
+
+        module _ (x : Has far.card.config service tei l l' e (answered e far)) where
+          speech-then : (ev : link.Event) → x.event ≡ ev → (ev ≡ link.cleared → ⊥) → AnsweredAt Speaks ev → Each Speaks (line_of (happens e far))
+          speech-then ev is other answer =
+              let p = proper service tei far h.far h.up in
+              let waits = frames_of Own l.waiting in
+              let g = event-grows far.card.config service tei Speaks speaks-report speaks-plain (way_here service tei far) l l' (frames_by (answered e far)) ev other
+              (x.is ∙ ap (λ ev. links.after Own ev l) is) (x.frames ∙ ap (λ ev. frames_given far.card.config Own ev l) is) p.ranges p.sound answer
+              (none-awaited l'.state x.up) (λ up ns nr p. tt)
+              (each-as Speaks NotUi speaks-plain waits (each-back Speaks (way_here service tei far) waits h.speech)) in
+              subst (λ w. Each Speaks (w ++ frames_of Own l'.waiting)) (sym way-then)
+              (subst (Each Speaks) (sym g.is) (each-append Speaks (line_of far) g.news h.speech g.are))
+
+          noted-then : (ev : link.Event) → x.event ≡ ev → (d : Option (List ℕ)) → (links.course Own ev l).delivered ≡ d → data_noted service tei t ≡ option_to_list d
+          noted-then ev is d delivers = x.noted ∙ ap (λ ev. option_to_list (links.told Own ev l).delivered) is ∙ ap option_to_list delivers
+
+          up-then : (ev : link.Event) → x.event ≡ ev → IsTrue (is_multiple_frame (links.after Own ev l).state)
+          up-then ev is = subst (λ (y : Link). IsTrue (is_multiple_frame y.state)) (x.is ∙ ap (λ ev. links.after Own ev l) is) x.up
+
+          received-then : (ev : link.Event) → x.event ≡ ev → (r : ℕ) → (links.after Own ev l).r ≡ r → l'.r ≡ r
+          received-then ev is r h = ap (λ (y : Link). y.r) (x.is ∙ ap (λ ev. links.after Own ev l) is) ∙ h
+
+          -- an I-frame or a supervisory frame
+          taken-so : (f : Parts) (m : ℕ) → Means m f.control → Speaks f.control → x.event ≡ link.received (link.frame f)
+              → (top : ℕ) → l.r ≤ top → Brings contents (a + k) l.r top f.info f.control → Brought contents (a + k) top (line_of (record near { way = way }))
+              → Last w' (dm ++ data_noted service tei t)
+          taken-so f m means speaks is top up brings rest =
+              let ev = link.received (link.frame f) in
+              let this = frame-taken Own l h.up f.address.command f.info m f.control means in
+              let goes = up-then ev is in
+              let stay = (this.took.by.stay goes).2 in
+              let same = received-then ev is this.r stay.received in
+              then-lasts this.delivered (record {
+                top = top;
+                took = subst (λ r. Takes contents top l.r r this.delivered) (sym same)
+                    (takes-so contents a k l.r this.r top f.info f.control this.delivered small h.low up h.accepted brings this.advance);
+                rest = rest;
+              }) x.up (speech-then ev is (λ e. cc e) (speaks-answered Speaks f.control speaks)) (noted-then ev is this.delivered (this.took.delivered goes))
+
+          ended : (f : Parts) → x.event ≡ link.received (link.frame f) → Ended Own (links.told Own (link.received (link.frame f)) l).notes → Last w' (dm ++ data_noted service tei t)
+          ended f is h = absurd (true≢false (sym (x.ends (subst (λ ev. Ended Own (links.told Own ev l).notes) (sym is) h)) ∙ stays))
+
+          abbrev with_control : Parts → Control → link.Event
+          with_control f control = link.received (link.frame (record f { control = control }))
+
+          by-control : (f : Parts) (control : Control) → f.control ≡ control → x.event ≡ link.received (link.frame f) → (top : ℕ) → l.r ≤ top
+              → Brings contents (a + k) l.r top f.info control → Brought contents (a + k) top (line_of (record near { way = way })) → Last w' (dm ++ data_noted service tei t)
+          by-control f (Information ns nr p) same is top up brings rest =
+              taken-so f nr.value (subst (Means nr.value) (sym same) (its-value nr)) (subst Speaks (sym same) tt) is top up (subst (Brings contents (a + k) l.r top f.info) (sym same) brings) rest
+          by-control f (ReceiveReady nr pf) same is top up brings rest =
+              taken-so f nr.value (subst (Means nr.value) (sym same) (its-value nr)) (subst Speaks (sym same) tt) is top up (subst (Brings contents (a + k) l.r top f.info) (sym same) brings) rest
+          by-control f (ReceiveNotReady nr pf) same is top up brings rest =
+              taken-so f nr.value (subst (Means nr.value) (sym same) (its-value nr)) (subst Speaks (sym same) tt) is top up (subst (Brings contents (a + k) l.r top f.info) (sym same) brings) rest
+          by-control f (Reject nr pf) same is top up brings rest =
+              taken-so f nr.value (subst (Means nr.value) (sym same) (its-value nr)) (subst Speaks (sym same) tt) is top up (subst (Brings contents (a + k) l.r top f.info) (sym same) brings) rest
+          by-control f (Sabme p) same is top up brings rest = ended (record f { control = Sabme p }) (is ∙ ap (with_control f) same) (sabme-ends Own l h.up f p)
+          by-control f (Disc p) same is top up brings rest = ended (record f { control = Disc p }) (is ∙ ap (with_control f) same) (disc-ends Own l h.up f p)
+          by-control f other same is top up brings rest = absurd brings
+
+          -- a frame of the link that it hears is the first on the line
+          abbrev First : Type 0
+          First = (f : Parts) → IsKind far.card.config service tei e (link.received (link.frame f))
+              → (top : ℕ) × (l.r ≤ top) × Brings contents (a + k) l.r top f.info f.control × Brought contents (a + k) top (line_of (record near { way = way }))
+
+          by-kind : First → Brought contents (a + k) l.r (line_of (record near { way = way })) → (ev : link.Event) → x.event ≡ ev → IsKind far.card.config service tei e ev
+              → Last w' (dm ++ data_noted service tei t)
+          by-kind first line (link.received (link.frame f)) is kind = let y = first f kind in by-control f f.control refl is y.0 y.1 y.2 y.3
+          by-kind first line (link.received link.undefined) is kind = absurd kind
+          by-kind first line (link.received link.wrong_size) is kind = absurd kind
+          by-kind first line (link.received link.overlong) is kind = absurd kind
+          by-kind first line (link.expired timer) is kind =
+              let ev = link.expired timer in
+              then-lasts None (still line (received-then ev is l.r (timer-same Own l h.up timer (up-then ev is)).1)) x.up (speech-then ev is (λ e. cc e) tt) (noted-then ev is None (timer-delivers Own l timer))
+          by-kind first line (link.requested asked full) is kind =
+              let ev = link.requested asked full in
+              then-lasts None (still line (received-then ev is l.r (request-grows Own l h.up asked full (up-then ev is)).1)) x.up (speech-then ev is (λ e. cc e) tt)
+              (noted-then ev is None (request-delivers Own l asked full))
+          by-kind first line link.offer is kind =
+              let p = proper service tei far h.far h.up in
+              then-lasts None (still line (received-then link.offer is l.r (offer-same Own l p.ranges p.sound).1)) x.up (speech-then link.offer is (λ e. cc e) tt)
+              (noted-then link.offer is None (offer-tells_nothing Own l).1)
+          by-kind first line link.cleared is kind = absurd kind
+
+        by-far : ((f : Parts) → IsKind far.card.config service tei e (link.received (link.frame f))
+            → (top : ℕ) × (l.r ≤ top) × Brings contents (a + k) l.r top f.info f.control × Brought contents (a + k) top (line_of (record near { way = way })))
+            → Brought contents (a + k) l.r (line_of (record near { way = way })) → Last w' (dm ++ data_noted service tei t)
+        by-far first line = go (station-does service tei far h.far h.up e)
+          where
+            go : Does far.card.config service tei l l' e (answered e far) → Last w' (dm ++ data_noted service tei t)
+            go (inl ended) = absurd (true≢false (sym ended.0 ∙ stays))
+            go (inr (inl x)) = left line x
+            go (inr (inr x)) = by-kind x first line x.event refl x.kind
+
+    -- no frame of the link is heard
+    abbrev Then : Wire → List (List ℕ) → List Seen → Type 0
+    Then w dm t = Last w (dm ++ data_noted service tei t)
+
+    unheard : (w : Wire) (dm : List (List ℕ)) → Last w dm → (e : Event) → NotHeard service tei w.far.card.config e → StaysEstablished service tei (seen e (answered e w.far) ++ [])
+        → Then (record { near = w.near; far = happens e w.far }) dm (seen e (answered e w.far) ++ [])
+    unheard w dm h e none stays =
+        let t = seen e (answered e w.far) in
+        subst (Then (record { near = w.near; far = happens e w.far }) dm) (sym (append-nil t))
+        (by-far w.near w.far dm e w.near.way w.near.way h (subst (StaysEstablished service tei) (append-nil t) stays)
+        (λ f kind.
+        let wrong : [] ≡ f ∷ [] = sym (none kind.0 kind.1) ∙ (ap (of_link_in service tei) kind.2 ∙ ap (λ b. cond {A = List Parts} b (f ∷ []) []) kind.3) in
+        absurd (cc wrong)) h.line)
+
+    unchanged : (w : Wire) (dm : List (List ℕ)) → Last w dm → Then w dm []
+    unchanged w dm h = subst (Last w) (sym (append-nil dm)) h
+
+    far-takes : (near far : Station) (way : List (List ℕ)) (dm : List (List ℕ)) → let w : Wire = record { near = record near { way = way }; far = far } in
+        Last w dm → let t = seen_by (acts takes) (turned w) in StaysEstablished service tei t → Then (turned (befalling (acts takes) (turned w))) dm t
+    far-takes near far [] dm h stays = unchanged (record { near = record near { way = [] }; far = far }) dm h
+    far-takes near far (octets ∷ rest) dm h stays =
+        let e = hears (came far.card.config.n201 octets) in
+        let t = seen e (answered e far) in
+        subst (Then (record { near = record near { way = rest }; far = happens e far }) dm) (sym (append-nil t)) (go (subst (StaysEstablished service tei) (append-nil t) stays) (first-is service tei near octets rest))
+      where
+        e : Event
+        e = hears (came far.card.config.n201 octets)
+
+        r : ℕ
+        r = (link_here service tei far).r
+
+        sides : near.card.config.side ≡ other_side far.card.config.side
+        sides = sym (ap other_side h.sides ∙ twice-other near.card.config.side)
+
+        reads : (f : Parts) → IsKind far.card.config service tei e (link.received (link.frame f)) → of_link_at service tei near.card.config.side octets ≡ f ∷ []
+        reads f kind = comes-so service tei far near sides octets kind.0 f kind.1 (ap (of_link_in service tei) kind.2 ∙ ap (λ b. cond {A = List Parts} b (f ∷ []) []) kind.3)
+
+        go : StaysEstablished service tei (seen e (answered e far)) → IsFirst service tei near octets rest
+            → Then (record { near = record near { way = rest }; far = happens e far }) dm (seen e (answered e far))
+        go stays (other_first none same) =
+            by-far near far dm e rest (octets ∷ rest) h stays (λ f kind. let wrong : [] ≡ f ∷ [] = sym none ∙ reads f kind in absurd (cc wrong))
+            (subst (Brought contents (a + k) r) same h.line)
+        go stays (its_first g one more) =
+            let line : Brought contents (a + k) r (g ∷ line_of (record near { way = rest })) = subst (Brought contents (a + k) r) more h.line in
+            by-far near far dm e rest (octets ∷ rest) h stays
+            (λ f kind. let same : g ≡ f = cc (sym one ∙ reads f kind) in (line.0, line.1, subst (λ (x : Parts). Brings contents (a + k) r line.0 x.info x.control) same line.2, line.3))
+            (brought-tail contents (a + k) r g (line_of (record near { way = rest })) line)
+
+    far-loses : (near far : Station) (way : List (List ℕ)) (dm : List (List ℕ)) → Last (record { near = near; far = record far { way = way } }) dm
+        → Last (turned (befalling (acts loses) (record { near = record far { way = way }; far = near }))) dm
+    far-loses near far [] dm h = h
+    far-loses near far (octets ∷ rest) dm h = go (first-is service tei far octets rest)
+      where
+        less : Each Speaks (line_of (record far { way = rest })) → Last (record { near = near; far = record far { way = rest } }) dm
+        less speech = record {
+          far = record { sound = h.far.sound; within = h.far.within };
+          near = h.near;
+          sides = h.sides;
+          up = h.up;
+          line = h.line;
+          low = h.low;
+          speech = speech;
+          delivered = h.delivered;
+          accepted = h.accepted;
+        }
+
+        go : IsFirst service tei far octets rest → Last (record { near = near; far = record far { way = rest } }) dm
+        go (other_first none same) = less (subst (Each Speaks) same h.speech)
+        go (its_first f one more) = let speech : Each Speaks (f ∷ line_of (record far { way = rest })) = subst (Each Speaks) more h.speech in less speech.1
+
+    far-elsewhere : (w : Wire) (dm : List (List ℕ)) (e : card.Event) → IsElsewhere w.far e → Last w dm → Last (record w { far = elsewhere_on e w.far }) dm
+    far-elsewhere w dm e is h =
+        let same : link_here service tei (elsewhere_on e w.far) ≡ link_here service tei w.far = ap (link_of service tei) (other-line service tei w.far e is) in
+        let far : Link → Type 0 = λ y. IsTrue (is_multiple_frame y.state) × Brought contents (a + k) y.r (line_of w.near) × (a ≤ y.r)
+        × Each Speaks (way_here service tei w.far ++ frames_of (terms w.far.card.config service tei) y.waiting) × (dm ≡ take y.r contents) × (y.r ≤ length contents) in
+        let x : far (link_here service tei (elsewhere_on e w.far)) = subst far (sym same) (h.up, h.line, h.low, h.speech, h.delivered, h.accepted) in
+        record {
+          near = h.near;
+          far = record { sound = after_is_sound w.far.card e h.far.sound is.within; within = h.far.within };
+          sides = h.sides;
+          up = x.0;
+          line = x.1;
+          low = x.2;
+          speech = x.3;
+          delivered = x.4;
+          accepted = x.5;
+        }
+
+    pub far-goes : (deed : Deed) (w : Wire) (dm : List (List ℕ)) → IsPossibleAt service tei w.far deed → Last w dm
+        → let t = seen_by deed (turned w) in StaysEstablished service tei t → Then (turned (befalling deed (turned w))) dm t
+    far-goes (acts (requests r)) w dm is h stays = unheard w dm h (request r) (λ octets e. cc e) stays
+    far-goes (acts (times_out timer)) w dm is h stays = unheard w dm h (expiry timer) (λ octets e. cc e) stays
+    far-goes (acts gives) w dm is h stays = unheard w dm h next (λ octets e. cc e) stays
+    far-goes (acts takes) w dm is h stays = far-takes w.near w.far w.near.way dm h stays
+    far-goes (acts loses) w dm is h stays = unchanged _ dm (far-loses w.near w.far w.far.way dm h)
+    far-goes (disturbed what) w dm is h stays = unheard w dm h (hears what) (not-heard service tei w.far.card.config what is) stays
+    far-goes (elsewhere e) w dm is h stays = unchanged _ dm (far-elsewhere w dm e is h)

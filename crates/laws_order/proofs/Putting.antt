@@ -1,0 +1,243 @@
+-- What an event of a link puts behind the control frames that wait, and what an offer gives: of each frame a predicate holds that holds of
+-- supervisory frames, of the answers to what is heard, and of the command that the state awaits the answer to.
+use Rattle.std.proofs.Common.{◌≡◌, ℕ, zero, suc, ◌+◌, ◌&&◌, ◌||◌, not, Bool, true, false, cond, IsTrue, List, [], ◌∷◌, ◌++◌, take, refl, sym, ap, ◌∙◌, append-nil, append_assoc, true≢false}
+use Rattle.std.specs.Prelude.{slice_get, unwrap_or, nat_lt, length}
+use Rattle.lapd_seq.specs.declared.numbers.Seq.{Seq}
+use Rattle.lapd_seq.specs.Numbers.{seq}
+use Rattle.lapd_frame.specs.declared.controls.Control.{Control}
+use Rattle.lapd_frame.specs.declared.controls.Control.TheVariants.{Information, ReceiveReady, ReceiveNotReady, Reject, Sabme, Disc, Ui, Ua, Dm, Frmr, Xid}
+use Rattle.lapd_frame.specs.Grammar.{Parts}
+use Rattle.model_link.specs.declared.states.State.{State}
+use Rattle.model_link.specs.declared.states.State.TheVariants.{TeiAssigned, AwaitingEstablishment, AwaitingRelease, Established, TimerRecovery}
+use Rattle.model_link.specs.declared.frames.ControlFrame.{ControlFrame}
+use Rattle.model_link.specs.declared.terms.Terms.{Terms}
+use Rattle.model_link.specs.Events.{Event, received, frame, undefined, wrong_size, overlong, expired, requested, offer, cleared, Establish, Release, Data, SetBusy, ClearBusy}
+use Rattle.model_link.specs.Link.{Link, is_multiple_frame, frame_of, outstanding}
+use Rattle.model_link.specs.Machine.{course, after, given_of}
+use Rattle.model_link.specs.Offers
+use Rattle.model_link.specs.Steps.{Course, begun}
+use Rattle.model_link.specs.TwoEnds.{frame_given}
+use Rattle.model_link.specs.Words
+use Rattle.model_link.proofs.Direction.{frames_of}
+use Rattle.laws_link.specs.States.{is_overlong, as_heard, moves}
+use Rattle.laws_link.specs.Waiting.{receipt_as, is_next, is_taken, to_information, to_sabme, to_disc, answers_up, answers_to, answers, is_time, command_in, commands, put, room}
+use Rattle.laws_link.proofs.Follows.{event-follows}
+
+-- Each of some frames, and each of some that wait.
+abbrev pub Each : (Control → Type 0) → List Parts → Type 0
+Each P [] = Unit {0}
+Each P (f ∷ fs) = P f.control × Each P fs
+
+abbrev pub EachWaits : (Control → Type 0) → List ControlFrame → Type 0
+EachWaits P [] = Unit {0}
+EachWaits P (f ∷ fs) = P f.control × EachWaits P fs
+
+-- What is heard is answered by such a frame, and such a one is the command whose answer a state awaits.
+abbrev pub Answered : (Control → Type 0) → Control → Type 0
+Answered P (Sabme p) = P (Ua p) × P (Dm p)
+Answered P (Disc p) = P (Ua p) × P (Dm p)
+Answered P other = Unit {0}
+
+abbrev pub AnsweredAt : (Control → Type 0) → Event → Type 0
+AnsweredAt P (received (frame f)) = Answered P f.control
+AnsweredAt P other = Unit {0}
+
+abbrev pub Awaited : (Control → Type 0) → State → Type 0
+Awaited P AwaitingEstablishment = P (Sabme true)
+Awaited P AwaitingRelease = P (Disc true)
+Awaited P other = Unit {0}
+
+pub record Reporting (P : Control → Type 0) : Type 0 where
+  pub ready : (nr : Seq) (pf : Bool) → P (ReceiveReady nr pf)
+  pub not_ready : (nr : Seq) (pf : Bool) → P (ReceiveNotReady nr pf)
+  pub reject : (nr : Seq) (pf : Bool) → P (Reject nr pf)
+
+module _ (P : Control → Type 0) where
+  pub each-append : (xs ys : List Parts) → Each P xs → Each P ys → Each P (xs ++ ys)
+  each-append [] ys h k = k
+  each-append (x ∷ xs) ys h k = (h.0, each-append xs ys h.1 k)
+
+  pub each-front : (xs ys : List Parts) → Each P (xs ++ ys) → Each P xs
+  each-front [] ys h = tt
+  each-front (x ∷ xs) ys h = (h.0, each-front xs ys h.1)
+
+  pub each-back : (xs ys : List Parts) → Each P (xs ++ ys) → Each P ys
+  each-back [] ys h = h
+  each-back (x ∷ xs) ys h = each-back xs ys h.1
+
+  pub each-frames : (t : Terms) (ws : List ControlFrame) → EachWaits P ws → Each P (frames_of t ws)
+  each-frames t [] h = tt
+  each-frames t (f ∷ fs) h = (h.0, each-frames t fs h.1)
+
+  waits-append : (xs ys : List ControlFrame) → EachWaits P xs → EachWaits P ys → EachWaits P (xs ++ ys)
+  waits-append [] ys h k = k
+  waits-append (x ∷ xs) ys h k = (h.0, waits-append xs ys h.1 k)
+
+  waits-take : (n : ℕ) (ws : List ControlFrame) → EachWaits P ws → EachWaits P (take n ws)
+  waits-take zero ws h = tt
+  waits-take (suc n) [] h = tt
+  waits-take (suc n) (w ∷ ws) h = (h.0, waits-take n ws h.1)
+
+  either : (b : Bool) (xs ys : List ControlFrame) → EachWaits P xs → EachWaits P ys → EachWaits P (cond b xs ys)
+  either true xs ys x y = x
+  either false xs ys x y = y
+
+  module _ (reports : Reporting P) (l : Link) where
+    receipt : (own : Bool) (r : ℕ) (pf : Bool) → P (receipt_as own r pf)
+    receipt true r pf = reports.not_ready (seq r) pf
+    receipt false r pf = reports.ready (seq r) pf
+
+    to-information : (next p : Bool) → EachWaits P (to_information next p l)
+    to-information next p =
+        either (not l.own_busy && (not next && not l.rejecting)) _ _ (reports.reject (seq l.r) p, tt)
+        (either p _ _ (receipt l.own_busy (cond (is_taken next l) (l.r + 1) l.r) true, tt) tt)
+
+    to-supervisory : (b : Bool) → EachWaits P (cond b (record { command = false; control = receipt_as l.own_busy l.r true } ∷ []) [])
+    to-supervisory b = either b _ _ (receipt l.own_busy l.r true, tt) tt
+
+    answers-up : (command : Bool) (control : Control) → EachWaits P (answers_up command control l)
+    answers-up command (Information ns nr p) = to-information (is_next ns l) p
+    answers-up command (ReceiveReady nr p) = to-supervisory (command && p)
+    answers-up command (ReceiveNotReady nr p) = to-supervisory (command && p)
+    answers-up command (Reject nr p) = to-supervisory (command && p)
+    answers-up command other = tt
+
+    by-sabme : (here : State) (p : Bool) → P (Ua p) × P (Dm p) → P (to_sabme here p)
+    by-sabme AwaitingRelease p h = h.1
+    by-sabme TeiAssigned p h = h.0
+    by-sabme AwaitingEstablishment p h = h.0
+    by-sabme Established p h = h.0
+    by-sabme TimerRecovery p h = h.0
+
+    by-disc : (here : State) (p : Bool) → P (Ua p) × P (Dm p) → P (to_disc here p)
+    by-disc TeiAssigned p h = h.1
+    by-disc AwaitingEstablishment p h = h.1
+    by-disc AwaitingRelease p h = h.0
+    by-disc Established p h = h.0
+    by-disc TimerRecovery p h = h.0
+
+    when-up : (command : Bool) (control : Control) → EachWaits P (cond (is_multiple_frame l.state) (answers_up command control l) [])
+    when-up command control = either (is_multiple_frame l.state) _ _ (answers-up command control) tt
+
+    answers-to : (command : Bool) (control : Control) → Answered P control → EachWaits P (answers_to command control l)
+    answers-to command (Sabme p) h = (by-sabme l.state p h, tt)
+    answers-to command (Disc p) h = (by-disc l.state p h, tt)
+    answers-to command (Information ns nr p) h = when-up command (Information ns nr p)
+    answers-to command (ReceiveReady nr p) h = when-up command (ReceiveReady nr p)
+    answers-to command (ReceiveNotReady nr p) h = when-up command (ReceiveNotReady nr p)
+    answers-to command (Reject nr p) h = when-up command (Reject nr p)
+    answers-to command (Ui p) h = when-up command (Ui p)
+    answers-to command (Ua f) h = when-up command (Ua f)
+    answers-to command (Dm f) h = when-up command (Dm f)
+    answers-to command (Frmr f) h = when-up command (Frmr f)
+    answers-to command (Xid pf) h = when-up command (Xid pf)
+
+    its-answers : (e : Event) → AnsweredAt P e → EachWaits P (answers e l)
+    its-answers (received (frame f)) h = answers-to f.address.command f.control h
+    its-answers (received undefined) h = tt
+    its-answers (received wrong_size) h = tt
+    its-answers (received overlong) h = tt
+    its-answers (requested Establish full) h = tt
+    its-answers (requested Release full) h = tt
+    its-answers (requested (Data contents) full) h = tt
+    its-answers (requested SetBusy full) h = either (is_multiple_frame l.state && not l.own_busy) _ _ (receipt true l.r false, tt) tt
+    its-answers (requested ClearBusy full) h = either (is_multiple_frame l.state && l.own_busy) _ _ (receipt false l.r false, tt) tt
+    its-answers (expired timer) h = tt
+    its-answers offer h = tt
+    its-answers cleared h = tt
+
+    its-command : (to : State) → Awaited P to → EachWaits P (command_in to l)
+    its-command TeiAssigned h = tt
+    its-command AwaitingEstablishment h = (h, tt)
+    its-command AwaitingRelease h = (h, tt)
+    its-command Established h = tt
+    its-command TimerRecovery h = (receipt l.own_busy l.r true, tt)
+
+    is-put : (e : Event) (to : State) → AnsweredAt P e → Awaited P to → EachWaits P (put e l to)
+    is-put e to h a = waits-append (answers e l) (commands e l to) (its-answers e h) (either (moves l.state to || is_time e l) (command_in to l) [] (its-command to a) tt)
+
+    -- What waits behind what waited.
+    module _ (t : Terms) where
+      pub record Grows (after : List ControlFrame) : Type 0 where
+        pub news : List ControlFrame
+        pub more : after ≡ l.waiting ++ news
+        pub are : EachWaits P news
+
+      grows : (e : Event) (to : State) (after : List ControlFrame) → after ≡ l.waiting ++ take (room t l) (put e l to) → AnsweredAt P e → Awaited P to → Grows after
+      grows e to after is h a = record { news = take (room t l) (put e l to); more = is; are = waits-take (room t l) (put e l to) (is-put e to h a) }
+
+      abbrev pub IsPut : Event → Type 0
+      IsPut offer = ⊥
+      IsPut cleared = ⊥
+      IsPut other = Unit {0}
+
+      heard-so : (f : Parts) (long : Bool) → Answered P f.control → AnsweredAt P (received (cond long overlong (frame f)))
+      heard-so f true h = tt
+      heard-so f false h = h
+
+      pub waits-more : (e : Event) → IsPut e → AnsweredAt P e → Awaited P (after t e l).state → Grows (after t e l).waiting
+      waits-more (received (frame f)) is h a =
+          grows (as_heard t (received (frame f))) (after t (received (frame f)) l).state (after t (received (frame f)) l).waiting
+          (event-follows t (received (frame f)) l).leaves.waiting (heard-so f (is_overlong t f.control f.info) h) a
+      waits-more (received undefined) is h a = grows (received undefined) _ _ (event-follows t (received undefined) l).leaves.waiting tt a
+      waits-more (received wrong_size) is h a = grows (received wrong_size) _ _ (event-follows t (received wrong_size) l).leaves.waiting tt a
+      waits-more (received overlong) is h a = grows (received overlong) _ _ (event-follows t (received overlong) l).leaves.waiting tt a
+      waits-more (expired timer) is h a = grows (expired timer) _ _ (event-follows t (expired timer) l).leaves.waiting tt a
+      waits-more (requested request full) is h a = grows (requested request full) _ _ (event-follows t (requested request full) l).leaves.waiting tt a
+      waits-more offer is h a = absurd is
+      waits-more cleared is h a = absurd is
+
+      -- What an offer gives comes from what waits, or it is an I-frame, of a link in state 7, or RR.
+      pub record Gives (c : Course) : Type 0 where
+        pub news : List Parts
+        pub line : (way : List Parts) → (way ++ frame_given t (given_of t l c c.sent)) ++ frames_of t c.link.waiting ≡ (way ++ frames_of t l.waiting) ++ news
+        pub are : Each P news
+
+      by-two : (b : Bool) (u v : Course) → (b ≡ true → Gives u) → Gives v → Gives (cond b u v)
+      by-two true u v x y = x refl
+      by-two false u v x y = y
+
+      alone : (way : List Parts) (f : Parts) (ws : List ControlFrame) → ws ≡ [] → (way ++ f ∷ []) ++ frames_of t ws ≡ (way ++ frames_of t ws) ++ f ∷ []
+      alone way f [] e = append-nil (way ++ f ∷ []) ∙ sym (ap (λ xs. xs ++ f ∷ []) (append-nil way))
+      alone way f (w ∷ ws) e = absurd (cc e)
+
+      one : (c : Course) (f : Parts) → P f.control → l.waiting ≡ [] → c.link.waiting ≡ l.waiting → frame_given t (given_of t l c c.sent) ≡ f ∷ [] → Gives c
+      one c f is e waits gives = record {
+        news = f ∷ [];
+        line = λ way. ap (λ xs. (way ++ xs) ++ frames_of t c.link.waiting) gives ∙ ap (λ ws. (way ++ f ∷ []) ++ frames_of t ws) waits ∙ alone way f l.waiting e;
+        are = (is, tt);
+      }
+
+      none : Gives (begun l)
+      none = record {
+        news = [];
+        line = λ way. ap (λ xs. xs ++ frames_of t l.waiting) (append-nil way) ∙ sym (append-nil (way ++ frames_of t l.waiting));
+        are = tt;
+      }
+
+      is-up : (here : State) (a b d : Bool) → (((Offers.is_established here && a) && b) && d) ≡ true → IsTrue (is_multiple_frame here)
+      is-up Established a b d e = refl
+      is-up TimerRecovery a b d e = refl
+      is-up TeiAssigned a b d e = absurd (true≢false (sym e))
+      is-up AwaitingEstablishment a b d e = absurd (true≢false (sym e))
+      is-up AwaitingRelease a b d e = absurd (true≢false (sym e))
+
+      abbrev information : Parts
+      information = record (frame_of t (Offers.next_information l)) { info = unwrap_or (slice_get l.contents l.s) [] }
+
+      among : (IsTrue (is_multiple_frame l.state) → (ns nr : Seq) (p : Bool) → P (Information ns nr p)) → (ws : List ControlFrame) → l.waiting ≡ ws
+          → Gives (Offers.offer_among t ws (begun l))
+      among says [] e =
+          by-two (Offers.may_send_information t l) _ _
+          (λ may.
+          let is = says (is-up l.state (not l.peer_busy) (nat_lt (outstanding l) t.k) (nat_lt l.s (length l.contents)) may) (seq l.s) (seq l.r) false in
+          by-two (Offers.is_awaiting_acknowledgement (Offers.with_one_sent l)) _ _ (λ b. one _ information is e refl refl) (one _ information is e refl refl))
+          (by-two l.pending _ _ (λ b. one _ (frame_of t (Words.response (ReceiveReady (seq l.r) false))) (reports.ready (seq l.r) false) e refl refl) none)
+      among says (f ∷ fs) e = record {
+        news = [];
+        line = λ way. append_assoc way (frame_of t f ∷ []) (frames_of t fs) ∙ ap (λ ws. way ++ frames_of t ws) (sym e) ∙ sym (append-nil (way ++ frames_of t l.waiting));
+        are = tt;
+      }
+
+      pub offers : (IsTrue (is_multiple_frame l.state) → (ns nr : Seq) (p : Bool) → P (Information ns nr p)) → Gives (course t offer l)
+      offers says = among says l.waiting refl

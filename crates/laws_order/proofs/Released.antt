@@ -1,0 +1,170 @@
+-- What an end is told of its link in state 6, and in state 4, whatever happens at it and at the other end.
+use Rattle.std.proofs.Common.{◌≡◌, ℕ, List, [], ◌∷◌, ◌++◌, refl, sym, ap, ◌∙◌, subst, append-nil, ◌⊎◌, inl, inr}
+use Rattle.std.specs.Prelude.{All}
+use Rattle.std.specs.List.{list_any}
+use Rattle.std.proofs.lemmas.List.Concat.{flat_map-append}
+use Rattle.std.proofs.lemmas.List.Elements.{All-head, All-tail}
+use Rattle.std.proofs.lemmas.List.Folds.{list_any-append}
+use Rattle.lapd_frame.specs.declared.notes.Note.{Note}
+use Rattle.lapd_frame.specs.declared.services.Service.{Service}
+use Rattle.model_link.specs.declared.states.State.TheVariants.{TeiAssigned, AwaitingRelease}
+use Rattle.model_link.specs.Link.{Link}
+use Rattle.model_line.specs.Came.{came}
+use Rattle.model_line.specs.Event.{Event, hears, expiry, request, next, told}
+use Rattle.model_line.specs.Line.{link_of}
+use Rattle.model_card.specs.Event.{at}
+use Rattle.model_card.proofs.CardSound.{after_is_sound}
+use Rattle.laws_trace.specs.Trace.{Seen, seen}
+use Rattle.laws_wire.specs.Wire.{Station, Wire, requests, times_out, gives, takes, loses, answered, happens, turned}
+use Rattle.laws_order.specs.Happenings.{Deed, acts, disturbed, elsewhere, befalling, Happening, by_near, by_far, IsPossible, happening, IsPossibleAt, seen_by, seen_at_near, seen_near}
+use Rattle.laws_order.specs.Order.{noted_in, data_noted, link_here}
+use Rattle.laws_order.specs.Release.{news_in, news, begins_by, BeginsNothing, IsToldOfRelease, ReleasesEnd, ReleasedIsOver}
+use Rattle.laws_order.proofs.Leading.{other-line}
+use Rattle.laws_order.proofs.Ordered.{or-parts, near-place, far-place, all-possible}
+use Rattle.laws_order.proofs.Pairs.{IsWell, happens-well}
+use Rattle.laws_order.proofs.ReleasedAt.{Confirm, GivenUp, SixAt, station-six, station-four}
+
+module _ (service : Service) (tei : ℕ) where
+  -- Whatever happens at an end, it is one event there, or none.
+  abbrev Same : Wire → Wire → Type 0
+  Same w w' = IsWell w'.near × (link_here service tei w'.near ≡ link_here service tei w.near)
+
+  data Occurs (w w' : Wire) (t : List Seen) : Type 0 where
+    nothing_there : Same w w' → t ≡ [] → Occurs w w' t
+    one_there : (e : Event) → IsWell w'.near → link_here service tei w'.near ≡ link_here service tei (happens e w.near) → t ≡ seen e (answered e w.near) → Occurs w w' t
+
+  one-event : (w w' : Wire) (e : Event) → IsWell w.near → w'.near ≡ happens e w.near → Occurs w w' (seen e (answered e w.near) ++ [])
+  one-event w w' e well is =
+      one_there e (subst IsWell (sym is) (happens-well w.near well e)) (ap (link_here service tei) is) (append-nil (seen e (answered e w.near)))
+
+  takes-occurs : (near far : Station) (way : List (List ℕ)) → let w : Wire = record { near = near; far = record far { way = way } } in
+      IsWell near → Occurs w (befalling (acts takes) w) (seen_by (acts takes) w)
+  takes-occurs near far [] well = nothing_there (well, refl) refl
+  takes-occurs near far (octets ∷ rest) well = one-event _ _ (hears (came near.card.config.n201 octets)) well refl
+
+  near-occurs : (deed : Deed) (w : Wire) → IsWell w.near → IsPossibleAt service tei w.near deed → Occurs w (befalling deed w) (seen_by deed w)
+  near-occurs (acts (requests r)) w well is = one-event _ _ (request r) well refl
+  near-occurs (acts (times_out timer)) w well is = one-event _ _ (expiry timer) well refl
+  near-occurs (acts gives) w well is = one-event _ _ next well refl
+  near-occurs (acts takes) w well is = takes-occurs w.near w.far w.far.way well
+  near-occurs (acts loses) w well is = nothing_there (record { sound = well.sound; within = well.within }, refl) refl
+  near-occurs (disturbed what) w well is = one-event _ _ (hears what) well refl
+  near-occurs (elsewhere e) w well is =
+      nothing_there (record { sound = after_is_sound w.near.card e well.sound is.within; within = well.within }, ap (link_of service tei) (other-line service tei w.near e is)) refl
+
+  far-occurs : (deed : Deed) (w : Wire) → IsWell w.far → Occurs (turned w) (turned (befalling deed w)) []
+  far-occurs (acts (requests r)) w well = nothing_there (well, refl) refl
+  far-occurs (acts (times_out timer)) w well = nothing_there (well, refl) refl
+  far-occurs (acts gives) w well = nothing_there (well, refl) refl
+  far-occurs (acts takes) w well = nothing_there (record { sound = well.sound; within = well.within }, refl) refl
+  far-occurs (acts loses) w well = nothing_there (well, refl) refl
+  far-occurs (disturbed what) w well = nothing_there (well, refl) refl
+  far-occurs (elsewhere e) w well = nothing_there (well, refl) refl
+
+  -- Whole runs.
+  news-append : (t u : List Seen) → news service tei (t ++ u) ≡ news service tei t ++ news service tei u
+  news-append t u = flat_map-append (news_in service tei) t u
+
+  noted-append : (t u : List Seen) → data_noted service tei (t ++ u) ≡ data_noted service tei t ++ data_noted service tei u
+  noted-append t u = flat_map-append (noted_in service tei) t u
+
+  both-quiet : (t u : List Seen) → BeginsNothing service tei (t ++ u) → BeginsNothing service tei t × BeginsNothing service tei u
+  both-quiet t u h = or-parts (list_any (begins_by service tei) t) (list_any (begins_by service tei) u) (sym (list_any-append (begins_by service tei) t u) ∙ h)
+
+  abbrev Is : List Seen → List Note → Type 0
+  Is t ns = (news service tei t ≡ ns) × (data_noted service tei t ≡ [])
+
+  joins : (t u : List Seen) (ns ms : List Note) → Is t ns → Is u ms → Is (t ++ u) (ns ++ ms)
+  joins t u ns ms x y = (
+    news-append t u ∙ ap (λ a. a ++ news service tei u) x.0 ∙ ap (λ b. ns ++ b) y.0,
+    noted-append t u ∙ ap (λ a. a ++ data_noted service tei u) x.1 ∙ y.1,
+  )
+
+  none-is : (t : List Seen) → t ≡ [] → Is t []
+  none-is t e = (ap (news service tei) e, ap (data_noted service tei) e)
+
+  one-is : (t : List Seen) (ns : List Note) (u : List Seen) → t ≡ u → Is u ns → Is t ns
+  one-is t ns u e x = (ap (news service tei) e ∙ x.0, ap (data_noted service tei) e ∙ x.1)
+
+  step-four : (w w' : Wire) (t : List Seen) → IsWell w.near → (link_here service tei w.near).state ≡ TeiAssigned → BeginsNothing service tei t → Occurs w w' t
+      → IsWell w'.near × ((link_here service tei w'.near).state ≡ TeiAssigned) × Is t []
+  step-four w w' t well is quiet (nothing_there same none) = (same.0, ap (λ (y : Link). y.state) same.1 ∙ is, none-is t none)
+  step-four w w' t well is quiet (one_there e well' link shown) =
+      let x = station-four service tei w.near well e (subst (BeginsNothing service tei) shown quiet) is in
+      (well', ap (λ (y : Link). y.state) link ∙ x.0, one-is t [] (seen e (answered e w.near)) shown x.1)
+
+  abbrev StepSix : Wire → List Seen → Type 0
+  StepSix w' t =
+      (((link_here service tei w'.near).state ≡ AwaitingRelease) × Is t []) ⊎ (((link_here service tei w'.near).state ≡ TeiAssigned) × (Is t (Confirm service tei) ⊎ Is t (GivenUp service tei)))
+
+  step-six : (w w' : Wire) (t : List Seen) → IsWell w.near → (link_here service tei w.near).state ≡ AwaitingRelease → Occurs w w' t → IsWell w'.near × StepSix w' t
+  step-six w w' t well is (nothing_there same none) = (same.0, inl (ap (λ (y : Link). y.state) same.1 ∙ is, none-is t none))
+  step-six w w' t well is (one_there e well' link shown) = (well', go (station-six service tei w.near well e is))
+    where
+      go : SixAt service tei w.near well e (link_here service tei (happens e w.near)) (answered e w.near) → StepSix w' t
+      go (inl x) = inl (ap (λ (y : Link). y.state) link ∙ x.0, one-is t [] (seen e (answered e w.near)) shown x.1)
+      go (inr (to, inl x)) = inr (ap (λ (y : Link). y.state) link ∙ to, inl (one-is t (Confirm service tei) (seen e (answered e w.near)) shown x))
+      go (inr (to, inr x)) = inr (ap (λ (y : Link). y.state) link ∙ to, inr (one-is t (GivenUp service tei) (seen e (answered e w.near)) shown x))
+
+  abbrev IsOpen : Wire → Happening → Type 0
+  IsOpen w h = IsPossible service tei w h
+
+  occurs : (h : Happening) (w : Wire) → IsWell w.near → IsOpen w h → Occurs w (happening h w) (seen_at_near h w)
+  occurs (by_near deed) w well is = near-occurs deed w well is
+  occurs (by_far deed) w well is = far-occurs deed (turned w) well
+
+  later : (h : Happening) (hs : List Happening) (w : Wire) → All (IsOpen w) (h ∷ hs) → All (IsOpen (happening h w)) hs
+  later (by_near deed) hs w all = all-possible service tei w (befalling deed w) (near-place deed w) (far-place deed w) hs (All-tail (IsOpen w) (by_near deed) hs all)
+  later (by_far deed) hs w all =
+      all-possible service tei w (turned (befalling deed (turned w))) (far-place deed (turned w)) (near-place deed (turned w)) hs (All-tail (IsOpen w) (by_far deed) hs all)
+
+  run-four : (hs : List Happening) (w : Wire) → IsWell w.near → (link_here service tei w.near).state ≡ TeiAssigned → All (IsOpen w) hs
+      → BeginsNothing service tei (seen_near hs w) → Is (seen_near hs w) []
+  unfolding seen_near
+  run-four [] w well is all quiet = (refl, refl)
+  run-four (h ∷ hs) w well is all quiet =
+      let both = both-quiet (seen_at_near h w) (seen_near hs (happening h w)) quiet in
+      let x = step-four w (happening h w) (seen_at_near h w) well is both.0 (occurs h w well (All-head (IsOpen w) h hs all)) in
+      joins (seen_at_near h w) (seen_near hs (happening h w)) [] [] x.2 (run-four hs (happening h w) x.0 x.1 (later h hs w all) both.1)
+
+  abbrev Released : List Seen → Type 0
+  Released t = IsToldOfRelease service tei (news service tei t) × (data_noted service tei t ≡ [])
+
+  not-yet : (t : List Seen) → Is t [] → Released t
+  not-yet t x = (inl x.0, x.1)
+
+  confirmed-so : (t : List Seen) → Is t (Confirm service tei) → Released t
+  confirmed-so t x = (inr (inl x.0), x.1)
+
+  given-up-so : (t : List Seen) → Is t (GivenUp service tei) → Released t
+  given-up-so t x = (inr (inr x.0), x.1)
+
+  behind-none : (t u : List Seen) → Is t [] → Released u → Released (t ++ u)
+  behind-none t u x y = (
+    subst (IsToldOfRelease service tei) (sym (news-append t u ∙ ap (λ a. a ++ news service tei u) x.0)) y.0,
+    noted-append t u ∙ ap (λ a. a ++ data_noted service tei u) x.1 ∙ y.1,
+  )
+
+  run-six : (hs : List Happening) (w : Wire) → IsWell w.near → (link_here service tei w.near).state ≡ AwaitingRelease → All (IsOpen w) hs
+      → BeginsNothing service tei (seen_near hs w) → Released (seen_near hs w)
+  unfolding seen_near
+  run-six [] w well is all quiet = not-yet [] (refl, refl)
+  run-six (h ∷ hs) w well is all quiet =
+      let w' = happening h w in
+      let t = seen_at_near h w in
+      let u = seen_near hs w' in
+      let both = both-quiet t u quiet in
+      let x = step-six w w' t well is (occurs h w well (All-head (IsOpen w) h hs all)) in
+      go w' t u (λ is'. run-six hs w' x.0 is' (later h hs w all) both.1) (λ is'. run-four hs w' x.0 is' (later h hs w all) both.1) x.1
+    where
+      go : (w' : Wire) (t u : List Seen) → ((link_here service tei w'.near).state ≡ AwaitingRelease → Released u) → ((link_here service tei w'.near).state ≡ TeiAssigned → Is u [])
+          → StepSix w' t → Released (t ++ u)
+      go w' t u six four (inl (is, x)) = behind-none t u x (six is)
+      go w' t u six four (inr (is, inl x)) = confirmed-so (t ++ u) (joins t u (Confirm service tei) [] x (four is))
+      go w' t u six four (inr (is, inr x)) = given-up-so (t ++ u) (joins t u (GivenUp service tei) [] x (four is))
+
+pub releases-end : ReleasesEnd
+releases-end service tei w hs at is all quiet = run-six service tei hs w (record { sound = at.sound; within = at.within }) is all quiet
+
+pub released-is-over : ReleasedIsOver
+released-is-over service tei w hs at is all quiet = run-four service tei hs w (record { sound = at.sound; within = at.within }) is all quiet

@@ -1,0 +1,327 @@
+-- What one event at an end tells of its link in state 6, and in state 4.
+use Rattle.std.proofs.Common.{◌≡◌, ℕ, ◌&&◌, ◌||◌, not, Bool, true, false, cond, List, [], ◌∷◌, get_or, set, Option, Some, None, refl, sym, ap, ◌∙◌, subst, arith, append-nil, true≢false, ◌⊎◌, inl, inr}
+use Rattle.std.specs.Prelude.{filter, option_to_list}
+use Rattle.std.specs.List.{list_any}
+use Rattle.std.proofs.lemmas.List.{get_or-set_same}
+use Rattle.lapd_frame.specs.declared.notes.ErrorCode.TheVariants.{H}
+use Rattle.lapd_frame.specs.declared.notes.Note.{Note}
+use Rattle.lapd_frame.specs.declared.notes.Note.TheVariants as notes
+use Rattle.lapd_frame.specs.declared.refusals.Refusal.{Refusal}
+use Rattle.lapd_frame.specs.declared.refusals.Refusal.TheVariants.{PoolFull}
+use Rattle.lapd_frame.specs.declared.services.Service.{Service}
+use Rattle.model_link.specs.declared.states.State.TheVariants.{TeiAssigned, AwaitingRelease}
+use Rattle.model_link.specs.declared.terms.Terms.{Terms}
+use Rattle.model_link.specs.Events as link
+use Rattle.model_link.specs.Link.{Link, fresh, state_number}
+use Rattle.model_link.specs.Machine as links
+use Rattle.model_line.specs.declared.config.Config.{Config}
+use Rattle.model_line.specs.Event.{Event, hears, expiry, request, next, Answer, told, refused, gave}
+use Rattle.model_line.specs.Line.{Line, fresh_line, link_of, place_in, terms}
+use Rattle.model_line.specs.Machine as lines
+use Rattle.model_line.specs.Request.{Request}
+use Rattle.model_line.specs.Sound as line_sound
+use Rattle.model_card.specs.Card.{line_at}
+use Rattle.model_card.specs.Event.{at}
+use Rattle.model_card.proofs.Steps.{has_lines, by_room, line_sound as sound_line}
+use Rattle.laws_line.specs.Heard.{notes_of, contents_in, is_data_of}
+use Rattle.laws_line.specs.Requests.{of_link}
+use Rattle.laws_line.specs.Share.{is_granted}
+use Rattle.laws_line.specs.Steady.{IsBy}
+use Rattle.laws_line.proofs.Places.{is-off}
+use Rattle.laws_trace.specs.News as trace
+use Rattle.laws_trace.specs.Trace.{seen}
+use Rattle.laws_trace.proofs.Begins.{unless}
+use Rattle.laws_trace.proofs.DeliveriesRun.{no-data}
+use Rattle.laws_trace.proofs.LinkLed.{on-line, own-is}
+use Rattle.laws_trace.proofs.NewsOfLeaving.{leaving-due}
+use Rattle.laws_trace.proofs.NewsOfOthers.{none-filtered, others-silent}
+use Rattle.laws_trace.proofs.NewsWatched.{due}
+use Rattle.laws_trace.proofs.OneLink.{HasOne, HasNone, IsGivenUp, Goes, event-goes}
+use Rattle.laws_trace.proofs.TimersOfEvent.{off-fresh}
+use Rattle.laws_wire.specs.Wire.{Station, takes, answered, happens}
+use Rattle.laws_order.specs.Order.{data_noted, link_here}
+use Rattle.laws_order.specs.Release.{is_unasked, is_news, news, begins_by_note, begins_by_request, begins_by, BeginsNothing}
+use Rattle.laws_order.proofs.LinkReleased.{Tells, In6, In4, Begins, AsksNothing, in-6, in-4}
+use Rattle.laws_order.proofs.LinkEnds.{or-true}
+use Rattle.laws_order.proofs.Pairs.{IsWell}
+use Rattle.laws_order.proofs.Shown.{Fits, fits, noted_by, noted-is, none-noted}
+
+module _ (service : Service) (tei : ℕ) where
+  abbrev News : List Note → List Note
+  News ns = filter (is_news service tei) ns
+
+  -- What the trace takes for news has all of it.
+  fewer : (n : Note) → trace.is_news service tei n ≡ false → is_news service tei n ≡ false
+  fewer (notes.EstablishIndication of by) h = h
+  fewer (notes.EstablishConfirm of by) h = h
+  fewer (notes.ReleaseIndication of by) h = h
+  fewer (notes.ReleaseConfirm of by) h = h
+  fewer (notes.Error of by why) h = ap (λ b. b && not (is_unasked why)) h
+  fewer (notes.Data of by) h = refl
+  fewer (notes.Unit of by) h = refl
+  fewer (notes.Assigned by) h = refl
+  fewer (notes.Removed by) h = refl
+  fewer (notes.Doubled by) h = refl
+  fewer (notes.Xid of by) h = refl
+
+  of-news : (ns : List Note) → News ns ≡ News (filter (trace.is_news service tei) ns)
+  of-news [] = refl
+  of-news (n ∷ ns) = go (of-news ns) (trace.is_news service tei n) refl
+    where
+      go : News ns ≡ News (filter (trace.is_news service tei) ns) → (b : Bool) → trace.is_news service tei n ≡ b
+          → cond (is_news service tei n) (n ∷ News ns) (News ns) ≡ News (cond b (n ∷ filter (trace.is_news service tei) ns) (filter (trace.is_news service tei) ns))
+      go rest true is = ap (λ xs. cond (is_news service tei n) (n ∷ xs) xs) rest
+      go rest false is = ap (λ b. cond b (n ∷ News ns) (News ns)) (fewer n is) ∙ rest
+
+  -- An answer tells this of the link, and no data.
+  pub record Says (a : Answer) (ns : List Note) : Type 0 where
+    pub news : News (notes_of a) ≡ ns
+    pub no_data : noted_by service tei a ≡ []
+
+  abbrev pub Confirm : List Note
+  Confirm = notes.ReleaseConfirm service tei ∷ []
+
+  abbrev pub GivenUp : List Note
+  GivenUp = notes.Error service tei H ∷ Confirm
+
+  abbrev pub Six : Link → Answer → Type 0
+  Six k a = ((k.state ≡ AwaitingRelease) × Says a []) ⊎ ((k.state ≡ TeiAssigned) × (Says a Confirm ⊎ Says a GivenUp))
+
+  abbrev pub Four : Link → Answer → Type 0
+  Four k a = (k.state ≡ TeiAssigned) × Says a []
+
+  -- What is seen of an answer.
+  news-is : (e : Event) (a : Answer) → Fits e a → news service tei (seen e a) ≡ News (notes_of a)
+  news-is (hears what) (told t) f = append-nil (News t.notes)
+  news-is (hears what) (refused why) f = refl
+  news-is (hears what) (gave frame) f = refl
+  news-is (expiry timer) (told t) f = append-nil (News t.notes)
+  news-is (expiry timer) (refused why) f = refl
+  news-is (expiry timer) (gave frame) f = refl
+  news-is (request r) (told t) f = append-nil (News t.notes)
+  news-is (request r) (refused why) f = refl
+  news-is (request r) (gave frame) f = refl
+  news-is next (told t) f = absurd f
+  news-is next (refused why) f = absurd f
+  news-is next (gave None) f = refl
+  news-is next (gave (Some frame)) f = refl
+
+  none-news : (e : Event) (why : Refusal) → news service tei (seen e (refused why)) ≡ []
+  none-news (hears what) why = refl
+  none-news (expiry timer) why = refl
+  none-news (request r) why = refl
+  none-news next why = refl
+
+  asked-begins : (r : Request) (a : Answer) → is_granted a ≡ true → begins_by_request service tei r ≡ true → list_any (begins_by service tei) (seen (request r) a) ≡ true
+  asked-begins r (told t) g h = ap (λ b. b || (list_any (begins_by_note service tei) t.notes || false)) h
+  asked-begins r (refused why) g h = absurd (true≢false (sym g))
+  asked-begins r (gave frame) g h = absurd (true≢false (sym g))
+
+  noted-begins : (e : Event) (a : Answer) → Fits e a → list_any (begins_by_note service tei) (notes_of a) ≡ true → list_any (begins_by service tei) (seen e a) ≡ true
+  noted-begins (hears what) (told t) f h = ap (λ b. b || false) h
+  noted-begins (expiry timer) (told t) f h = ap (λ b. b || false) h
+  noted-begins (request r) (told t) f h = ap (λ b. begins_by_request service tei r || (b || false)) h ∙ or-true (begins_by_request service tei r)
+  noted-begins next (told t) f h = absurd f
+  noted-begins e (refused why) f h = absurd (true≢false (sym h))
+  noted-begins e (gave frame) f h = absurd (true≢false (sym h))
+
+  -- One event of a line.
+  module _ (c : Config) (ranged : line_sound.IsInRange c) (l : Line) (s : line_sound.IsSound c l) (e : Event) where
+    abbrev a : Answer
+    a = lines.answer c e l
+
+    abbrev Own : Terms
+    Own = terms c service tei
+
+    abbrev k : Link
+    k = link_of service tei l
+
+    abbrev l' : Line
+    l' = lines.after c e l
+
+    abbrev k' : Link
+    k' = link_of service tei l'
+
+    abbrev Quietly : Type 0
+    Quietly = list_any (begins_by service tei) (seen e a) ≡ false
+
+    by-notes : (ns its : List Note) → notes_of a ≡ ns → Tells Own ns its → Says a its
+    by-notes ns its is x = record {
+      news = ap News is ∙ x.news;
+      no_data = ap (λ b. cond b (option_to_list (contents_in a)) []) (ap (list_any (is_data_of service tei)) is ∙ x.no_data);
+    }
+
+    -- no event of the link
+    module _ (x : HasNone c service tei e l l' a) where
+      no-noted : noted_by service tei a ≡ []
+      no-noted = ap (λ b. cond b (option_to_list (contents_in a)) []) (sym (unless _ (no-data c ranged l s e service tei k.r (λ up. refl) x)))
+
+      by-trace : (ns : List Note) → filter (trace.is_news service tei) (notes_of a) ≡ ns → Says a (News ns)
+      by-trace ns is = record { news = of-news (notes_of a) ∙ ap News is; no_data = no-noted }
+
+      new-state : k' ≡ fresh → k'.state ≡ TeiAssigned
+      new-state is = ap (λ (y : Link). y.state) is
+
+      either-new : k ≡ fresh → (k' ≡ k) ⊎ (k' ≡ fresh) → k'.state ≡ TeiAssigned
+      either-new was (inl same) = new-state (same ∙ was)
+      either-new was (inr new) = new-state new
+
+      off-says : place_in l tei ≡ None → Four k' a
+      off-says off = (
+        either-new (off-fresh service tei l off) x.is,
+        by-trace [] (none-filtered service tei (notes_of a) (others-silent service tei c e l s x.aims (inl (is-off l.management.places tei off)))),
+      )
+
+      on-says : (there : ℕ) → place_in l' tei ≡ Some there → Says a []
+      on-says there still = by-trace [] (none-filtered service tei (notes_of a) (others-silent service tei c e l s x.aims (inr (on-line l' tei there still))))
+
+      left-says : (place : ℕ) → place_in l tei ≡ Some place → place_in l' tei ≡ None
+          → Says a (News (due service tei [] false false false false false (state_number k.state) 4))
+      left-says place on off = by-trace _ (leaving-due service tei c e l s place on (is-off l'.management.places tei off) false false)
+
+      none-six : k.state ≡ AwaitingRelease → Six k' a
+      none-six is = go (place_in l tei) refl (place_in l' tei) refl
+        where
+          go : (o : Option ℕ) → place_in l tei ≡ o → (p : Option ℕ) → place_in l' tei ≡ p → Six k' a
+          go None off p q = let wrong : TeiAssigned ≡ AwaitingRelease = sym (ap (λ (y : Link). y.state) (off-fresh service tei l off)) ∙ is in absurd (cc wrong)
+          go (Some place) on (Some there) still =
+              inl (ap (λ (y : Link). y.state) (x.stays (on-line l tei place on) (on-line l' tei there still)) ∙ is, on-says there still)
+          go (Some place) on None off =
+              inr (
+                new-state (off-fresh service tei l' off),
+                inl (subst (Says a) (ap (λ here. News (due service tei [] false false false false false (state_number here) 4)) is ∙ confirm-is) (left-says place on off)),
+              )
+            where
+              confirm-is : News Confirm ≡ Confirm
+              confirm-is = rw (own-is service tei) refl
+
+      none-four : k.state ≡ TeiAssigned → Four k' a
+      none-four is = go (place_in l tei) refl (place_in l' tei) refl
+        where
+          go : (o : Option ℕ) → place_in l tei ≡ o → (p : Option ℕ) → place_in l' tei ≡ p → Four k' a
+          go None off p q = off-says off
+          go (Some place) on (Some there) still =
+              (ap (λ (y : Link). y.state) (x.stays (on-line l tei place on) (on-line l' tei there still)) ∙ is, on-says there still)
+          go (Some place) on None off = (
+            new-state (off-fresh service tei l' off),
+            subst (Says a) (ap (λ here. News (due service tei [] false false false false false (state_number here) 4)) is) (left-says place on off),
+          )
+
+    -- an event of it
+    module _ (x : HasOne c service tei e l l' a) where
+      state-is : k'.state ≡ (links.after Own x.event k).state
+      state-is = ap (λ (y : Link). y.state) x.is
+
+      one-six : k.state ≡ AwaitingRelease → Six k' a
+      one-six is = go (in-6 Own k is x.event)
+        where
+          go : In6 Own (links.told Own x.event k).notes (links.after Own x.event k).state → Six k' a
+          go (inl y) = inl (state-is ∙ y.0, by-notes _ [] x.notes y.1)
+          go (inr (to, inl y)) = inr (state-is ∙ to, inl (by-notes _ Confirm x.notes y))
+          go (inr (to, inr y)) = inr (state-is ∙ to, inr (by-notes _ GivenUp x.notes y))
+
+      asks-nothing : Quietly → (ev : link.Event) → IsBy c e a service tei ev → AsksNothing Own ev
+      asks-nothing quiet (link.requested link.Establish full) by = begun (of_link service tei link.Establish) by.0 by.1 (own-is service tei)
+        where
+          begun : (r : Request) → e ≡ request r → is_granted a ≡ true → begins_by_request service tei r ≡ true → ⊥
+          begun r is g own = true≢false (sym (asked-begins r a g own) ∙ sym (ap (λ e. list_any (begins_by service tei) (seen e a)) is) ∙ quiet)
+      asks-nothing quiet (link.requested link.Release full) by = begun (of_link service tei link.Release) by.0 by.1 (own-is service tei)
+        where
+          begun : (r : Request) → e ≡ request r → is_granted a ≡ true → begins_by_request service tei r ≡ true → ⊥
+          begun r is g own = true≢false (sym (asked-begins r a g own) ∙ sym (ap (λ e. list_any (begins_by service tei) (seen e a)) is) ∙ quiet)
+      asks-nothing quiet (link.requested (link.Data contents) full) by = tt
+      asks-nothing quiet (link.requested link.SetBusy full) by = tt
+      asks-nothing quiet (link.requested link.ClearBusy full) by = tt
+      asks-nothing quiet (link.received what) by = tt
+      asks-nothing quiet (link.expired timer) by = tt
+      asks-nothing quiet link.offer by = tt
+      asks-nothing quiet link.cleared by = tt
+
+      one-four : Quietly → k.state ≡ TeiAssigned → Four k' a
+      one-four quiet is = go (in-4 Own k is x.event (asks-nothing quiet x.event x.by))
+        where
+          go : Begins Own (links.told Own x.event k).notes ⊎ In4 Own (links.told Own x.event k).notes (links.after Own x.event k).state → Four k' a
+          go (inl begun) = absurd (true≢false (sym (noted-begins e a (fits c e l) (ap (list_any (begins_by_note service tei)) x.notes ∙ begun)) ∙ quiet))
+          go (inr y) = (state-is ∙ y.0, by-notes _ [] x.notes y.1)
+
+    -- its deactivation
+    module _ (x : IsGivenUp c service tei e l l' a) where
+      ended-state : k'.state ≡ TeiAssigned
+      ended-state = ap (λ (y : Link). y.state) x.is
+
+      ended-six : k.state ≡ AwaitingRelease → Six k' a
+      ended-six is = go (in-6 Own k is link.cleared)
+        where
+          go : In6 Own (links.told Own link.cleared k).notes (links.after Own link.cleared k).state → Six k' a
+          go (inl y) = let wrong : AwaitingRelease ≡ TeiAssigned = sym y.0 in absurd (cc wrong)
+          go (inr (to, inl y)) = inr (ended-state, inl (by-notes _ Confirm x.notes y))
+          go (inr (to, inr y)) = inr (ended-state, inr (by-notes _ GivenUp x.notes y))
+
+      ended-four : Quietly → k.state ≡ TeiAssigned → Four k' a
+      ended-four quiet is = go (in-4 Own k is link.cleared tt)
+        where
+          go : Begins Own (links.told Own link.cleared k).notes ⊎ In4 Own (links.told Own link.cleared k).notes (links.after Own link.cleared k).state → Four k' a
+          go (inl begun) = absurd (true≢false (sym (noted-begins e a (fits c e l) (ap (list_any (begins_by_note service tei)) x.notes ∙ begun)) ∙ quiet))
+          go (inr y) = (ended-state, by-notes _ [] x.notes y.1)
+
+    pub line-six : k.state ≡ AwaitingRelease → Six k' a
+    line-six is = go (event-goes c e l service tei s)
+      where
+        go : Goes c service tei e l l' a → Six k' a
+        go (inl x) = none-six x is
+        go (inr (inl x)) = one-six x is
+        go (inr (inr x)) = ended-six x is
+
+    pub line-four : Quietly → k.state ≡ TeiAssigned → Four k' a
+    line-four quiet is = go (event-goes c e l service tei s)
+      where
+        go : Goes c service tei e l l' a → Four k' a
+        go (inl x) = none-four x is
+        go (inr (inl x)) = one-four x quiet is
+        go (inr (inr x)) = ended-four x quiet is
+
+  -- At a station.
+  module _ (s : Station) (well : IsWell s) (e : Event) where
+    abbrev conf : Config
+    conf = s.card.config
+
+    abbrev here : Line
+    here = line_at s.line s.card
+
+    now : get_or (set s.card.lines s.line (lines.after conf e here)) s.line (fresh_line conf) ≡ lines.after conf e here
+    now = get_or-set_same s.card.lines s.line (lines.after conf e here) (fresh_line conf) (omega (arith, well.sound.count, well.within))
+
+    sound : line_sound.IsSound conf here
+    sound = sound_line s.card s.line (has_lines s.card well.sound) well.within
+
+    -- what is seen there
+    abbrev pub Shows : Answer → List Note → Type 0
+    Shows a ns = (news service tei (seen e a) ≡ ns) × (data_noted service tei (seen e a) ≡ [])
+
+    abbrev pub SixAt : Link → Answer → Type 0
+    SixAt k a = ((k.state ≡ AwaitingRelease) × Shows a []) ⊎ ((k.state ≡ TeiAssigned) × (Shows a Confirm ⊎ Shows a GivenUp))
+
+    shows : (a : Answer) → Fits e a → (ns : List Note) → Says a ns → Shows a ns
+    shows a f ns x = (news-is e a f ∙ x.news, noted-is service tei e a f ∙ x.no_data)
+
+    six-shows : (k : Link) (a : Answer) → Fits e a → Six k a → SixAt k a
+    six-shows k a f (inl x) = inl (x.0, shows a f [] x.1)
+    six-shows k a f (inr (to, inl x)) = inr (to, inl (shows a f Confirm x))
+    six-shows k a f (inr (to, inr x)) = inr (to, inr (shows a f GivenUp x))
+
+    pub station-six : (link_here service tei s).state ≡ AwaitingRelease → SixAt (link_here service tei (happens e s)) (answered e s)
+    station-six is =
+        by_room (λ ls a. SixAt (link_of service tei (get_or ls s.line (fresh_line conf))) a) (at s.line e) s.card
+        (λ full. inl (is, (none-news e PoolFull, none-noted service tei e PoolFull)))
+        (λ room. subst (λ x. SixAt (link_of service tei x) (lines.answer conf e here)) (sym now)
+        (six-shows (link_of service tei (lines.after conf e here)) (lines.answer conf e here) (fits conf e here) (line-six conf well.sound.config here sound e is)))
+
+    pub station-four : BeginsNothing service tei (seen e (answered e s)) → (link_here service tei s).state ≡ TeiAssigned
+        → ((link_here service tei (happens e s)).state ≡ TeiAssigned) × Shows (answered e s) []
+    station-four =
+        by_room (λ ls a. BeginsNothing service tei (seen e a) → (link_here service tei s).state ≡ TeiAssigned
+        → ((link_of service tei (get_or ls s.line (fresh_line conf))).state ≡ TeiAssigned) × Shows a []) (at s.line e) s.card
+        (λ full quiet is. (is, (none-news e PoolFull, none-noted service tei e PoolFull)))
+        (λ room quiet is.
+        let x = line-four conf well.sound.config here sound e quiet is in
+        subst (λ y. ((link_of service tei y).state ≡ TeiAssigned) × Shows (lines.answer conf e here) []) (sym now) (x.0, shows (lines.answer conf e here) (fits conf e here) [] x.1))

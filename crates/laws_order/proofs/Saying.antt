@@ -1,0 +1,294 @@
+-- The line from a station: the frames of the link that are on their way, and then those that wait; and what an event adds to it, in any
+-- state of the link.
+use Rattle.std.proofs.Common.{◌≡◌, ℕ, ◌+◌, ◌==◌, ◌&&◌, not, Bool, true, false, cond, IsTrue, List, [], ◌∷◌, ◌++◌, get_or, set, refl, sym, ap, ◌∙◌, subst, arith, append-nil, append_assoc, eq-eqb, true≢false, ◌⊎◌, inl, inr}
+use Rattle.std.specs.Prelude.{All}
+use Rattle.std.specs.Option.{option_map_or}
+use Rattle.std.proofs.lemmas.List.{get_or-set_same}
+use Rattle.std.proofs.lemmas.List.Concat.{flat_map-append}
+use Rattle.std.proofs.lemmas.List.Elements.{All-nil, All-cons}
+use Rattle.model_bits.specs.Stream as stream
+use Rattle.lapd_seq.specs.declared.numbers.Seq.{Seq}
+use Rattle.lapd_frame.specs.declared.controls.Control.{Control}
+use Rattle.lapd_frame.specs.declared.controls.Control.TheVariants.{Information, ReceiveReady, ReceiveNotReady, Reject, Sabme, Disc, Ui}
+use Rattle.lapd_frame.specs.declared.services.Service.{Service}
+use Rattle.lapd_frame.specs.Grammar.{Parts}
+use Rattle.lapd_frame.specs.Services.{sapi_of}
+use Rattle.lapd_tei.proofs.Tables.{place_of-is}
+use Rattle.model_link.specs.declared.terms.Terms.{Terms}
+use Rattle.model_link.specs.Events as link
+use Rattle.model_link.specs.Link.{Link, fresh, is_multiple_frame}
+use Rattle.model_link.specs.Machine as links
+use Rattle.model_link.specs.Sound as link_sound
+use Rattle.model_link.specs.TwoEnds.{frame_given}
+use Rattle.model_link.proofs.Direction.{frames_of, frames-append}
+use Rattle.model_link.proofs.Giving.{given_is_frame}
+use Rattle.model_line.specs.declared.config.Config.{Config}
+use Rattle.model_line.specs.Event.{Event, hears, Answer}
+use Rattle.model_line.specs.Heard.{heard_side}
+use Rattle.model_line.specs.Line.{Line, fresh_line, link_in, link_of, terms}
+use Rattle.model_line.specs.Machine as lines
+use Rattle.model_line.specs.Sound as line_sound
+use Rattle.model_line.proofs.LinksSound.{sound_in}
+use Rattle.model_line.proofs.Ranges.{terms_in_range}
+use Rattle.model_card.specs.Card.{line_at}
+use Rattle.model_card.specs.Event.{at}
+use Rattle.model_card.proofs.Steps.{has_lines, by_room, line_sound as sound_line}
+use Rattle.laws_link.proofs.Follows.{event-follows}
+use Rattle.laws_line.specs.Steady.{IsBy}
+use Rattle.laws_line.proofs.Hearing.{sapi-is}
+use Rattle.laws_trace.specs.LinkFrames.{is_for}
+use Rattle.laws_trace.specs.Units.{is_ui}
+use Rattle.laws_trace.proofs.OneLink.{frames_given, Goes, event-goes}
+use Rattle.laws_wire.specs.Wire.{Station, answered, happens, frames_by}
+use Rattle.laws_order.specs.Happenings.{is_of_link, of_link_in, of_link_at}
+use Rattle.laws_order.specs.Order.{of_link_on, link_here}
+use Rattle.laws_order.proofs.Does.{all-foreign}
+use Rattle.laws_order.proofs.Down.{Unheeded, UnheededAt, stays-down}
+use Rattle.laws_order.proofs.Pairs.{IsPlain, IsWell, given-again, way_here}
+use Rattle.laws_order.proofs.Putting.{Each, Answered, AnsweredAt, Awaited, Reporting, each-append, each-front, each-frames, waits-more, IsPut, offers}
+use Rattle.laws_order.proofs.Shown.{same-frames}
+
+pub record Grown (P : Control → Type 0) (line line' : List Parts) : Type 0 where
+  pub news : List Parts
+  pub is : line' ≡ line ++ news
+  pub are : Each P news
+
+-- No unit data.
+abbrev pub NotUi : Control → Type 0
+NotUi control = is_ui control ≡ false
+
+plain-all : (fs : List Parts) → Each NotUi fs → All IsPlain fs
+plain-all [] h = All-nil IsPlain
+plain-all (f ∷ fs) h = All-cons IsPlain f fs h.0 (plain-all fs h.1)
+
+pub each-as : (P Q : Control → Type 0) → ((control : Control) → P control → Q control) → (fs : List Parts) → Each P fs → Each Q fs
+each-as P Q x [] h = tt
+each-as P Q x (f ∷ fs) h = (x f.control h.0, each-as P Q x fs h.1)
+
+ui-answered : (P : Control → Type 0) (control : Control) → is_ui control ≡ true → Answered P control
+ui-answered P (Sabme p) is = absurd (true≢false (sym is))
+ui-answered P (Disc p) is = absurd (true≢false (sym is))
+ui-answered P other is = tt
+
+ui-unheeded : (control : Control) → is_ui control ≡ true → Unheeded control
+ui-unheeded (Ui p) is = tt
+ui-unheeded (Information ns nr p) is = tt
+ui-unheeded (ReceiveReady nr pf) is = tt
+ui-unheeded (ReceiveNotReady nr pf) is = tt
+ui-unheeded (Reject nr pf) is = tt
+ui-unheeded other is = absurd (true≢false (sym is))
+
+offer-stays : (t : Terms) (k : Link) → (links.after t link.offer k).state ≡ k.state
+offer-stays t k = (event-follows t link.offer k).leaves.state
+
+module _ (c : Config) (service : Service) (tei : ℕ) where
+  abbrev Own : Terms
+  Own = terms c service tei
+
+  abbrev Ours : List (List ℕ) → List Parts
+  Ours frames = of_link_on service tei c.side frames
+
+  abbrev line_on : List Parts → Link → List Parts
+  line_on way k = way ++ frames_of Own k.waiting
+
+  -- Of each frame of the link that an event of the line brings.
+  abbrev pub HeardIs : (Control → Type 0) → Event → Type 0
+  HeardIs Q e = (octets : List ℕ) (f : Parts) → e ≡ hears (stream.frame octets) → of_link_at service tei (heard_side c) octets ≡ f ∷ [] → Q f.control
+
+  -- One event of the link.
+  module _ (P : Control → Type 0) (reports : Reporting P) (plain : (control : Control) → P control → NotUi control) where
+    module _ (way : List Parts) (k k' : Link) (frames : List (List ℕ)) where
+      abbrev Grows : Type 0
+      Grows = Grown P (line_on way k) (line_on (way ++ Ours frames) k')
+
+      put-grows : (ev : link.Event) → k' ≡ links.after Own ev k → frames ≡ [] → IsPut P reports k Own ev → AnsweredAt P ev → Awaited P k'.state → Grows
+      put-grows ev is none put answer await =
+          let g = waits-more P reports k Own ev put answer (subst (λ (y : Link). Awaited P y.state) is await) in
+          let waits : k'.waiting ≡ k.waiting ++ g.news = ap (λ (y : Link). y.waiting) is ∙ g.more in
+          record {
+            news = frames_of Own g.news;
+            is = ap (λ fs. (way ++ Ours fs) ++ frames_of Own k'.waiting) none ∙ ap (λ w. w ++ frames_of Own k'.waiting) (append-nil way)
+                ∙ ap (λ ws. way ++ frames_of Own ws) waits ∙ ap (λ fs. way ++ fs) (frames-append Own k.waiting g.news)
+                ∙ sym (append_assoc way (frames_of Own k.waiting) (frames_of Own g.news));
+            are = each-frames P Own g.news g.are;
+          }
+
+      offer-grows : link_sound.IsInRange Own → link_sound.IsSound Own k → k' ≡ links.after Own link.offer k → frames ≡ frames_given c Own link.offer k
+          → (IsTrue (is_multiple_frame k.state) → (ns nr : Seq) (p : Bool) → P (Information ns nr p)) → Each NotUi (frames_of Own k.waiting) → Grows
+      offer-grows ranges sound is given says waits =
+          let g = offers P reports k Own says in
+          let y = links.after Own link.offer k in
+          let news = frame_given Own (links.given Own k) in
+          let all = each-front NotUi news (frames_of Own y.waiting)
+          (subst (Each NotUi) (sym (g.line [])) (each-append NotUi (frames_of Own k.waiting) g.news waits (each-as P NotUi plain g.news g.are))) in
+          let again = given-again c service tei (links.given Own k) (given_is_frame Own ranges k sound) (plain-all news all) in
+          record {
+            news = g.news;
+            is = ap (λ fs. (way ++ Ours fs) ++ frames_of Own k'.waiting) given ∙ ap (λ fs. (way ++ fs) ++ frames_of Own k'.waiting) again
+                ∙ ap (λ (z : Link). (way ++ news) ++ frames_of Own z.waiting) is ∙ g.line way;
+            are = g.are;
+          }
+
+      pub event-grows : (ev : link.Event) → (ev ≡ link.cleared → ⊥) → k' ≡ links.after Own ev k → frames ≡ frames_given c Own ev k
+          → link_sound.IsInRange Own → link_sound.IsSound Own k → AnsweredAt P ev → Awaited P k'.state
+          → (IsTrue (is_multiple_frame k'.state) → (ns nr : Seq) (p : Bool) → P (Information ns nr p)) → Each NotUi (frames_of Own k.waiting) → Grows
+      event-grows (link.received what) other is given ranges sound answer await says waits = put-grows (link.received what) is given tt answer await
+      event-grows (link.expired timer) other is given ranges sound answer await says waits = put-grows (link.expired timer) is given tt answer await
+      event-grows (link.requested asked full) other is given ranges sound answer await says waits = put-grows (link.requested asked full) is given tt answer await
+      event-grows link.offer other is given ranges sound answer await says waits =
+          offer-grows ranges sound is given (λ up. says (ap is_multiple_frame (ap (λ (y : Link). y.state) is ∙ offer-stays Own k) ∙ up)) waits
+      event-grows link.cleared other is given ranges sound answer await says waits = absurd (other refl)
+
+  -- Any event of the line.
+  module _ (ranged : line_sound.IsInRange c) (l : Line) (s : line_sound.IsSound c l) (e : Event) where
+    abbrev a : Answer
+    a = lines.answer c e l
+
+    abbrev k : Link
+    k = link_of service tei l
+
+    abbrev k' : Link
+    k' = link_of service tei (lines.after c e l)
+
+    by-ui : (Q R : Control → Type 0) → ((control : Control) → is_ui control ≡ true → R control) → ((control : Control) → Q control → R control) → HeardIs Q e
+        → (f : Parts) → IsBy c e a service tei (link.received (link.frame f)) → R f.control
+    by-ui Q R ui so heard f by = go (is_ui f.control) refl
+      where
+        go : (b : Bool) → is_ui f.control ≡ b → R f.control
+        go true is = ui f.control is
+        go false is =
+            let for-it : is_for service tei f.address ≡ true =
+            ap (λ b. b && f.address.tei == tei) (eq-eqb f.address.sapi (sapi_of service) (sapi-is f.address.sapi service by.sapi)) ∙ eq-eqb f.address.tei tei by.tei_is in
+            let its : is_of_link service tei f ≡ true = ap (λ b. b && not (is_ui f.control)) for-it ∙ ap not is in
+            so f.control (heard by.octets f by.by (ap (of_link_in service tei) by.read ∙ ap (λ b. cond {A = List Parts} b (f ∷ []) []) its))
+
+    itself : (Q : Control → Type 0) (control : Control) → Q control → Q control
+    itself Q control h = h
+
+    unheeded : HeardIs Unheeded e → (ev : link.Event) → IsBy c e a service tei ev → UnheededAt ev
+    unheeded heard (link.received (link.frame f)) by = by-ui Unheeded Unheeded ui-unheeded (itself Unheeded) heard f by
+    unheeded heard (link.received link.undefined) by = tt
+    unheeded heard (link.received link.wrong_size) by = tt
+    unheeded heard (link.received link.overlong) by = tt
+    unheeded heard (link.expired timer) by = tt
+    unheeded heard (link.requested asked full) by = tt
+    unheeded heard link.offer by = tt
+    unheeded heard link.cleared by = tt
+
+    is-down : is_multiple_frame k.state ≡ false → HeardIs Unheeded e → Goes c service tei e l (lines.after c e l) a → is_multiple_frame k'.state ≡ false
+    is-down down heard (inl x) = go x.is
+      where
+        go : (k' ≡ k) ⊎ (k' ≡ fresh) → is_multiple_frame k'.state ≡ false
+        go (inl same) = ap (λ (y : Link). is_multiple_frame y.state) same ∙ down
+        go (inr new) = ap (λ (y : Link). is_multiple_frame y.state) new
+    is-down down heard (inr (inl x)) = ap (λ (y : Link). is_multiple_frame y.state) x.is ∙ stays-down Own k down x.event (unheeded heard x.event x.by)
+    is-down down heard (inr (inr x)) = ap (λ (y : Link). is_multiple_frame y.state) x.is
+
+    pub line-down : is_multiple_frame k.state ≡ false → HeardIs Unheeded e → is_multiple_frame k'.state ≡ false
+    line-down down heard = is-down down heard (event-goes c e l service tei s)
+
+    module _ (P : Control → Type 0) (reports : Reporting P) (plain : (control : Control) → P control → NotUi control) (way : List Parts) where
+      abbrev Goes-on : Type 0
+      Goes-on = Grown P (line_on way k) (line_on (way ++ Ours (frames_by a)) k') ⊎ (line_on (way ++ Ours (frames_by a)) k' ≡ way)
+
+      answers : HeardIs (Answered P) e → (ev : link.Event) → IsBy c e a service tei ev → AnsweredAt P ev
+      answers heard (link.received (link.frame f)) by = by-ui (Answered P) (Answered P) (ui-answered P) (itself (Answered P)) heard f by
+      answers heard (link.received link.undefined) by = tt
+      answers heard (link.received link.wrong_size) by = tt
+      answers heard (link.received link.overlong) by = tt
+      answers heard (link.expired timer) by = tt
+      answers heard (link.requested asked full) by = tt
+      answers heard link.offer by = tt
+      answers heard link.cleared by = tt
+
+      none-cleared : (ev : link.Event) → IsBy c e a service tei ev → ev ≡ link.cleared → ⊥
+      none-cleared ev by is = subst (IsBy c e a service tei) is by
+
+      new-goes : Ours (frames_by a) ≡ [] → k' ≡ fresh → line_on (way ++ Ours (frames_by a)) k' ≡ way
+      new-goes none new =
+          ap (λ (y : Link). (way ++ Ours (frames_by a)) ++ frames_of Own y.waiting) new ∙ append-nil (way ++ Ours (frames_by a))
+          ∙ ap (λ fs. way ++ fs) none ∙ append-nil way
+
+      same-goes : Ours (frames_by a) ≡ [] → k' ≡ k → Goes-on
+      same-goes none same = inl (record {
+        news = [];
+        is = ap (λ (y : Link). (way ++ Ours (frames_by a)) ++ frames_of Own y.waiting) same
+            ∙ ap (λ fs. (way ++ fs) ++ frames_of Own k.waiting) none ∙ ap (λ w. w ++ frames_of Own k.waiting) (append-nil way) ∙ sym (append-nil (line_on way k));
+        are = tt;
+      })
+
+      pub line-goes : HeardIs (Answered P) e → Awaited P k'.state → (IsTrue (is_multiple_frame k'.state) → (ns nr : Seq) (p : Bool) → P (Information ns nr p))
+          → Each NotUi (frames_of Own k.waiting) → Goes-on
+      line-goes heard await says waits = go (event-goes c e l service tei s)
+        where
+          go : Goes c service tei e l (lines.after c e l) a → Goes-on
+          go (inl x) = either x.is
+            where
+              none : Ours (frames_by a) ≡ []
+              none = ap Ours (same-frames a) ∙ all-foreign c service tei _ x.begins
+
+              either : (k' ≡ k) ⊎ (k' ≡ fresh) → Goes-on
+              either (inl same) = same-goes none same
+              either (inr new) = inr (new-goes none new)
+          go (inr (inl x)) =
+              let at = (place_of-is l.management.places tei x.place x.placed).1 in
+              let sound = subst (link_sound.IsSound Own) (sym (ap (λ o. option_map_or (link_in l service) o fresh) x.placed)) (sound_in c ranged l s service tei x.place at) in
+              inl (event-grows P reports plain way k k' (frames_by a) x.event (none-cleared x.event x.by) x.is (same-frames a ∙ x.begins)
+              (terms_in_range c ranged service tei (s.management.table.range x.place tei at)) sound (answers heard x.event x.by) await says waits)
+          go (inr (inr x)) = inr (new-goes (ap Ours (same-frames a ∙ x.begins)) x.is)
+
+module _ (service : Service) (tei : ℕ) where
+  abbrev pub on_line : Station → List Parts
+  on_line s = way_here service tei s ++ frames_of (terms s.card.config service tei) (link_here service tei s).waiting
+
+  -- An event at a station.
+  module _ (s : Station) (well : IsWell s) (e : Event) where
+    abbrev c : Config
+    c = s.card.config
+
+    abbrev l : Line
+    l = line_at s.line s.card
+
+    now : get_or (set s.card.lines s.line (lines.after c e l)) s.line (fresh_line c) ≡ lines.after c e l
+    now = get_or-set_same s.card.lines s.line (lines.after c e l) (fresh_line c) (omega (arith, well.sound.count, well.within))
+
+    sound : line_sound.IsSound c l
+    sound = sound_line s.card s.line (has_lines s.card well.sound) well.within
+
+    pub station-down : is_multiple_frame (link_here service tei s).state ≡ false → HeardIs c service tei Unheeded e
+        → is_multiple_frame (link_here service tei (happens e s)).state ≡ false
+    station-down down heard =
+        by_room (λ ls a. is_multiple_frame (link_of service tei (get_or ls s.line (fresh_line c))).state ≡ false) (at s.line e) s.card (λ full. down)
+        (λ room. ap (λ x. is_multiple_frame (link_of service tei x).state) now ∙ line-down c service tei well.sound.config l sound e down heard)
+
+    module _ (P : Control → Type 0) (reports : Reporting P) (plain : (control : Control) → P control → NotUi control) where
+      abbrev pub Speaking-on : Type 0
+      Speaking-on = Grown P (on_line s) (on_line (happens e s)) ⊎ (on_line (happens e s) ≡ way_here service tei s)
+
+      way-then : way_here service tei (happens e s) ≡ way_here service tei s ++ of_link_on service tei c.side (frames_by (answered e s))
+      way-then = flat_map-append (of_link_at service tei c.side) s.way (frames_by (answered e s))
+
+      abbrev At : Link → Answer → Type 0
+      At x a =
+          let line = (way_here service tei s ++ of_link_on service tei c.side (frames_by a)) ++ frames_of (terms c service tei) x.waiting in
+          Grown P (on_line s) line ⊎ (line ≡ way_here service tei s)
+
+      -- nothing happens where the pool is full
+      full-goes : (way : List Parts) (k : Link) → Grown P (way ++ frames_of (terms c service tei) k.waiting) ((way ++ []) ++ frames_of (terms c service tei) k.waiting)
+      full-goes way k = record {
+        news = [];
+        is = ap (λ w. w ++ frames_of (terms c service tei) k.waiting) (append-nil way) ∙ sym (append-nil (way ++ frames_of (terms c service tei) k.waiting));
+        are = tt;
+      }
+
+      pub station-goes : HeardIs c service tei (Answered P) e → Awaited P (link_here service tei (happens e s)).state
+          → (IsTrue (is_multiple_frame (link_here service tei (happens e s)).state) → (ns nr : Seq) (p : Bool) → P (Information ns nr p))
+          → Each NotUi (frames_of (terms c service tei) (link_here service tei s).waiting) → Speaking-on
+      station-goes heard await says waits =
+          subst (λ w. let line = w ++ frames_of (terms c service tei) (link_here service tei (happens e s)).waiting in Grown P (on_line s) line ⊎ (line ≡ way_here service tei s)) (sym way-then)
+          (by_room (λ ls a. let x = link_of service tei (get_or ls s.line (fresh_line c)) in
+          Awaited P x.state → (IsTrue (is_multiple_frame x.state) → (ns nr : Seq) (p : Bool) → P (Information ns nr p)) → At x a) (at s.line e) s.card
+          (λ full await says. inl (full-goes (way_here service tei s) (link_here service tei s)))
+          (λ room. subst (λ x. Awaited P (link_of service tei x).state → (IsTrue (is_multiple_frame (link_of service tei x).state) → (ns nr : Seq) (p : Bool) → P (Information ns nr p))
+          → At (link_of service tei x) (lines.answer c e l)) (sym now)
+          (λ await says. line-goes c service tei well.sound.config l sound e P reports plain (way_here service tei s) heard await says waits)) await says)

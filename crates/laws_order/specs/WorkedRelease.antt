@@ -1,0 +1,92 @@
+-- Worked values: releases in the midst of data. Each computes.
+use Rattle.std.specs.Prelude.{◌≡◌, List, [], ◌∷◌, ◌++◌, refl}
+use Rattle.lapd_frame.specs.declared.notes.ErrorCode.TheVariants.{C}
+use Rattle.lapd_frame.specs.declared.notes.Note.{Note}
+use Rattle.lapd_frame.specs.declared.notes.Note.TheVariants.{ReleaseIndication, ReleaseConfirm, Error}
+use Rattle.lapd_frame.specs.declared.services.Service.TheVariants.{Call}
+use Rattle.lapd_frame.specs.declared.timers.Timer.TheVariants.{T200}
+use Rattle.lapd_frame.specs.Reading.{reading, header_of, control_of, unnumbered_of, supervisory_of}
+use Rattle.lapd_seq.specs.Circle.{distance_of, named}
+use Rattle.lapd_seq.specs.Numbers.{seq}
+use Rattle.lapd_tei.specs.Events as teis
+use Rattle.model_link.specs.declared.states.State.TheVariants.{TeiAssigned, AwaitingRelease}
+use Rattle.model_line.specs.Machine as lines
+use Rattle.model_line.specs.Request.{Data, Release}
+use Rattle.laws_trace.specs.Trace.{Seen, noted}
+use Rattle.laws_wire.specs.Wire.{Wire, requests, times_out, gives, takes, doing_all}
+use Rattle.laws_order.specs.Happenings.{acts, Happening, by_near, by_far, happening_all, seen_near, seen_far}
+use Rattle.laws_order.specs.Order.{data_noted, StaysEstablished, link_here}
+use Rattle.laws_order.specs.Release.{news, BeginsNothing}
+use Rattle.laws_order.specs.Worked.{faces}
+
+-- Layer 3 of the near end sends 1, 2 and 3, and releases the link while 1 and 2 are on their way and 3 waits.
+abbrev pub releases : List Happening
+releases =
+    by_near (acts (requests (Data Call 0 (1 ∷ [])))) ∷ by_near (acts (requests (Data Call 0 (2 ∷ [])))) ∷ by_near (acts gives) ∷ by_near (acts gives)
+    ∷ by_near (acts (requests (Data Call 0 (3 ∷ [])))) ∷ by_far (acts (requests (Data Call 0 (4 ∷ [])))) ∷ by_far (acts gives)
+    ∷ by_near (acts (requests (Release Call 0))) ∷ []
+
+abbrev pub released : Wire
+released = happening_all releases faces
+
+-- The far end is told 1 and 2, but neither 3 nor that 4 was not taken, and then that the link is released.
+abbrev pub takes_two : List Happening
+takes_two = by_near (acts gives) ∷ by_far (acts takes) ∷ by_far (acts takes) ∷ by_near (acts takes) ∷ []
+
+abbrev pub takes_disc : List Happening
+takes_disc = by_far (acts takes) ∷ by_far (acts gives) ∷ by_near (acts takes) ∷ []
+
+pub awaits : (link_here Call 0 released.near).state ≡ AwaitingRelease
+unfolding lines.after lines.answer lines.takes_slot reading header_of control_of unnumbered_of supervisory_of teis.course teis.refusal seq distance_of named doing_all happening_all
+awaits = refl
+
+two_told : data_noted Call 0 (seen_far (releases ++ takes_two) faces) ≡ (1 ∷ []) ∷ (2 ∷ []) ∷ []
+unfolding lines.after lines.answer lines.takes_slot reading header_of control_of unnumbered_of supervisory_of teis.course teis.refusal seq distance_of named doing_all happening_all seen_far
+two_told = refl
+
+-- So long its establishment lasts; that of the near end does not.
+pub far_lasts : StaysEstablished Call 0 (seen_far (releases ++ takes_two) faces)
+unfolding lines.after lines.answer lines.takes_slot reading header_of control_of unnumbered_of supervisory_of teis.course teis.refusal seq distance_of named doing_all happening_all seen_far
+far_lasts = refl
+
+near_confirmed : news Call 0 (seen_near (takes_two ++ takes_disc) released) ≡ ReleaseConfirm Call 0 ∷ []
+unfolding lines.after lines.answer lines.takes_slot reading header_of control_of unnumbered_of supervisory_of teis.course teis.refusal seq distance_of named doing_all happening_all seen_near
+near_confirmed = refl
+
+far_indicated : news Call 0 (seen_far (takes_two ++ takes_disc) released) ≡ ReleaseIndication Call 0 ∷ []
+unfolding lines.after lines.answer lines.takes_slot reading header_of control_of unnumbered_of supervisory_of teis.course teis.refusal seq distance_of named doing_all happening_all seen_far
+far_indicated = refl
+
+-- Both release, and DISC of the near end goes twice: each is told the confirm, and then the near end error C of the second UA.
+abbrev pub both_release : List Happening
+both_release =
+    by_far (acts (requests (Release Call 0))) ∷ by_near (acts gives) ∷ by_near (acts (times_out (T200 Call 0))) ∷ by_near (acts gives)
+    ∷ by_far (acts takes) ∷ by_far (acts takes) ∷ by_far (acts takes) ∷ by_far (acts takes)
+    ∷ by_far (acts gives) ∷ by_far (acts gives) ∷ by_far (acts gives)
+    ∷ by_near (acts takes) ∷ by_near (acts takes) ∷ by_near (acts takes) ∷ by_near (acts takes)
+    ∷ by_near (acts gives) ∷ by_far (acts takes) ∷ []
+
+-- The notes of what is seen, all of them.
+abbrev notes_in : Seen → List Note
+notes_in (noted ns contents) = ns
+notes_in other = []
+
+abbrev all_notes : List Seen → List Note
+all_notes [] = []
+all_notes (s ∷ t) = notes_in s ++ all_notes t
+
+pub both_begin_nothing : BeginsNothing Call 0 (seen_near both_release released)
+unfolding lines.after lines.answer lines.takes_slot reading header_of control_of unnumbered_of supervisory_of teis.course teis.refusal seq distance_of named doing_all happening_all seen_near
+both_begin_nothing = refl
+
+near_told : all_notes (seen_near both_release released) ≡ ReleaseConfirm Call 0 ∷ Error Call 0 C ∷ []
+unfolding lines.after lines.answer lines.takes_slot reading header_of control_of unnumbered_of supervisory_of teis.course teis.refusal seq distance_of named doing_all happening_all seen_near
+near_told = refl
+
+far_told : all_notes (seen_far both_release released) ≡ ReleaseConfirm Call 0 ∷ []
+unfolding lines.after lines.answer lines.takes_slot reading header_of control_of unnumbered_of supervisory_of teis.course teis.refusal seq distance_of named doing_all happening_all seen_far
+far_told = refl
+
+then_down : (link_here Call 0 (happening_all both_release released).near).state ≡ TeiAssigned
+unfolding lines.after lines.answer lines.takes_slot reading header_of control_of unnumbered_of supervisory_of teis.course teis.refusal seq distance_of named doing_all happening_all
+then_down = refl

@@ -11,5 +11,4 @@ pub mod Knowing
 pub mod Meanwhile
 pub mod Amid
 pub mod Wherever
-pub mod Answered
 pub mod Brief

@@ -1,16 +1,12 @@
 -- A line of a card after so many calls for its next frame, whatever happened at the other lines meanwhile.
-use Rattle.std.proofs.Common.{◌≡◌, ◌≢◌, ℕ, zero, suc, ◌+◌, ◌<◌, ◌≤◌, ◌==◌, Bool, true, false, cond, List, [], ◌∷◌, ◌++◌, length, get_or, set, refl, sym, ap, subst, ◌∙◌, arith, Some}
+use Rattle.std.proofs.Common.{◌≡◌, ◌≢◌, ℕ, zero, suc, ◌+◌, ◌<◌, ◌≤◌, ◌==◌, Bool, true, false, cond, List, [], ◌∷◌, ◌++◌, length, get_or, set, refl, sym, ap, subst, ◌∙◌, arith}
 use Rattle.std.proofs.lemmas.Bool.{eqb-true, eqb-false}
 use Rattle.std.proofs.lemmas.List.{get_or-set_same, get_or-set_other}
 use Rattle.std.proofs.lemmas.List.Elements.{All-nil, All-cons, All-head, All-tail, All-get_or}
-use Rattle.lapd_frame.specs.declared.controls.Control.{Control}
-use Rattle.lapd_frame.specs.declared.services.Service.{Service}
-use Rattle.lapd_frame.specs.Grammar.{Parts}
 use Rattle.model_link.specs.declared.frames.ControlFrame.{ControlFrame}
-use Rattle.laws_two_links.specs.Polls.{IsPollWhileUp, SaysReceived, asked_of}
 use Rattle.model_line.specs.declared.config.Config.{Config}
 use Rattle.model_line.specs.Event.{hears, next}
-use Rattle.model_line.specs.Line.{Line, fresh_line, link_number, link_in, terms}
+use Rattle.model_line.specs.Line.{Line, fresh_line}
 use Rattle.model_line.specs.Machine as lines
 use Rattle.model_line.specs.Taken.{taken}
 use Rattle.model_line.specs.Sound as line_sound
@@ -18,9 +14,6 @@ use Rattle.laws_line.specs.Served.{HasNothing}
 use Rattle.laws_line.specs.Drains.{after_takes, frames_to_go, IsEnough, control_text, IsTakenWithin}
 use Rattle.laws_line.proofs.Draining.{drains, idles}
 use Rattle.laws_line.proofs.Ordered.{enough-goes}
-use Rattle.laws_line.proofs.Polled.{few as link-few, poll-goes, unnumbered-goes}
-use Rattle.laws_line.proofs.Soon.{enough-before}
-use Rattle.model_line.proofs.LineSound.{after_sound}
 use Rattle.model_bits.specs.Stream as stream
 use Rattle.model_card.specs.Card.{Card, line_at}
 use Rattle.model_card.specs.Event.{Event, at}
@@ -28,8 +21,8 @@ use Rattle.model_card.specs.Machine.{wants_room, after}
 use Rattle.model_card.specs.Run.{IsAtLine, AreAtLines, after_all}
 use Rattle.model_card.specs.Sound.{IsSound}
 use Rattle.model_card.proofs.CardSound.{after_is_sound}
-use Rattle.laws_card.specs.Among.{AreTakesAt, takes_at, IsTakenAmong, IsAnsweredAmong, IsIdleAmong}
-use Rattle.laws_card.specs.PromisesOfTakes.{IsWaiting, HearsFor, heard_at, AreTakesEnough}
+use Rattle.laws_card.specs.Among.{AreTakesAt, takes_at, IsTakenAmong, IsIdleAmong}
+use Rattle.laws_card.specs.PromisesOfTakes.{IsWaiting}
 
 -- One event, by whether it finds room.
 elsewhere : (card : Card) (number : ℕ) (e : Event) (x : Line) (b : Bool) → number ≢ e.line
@@ -157,43 +150,3 @@ module _ (card : Card) (number : ℕ) (s : IsSound card) (few : number < card.co
   card-waits link tei before f behind h enough =
       taken-from (control_text card.config link tei f)
       (enough-goes card.config s.config link tei h.few (takes_at number events) (line_at number card) (line-sound card number s few) h.on_line before f behind h.waits enough)
-
--- What a frame that is heard asks for, where the calls are enough for it.
-module _ (card : Card) (number : ℕ) (s : IsSound card) (octets : List ℕ) (service : Service) (tei place : ℕ) (parts : Parts)
-    (h : HearsFor card number octets service tei place parts) (events : List Event) (all : AreAtLines card events) (x : AreTakesEnough card number events) where
-  abbrev l : Line
-  l = line_at number card
-
-  abbrev then : Card
-  then = after (heard_at number octets) card
-
-  line-is : line_at number then ≡ lines.after card.config (hears (stream.frame octets)) l
-  line-is = at-heard card number (stream.frame octets) (few-lines number card s h.line)
-
-  enough : IsEnough card.config (takes_at number events) (lines.after card.config (hears (stream.frame octets)) l) (link_number place service) (length (link_in l service place).waiting)
-  enough =
-      enough-before card.config (lines.after card.config (hears (stream.frame octets)) l)
-      (after_sound card.config s.config (hears (stream.frame octets)) l (line-sound card number s h.line))
-      (link_number place service) (length (link_in l service place).waiting) (takes_at number events)
-      (link-few card.config s.config l (line-sound card number s h.line) service tei place parts octets h.is_for) h.room x.enough
-
-  taken-then : (frame : List ℕ) → IsTakenWithin card.config (takes_at number events) (lines.after card.config (hears (stream.frame octets)) l) frame → IsTakenAmong then number events frame
-  taken-then frame goes =
-      taken-from then number (after_is_sound card (heard_at number octets) s h.line) h.line events all x.only frame
-      (subst (λ y. IsTakenWithin card.config (takes_at number events) y frame) (sym line-is) goes)
-
-  pub card-polled : IsPollWhileUp (terms card.config service tei) (link_in l service place) parts
-      → IsAnsweredAmong then number events service tei place (link_in (line_at number then) service place).r
-  card-polled p =
-      let a = poll-goes card.config s.config l (line-sound card number s h.line) service tei place parts octets h.is_for (takes_at number events) p h.room enough in
-      record {
-        answer = a.answer;
-        is_response = a.is_response;
-        says = subst (λ y. SaysReceived (link_in y service place).r a.answer.control) (sym line-is) a.says;
-        goes = taken-then (control_text card.config (link_number place service) tei a.answer) a.goes;
-      }
-
-  pub card-unnumbered : (answer : Control) → asked_of (link_in l service place).state parts.control ≡ Some answer
-      → IsTakenAmong then number events (control_text card.config (link_number place service) tei (record { command = false; control = answer }))
-  card-unnumbered answer asked =
-      taken-then _ (unnumbered-goes card.config s.config l (line-sound card number s h.line) service tei place parts octets h.is_for (takes_at number events) answer asked h.room enough)

@@ -13,6 +13,5 @@ pub mod WorkedNotes
 pub mod Among
 pub mod PromisesOfTakes
 pub mod Brief
-pub mod WorkedAmong
 pub mod WorkedBroken
 pub mod WorkedClauses

@@ -1,22 +1,22 @@
 -- Worked values: states, answers and runs that would break the promises, which no card comes to.
-use Rattle.std.specs.Prelude.{◌≡◌, ◌≢◌, ℕ, zero, suc, ◌<◌, true, false, List, [], ◌∷◌, ◌++◌, ◌≤◌, replicate, refl}
+use Rattle.std.specs.Prelude.{◌≡◌, ◌≢◌, ℕ, zero, suc, ◌<◌, true, false, List, [], ◌∷◌, ◌++◌, None, refl}
 use Rattle.std.proofs.Common.{ap, arith}
 use Rattle.model_bits.specs.Stream as stream
 use Rattle.model_bits.specs.declared.heard.Cause.TheVariants.{Fcs}
 use Rattle.lapd_frame.specs.declared.services.Service.TheVariants.{Call}
 use Rattle.lapd_frame.specs.declared.timers.Timer.TheVariants.{T200}
 use Rattle.model_link.specs.Link.{Link, fresh as fresh_link}
-use Rattle.model_line.specs.Event.{told, hears, next, nothing}
+use Rattle.model_line.specs.Event.{told, gave, hears, next, nothing}
 use Rattle.model_line.specs.Laws.{cause_in}
+use Rattle.model_line.specs.Machine as lines
 use Rattle.model_line.specs.Line.{Line, fresh_line, place_at, tei_at, link_at}
 use Rattle.laws_line.specs.Served.{HasNothing}
 use Rattle.model_card.specs.Card.{Card, fresh}
 use Rattle.model_card.specs.Event.{Event, at}
-use Rattle.model_card.specs.Run.{after_all}
-use Rattle.laws_card.specs.Among.{IsTakenAmong, IsIdleAmong}
+use Rattle.model_card.specs.Machine.{answer}
+use Rattle.laws_card.specs.Among.{IsTakenAmong}
 use Rattle.laws_card.specs.Brief.{LinksStay, TellsCause}
 use Rattle.laws_card.specs.Knowledge.{up_by_notes}
-use Rattle.laws_card.specs.PromisesOfTakes.{FewAreToGo}
 use Rattle.laws_card.specs.Timers.{runs_at_callers}
 use Rattle.laws_card.specs.Worked.{usual}
 
@@ -59,18 +59,10 @@ no_call (x ∷ front) back e = cc e
 never_taken : IsTakenAmong (fresh usual) 0 [] (0x00 ∷ 0x81 ∷ 0x73 ∷ []) → ⊥
 never_taken x = no_call x.front x.back x.split
 
--- `takes_come_to_an_end`: a line on which unit data waits still, after as many calls as are enough.
+-- `calls_come_to_an_end`: a line on which unit data waits still, after as many calls as are enough.
 abbrev with_line : Line → Card
 with_line l = record (fresh usual) { lines = l ∷ [] }
 
-waits_still : IsIdleAmong (with_line with_unit) 0 [] → ⊥
-unfolding after_all
-waits_still x = cc x.nothing.units
-
--- `few_to_go`: a line on which five units wait, of at most four.
-abbrev with_units : Line
-with_units = record (fresh_line usual) { units = replicate 218 (record { service = Call; tei = 127; contents = 0xAB ∷ [] }) }
-
-much_to_go : FewAreToGo (with_line with_units) [] → ⊥
-unfolding after_all
-much_to_go few = let frames : 218 ≤ 200 = (few 0 (omega arith)).frames in omega (arith, frames)
+gives_still : answer (at 0 next) (with_line with_unit) ≡ gave None → ⊥
+unfolding lines.answer lines.takes_slot
+gives_still e = cc e

@@ -8,9 +8,9 @@ use Rattle.model_card.specs.Run.{IsAtLine, AreAtLines}
 use Rattle.model_card.specs.Sound.{IsSound}
 use Rattle.model_card.proofs.Reaching.{reached-sound}
 use Rattle.laws_card.specs.Brief.{GivesWhatWaits}
-use Rattle.laws_card.specs.PromisesOfTakes.{Wherever, WaitingIsTakenMeanwhile, AnswersAreTaken, TakesComeToAnEnd, FewAreToGo}
+use Rattle.laws_card.specs.PromisesOfTakes.{Wherever, WaitingIsTaken, CallsComeToAnEnd}
 use Rattle.laws_card.proofs.Brief.{gives-what-waits, others-stay, causes-are-told}
-use Rattle.laws_card.proofs.Wherever.{waiting-taken, answers-are-taken, come-to-an-end, few-are}
+use Rattle.laws_card.proofs.Wherever.{waiting-taken, come-to-an-end}
 use Rattle.laws_promises.specs.Promises.{Promises}
 
 module _ (m : Card) (events : List Event) (reached : IsReached m) (within : AreAtLines m events) where
@@ -30,8 +30,6 @@ module _ (m : Card) (events : List Event) (reached : IsReached m) (within : AreA
     others_stay = others-stay m events sound within;
     causes_are_told = causes-are-told m events sound within;
     gives_what_waits = front GivesWhatWaits gives-what-waits;
-    waiting_is_taken = front (Wherever WaitingIsTakenMeanwhile) (λ card es s all. (waiting-taken card es s all).meanwhile);
-    answers_are_taken = front AnswersAreTaken answers-are-taken;
-    takes_come_to_an_end = front TakesComeToAnEnd come-to-an-end;
-    few_to_go = front FewAreToGo few-are;
+    waiting_is_taken = front (Wherever WaitingIsTaken) waiting-taken;
+    calls_come_to_an_end = front (Wherever CallsComeToAnEnd) come-to-an-end;
   }

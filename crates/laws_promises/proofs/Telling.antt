@@ -1,79 +1,59 @@
--- The answer says that a pull began a frame exactly where it did.
-use Rattle.std.proofs.Common.{◌≡◌, ℕ, ◌+◌, ◌*◌, ◌<◌, Bool, true, false, cond, List, [], ◌∷◌, ◌++◌, length, Option, None, Some, is_some, refl, sym, ap, subst, arith, inl, inr, length-append}
-use Rattle.std.specs.Prelude.{option_map}
+-- The answer says that a frame was begun only where fewer than eight bits were left.
+use Rattle.std.proofs.Common.{◌≡◌, ℕ, ◌<◌, Bool, true, false, cond, List, [], ◌∷◌, length, Option, None, Some, refl, sym, ap, ◌∙◌, subst, true≢false}
+use Rattle.std.specs.Prelude.{All, option_map}
 use Rattle.std.specs.Option.{option_map_or}
 use Rattle.std.proofs.lemmas.Bool.{ltb-true}
-use Rattle.std.proofs.lemmas.List.{get_or-set_same}
-use Rattle.std.proofs.lemmas.List.Elements.{All-nil, All-cons, All-head, All-tail}
-use Rattle.model_bits.specs.Bits.{bits}
-use Rattle.model_bits.specs.Sent.{line_text}
-use Rattle.model_bits.proofs.BitLemmas.{length-bits}
+use Rattle.std.proofs.lemmas.List.Elements.{All-nil, All-cons}
+use Rattle.lapd_frame.specs.declared.timers.Order.{Order}
 use Rattle.model_line.specs.Event as line
-use Rattle.model_line.specs.Event.{NextFrame}
-use Rattle.model_ports.specs.Card.{OctetCard, port_at, said}
+use Rattle.model_ports.specs.Card.{OctetCard, port_at}
 unfoldable use Rattle.model_ports.specs.Card.{meant, after, answer}
-use Rattle.model_ports.specs.Codec.{IsTextOf}
 use Rattle.model_ports.specs.Event.{Event}
 use Rattle.model_ports.specs.Port as port
-use Rattle.model_ports.specs.Port.{Port, pull, fresh_port, left_of, is_due, item_of, given_in, with_octet, next_octet}
-use Rattle.model_ports.specs.Run.{IsAtLine, AreAtLines}
+use Rattle.model_ports.specs.Port.{Port, Answer, pull, left_of, is_due, told, refused, pulled}
 unfoldable use Rattle.model_ports.specs.Run.{moments}
-use Rattle.model_ports.specs.Sound.{IsSound}
 use Rattle.model_ports.proofs.Codec.{asked_at, said_is}
-use Rattle.model_ports.proofs.Sound.{port_sound, octets_keep_sound, at_lines_after}
-use Rattle.laws_promises.specs.PromisesOfOctets.{BeginsAs, is_begun, IsBegunIn, BegunIsTold}
+use Rattle.laws_promises.specs.PromisesOfOctets.{IsBegunIn}
+
+begun : Answer → Bool
+begun (told t) = false
+begun (refused why) = false
+begun (pulled value is orders) = is
 
 -- what is no pull tells of no frame
-begins_none : (e : port.Event) (p q : Port) (o : Option line.Answer) → q.items ≡ p.items → BeginsAs e (is_begun (option_map_or port.answer_of o (port.told line.nothing))) p q
-begins_none e p q None same = inl same
-begins_none e p q (Some (line.told t)) same = inl same
-begins_none e p q (Some (line.refused why)) same = inl same
-begins_none e p q (Some (line.gave next)) same = inl same
+tells_none : (o : Option line.Answer) → begun (option_map_or port.answer_of o (port.told line.nothing)) ≡ false
+unfolding begun
+tells_none None = refl
+tells_none (Some (line.told t)) = refl
+tells_none (Some (line.refused why)) = refl
+tells_none (Some (line.gave next)) = refl
 
--- an item is put behind those before it where fewer than eight bits are left
-abbrev put : Option NextFrame → Port → Port
-put g p = record p { items = p.items ++ item_of g ∷ [] }
+told_so : (a : Answer) (value : ℕ) (orders : List Order) → a ≡ pulled value true orders → begun a ≡ true
+unfolding begun
+told_so a value orders is = ap begun is
 
-one_put : (p : Port) (g : Option NextFrame) → IsTextOf p → is_due p ≡ true → BeginsAs pull (is_some g) p (with_octet (put g p))
-one_put p None h due = inr (refl, ltb-true (length (left_of p)) 8 due, refl)
-one_put p (Some next) h due =
-    let low = ltb-true (length (left_of p)) 8 due in
-    let octet : List ℕ = next_octet (put (Some next) p) ∷ [] in
-    let text : length (line_text p.items) ≡ length (bits p.given ++ left_of p) = ap length h.text in
-    let parts = length-append (bits p.given) (left_of p) in
-    let before : length (bits p.given) ≡ 8 * length p.given = length-bits p.given in
-    let after : length (bits (p.given ++ octet)) ≡ 8 * length (p.given ++ octet) = length-bits (p.given ++ octet) in
-    let count : length (p.given ++ octet) ≡ length p.given + 1 = length-append p.given octet in
-    record { octets = next.octets; items = refl; not_before = omega (arith, text, parts); with_it = omega (arith, text, parts, low, before, after, count) }
-
-begins_as : (n201 : ℕ) (e : port.Event) (p : Port) (ask : line.Event → line.Answer) → IsTextOf p
-    → let o = option_map ask (port.meant n201 e p) in BeginsAs e (is_begun (port.answer e o p)) p (port.after e o p)
-begins_as n201 (port.octet value) p ask h = begins_none (port.octet value) p (port.after (port.octet value) None p) (option_map ask (port.meant n201 (port.octet value) p)) refl
-begins_as n201 (port.expiry timer) p ask h = begins_none (port.expiry timer) p p (option_map ask (port.meant n201 (port.expiry timer) p)) refl
-begins_as n201 (port.request r) p ask h = begins_none (port.request r) p p (option_map ask (port.meant n201 (port.request r) p)) refl
-begins_as n201 pull p ask h = go (is_due p) refl
+few-left : (n201 : ℕ) (e : port.Event) (p : Port) (ask : line.Event → line.Answer)
+    → begun (port.answer e (option_map ask (port.meant n201 e p)) p) ≡ true → length (left_of p) < 8
+unfolding begun
+few-left n201 (port.octet value) p ask is = absurd (true≢false (sym is ∙ tells_none (option_map ask (port.meant n201 (port.octet value) p))))
+few-left n201 (port.expiry timer) p ask is = absurd (true≢false (sym is ∙ tells_none (option_map ask (port.meant n201 (port.expiry timer) p))))
+few-left n201 (port.request r) p ask is = absurd (true≢false (sym is ∙ tells_none (option_map ask (port.meant n201 (port.request r) p))))
+few-left n201 pull p ask is = go (is_due p) refl is
   where
-    go : (due : Bool) → is_due p ≡ due
-        → let o = option_map ask (cond due (Some line.next) None) in BeginsAs pull (is_begun (port.answer pull o p)) p (port.after pull o p)
-    go false e = inl refl
-    go true e = one_put p (given_in (ask line.next)) h e
+    go : (due : Bool) → is_due p ≡ due → begun (port.answer pull (option_map ask (cond due (Some line.next) None)) p) ≡ true → length (left_of p) < 8
+    go false e is = absurd (true≢false (sym is))
+    go true e is = ltb-true (length (left_of p)) 8 e
 
 -- at a card
-told : (m : OctetCard) (e : Event) → IsSound m → IsAtLine m e → BeginsAs e.what (is_begun (answer e m)) (port_at e.line m) (port_at e.line (after e m))
+at-card : (m : OctetCard) (e : Event) → IsBegunIn (record { card = m; event = e; answer = answer e m })
 unfolding meant after answer
-told m e s within =
+at-card m e value orders is =
     let p = port_at e.line m in
-    let ask = asked_at m.card e.line in
-    let few : e.line < length m.ports = omega (arith, within, s.count) in
-    subst (BeginsAs e.what (is_begun (port.answer e.what (said e m) p)) p)
-    (sym (get_or-set_same m.ports e.line (port.after e.what (said e m) p) fresh_port few))
-    (subst (λ o. BeginsAs e.what (is_begun (port.answer e.what o p)) p (port.after e.what o p)) (sym (said_is m.card e.line (port.meant m.card.config.n201 e.what p)))
-    (begins_as m.card.config.n201 e.what p ask (port_sound m e.line s within).text))
+    few-left m.card.config.n201 e.what p (asked_at m.card e.line)
+    (subst (λ o. begun (port.answer e.what o p) ≡ true) (said_is m.card e.line (port.meant m.card.config.n201 e.what p)) (told_so (answer e m) value orders is))
 
-pub begun_told : (m : OctetCard) (events : List Event) → IsSound m → AreAtLines m events → BegunIsTold m events
+pub begun-told : (m : OctetCard) (events : List Event) → All IsBegunIn (moments m events)
 unfolding moments
-begun_told m [] s all = All-nil IsBegunIn
-begun_told m (e ∷ events) s all =
-    let here = All-head (IsAtLine m) e events all in
-    All-cons IsBegunIn (record { card = m; event = e; answer = answer e m }) (moments (after e m) events) (told m e s here)
-    (begun_told (after e m) events (octets_keep_sound m e s here) (at_lines_after m e events (All-tail (IsAtLine m) e events all)))
+begun-told m [] = All-nil IsBegunIn
+begun-told m (e ∷ events) =
+    All-cons IsBegunIn (record { card = m; event = e; answer = answer e m }) (moments (after e m) events) (at-card m e) (begun-told (after e m) events)

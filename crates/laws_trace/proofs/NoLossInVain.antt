@@ -1,9 +1,16 @@
 -- Nothing is told as lost in vain: the law.
-use Rattle.std.proofs.Common.{◌≡◌, ℕ, zero, suc, ◌<◌, ◌==◌, ◌&&◌, true, false, List, length, get_or, Option, Some, None, refl, sym, ap, ◌∙◌, subst, arith, eq-eqb, true≢false, ◌⊎◌, inl, inr}
+use Rattle.std.proofs.Common.{◌≡◌, ◌≢◌, ℕ, zero, suc, ◌<◌, ◌==◌, ◌&&◌, ◌||◌, Bool, true, false, cond, List, length, get_or, is_some, Result, Ok, Err, Option, Some, None, refl, sym, ap, ◌∙◌, subst, arith, eq-eqb, true≢false, ◌⊎◌, inl, inr}
 use Rattle.std.specs.Option.{option_map_or}
 use Rattle.std.proofs.lemmas.List.{get_or-set_same}
 use Rattle.model_bits.specs.Stream as stream
+use Rattle.lapd_frame.specs.declared.addresses.Address.{Address}
+use Rattle.lapd_frame.specs.declared.faults.ReadFault.{ReadFault}
+use Rattle.lapd_frame.specs.declared.notes.ErrorCode.{ErrorCode}
+use Rattle.lapd_frame.specs.declared.notes.ErrorCode.TheVariants.{L, N, O}
 use Rattle.lapd_frame.specs.declared.refusals.Refusal.{Refusal}
+use Rattle.lapd_frame.specs.Grammar.{Parts}
+use Rattle.lapd_frame.specs.Reading.{reading, long_reading}
+use Rattle.lapd_frame.specs.Services.{sapi_of, service_of}
 use Rattle.lapd_frame.specs.declared.services.Service.{Service}
 use Rattle.lapd_frame.specs.declared.timers.Timer.{Timer}
 use Rattle.lapd_frame.specs.declared.timers.Timer.TheVariants as timers
@@ -20,7 +27,7 @@ use Rattle.model_line.specs.Expiry.{at_timer, aim_of_expiry}
 use Rattle.model_line.specs.Line.{Line, link_in, link_of, place_in, terms, fresh_line}
 use Rattle.model_line.specs.Machine as lines
 use Rattle.model_line.specs.Machine.{aim_of, unless_refused, unless_refused_told}
-use Rattle.model_line.specs.Heard.{aim_of_heard}
+use Rattle.model_line.specs.Heard.{aim_of_heard, heard_side}
 use Rattle.model_line.specs.Refusal.{refusal}
 use Rattle.model_line.specs.Request.{Request, Establish, Release, Data, Assign, Remove, Check as Checking, SetBusy, ClearBusy, Deactivate}
 use Rattle.model_line.specs.Requested.{at_requested, at_deactivated, aim_of_request}
@@ -38,11 +45,14 @@ use Rattle.model_card.proofs.CardSound.{fresh_is_sound, always_sound}
 use Rattle.model_card.proofs.Steps.{has_lines, by_room, line_sound}
 use Rattle.laws_card.proofs.Wherever.{config-stays}
 use Rattle.laws_line.specs.Frames.{lost_in}
-use Rattle.laws_line.specs.Steady.{IsBy}
+use Rattle.laws_line.specs.Heard.{IsMalformed, IsTooLong}
+use Rattle.laws_line.specs.Steady.{IsBy, BringsMalformed}
+use Rattle.laws_line.proofs.Hearing.{sapi-is}
 use Rattle.laws_line.proofs.Obeyed.{service-same}
 use Rattle.laws_trace.specs.Managing.{due, managed_after}
-use Rattle.laws_trace.specs.NoLossInVain.{HasFullLink, NoLossInVain}
-use Rattle.laws_trace.specs.Trace.{Always}
+use Rattle.laws_trace.specs.NoLossInVain.{is_event_of, HasFullLink, NoLossInVain}
+use Rattle.laws_trace.specs.LinkFrames.{is_for, parts_of, its_frame, fault_of, faulty, faulty_long}
+use Rattle.laws_trace.specs.Trace.{is_own, Always}
 use Rattle.laws_trace.proofs.CommandsCaused.{IsNoOther}
 use Rattle.laws_trace.proofs.OneLink.{Goes, is_at_link, event-goes}
 use Rattle.laws_trace.proofs.LossesOfParts.{link-full}
@@ -97,6 +107,71 @@ no-next c e a service tei (link.requested r full) other by = tt
 no-next c e a service tei link.offer other by = absurd (other by)
 no-next c e a service tei link.cleared other by = absurd by
 
+-- The event of a line that is one of a link is for this link.
+module _ (c : Config) (e : Event) (a : Answer) (service : Service) (tei : ℕ) where
+  own : is_own service tei service tei ≡ true
+  own = ap (λ b. b && tei == tei) (service-same service) ∙ eq-eqb tei tei refl
+
+  for-it : (address : Address) → service_of address.sapi ≡ Some service → address.tei ≡ tei → is_for service tei address ≡ true
+  for-it address sapi is =
+      ap (λ b. b && address.tei == tei) (eq-eqb address.sapi (sapi_of service) (sapi-is address.sapi service sapi)) ∙ eq-eqb address.tei tei is
+
+  some-of : (r : Result Parts ReadFault) → faulty service tei r ≢ None → (is_some (its_frame service tei (parts_of r)) || is_some (faulty service tei r)) ≡ true
+  some-of (Ok f) some = absurd (some refl)
+  some-of (Err fault) some = go (fault_of service tei fault) some
+    where
+      go : (o : Option ErrorCode) → o ≢ None → is_some o ≡ true
+      go None some = absurd (some refl)
+      go (Some letter) some = refl
+
+  some-long : (o : Option ErrorCode) → o ≢ None → is_some o ≡ true
+  some-long None some = absurd (some refl)
+  some-long (Some letter) some = refl
+
+  letter : (b : Bool) (code : ErrorCode) → b ≡ true → cond b (Some code) None ≢ None
+  letter b code is none = cc (sym (ap (λ b. cond b (Some code) None) is) ∙ none)
+
+  malformed-of : (address : Address) (octets : List ℕ) (what : link.Received) → is_for service tei address ≡ true
+      → ((e ≡ hears (stream.frame octets)) × IsMalformed c address octets what) ⊎ ((e ≡ hears (stream.overlong octets)) × IsTooLong c address octets what)
+      → is_event_of c service tei e ≡ true
+  malformed-of address octets what for (inl y) =
+      ap (is_event_of c service tei) y.0 ∙ some-of (reading (heard_side c) octets) (go what y.1)
+    where
+      go : (what : link.Received) → IsMalformed c address octets what → faulty service tei (reading (heard_side c) octets) ≢ None
+      go link.undefined is none = letter (is_for service tei address) L for (sym (ap (faulty service tei) is) ∙ none)
+      go link.wrong_size is none = letter (is_for service tei address) N for (sym (ap (faulty service tei) is) ∙ none)
+      go link.overlong is none = absurd is
+      go (link.frame f) is none = absurd is
+  malformed-of address octets what for (inr y) =
+      ap (is_event_of c service tei) y.0 ∙ some-long (faulty_long service tei (long_reading (heard_side c) octets)) (go what y.1)
+    where
+      go : (what : link.Received) → IsTooLong c address octets what → faulty_long service tei (long_reading (heard_side c) octets) ≢ None
+      go link.undefined is none = letter (is_for service tei address) L for (sym (ap (faulty_long service tei) is) ∙ none)
+      go link.wrong_size is none = letter (is_for service tei address) N for (sym (ap (faulty_long service tei) is) ∙ none)
+      go link.overlong is none = letter (is_for service tei address) O for (sym (ap (faulty_long service tei) is) ∙ none)
+      go (link.frame f) is none = absurd is
+
+  brings-malformed : (what : link.Received) → BringsMalformed c e service tei what → is_event_of c service tei e ≡ true
+  brings-malformed what y = malformed-of y.address y.octets what (for-it y.address y.sapi y.tei_is) y.by
+
+  event-of : (le : link.Event) → IsBy c e a service tei le → (e ≡ next → ⊥) → is_event_of c service tei e ≡ true
+  event-of (link.received (link.frame f)) y other =
+      ap (is_event_of c service tei) y.by
+      ∙ ap (λ r. is_some (its_frame service tei (parts_of r)) || is_some (faulty service tei r)) y.read
+      ∙ ap (λ b. is_some (cond b (Some f) None) || false) (for-it f.address y.sapi y.tei_is)
+  event-of (link.received link.undefined) y other = brings-malformed link.undefined y
+  event-of (link.received link.wrong_size) y other = brings-malformed link.wrong_size y
+  event-of (link.received link.overlong) y other = brings-malformed link.overlong y
+  event-of (link.expired link_timer.T200) y other = ap (is_event_of c service tei) y ∙ own
+  event-of (link.expired link_timer.T203) y other = ap (is_event_of c service tei) y ∙ own
+  event-of (link.requested link.Establish full) y other = ap (is_event_of c service tei) y.0 ∙ own
+  event-of (link.requested link.Release full) y other = ap (is_event_of c service tei) y.0 ∙ own
+  event-of (link.requested (link.Data contents) full) y other = ap (is_event_of c service tei) y.0 ∙ own
+  event-of (link.requested link.SetBusy full) y other = ap (is_event_of c service tei) y.0 ∙ own
+  event-of (link.requested link.ClearBusy full) y other = ap (is_event_of c service tei) y.0 ∙ own
+  event-of link.offer y other = absurd (other y)
+  event-of link.cleared y other = absurd y
+
 module _ (c : Config) (ranged : IsInRange c) (l : Line) (s : IsSound c l) (e : Event) (other : e ≡ next → ⊥) where
   abbrev a : Answer
   a = lines.answer c e l
@@ -105,10 +180,10 @@ module _ (c : Config) (ranged : IsInRange c) (l : Line) (s : IsSound c l) (e : E
   then = lines.after c e l
 
   -- an event of a link
-  by-link : (service : Service) (tei : ℕ) → is_at_link service tei (aim_of c e l) ≡ true → 0 < lost_in a → HasFullLink c then
+  by-link : (service : Service) (tei : ℕ) → is_at_link service tei (aim_of c e l) ≡ true → 0 < lost_in a → HasFullLink c e then
   by-link service tei at some = go (event-goes c e l service tei s)
     where
-      go : Goes c service tei e l then a → HasFullLink c then
+      go : Goes c service tei e l then a → HasFullLink c e then
       go (inl x) = absurd (true≢false (sym at ∙ x.aims))
       go (inr (inr x)) = let none : lost_in a ≡ 0 = x.lost in absurd (omega (arith, some, none))
       go (inr (inl x)) =
@@ -120,11 +195,12 @@ module _ (c : Config) (ranged : IsInRange c) (l : Line) (s : IsSound c l) (e : E
           record {
             service = service;
             tei = tei;
+            its = event-of c e a service tei x.event x.by other;
             as_many = ap (λ (k : Link). length k.waiting) x.is
                 ∙ link-full t x.event own sound (no-next c e a service tei x.event other x.by) (subst (λ n. 0 < n) x.lost some);
           }
 
-  by-aim : (aim : Aim) → aim_of c e l ≡ aim → is_management aim ≡ false → NoLoss aim → lost_in a ≡ (of_aim c aim l).told.lost → 0 < lost_in a → HasFullLink c then
+  by-aim : (aim : Aim) → aim_of c e l ≡ aim → is_management aim ≡ false → NoLoss aim → lost_in a ≡ (of_aim c aim l).told.lost → 0 < lost_in a → HasFullLink c e then
   by-aim (at_none what) is unmanaged none lost_is some = let zero : lost_in a ≡ 0 = lost_is ∙ none in absurd (omega (arith, some, zero))
   by-aim (at_units unit) is unmanaged none lost_is some = let zero : lost_in a ≡ 0 = lost_is in absurd (omega (arith, some, zero))
   by-aim (at_link service tei place event) is unmanaged none lost_is some =
@@ -134,46 +210,46 @@ module _ (c : Config) (ranged : IsInRange c) (l : Line) (s : IsSound c l) (e : E
 none-less : 0 < 0 → ⊥
 none-less some = omega (arith, some)
 
-event-full : (c : Config) → IsInRange c → (l : Line) → IsSound c l → (e : Event) → is_management (aim_of c e l) ≡ false → 0 < lost_in (lines.answer c e l) → HasFullLink c (lines.after c e l)
+event-full : (c : Config) → IsInRange c → (l : Line) → IsSound c l → (e : Event) → is_management (aim_of c e l) ≡ false → 0 < lost_in (lines.answer c e l) → HasFullLink c e (lines.after c e l)
 unfolding lines.after lines.answer
 event-full c ranged l s (hears what) unmanaged some = by-aim c ranged l s (hears what) (λ e. cc e) (aim_of_heard c l what) refl unmanaged (heard-none c l what) refl some
 event-full c ranged l s (expiry timer) unmanaged some = by-aim c ranged l s (expiry timer) (λ e. cc e) (aim_of_expiry timer l) refl unmanaged (expiry-none c l timer) refl some
 event-full c ranged l s (request r) unmanaged some = go (refusal c false r l) refl unmanaged some
   where
     go : (o : Option Refusal) → refusal c false r l ≡ o → is_management (unless_refused o (aim_of_request r l)) ≡ false
-        → 0 < lost_in (unless_refused_told o (of_aim c (unless_refused o (aim_of_request r l)) l)) → HasFullLink c (of_aim c (unless_refused o (aim_of_request r l)) l).line
+        → 0 < lost_in (unless_refused_told o (of_aim c (unless_refused o (aim_of_request r l)) l)) → HasFullLink c (request r) (of_aim c (unless_refused o (aim_of_request r l)) l).line
     go (Some why) is unmanaged some = absurd (none-less some)
     go None is unmanaged some =
-        subst (λ (o : Option Refusal). HasFullLink c (of_aim c (unless_refused o (aim_of_request r l)) l).line) is
+        subst (λ (o : Option Refusal). HasFullLink c (request r) (of_aim c (unless_refused o (aim_of_request r l)) l).line) is
         (by-aim c ranged l s (request r) (λ e. cc e) (aim_of_request r l) (ap (λ o. unless_refused o (aim_of_request r l)) is) unmanaged (request-none c l r)
         (ap (λ o. lost_in (unless_refused_told o (of_aim c (unless_refused o (aim_of_request r l)) l))) is)
         (subst (λ (o : Option Refusal). 0 < lost_in (unless_refused_told o (of_aim c (unless_refused o (aim_of_request r l)) l))) (sym is) some))
 event-full c ranged l s next unmanaged some = absurd (none-less some)
 
 -- So many are lost as messages are, or a link is full.
-abbrev Lost : Config → ℕ → Answer → Line → Type 0
-Lost c messages a new = (lost_in a ≡ messages) ⊎ ((messages ≡ 0) × HasFullLink c new)
+abbrev Lost : Config → Event → ℕ → Answer → Line → Type 0
+Lost c e messages a new = (lost_in a ≡ messages) ⊎ ((messages ≡ 0) × HasFullLink c e new)
 
 none-or-some : (n : ℕ) → (n ≡ 0) ⊎ (0 < n)
 none-or-some zero = inl refl
 none-or-some (suc n) = inr (omega arith)
 
 line-lost : (c : Config) → IsInRange c → (l : Line) → IsSound c l → (e : Event) (messages : ℕ) → messages ≡ 0 → is_management (aim_of c e l) ≡ false
-    → Lost c messages (lines.answer c e l) (lines.after c e l)
+    → Lost c e messages (lines.answer c e l) (lines.after c e l)
 line-lost c ranged l s e messages none unmanaged = go (none-or-some (lost_in (lines.answer c e l)))
   where
-    go : (lost_in (lines.answer c e l) ≡ 0) ⊎ (0 < lost_in (lines.answer c e l)) → Lost c messages (lines.answer c e l) (lines.after c e l)
+    go : (lost_in (lines.answer c e l) ≡ 0) ⊎ (0 < lost_in (lines.answer c e l)) → Lost c e messages (lines.answer c e l) (lines.after c e l)
     go (inl same) = inl (same ∙ sym none)
     go (inr some) = inr (none, event-full c ranged l s e unmanaged some)
 
 card-lost : (k : Card) (number : ℕ) (e : Event) (messages : ℕ) → card_sound.IsSound k → number < k.config.lines → messages ≡ 0 → is_management (aim_of k.config e (line_at number k)) ≡ false
-    → Lost k.config messages (answer (at number e) k) (line_at number (after (at number e) k))
+    → Lost k.config e messages (answer (at number e) k) (line_at number (after (at number e) k))
 card-lost k number e messages s here none unmanaged =
     let c = k.config in
     let l = line_at number k in
-    by_room (λ ls a. Lost c messages a (get_or ls number (fresh_line c))) (at number e) k (λ full. inl (sym none))
+    by_room (λ ls a. Lost c e messages a (get_or ls number (fresh_line c))) (at number e) k (λ full. inl (sym none))
     (λ room.
-    subst (λ (x : Line). Lost c messages (lines.answer c e l) x) (sym (get_or-set_same k.lines number (lines.after c e l) (fresh_line c) (omega (arith, s.count, here))))
+    subst (λ (x : Line). Lost c e messages (lines.answer c e l) x) (sym (get_or-set_same k.lines number (lines.after c e l) (fresh_line c) (omega (arith, s.count, here))))
     (line-lost c s.config l (line_sound k number (has_lines k s) here) e messages none unmanaged))
 
 module _ (c : Config) (events : List card_event.Event) (number : ℕ) (ranged : IsInRange c) (all : AreAtLines (cards.fresh c) events) (within : number < c.lines) (what : Event) where
@@ -184,11 +260,11 @@ module _ (c : Config) (events : List card_event.Event) (number : ℕ) (ranged : 
   messages = (due c what (managed_after c number events)).lost
 
   now-lost : (lost_in (answer (at number what) k) ≡ messages) ⊎ ((messages ≡ 0) × (is_management (aim_of c what (line_at number k)) ≡ false))
-      → Lost c messages (answer (at number what) k) (line_at number (after (at number what) k))
+      → Lost c what messages (answer (at number what) k) (line_at number (after (at number what) k))
   now-lost (inl same) = inl same
   now-lost (inr x) =
       let kept = config-stays (cards.fresh c) events in
-      subst (λ (d : Config). Lost d messages (answer (at number what) k) (line_at number (after (at number what) k))) kept
+      subst (λ (d : Config). Lost d what messages (answer (at number what) k) (line_at number (after (at number what) k))) kept
       (card-lost k number what messages (always_sound (cards.fresh c) events (fresh_is_sound c ranged) all) (subst (λ (d : Config). number < d.lines) (sym kept) within) x.0
       (subst (λ (d : Config). is_management (aim_of d what (line_at number k)) ≡ false) (sym kept) x.1))
 

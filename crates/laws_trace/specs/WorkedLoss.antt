@@ -42,6 +42,6 @@ none_is_due = refl
 abbrev poll : Event
 poll = comes (0x00 ∷ 0x81 ∷ 0x01 ∷ 0x01 ∷ [])
 
-is_full : HasFullLink usual (line_at 0 (after_all (fresh usual) (up ++ poll ∷ poll ∷ poll ∷ [])))
+is_full : HasFullLink usual poll.what (line_at 0 (after_all (fresh usual) (up ++ poll ∷ poll ∷ poll ∷ [])))
 unfolding after_all lines.after lines.answer lines.takes_slot teis.course teis.refusal seq distance_of named reading header_of control_of unnumbered_of supervisory_of
-is_full = record { service = Call; tei = 64; as_many = refl }
+is_full = record { service = Call; tei = 64; its = refl; as_many = refl }

@@ -136,8 +136,8 @@ pub fn all_are_acknowledged()
 
 /// Nothing is lost in vain. An answer tells as many frames as lost as messages of TEI management are, by
 /// [`teis_are_managed`]: one where four are owed and another is, and else none; or none of these is, and as many
-/// control frames of one link wait on the line as the configuration says, so that there is no room for another; of
-/// which, is not said (profile).
+/// control frames wait on the line of the link for which the event is as the configuration says, so that there is no room
+/// for another. So an answer that is due, as [`control_frames_go`] has it, is not lost where its link has room (profile).
 pub fn nothing_is_lost_in_vain()
     ensures { Always NoLossInVain }
 {}

@@ -1,5 +1,5 @@
 -- Hand-written answers for `takes_serve_wherever`.
-use Rattle.laws_card.proofs.Wherever.{waiting-taken, come-to-an-end, few-are, answers-are-taken}
+use Rattle.laws_card.proofs.Wherever.{waiting-taken, come-to-an-end}
 use Rattle.laws_card.proofs.progress.takes_serve_wherever.Goals as goal
 
 pub returns-clause-taken : goal.returns-clause-taken
@@ -7,9 +7,3 @@ returns-clause-taken c = waiting-taken
 
 pub returns-clause-ended : goal.returns-clause-ended
 returns-clause-ended c = come-to-an-end
-
-pub returns-clause-few : goal.returns-clause-few
-returns-clause-few c = few-are
-
-pub returns-clause-answered : goal.returns-clause-answered
-returns-clause-answered c = answers-are-taken

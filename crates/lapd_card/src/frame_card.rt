@@ -147,7 +147,8 @@ impl<S: Shelf> FrameCard<S> {
     }
 
     /// Takes what the port of a line has heard, and tells in the report what it led to.
-    #[inline(always)]
+    // It stands apart, so that an octet that ends nothing has no part of it in its way.
+    #[inline(never)]
     pub(crate) fn heard(&mut self, line: usize, heard: Heard<'_>, report: &mut BareReport)
         requires within { line < line_count self.old }
         requires clear { IsClear report.old }

@@ -18,6 +18,7 @@ ghost use Rattle.model_sim.specs.Steps.{reply_text, with_event, octet_in, at_exp
 ghost use Rattle.lapd_transcript.specs.Streams.{Output, Puts, output};
 
 use crate::board::{Board, Plan};
+use crate::traffic::written;
 use lapd_card::{Fault, NextFrame, Report, Request, limit};
 use lapd_clock::{Clock, Lengths};
 use lapd_frame::{Order, Timer};
@@ -218,13 +219,11 @@ impl Exchange {
         ensures told { (m : machine.Setup) (before : Output) → Holds self.old m
             → Obeys result before before (Holds self.new) (with_timers (record { t200 = t200; t203 = t203; t201 = t201 }) (scene m)) }
     {
-        match Lengths::new(t200, t203, t201) {
-            Ok(lengths) => {
-                self.clock.set_lengths(lengths);
-                Ok(())
-            }
-            Err(_) => Err(LineFault::Faulty(FaultKind::BadNumber)),
-        }
+        let Ok(lengths) = Lengths::new(t200, t203, t201) else {
+            return Err(LineFault::Faulty(FaultKind::BadNumber));
+        };
+        self.clock.set_lengths(lengths);
+        Ok(())
     }
 
     /// So many milliseconds pass: what falls due is applied, each at its moment.
@@ -242,10 +241,7 @@ impl Exchange {
         if end > LAST_MOMENT {
             return Err(LineFault::Faulty(FaultKind::TimeOver));
         }
-        match self.until(end, target, page) {
-            Ok(()) => Ok(()),
-            Err(WriteFailed) => Err(LineFault::Write),
-        }
+        written(self.until(end, target, page))
     }
 
     /// All that falls due until a moment is applied, each at its moment.

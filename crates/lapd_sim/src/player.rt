@@ -73,13 +73,7 @@ fn end<T: Target>(
 fn is_cut(played: Result<(), PlayFault>) -> bool
     ensures { result ≡ is_cut played }
 {
-    match played {
-        Ok(()) => false,
-        Err(fault) => match fault {
-            PlayFault::Read | PlayFault::Write => true,
-            PlayFault::Script { .. } | PlayFault::OutOfMemory => false,
-        },
-    }
+    matches!(played, Err(PlayFault::Read | PlayFault::Write))
 }
 
 /// Goes on to the next line, and tells whether there is one. What stands on the page goes out before more is read.
@@ -189,16 +183,7 @@ fn without_card(alloc: Global, command: Command) -> Result<Option<Setup>, LineFa
     match command {
         Command::Skip => Ok(None),
         Command::Card(kind, config) => Ok(Some(Setup::start(alloc, Plan { kind, config })?)),
-        Command::Rx { .. } => Err(LineFault::Faulty(FaultKind::NoCard)),
-        Command::In { .. } => Err(LineFault::Faulty(FaultKind::NoCard)),
-        Command::Failed { .. } => Err(LineFault::Faulty(FaultKind::NoCard)),
-        Command::Next { .. } => Err(LineFault::Faulty(FaultKind::NoCard)),
-        Command::Pull { .. } => Err(LineFault::Faulty(FaultKind::NoCard)),
-        Command::Wait { .. } => Err(LineFault::Faulty(FaultKind::NoCard)),
-        Command::Timers { .. } => Err(LineFault::Faulty(FaultKind::NoCard)),
-        Command::Stored => Err(LineFault::Faulty(FaultKind::NoCard)),
-        Command::Counters { .. } => Err(LineFault::Faulty(FaultKind::NoCard)),
-        Command::Ask { .. } => Err(LineFault::Faulty(FaultKind::NoCard)),
+        _ => Err(LineFault::Faulty(FaultKind::NoCard)),
     }
 }
 

@@ -136,8 +136,5 @@ pub(crate) fn tell_next<T: Target>(
 pub(crate) fn written(told: Result<(), WriteFailed>) -> Result<(), LineFault>
     ensures { result ≡ written told }
 {
-    match told {
-        Ok(()) => Ok(()),
-        Err(WriteFailed) => Err(LineFault::Write),
-    }
+    told.map_err(|_| LineFault::Write)
 }

@@ -20,8 +20,9 @@ use Rattle.model_card.specs.Card.{line_at}
 use Rattle.model_card.specs.Run.{after_all}
 use Rattle.model_card.proofs.CardSound.{fresh_is_sound}
 use Rattle.laws_card.proofs.Meanwhile.{card-drains}
-use Rattle.laws_trace.specs.AllAreAcknowledged.{numbers_at, lost_since, IsLast, AllAreAcknowledged}
-use Rattle.laws_trace.specs.Deliveries.{Watched, nothing_yet, watch}
+use Rattle.laws_trace.specs.AllAreAcknowledged.{numbers_at, lost_since, IsLast}
+use Rattle.laws_trace.proofs.AcknowledgedWatched.{AllAreAcknowledged}
+use Rattle.laws_trace.specs.Counting.{Watched, nothing_yet, watch}
 use Rattle.laws_trace.specs.Trace.{Seen, seen, trace_of, Always}
 use Rattle.laws_trace.proofs.AcknowledgedOfLink.{numbers, IsAcked}
 use Rattle.laws_trace.proofs.AllDataGoesOut.{silent-there, line-at-end}
@@ -85,11 +86,11 @@ steps c ranged e l s stands = (
       let told = deliveries.event-passes c service tei ranged e l s m count in
       let now = (fold (watch c service tei) (quiet m) (seen e (answer c e l))).count in
       record {
-        calm = told.1;
-        count = told.2;
+        calm = told.0;
+        count = told.1;
         knows =
             subst (λ b. Knows service tei (link_of service tei (after c e l)) now b (begun ++ numbers_begun service tei c (seen e (answer c e l)))) (sym (lost-is service tei c e l some))
-            (event-knows service tei c ranged e l s m some begun count knows now told.2);
+            (event-knows service tei c ranged e l s m some begun count knows now told.1);
       },
   tt,
 )

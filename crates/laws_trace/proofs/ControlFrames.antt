@@ -30,9 +30,10 @@ use Rattle.laws_card.specs.Timers.{AllHaveTheirTimers}
 use Rattle.laws_card.specs.Among.{AreTakesAt}
 use Rattle.laws_card.proofs.TimersRun.{timely-all, timely-after, begins-timely-card}
 use Rattle.laws_card.proofs.Wherever.{all-left, all-right, config-stays}
-use Rattle.laws_trace.specs.ControlFrames.{controls_at, IsPart, StaysOn, is_deactivated_at, IsNotDeactivated, command_of, due_in, may_go_in, along, OnlyDueGo, AllDueGo}
-use Rattle.laws_trace.specs.Deliveries.{Standing, at_first, stand}
-use Rattle.laws_trace.specs.States.{expired_of, one_more, differ}
+use Rattle.laws_trace.specs.ControlFrames.{controls_at, IsPart, StaysOn, is_deactivated_at, IsNotDeactivated}
+use Rattle.laws_trace.proofs.ControlsWatched.{command_of, due_in, may_go_in, along, OnlyDueGo, AllDueGo}
+use Rattle.laws_trace.proofs.DeliveriesWatched.{Standing, at_first, stand}
+use Rattle.laws_trace.proofs.States.{expired_of, one_more, differ}
 use Rattle.laws_trace.specs.Trace.{Seen, seen, trace, trace_of, Always}
 use Rattle.laws_trace.proofs.ControlsAtLine.{waits, due_here, owed_here, Passes, none-taken, event-passes}
 use Rattle.laws_trace.proofs.ControlsDue.{controls}
@@ -73,7 +74,7 @@ none-mapped None xs none = none
 none-mapped (Some state) xs none = none
 
 -- between two events no frame is kept in mind
-as-calm : (w : Standing) → w.told.frame ≡ None → w ≡ calm w.told.count w.busy w.rejected
+pub as-calm : (w : Standing) → w.told.frame ≡ None → w ≡ calm w.told.count w.busy w.rejected
 as-calm w quiet = ap (λ o. record { told = record { frame = o; count = w.told.count }; busy = w.busy; rejected = w.rejected }) quiet
 
 module _ (service : Service) (tei : ℕ) where
@@ -81,11 +82,11 @@ module _ (service : Service) (tei : ℕ) where
   moment-of m e = record { card = m; event = e; answer = cards.answer e m }
 
   -- What a moment is to the control frames of a link, and how the link stands behind it.
-  record Moves (c : Config) (was : Standing) (time up : Bool) (l : Line) (t : List Seen) (lost : ℕ) (next : Line) : Type 0 where
-    passes : Passes service tei c was (standing service tei c was t) time up l t lost next
-    quiet_is : (standing service tei c was t).told.frame ≡ None
-    count : IsCount (link_of service tei next) (standing service tei c was t).told.count
-    stands : IsStanding (link_of service tei next) (standing service tei c was t).busy (standing service tei c was t).rejected
+  pub record Moves (c : Config) (was : Standing) (time up : Bool) (l : Line) (t : List Seen) (lost : ℕ) (next : Line) : Type 0 where
+    pub passes : Passes service tei c was (standing service tei c was t) time up l t lost next
+    pub quiet_is : (standing service tei c was t).told.frame ≡ None
+    pub count : IsCount (link_of service tei next) (standing service tei c was t).told.count
+    pub stands : IsStanding (link_of service tei next) (standing service tei c was t).busy (standing service tei c was t).rejected
 
   module _ (n : ℕ) (busy rejected : Bool) where
     abbrev was : Standing
@@ -151,7 +152,7 @@ module _ (service : Service) (tei : ℕ) where
         let x = line_at number (cards.after e m) in
         Moves m.config was (time_of l e b x) (b && deactivates service tei e.what) l (cond b (seen e.what (cards.answer e m)) []) (lost_in (cards.answer e m)) x
 
-    moment : (m : Card) (e : card.Event) (number : ℕ) → card_sound.IsSound m → AllHaveTheirTimers m → IsAtLine m e → Stands (line_at number m)
+    pub moment : (m : Card) (e : card.Event) (number : ℕ) → card_sound.IsSound m → AllHaveTheirTimers m → IsAtLine m e → Stands (line_at number m)
         → (b : Bool) → (e.line == number) ≡ b → Moment-moves m e number b
     moment m e number s timely at-line stands false other =
         let l = line_at number m in
@@ -246,13 +247,13 @@ only-due-go c events number ranged all within service tei before since split awa
     let known = run-stands c before number ranged first within service tei in
     let w = fold (stand c service tei) at_first (trace_of c before number) in
     let ran = subst (Ran m w) same-config (run-only service tei m since number w.told.count w.busy w.rejected (always_sound (fresh c) before (fresh_is_sound c ranged) first)
-    (timely-all (fresh c) before (fresh_is_sound c ranged) (begins-timely-card c) first) later (known.2, known.3)) in
+    (timely-all (fresh c) before (fresh_is_sound c ranged) (begins-timely-card c) first) later (known.1, known.2)) in
     let begun = flat_map (controls_at c service tei) (trace number (moments m since)) in
     let last = waits service tei (line_at number (after_all m since)) in
     let due = along c service tei number (may_go_in c service tei number) w (moments m since) in
     through begun (begun ++ last) due (more begun last)
     (subst (λ ws. IsPart (begun ++ last) (ws ++ due)) (none-where-away (line_at number m) (place_in (line_at number m) tei) refl away)
-    (subst (λ v. IsPart (begun ++ last) (waits service tei (line_at number m) ++ along c service tei number (may_go_in c service tei number) v (moments m since))) (sym (as-calm w known.1)) ran))
+    (subst (λ v. IsPart (begun ++ last) (waits service tei (line_at number m) ++ along c service tei number (may_go_in c service tei number) v (moments m since))) (sym (as-calm w known.0)) ran))
   where
     Ran : Card → Standing → Config → Type 0
     Ran m w d =
@@ -289,10 +290,10 @@ all-due-go c events number ranged all within service tei before meanwhile calls 
     let none = All-append (λ (e : card.Event). is_deactivated_at number service tei e ≡ false) meanwhile calls up (not-deactivated number service tei calls only) in
     let known = run-stands c before number ranged first within service tei in
     let w = fold (stand c service tei) at_first (trace_of c before number) in
-    let ran = subst (Ran m w) same-config (run-all service tei m (meanwhile ++ calls) number w.told.count w.busy w.rejected sound timely later (known.2, known.3) stays none) in
+    let ran = subst (Ran m w) same-config (run-all service tei m (meanwhile ++ calls) number w.told.count w.busy w.rejected sound timely later (known.1, known.2) stays none) in
     let due = along c service tei number (due_in c service tei number) w (moments m (meanwhile ++ calls)) in
     let due-known : along c service tei number (due_in c service tei number) (calm w.told.count w.busy w.rejected) (moments m (meanwhile ++ calls)) ≡ due =
-    ap (λ v. along c service tei number (due_in c service tei number) v (moments m (meanwhile ++ calls))) (sym (as-calm w known.1)) in
+    ap (λ v. along c service tei number (due_in c service tei number) v (moments m (meanwhile ++ calls))) (sym (as-calm w known.0)) in
     let at-first = waits service tei (line_at number m) in
     let shown = flat_map (controls_at c service tei) (trace number (moments m (meanwhile ++ calls))) in
     through (along c service tei number (due_in c service tei number) w (moments m meanwhile)) due shown (due-front service tei c m meanwhile calls number w)

@@ -34,9 +34,10 @@ use Rattle.laws_line.specs.Heard.{notes_of, is_data_of}
 use Rattle.laws_line.specs.Requests.{deactivates}
 use Rattle.laws_line.specs.Steady.{IsBy}
 use Rattle.laws_line.specs.Timers.{HaveTheirTimers}
-use Rattle.laws_trace.specs.ControlFrames.{receipt, changed, command_of, acknowledged_at, IsPart}
-use Rattle.laws_trace.specs.Deliveries.{Standing}
-use Rattle.laws_trace.specs.States.{expired_of, one_more, differ}
+use Rattle.laws_trace.proofs.ControlsWatched.{receipt, changed, command_of, acknowledged_at}
+use Rattle.laws_trace.specs.ControlFrames.{IsPart}
+use Rattle.laws_trace.proofs.DeliveriesWatched.{Standing}
+use Rattle.laws_trace.proofs.States.{expired_of, one_more, differ}
 use Rattle.laws_trace.proofs.TimersWatched.{nothing_yet}
 use Rattle.laws_trace.specs.Trace.{frame_in, is_up, Seen, seen}
 use Rattle.laws_trace.proofs.Addressed.{at-some-place}

@@ -12,8 +12,9 @@ use Rattle.model_link.specs.Events.{Event, frame, undefined, wrong_size, overlon
 use Rattle.model_link.specs.Link.{state_number}
 use Rattle.laws_link.specs.States.{moves}
 use Rattle.laws_link.specs.Waiting.{as_response}
-use Rattle.laws_trace.specs.ControlFrames.{control_in, receipt, polled, to_information, while_up, answer_to, changed, command_of}
-use Rattle.laws_trace.specs.Deliveries.{Standing}
+use Rattle.laws_trace.specs.ControlFrames.{control_in}
+use Rattle.laws_trace.proofs.ControlsWatched.{receipt, polled, to_information, while_up, answer_to, changed, command_of}
+use Rattle.laws_trace.proofs.DeliveriesWatched.{Standing}
 use Rattle.laws_trace.proofs.MovesOfLink.{ticks}
 
 abbrev pub controls : List ControlFrame → List ControlFrame

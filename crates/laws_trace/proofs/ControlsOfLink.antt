@@ -26,8 +26,9 @@ use Rattle.laws_link.specs.States.{as_heard, moves, by_expiry, state_after, is_o
 use Rattle.laws_link.specs.Waiting as waiting
 use Rattle.laws_link.specs.Waiting.{receipt_as, as_response, as_command, is_next, to_supervisory, to_sabme, to_disc, answers, command_in, commands, put, room, behind, waiting_left}
 use Rattle.laws_link.proofs.Follows.{event-follows}
-use Rattle.laws_trace.specs.ControlFrames.{control_in, receipt, polled, to_information, while_up, answer_to, changed, command_of}
-use Rattle.laws_trace.specs.Deliveries.{Standing}
+use Rattle.laws_trace.specs.ControlFrames.{control_in}
+use Rattle.laws_trace.proofs.ControlsWatched.{receipt, polled, to_information, while_up, answer_to, changed, command_of}
+use Rattle.laws_trace.proofs.DeliveriesWatched.{Standing}
 use Rattle.laws_trace.proofs.CommandsCaused.{enquires, IsNoOther, none-heard, none-asked}
 use Rattle.laws_trace.proofs.ControlsDue.{controls, answers_of, put_by, IsControl, all-put, all-controls}
 use Rattle.laws_trace.proofs.MovesOfLink.{ticks}

@@ -42,8 +42,9 @@ use Rattle.laws_line.specs.Share.{is_granted}
 use Rattle.laws_line.specs.Steady.{IsBy, Brings, BringsMalformed}
 use Rattle.laws_line.proofs.Hearing.{sapi-is, same-sapi}
 use Rattle.laws_line.proofs.Obeyed.{both-true}
-use Rattle.laws_trace.specs.ControlFrames.{of_link, control_in, controls_at, IsPart, while_up, answer_to, changed, answers_at, acknowledged_by, acknowledged_at, answers_to_frame}
-use Rattle.laws_trace.specs.Deliveries.{Standing}
+use Rattle.laws_trace.specs.ControlFrames.{of_link, control_in, controls_at, IsPart}
+use Rattle.laws_trace.proofs.ControlsWatched.{while_up, answer_to, changed, answers_at, acknowledged_by, acknowledged_at, answers_to_frame}
+use Rattle.laws_trace.proofs.DeliveriesWatched.{Standing}
 use Rattle.laws_trace.specs.Trace.{frame_in, is_up, Seen, heard, seen, seen_told, seen_granted}
 use Rattle.laws_trace.proofs.Addressed.{addressed-is}
 use Rattle.laws_trace.proofs.CommandsCaused.{same-itself}
@@ -230,16 +231,16 @@ module _ (c : Config) (service : Service) (tei : ℕ) where
     abbrev To : Result Parts ReadFault → List ControlFrame
     To r = answers_to_frame c service tei was now state r
 
-    told-none : (a : Answer) → answers_seen (seen_told a) ≡ []
+    pub told-none : (a : Answer) → answers_seen (seen_told a) ≡ []
     told-none (told t) = refl
     told-none (refused why) = refl
     told-none (gave given) = refl
 
-    begun-none : (frames : List (List ℕ)) → answers_seen (map traces.begun frames) ≡ []
+    pub begun-none : (frames : List (List ℕ)) → answers_seen (map traces.begun frames) ≡ []
     begun-none [] = refl
     begun-none (f ∷ frames) = begun-none frames
 
-    heard-answers : (e : Event) (a : Answer) (what : stream.Event) → e ≡ hears what → answers_seen (seen e a) ≡ answers_at c service tei was now state (heard what)
+    pub heard-answers : (e : Event) (a : Answer) (what : stream.Event) → e ≡ hears what → answers_seen (seen e a) ≡ answers_at c service tei was now state (heard what)
     heard-answers e a what is =
         ap (λ e. answers_seen (seen e a)) is ∙ ap (λ xs. answers_at c service tei was now state (heard what) ++ xs) (told-none a)
         ∙ append-nil (answers_at c service tei was now state (heard what))
@@ -270,7 +271,7 @@ module _ (c : Config) (service : Service) (tei : ℕ) where
         by-end (inl y) = heard-answers e a (stream.frame b.octets) y.0 ∙ by-fault b.octets what y.1
         by-end (inr y) = heard-answers e a (stream.overlong b.octets) y.0
 
-    asked-answers : (r : Request) (a : Answer) → is_granted a ≡ true → answers_seen (seen_granted r a ++ seen_told a) ≡ while_up state (changed was now)
+    pub asked-answers : (r : Request) (a : Answer) → is_granted a ≡ true → answers_seen (seen_granted r a ++ seen_told a) ≡ while_up state (changed was now)
     asked-answers r (told t) is = append-nil (while_up state (changed was now))
     asked-answers r (refused why) is = absurd (true≢false (sym is))
     asked-answers r (gave given) is = absurd (true≢false (sym is))

@@ -26,7 +26,7 @@ use Rattle.laws_line.specs.Share.{is_granted}
 use Rattle.laws_line.proofs.Hearing.{same-sapi}
 use Rattle.laws_trace.specs.Trace as traces
 use Rattle.laws_trace.specs.Trace.{frame_in, seen_told, seen_granted}
-use Rattle.laws_trace.specs.Deliveries.{Watched, begins, counted}
+use Rattle.laws_trace.specs.Counting.{Watched, begins, counted}
 use Rattle.laws_trace.specs.LinkFrames.{frame_of as heard_frame, Sent, sent_by, sent_in}
 use Rattle.laws_trace.specs.DataGoesOut.{Going, HasNumber, data_asked, gone_with, is_indicated, Reaches}
 use Rattle.laws_trace.proofs.DataKnown.{Knows}

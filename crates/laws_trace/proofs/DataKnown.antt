@@ -29,7 +29,7 @@ use Rattle.laws_link.specs.Offered.{IsOffered, one, is_i_frame, i_frames}
 use Rattle.laws_link.proofs.InOrder.{given-in-order}
 use Rattle.laws_link.proofs.Keeping.{event-done}
 use Rattle.laws_link.proofs.Offering.{given-is-offered}
-use Rattle.laws_trace.specs.Deliveries.{Watched}
+use Rattle.laws_trace.specs.Counting.{Watched}
 use Rattle.laws_trace.specs.DataGoesOut.{is_indicated, HasNumber, gone_with}
 use Rattle.laws_trace.specs.LinkFrames.{Sent, sent_by}
 use Rattle.laws_trace.proofs.Begins.{up-before}

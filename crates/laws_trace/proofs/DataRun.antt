@@ -45,7 +45,7 @@ use Rattle.model_card.proofs.CardSound.{fresh_is_sound}
 use Rattle.model_card.specs.Event as card
 use Rattle.model_card.specs.Run.{after_all, AreAtLines}
 use Rattle.laws_trace.specs.Trace.{frame_in, Seen, seen, trace_of, Always}
-use Rattle.laws_trace.specs.Deliveries.{Watched, begins_by, begins, counted}
+use Rattle.laws_trace.specs.Counting.{Watched, begins_by, begins, counted}
 use Rattle.laws_trace.specs.LinkFrames.{is_for, Sent, sent_by}
 use Rattle.laws_trace.specs.DataGoesOut.{Going, HasNumber, data_asked, gone_with, goes_on, none_yet, Reaches, DataGoesOut, is_indicated}
 use Rattle.laws_trace.proofs.DataKnown.{Knows, goes-on-so, begins-anew, given-known, none-given-known}

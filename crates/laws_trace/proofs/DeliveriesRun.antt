@@ -1,12 +1,10 @@
 -- What is told is what was heard: over runs.
-use Rattle.std.proofs.Common.{◌≡◌, ℕ, ◌+◌, ◌%◌, ◌<◌, ◌&&◌, ◌||◌, Bool, true, false, cond, List, [], ◌∷◌, ◌++◌, map, Option, Some, None, option_map, refl, sym, ap, ◌∙◌, subst, eqb-true, eq-eqb, ◌==◌, Result, Ok, Err, true≢false, ◌⊎◌, inl, inr}
+use Rattle.std.proofs.Common.{◌≡◌, ℕ, ◌+◌, ◌%◌, ◌&&◌, ◌||◌, Bool, true, false, cond, List, [], ◌∷◌, ◌++◌, map, Option, Some, None, option_map, refl, sym, ap, ◌∙◌, subst, eqb-true, eq-eqb, ◌==◌, Result, Ok, Err, true≢false, ◌⊎◌, inl, inr}
 use Rattle.std.specs.Prelude.{fold, is_some}
 use Rattle.lapd_frame.specs.declared.notes.Note.{Note}
 use Rattle.lapd_frame.specs.declared.notes.Note.TheVariants as notes
 use Rattle.std.specs.List.{list_any}
 use Rattle.std.specs.Option.{option_or, option_map_or}
-use Rattle.std.proofs.lemmas.List.{get_or-replicate}
-use Rattle.std.proofs.lemmas.List.Sums.{fold-append}
 use Rattle.std.proofs.lemmas.Option.{none-some}
 use Rattle.model_bits.specs.Stream as stream
 use Rattle.lapd_frame.specs.declared.faults.ReadFault.{ReadFault}
@@ -30,7 +28,7 @@ use Rattle.laws_link.proofs.Once.{within-is}
 use Rattle.lapd_tei.proofs.Tables.{place_of-is}
 use Rattle.model_line.specs.declared.config.Config.{Config}
 use Rattle.model_line.specs.Event.{Event, hears, expiry, request, next, Answer, LineTold, told, refused, gave, NextFrame}
-use Rattle.model_line.specs.Line.{Line, place_in, link_in, link_of, terms, fresh_line}
+use Rattle.model_line.specs.Line.{Line, place_in, link_in, link_of, terms}
 use Rattle.model_line.specs.Machine.{aim_of, after, answer, of_heard}
 use Rattle.model_line.specs.Heard.{aim_of_heard, aim_of_reading, message_of, heard_side, group_tei}
 use Rattle.model_line.specs.Taken.{taken, next_of}
@@ -43,21 +41,15 @@ use Rattle.laws_line.proofs.HandedOn.{own-all}
 use Rattle.laws_line.proofs.Hearing.{addressed-is, sapi-is, same-sapi}
 use Rattle.laws_line.proofs.Obeyed.{service-same, both-true}
 use Rattle.laws_line.proofs.ToldOnce.{told-once}
-use Rattle.laws_line.proofs.TimersFollow.{nowhere}
-use Rattle.model_card.specs.Card.{line_at}
-use Rattle.model_card.specs.Card as cards
-use Rattle.model_card.specs.Event as card
-use Rattle.model_card.specs.Run.{after_all, AreAtLines}
-use Rattle.model_card.proofs.CardSound.{fresh_is_sound}
 use Rattle.laws_trace.specs.Trace as traces
 use Rattle.laws_trace.specs.Trace.{frame_in, Seen, seen_told, seen}
-use Rattle.laws_trace.specs.Deliveries.{Watched, nothing_yet, begins, counted, watch, number_in, IsOfFrame, IsHeard}
+use Rattle.laws_trace.specs.Counting.{Watched, begins, counted, watch}
+use Rattle.laws_trace.proofs.DeliveriesWatched.{number_in, IsOfFrame, IsHeard}
 use Rattle.laws_trace.specs.LinkFrames.{parts_of, frame_of, is_for}
 use Rattle.laws_trace.specs.Units.{is_ui}
 use Rattle.laws_trace.proofs.Begins.{unless, up-before}
 use Rattle.laws_trace.proofs.Deliveries.{frame_by, data-tells, unit-tells, data-own, unit-own, none-noted, one-begins, data-of, unit-of, group-notes}
 use Rattle.laws_trace.proofs.OneLink.{HasOne, HasNone, Goes, is_at_link, event-goes, IsGivenUp}
-use Rattle.laws_trace.proofs.Runs.{run-shows}
 use Rattle.laws_trace.proofs.ClearedTells.{ends-alone}
 
 -- V(R) is what was counted, while the link is up.
@@ -261,104 +253,38 @@ module _ (c : Config) (ranged : IsInRange c) (l : Line) (s : IsSound c l) (e : E
         one-counts x,
       )
 
--- What is heard of notes, one after the other.
-abbrev IsHeardIn : Service → ℕ → Watched → Seen → Type 0
-IsHeardIn service tei w (traces.noted ns contents) = IsHeard service tei w ns contents
-IsHeardIn service tei w other = Unit {0}
-
-abbrev AreHeard : Config → Service → ℕ → Watched → List Seen → Type 0
-AreHeard c service tei w [] = Unit {0}
-AreHeard c service tei w (x ∷ t) = IsHeardIn service tei w x × AreHeard c service tei (watch c service tei w x) t
-
--- So it is of notes wherever they are told.
-heard-at : (c : Config) (service : Service) (tei : ℕ) (w : Watched) (before : List Seen) (ns : List Note) (contents : Option (List ℕ)) (behind : List Seen)
-    → AreHeard c service tei w (before ++ traces.noted ns contents ∷ behind) → IsHeard service tei (fold (watch c service tei) w before) ns contents
-heard-at c service tei w [] ns contents behind h = h.0
-heard-at c service tei w (x ∷ before) ns contents behind h = heard-at c service tei (watch c service tei w x) before ns contents behind h.1
-
 -- What is seen of an event, to whoever watches the link.
 module _ (c : Config) (service : Service) (tei : ℕ) where
-  abbrev pub Passes : Watched → List Seen → Link → Type 0
-  Passes w t k = AreHeard c service tei w t × ((fold (watch c service tei) w t).frame ≡ None) × IsCount k (fold (watch c service tei) w t).count
+  abbrev Passes : Watched → List Seen → Link → Type 0
+  Passes w t k = ((fold (watch c service tei) w t).frame ≡ None) × IsCount k (fold (watch c service tei) w t).count
 
-  after-heard : (e : stream.Event) (n : ℕ) (k : Link) (t : LineTold) → let w : Watched = record { frame = frame_of c e; count = n } in
-      IsHeard service tei w t.notes t.contents → IsCount k (counted service tei w t.notes)
+  after-heard : (e : stream.Event) (n : ℕ) (k : Link) (t : LineTold) → IsCount k (counted service tei (record { frame = frame_of c e; count = n }) t.notes)
       → Passes (record { frame = None; count = n }) (traces.heard e ∷ traces.noted t.notes t.contents ∷ traces.lost t.lost ∷ []) k
-  after-heard e n k t h count = ((tt, (h, (tt, tt))), refl, count)
+  after-heard e n k t count = (refl, count)
 
-  after-told : (n : ℕ) (k : Link) (a : Answer) → let w : Watched = record { frame = None; count = n } in
-      IsHeard service tei w (notes_of a) (contents_in a) → IsCount k (counted service tei w (notes_of a)) → Passes w (seen_told a) k
-  after-told n k (told t) h count = ((h, (tt, tt)), refl, count)
-  after-told n k (refused why) h count = (tt, refl, count)
-  after-told n k (gave given) h count = (tt, refl, count)
+  after-told : (n : ℕ) (k : Link) (a : Answer) → let w : Watched = record { frame = None; count = n } in IsCount k (counted service tei w (notes_of a)) → Passes w (seen_told a) k
+  after-told n k (told t) count = (refl, count)
+  after-told n k (refused why) count = (refl, count)
+  after-told n k (gave given) count = (refl, count)
 
   after-asked : (r : Request) (n : ℕ) (k : Link) (a : Answer) → let w : Watched = record { frame = None; count = n } in
-      IsHeard service tei w (notes_of a) (contents_in a) → IsCount k (counted service tei w (notes_of a)) → Passes w (traces.seen_granted r a ++ seen_told a) k
-  after-asked r n k (told t) h count = ((tt, (h, (tt, tt))), refl, count)
-  after-asked r n k (refused why) h count = (tt, refl, count)
-  after-asked r n k (gave given) h count = (tt, refl, count)
+      IsCount k (counted service tei w (notes_of a)) → Passes w (traces.seen_granted r a ++ seen_told a) k
+  after-asked r n k (told t) count = (refl, count)
+  after-asked r n k (refused why) count = (refl, count)
+  after-asked r n k (gave given) count = (refl, count)
 
   after-next : (o : Option NextFrame) (n : ℕ) (k : Link) → IsCount k n → Passes (record { frame = None; count = n }) (map traces.begun (frame_in (gave o))) k
-  after-next None n k count = (tt, refl, count)
-  after-next (Some f) n k count = ((tt, tt), refl, count)
+  after-next None n k count = (refl, count)
+  after-next (Some f) n k count = (refl, count)
 
   pub event-passes : IsInRange c → (e : Event) (l : Line) → IsSound c l → (n : ℕ) → IsCount (link_of service tei l) n
       → Passes (record { frame = None; count = n }) (seen e (answer c e l)) (link_of service tei (after c e l))
   unfolding answer
   event-passes ranged (hears what) l s n before =
-      let h = event-told c ranged l s (hears what) service tei n before in
-      after-heard what n (link_of service tei (after c (hears what) l)) (of_heard c what l).told h.0 h.1
+      after-heard what n (link_of service tei (after c (hears what) l)) (of_heard c what l).told (event-told c ranged l s (hears what) service tei n before).1
   event-passes ranged (expiry timer) l s n before =
-      let h = event-told c ranged l s (expiry timer) service tei n before in
-      after-told n (link_of service tei (after c (expiry timer) l)) (answer c (expiry timer) l) h.0 h.1
+      after-told n (link_of service tei (after c (expiry timer) l)) (answer c (expiry timer) l) (event-told c ranged l s (expiry timer) service tei n before).1
   event-passes ranged (request r) l s n before =
-      let h = event-told c ranged l s (request r) service tei n before in
-      after-asked r n (link_of service tei (after c (request r) l)) (answer c (request r) l) h.0 h.1
+      after-asked r n (link_of service tei (after c (request r) l)) (answer c (request r) l) (event-told c ranged l s (request r) service tei n before).1
   event-passes ranged next l s n before =
-      let h = event-told c ranged l s next service tei n before in
-      after-next (option_map next_of (taken c l)) n (link_of service tei (after c next l)) h.1
-
-  -- one trace behind another
-  pub heard-append : (w : Watched) (t u : List Seen) → AreHeard c service tei w t → AreHeard c service tei (fold (watch c service tei) w t) u → AreHeard c service tei w (t ++ u)
-  heard-append w [] u h i = i
-  heard-append w (x ∷ t) u h i = (h.0, heard-append (watch c service tei w x) t u h.1 i)
-
--- Over runs.
-abbrev Stands : Config → Line → Type 0
-Stands c l = Unit {0}
-
-abbrev Shows : Config → Line → List Seen → Line → Type 0
-Shows c k t l =
-    (service : Service) (tei n : ℕ) → IsCount (link_of service tei k) n → Passes c service tei (record { frame = None; count = n }) t (link_of service tei l)
-
-rests : (c : Config) (l : Line) → Shows c l [] l
-rests c l service tei n count = (tt, refl, count)
-
-joins : (c : Config) (k l m : Line) (t u : List Seen) → Shows c k t l → Shows c l u m → Shows c k (t ++ u) m
-joins c k l m t u h i service tei n count =
-    let first = h service tei n count in
-    let w = fold (watch c service tei) (record { frame = None; count = n }) t in
-    let second = subst (λ o. Passes c service tei (record { frame = o; count = w.count }) u (link_of service tei m)) (sym first.1) (i service tei w.count first.2) in (
-      heard-append c service tei (record { frame = None; count = n }) t u first.0 second.0,
-      ap (λ (w : Watched). w.frame) (fold-append (watch c service tei) (record { frame = None; count = n }) t u) ∙ second.1,
-      λ up. second.2 up ∙ sym (ap (λ (w : Watched). w.count) (fold-append (watch c service tei) (record { frame = None; count = n }) t u)),
-    )
-
-steps : (c : Config) → IsInRange c → (e : Event) (l : Line) → IsSound c l → Stands c l → Shows c l (seen e (answer c e l)) (after c e l) × Stands c (after c e l)
-steps c ranged e l s stands = ((λ service tei n count. event-passes c service tei ranged e l s n count), tt)
-
--- What is told in a run is heard, and V(R) is what was counted.
-pub run-passes : (c : Config) (events : List card.Event) (number : ℕ) → IsInRange c → AreAtLines (cards.fresh c) events → number < c.lines → (service : Service) (tei : ℕ)
-    → Passes c service tei nothing_yet (traces.trace_of c events number) (link_of service tei (line_at number (after_all (cards.fresh c) events)))
-run-passes c events number ranged all within service tei =
-    let start : line_at number (cards.fresh c) ≡ fresh_line c = get_or-replicate c.lines number (fresh_line c) (fresh_line c) within in
-    let off : link_of service tei (line_at number (cards.fresh c)) ≡ fresh =
-    ap (link_of service tei) start ∙ ap (λ o. option_map_or (link_in (fresh_line c) service) o fresh) (nowhere c tei) in
-    (run-shows Stands Shows rests joins steps (cards.fresh c) events number (fresh_is_sound c ranged) all tt).0 service tei 0 (λ up. ap (λ (k : Link). k.r) off)
-
--- What is told as data is heard, wherever it is noted.
-pub always-heard : (c : Config) (events : List card.Event) (number : ℕ) → IsInRange c → AreAtLines (cards.fresh c) events → number < c.lines → (service : Service) (tei : ℕ)
-    → (before : List Seen) (ns : List Note) (contents : Option (List ℕ)) (behind : List Seen) → traces.trace_of c events number ≡ before ++ traces.noted ns contents ∷ behind
-    → IsHeard service tei (fold (watch c service tei) nothing_yet before) ns contents
-always-heard c events number ranged all within service tei before ns contents behind split =
-    heard-at c service tei nothing_yet before ns contents behind (subst (AreHeard c service tei nothing_yet) split (run-passes c events number ranged all within service tei).0)
+      after-next (option_map next_of (taken c l)) n (link_of service tei (after c next l)) (event-told c ranged l s next service tei n before).1

@@ -1,13 +1,29 @@
 -- Lemmas.
+pub mod States
+pub mod DeliveriesWatched
+pub mod ControlsWatched
+pub mod AcknowledgedWatched
 pub mod TimersWatched
 pub mod MovesWatched
 pub mod NewsWatched
 pub mod AgainWatched
+pub mod ObservedShape
 pub mod ObservedMoves
 pub mod Observed
 pub mod ObservedRun
 pub mod ObservedFacts
 pub mod ObservedLaws
+pub mod ObservedStanding
+pub mod ObservedTold
+pub mod ObservedCount
+pub mod ObservedCounted
+pub mod ObservedAcknowledged
+pub mod ObservedDeliveries
+pub mod ObservedAnswers
+pub mod ObservedControls
+pub mod ObservedControlsSeen
+pub mod ObservedControlsMoment
+pub mod ObservedControlsRun
 pub mod Runs
 pub mod Configurations
 pub mod OfferTells
@@ -34,7 +50,6 @@ pub mod Parts
 pub mod ReadAgain
 pub mod Deliveries
 pub mod DeliveriesRun
-pub mod AllAreTold
 pub mod DataOfLink
 pub mod DataKnown
 pub mod DataGoesOut
@@ -99,4 +114,4 @@ pub mod SeenAs
 pub mod KeptOfLink
 pub mod PlacesSeen
 pub mod PlacesAreKept
-pub mod DataIsForLinks
+pub mod UnitsAreFor

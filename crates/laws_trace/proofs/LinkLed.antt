@@ -41,7 +41,7 @@ use Rattle.laws_line.proofs.Hearing.{addressed-is, sapi-is}
 use Rattle.laws_line.proofs.Obeyed.{service-same, both-true}
 use Rattle.laws_trace.specs.LinkFrames.{parts_of, is_for, faulty, faulty_long}
 use Rattle.laws_trace.proofs.MovesWatched.{by_frame, by_parts, by_request, by_seen, by_expiry, led}
-use Rattle.laws_trace.specs.States.{expired_of, one_more}
+use Rattle.laws_trace.proofs.States.{expired_of, one_more}
 use Rattle.laws_trace.proofs.TimersWatched.{Known}
 use Rattle.laws_trace.specs.Trace.{frame_in, is_own, seen, seen_told, seen_granted, is_up}
 use Rattle.laws_trace.proofs.MovesOfLink.{expected, ticks}

@@ -34,7 +34,7 @@ use Rattle.laws_line.specs.Timers.{HaveTheirTimers}
 use Rattle.laws_line.proofs.TimersFollow.{nowhere}
 use Rattle.laws_link.specs.States.{moves}
 use Rattle.laws_trace.proofs.MovesWatched.{by_expiry, repeated, led, LinksMove}
-use Rattle.laws_trace.specs.States.{expired_of, one_more, differ}
+use Rattle.laws_trace.proofs.States.{expired_of, one_more, differ}
 use Rattle.laws_trace.proofs.TimersWatched.{Known, nothing_yet, watch}
 use Rattle.laws_trace.specs.Trace.{seen, Always}
 use Rattle.laws_trace.proofs.LinkLed.{on-line, none-led, none-ticks, one-led, one-ticks, ended-leads}

@@ -28,7 +28,7 @@ use Rattle.laws_link.proofs.Follows.{event-follows}
 use Rattle.laws_trace.specs.Trace.{is_up}
 use Rattle.laws_trace.specs.Observer.{steps}
 use Rattle.laws_trace.proofs.MovesWatched.{is_invalid, by_frame, by_expiry}
-use Rattle.laws_trace.specs.States.{one_more}
+use Rattle.laws_trace.proofs.States.{one_more}
 use Rattle.laws_trace.proofs.TimersWatched.{Known, awaits}
 use Rattle.laws_trace.proofs.TimerClaims.{IsKnown, Agrees}
 use Rattle.laws_trace.proofs.TimerRows.{in_state}

@@ -18,7 +18,7 @@ use Rattle.model_card.specs.Machine.{answer}
 use Rattle.model_card.specs.Run.{Moment, moments, after_all}
 use Rattle.laws_trace.specs.LinkFrames.{is_for, frame_of, malformed}
 use Rattle.laws_trace.proofs.TimersWatched.{Known, nothing_yet, watch, awaits}
-use Rattle.laws_trace.specs.States.{state_before, state_after, differ, expired_of, one_more}
+use Rattle.laws_trace.proofs.States.{state_before, state_after, differ, expired_of, one_more}
 use Rattle.laws_trace.specs.Observer.{steps}
 use Rattle.laws_trace.specs.Trace.{is_own, is_up, Seen, heard, granted, seen_in}
 

@@ -30,7 +30,7 @@ use Rattle.laws_line.proofs.TimersFollow.{nowhere}
 use Rattle.laws_trace.specs.News.{is_news, is_sabme, is_xid, releases, wrong}
 use Rattle.laws_trace.proofs.NewsWatched.{establishes, asked, Owing, none_owed, owing, due, NewsIsTold}
 use Rattle.laws_trace.proofs.TimersWatched.{brings, Known, watch}
-use Rattle.laws_trace.specs.States.{is_state, differ}
+use Rattle.laws_trace.proofs.States.{is_state, differ}
 use Rattle.laws_trace.specs.Observer.{moment_of}
 use Rattle.laws_trace.specs.Trace.{seen, Always}
 use Rattle.laws_trace.proofs.LinksMove.{differ-self}

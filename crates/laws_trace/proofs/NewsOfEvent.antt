@@ -25,7 +25,7 @@ use Rattle.laws_link.specs.States.{moves}
 use Rattle.laws_trace.specs.News.{is_news, is_sabme, is_xid, releases, wrong}
 use Rattle.laws_trace.proofs.NewsWatched.{establishes, due}
 use Rattle.laws_trace.proofs.TimersWatched.{brings, control_in}
-use Rattle.laws_trace.specs.States.{is_state, differ}
+use Rattle.laws_trace.proofs.States.{is_state, differ}
 use Rattle.laws_trace.specs.Trace.{seen}
 use Rattle.laws_trace.proofs.ErrorsSeen.{none-wrong, one-wrong}
 use Rattle.laws_trace.proofs.LinkLed.{on-line}

@@ -18,7 +18,7 @@ use Rattle.model_card.specs.Machine.{answer}
 use Rattle.model_card.specs.Run.{Moment, moments, after_all}
 use Rattle.laws_trace.specs.News.{is_news, is_sabme, is_xid, releases, wrong}
 use Rattle.laws_trace.proofs.TimersWatched.{Known, nothing_yet, watch, brings}
-use Rattle.laws_trace.specs.States.{is_state, state_before, state_after, differ}
+use Rattle.laws_trace.proofs.States.{is_state, state_before, state_after, differ}
 use Rattle.laws_trace.specs.Trace.{is_own, seen_in}
 
 -- Layer 3 asks for the establishment of a link, or for its release; and the terminal begins to establish it, or sends XID.

@@ -13,11 +13,12 @@ use Rattle.model_line.specs.declared.config.Config.{Config}
 use Rattle.model_line.specs.Event as line_event
 use Rattle.model_line.specs.Event.{hears, expiry, request, Answer}
 use Rattle.laws_trace.specs.Observer.{Observed, in_state, by_event}
-use Rattle.laws_trace.specs.States as states
+use Rattle.laws_trace.proofs.States as states
 use Rattle.laws_trace.specs.Trace.{is_own, seen}
 use Rattle.laws_trace.proofs.TimersWatched.{Known, learned}
-use Rattle.laws_trace.specs.States.{is_state, differ}
-use Rattle.laws_trace.proofs.ObservedMoves.{When, known_of, at_state, Shape, Moved, none_more, one_more, grown, event-moves}
+use Rattle.laws_trace.proofs.States.{is_state, differ}
+use Rattle.laws_trace.proofs.ObservedMoves.{grown, event-moves}
+use Rattle.laws_trace.proofs.ObservedShape.{When, known_of, at_state, Shape, Moved, none_more, one_more}
 use Rattle.laws_trace.proofs.MovesWatched as moves
 use Rattle.laws_trace.proofs.NewsWatched as news
 

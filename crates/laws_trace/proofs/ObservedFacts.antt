@@ -20,11 +20,11 @@ use Rattle.laws_trace.proofs.Deliveries.{frame_by}
 use Rattle.laws_trace.proofs.LinksMove.{same-way}
 use Rattle.laws_trace.proofs.NewsWatched.{owing}
 use Rattle.laws_trace.proofs.Observed.{IsObserved, IsSeen}
-use Rattle.laws_trace.proofs.ObservedMoves.{When, known_of}
+use Rattle.laws_trace.proofs.ObservedShape.{When, known_of}
 use Rattle.laws_trace.proofs.ObservedRun.{Holds, IsFrom, from-is}
 use Rattle.laws_trace.proofs.TimersOfLine.{seen-brings}
 use Rattle.laws_trace.proofs.TimersWatched.{Known, nothing_yet}
-use Rattle.laws_trace.specs.States.{is_state, differ}
+use Rattle.laws_trace.proofs.States.{is_state, differ}
 use Rattle.laws_trace.specs.News as now_news
 use Rattle.laws_trace.proofs.TimersWatched as known
 

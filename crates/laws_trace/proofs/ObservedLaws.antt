@@ -26,7 +26,7 @@ use Rattle.model_card.specs.Card.{fresh, line_at}
 use Rattle.model_card.specs.Event.{Event, at}
 use Rattle.model_card.specs.Machine.{after, answer}
 use Rattle.model_card.specs.Run.{Moment, moments, after_all, AreAtLines}
-use Rattle.laws_trace.specs.AllGoesAgain.{AllGoesAgain, NextGoes}
+use Rattle.laws_trace.specs.AllGoesAgain.{AllGoesAgain}
 use Rattle.laws_trace.specs.LinkFrames.{Sent, sent_in}
 use Rattle.laws_trace.specs.LinksMove.{LinksMove}
 use Rattle.laws_trace.specs.Managing.{is_on}
@@ -38,11 +38,11 @@ use Rattle.laws_trace.proofs.MovesWatched.{repeated}
 use Rattle.laws_trace.proofs.NewsWatched.{Owing, none_owed, owing}
 use Rattle.laws_trace.proofs.Observed.{IsObserved}
 use Rattle.laws_trace.proofs.ObservedFacts.{Facts, facts, told-so, numbers-are, state-is, awaits-are, owed-is, asked-is, down-is, up-is, seen-is, differs-is, brings-is}
-use Rattle.laws_trace.proofs.ObservedMoves.{known_of}
+use Rattle.laws_trace.proofs.ObservedShape.{known_of}
 use Rattle.laws_trace.proofs.ObservedRun.{Holds, on-is, holds-now, holds-behind}
 use Rattle.laws_trace.proofs.TimersAreTimely.{front-at, itself}
 use Rattle.laws_trace.proofs.TimersWatched.{Known, nothing_yet, watch}
-use Rattle.laws_trace.specs.States.{is_state, differ}
+use Rattle.laws_trace.proofs.States.{is_state, differ}
 use Rattle.laws_trace.specs.News as now_news
 use Rattle.laws_trace.specs.TimersAreTimely as timely
 use Rattle.laws_trace.proofs.AllGoesAgain as old_again
@@ -273,6 +273,13 @@ pub news-is-told-so : Always NewsIsTold
 news-is-told-so c events number ranged all within service tei before what behind is =
     news-so c events number ranged all within service tei before what behind is
     (known-now c before number ranged (front-at (fresh c) before (at number what) behind (subst (AreAtLines (fresh c)) is all)) within service tei)
+
+-- Each I-frame that begins is the one that goes next.
+abbrev pub NextGoes : Config → List Event → ℕ → Type 0
+NextGoes c events number =
+    (service : Service) (tei : ℕ) (before behind : List Event) → events ≡ before ++ at number next ∷ behind →
+    let o = (view_of c service tei number before).link in
+    All (λ octets. IfSome (sent_in service tei (reading c.side octets)) (λ (sent : Sent). sent.ns ≡ o.next)) (frame_in (answer (at number next) (after_all (fresh c) before)))
 
 pub next-goes-so : Always NextGoes
 next-goes-so c events number ranged all within service tei before behind is =

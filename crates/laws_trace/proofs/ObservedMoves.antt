@@ -19,46 +19,14 @@ use Rattle.model_line.specs.declared.config.Config.{Config}
 use Rattle.model_line.specs.Event.{Event, hears, expiry, request, next, Answer, LineTold, told, refused, gave}
 use Rattle.model_line.specs.Request.{Request, Establish, Release, Data, Assign, Remove, Check, SetBusy, ClearBusy, Deactivate}
 use Rattle.laws_trace.specs.LinkFrames.{frame_of, its_frame, is_for, malformed, Sent, sent_in}
-use Rattle.laws_trace.specs.Observer.{Observed, in_state, awaits, anew, while_up, while_down, by_frame, by_t200, by_expiry, enquires, sends, by_event}
-use Rattle.laws_trace.specs.States as states
+use Rattle.laws_trace.specs.Observer.{Observed, in_state, awaits, anew, while_up, while_down, by_frame, by_t200, by_expiry, enquires, sends, by_event, takes}
+use Rattle.laws_trace.proofs.States as states
 use Rattle.laws_trace.specs.Trace.{is_own, is_up, seen}
 use Rattle.laws_trace.proofs.MovesWatched as moves
 use Rattle.laws_trace.proofs.TimersWatched as known
 use Rattle.laws_trace.proofs.TimersWatched.{Known, nothing_yet}
 use Rattle.laws_trace.proofs.NewsWatched as news
-
--- What is only said where it is asked.
-abbrev pub When : Bool → Type 0 → Type 0
-When true P = P
-When false P = Unit {0}
-
-abbrev pub known_of : Observed → Known
-known_of o = record { acknowledged = o.acknowledged; next = o.next; busy = o.busy }
-
--- What is known, in a state, with these numbers.
-abbrev pub at_state : ℕ → Known → Observed → Observed
-at_state s k o = record o { state = s; acknowledged = k.acknowledged; next = k.next; busy = k.busy }
-
-abbrev pub Shape : State → Known → Type 0
-Shape TeiAssigned k = k ≡ nothing_yet
-Shape AwaitingEstablishment k = k ≡ nothing_yet
-Shape AwaitingRelease k = k ≡ nothing_yet
-Shape Established k = Unit {0}
-Shape TimerRecovery k = Unit {0}
-
--- From one state to another, with numbers, whether layer 3 asked for the establishment, and what an expiry adds.
-pub record Moved (s to : ℕ) (k : Known) (new : Bool) (more : ℕ → ℕ) (o p : Observed) : Type 0 where
-  pub state_is : p.state ≡ to
-  pub known_is : known_of p ≡ k
-  pub asks : When (to == 5) (p.asked ≡ cond (s == 5) o.asked new)
-  pub owes : When (to == 5) (p.outstanding ≡ cond (s == 5) o.outstanding (not (o.next == o.acknowledged)))
-  pub counts : When (to == 5 || (to == 6 || to == 8)) (p.expiries ≡ cond (s == to) (more o.expiries) 0)
-
-abbrev pub none_more : ℕ → ℕ
-none_more n = n
-
-abbrev pub one_more : ℕ → ℕ
-one_more n = n + 1
+use Rattle.laws_trace.proofs.ObservedShape.{When, at_state, Shape, Moved, none_more, one_more}
 
 -- The numbers behind a control field.
 abbrev heard_known : ℕ → ℕ → Known → Option Control → Known
@@ -119,15 +87,17 @@ in_6 long command (Dm false) o = record { state_is = refl; known_is = refl; asks
 
 module _ (k : Known) where
   -- An N(R) in state 7 or 8, by whether it is invalid.
-  info_7 : (ns nr : Seq) (p invalid : Bool) (o : Observed) → let to = cond {A = ℕ} invalid 5 7 in let q = at_state 7 k o in
-      Moved 7 to (heard_known 7 to k (Some (Information ns nr p))) false none_more q (cond invalid (anew q) (record q { acknowledged = nr.value }))
-  info_7 ns nr p true o = record { state_is = refl; known_is = refl; asks = refl; owes = refl; counts = refl }
-  info_7 ns nr p false o = record { state_is = refl; known_is = refl; asks = tt; owes = tt; counts = tt }
+  info_7 : (ns nr : Seq) (p : Bool) (count : ℕ) (rejected invalid : Bool) (o : Observed) → let to = cond {A = ℕ} invalid 5 7 in let q = at_state 7 k o in
+      let r = record q { count = count; rejected = rejected } in
+      Moved 7 to (heard_known 7 to k (Some (Information ns nr p))) false none_more q (cond invalid (anew r) (record r { acknowledged = nr.value }))
+  info_7 ns nr p count rejected true o = record { state_is = refl; known_is = refl; asks = refl; owes = refl; counts = refl }
+  info_7 ns nr p count rejected false o = record { state_is = refl; known_is = refl; asks = tt; owes = tt; counts = tt }
 
-  info_8 : (ns nr : Seq) (p invalid : Bool) (o : Observed) → let to = cond {A = ℕ} invalid 5 8 in let q = at_state 8 k o in
-      Moved 8 to (heard_known 8 to k (Some (Information ns nr p))) false none_more q (cond invalid (anew q) (record q { acknowledged = nr.value }))
-  info_8 ns nr p true o = record { state_is = refl; known_is = refl; asks = refl; owes = refl; counts = refl }
-  info_8 ns nr p false o = record { state_is = refl; known_is = refl; asks = tt; owes = tt; counts = refl }
+  info_8 : (ns nr : Seq) (p : Bool) (count : ℕ) (rejected invalid : Bool) (o : Observed) → let to = cond {A = ℕ} invalid 5 8 in let q = at_state 8 k o in
+      let r = record q { count = count; rejected = rejected } in
+      Moved 8 to (heard_known 8 to k (Some (Information ns nr p))) false none_more q (cond invalid (anew r) (record r { acknowledged = nr.value }))
+  info_8 ns nr p count rejected true o = record { state_is = refl; known_is = refl; asks = refl; owes = refl; counts = refl }
+  info_8 ns nr p count rejected false o = record { state_is = refl; known_is = refl; asks = tt; owes = tt; counts = refl }
 
   receiveready_7 : (nr : Seq) (f invalid final : Bool) (o : Observed) → let to = cond {A = ℕ} invalid 5 (cond {A = ℕ} (7 == 8 && final) 7 7) in let q = at_state 7 k o in
       Moved 7 to (heard_known 7 to k (Some (ReceiveReady nr f))) false none_more q
@@ -177,7 +147,7 @@ module _ (k : Known) where
   -- In state 7.
   in_7 : (long command : Bool) (control : Control) → Frame Established k long command control
   in_7 true command (Information ns nr p) o = record { state_is = refl; known_is = refl; asks = refl; owes = refl; counts = refl }
-  in_7 false command (Information ns nr p) o = info_7 ns nr p (moves.is_invalid k nr) o
+  in_7 false command (Information ns nr p) o = info_7 ns nr p (takes ns o).count (takes ns o).rejected (moves.is_invalid k nr) o
   in_7 long command (ReceiveReady nr f) o = receiveready_7 nr f (moves.is_invalid k nr) (not command && f) o
   in_7 long command (ReceiveNotReady nr f) o = receivenotready_7 nr f (moves.is_invalid k nr) (not command && f) o
   in_7 long command (Reject nr f) o = reject_7 nr f (moves.is_invalid k nr) (not command && f) o
@@ -194,7 +164,7 @@ module _ (k : Known) where
   -- In state 8.
   in_8 : (long command : Bool) (control : Control) → Frame TimerRecovery k long command control
   in_8 true command (Information ns nr p) o = record { state_is = refl; known_is = refl; asks = refl; owes = refl; counts = refl }
-  in_8 false command (Information ns nr p) o = info_8 ns nr p (moves.is_invalid k nr) o
+  in_8 false command (Information ns nr p) o = info_8 ns nr p (takes ns o).count (takes ns o).rejected (moves.is_invalid k nr) o
   in_8 long command (ReceiveReady nr f) o = receiveready_8 nr f (moves.is_invalid k nr) (not command && f) o
   in_8 long command (ReceiveNotReady nr f) o = receivenotready_8 nr f (moves.is_invalid k nr) (not command && f) o
   in_8 long command (Reject nr f) o = reject_8 nr f (moves.is_invalid k nr) (not command && f) o
@@ -362,12 +332,17 @@ module _ (c : Config) (service : Service) (tei : ℕ) where
   deactivate x k shape o false = stays x k shape false o
   deactivate x k shape o true = record { state_is = refl; known_is = refl; asks = tt; owes = tt; counts = tt }
 
+  busy : (x : State) (k : Known) → Shape x k → (o : Observed) (now b : Bool) → let s = state_number x in let p = at_state s k o in
+      Asked x k false s p (cond b (record p { own_busy = now }) p)
+  busy x k shape o now false = stays x k shape false o
+  busy x k shape o now true = let h = stays x k shape false o in record { state_is = h.state_is; known_is = h.known_is; asks = h.asks; owes = h.owes; counts = h.counts }
+
   asked-moves : (x : State) (k : Known) → Shape x k → (o : Observed) (r : Request) (t : LineTold) → EventMoves x k o (request r) (told t)
   asked-moves x k shape o (Establish of by) t = establish x k shape o (is_own service tei of by)
   asked-moves x k shape o (Release of by) t = release x k shape o (is_own service tei of by)
   asked-moves x k shape o (Deactivate of by) t = deactivate x k shape o (is_own service tei of by)
-  asked-moves x k shape o (SetBusy of by) t = stays x k shape false o
-  asked-moves x k shape o (ClearBusy of by) t = stays x k shape false o
+  asked-moves x k shape o (SetBusy of by) t = busy x k shape o true (is_own service tei of by)
+  asked-moves x k shape o (ClearBusy of by) t = busy x k shape o false (is_own service tei of by)
   asked-moves x k shape o (Data of by contents) t = stays x k shape false o
   asked-moves x k shape o (Request.Unit of by contents) t = stays x k shape false o
   asked-moves x k shape o (Assign by) t = stays x k shape false o

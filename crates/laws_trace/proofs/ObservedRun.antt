@@ -27,7 +27,7 @@ use Rattle.laws_trace.specs.Observer.{Observed, View, at_first, in_state, by_eve
 use Rattle.laws_trace.specs.Trace.{seen}
 use Rattle.laws_trace.proofs.MovesWatched.{repeated}
 use Rattle.laws_trace.proofs.TimersWatched.{Known, nothing_yet, learned, watch}
-use Rattle.laws_trace.specs.States.{is_state, differ}
+use Rattle.laws_trace.proofs.States.{is_state, differ}
 use Rattle.laws_trace.proofs.NewsWatched.{Owing, none_owed, owing}
 use Rattle.laws_trace.proofs.CallRuns.{apart}
 use Rattle.laws_trace.proofs.LinkLed.{on-line}
@@ -35,7 +35,7 @@ use Rattle.laws_trace.proofs.LinksMove.{IsCountOf, own-led, moment-counted}
 use Rattle.laws_trace.proofs.MovesOfLink.{Counts}
 use Rattle.laws_trace.proofs.Follows.{Follows}
 use Rattle.laws_trace.proofs.TeisAreManaged.{moment-follows, fresh-follows}
-use Rattle.laws_trace.proofs.ObservedMoves.{When, Shape}
+use Rattle.laws_trace.proofs.ObservedShape.{When, Shape}
 use Rattle.laws_trace.proofs.Observed.{IsSeen, counted_by, goes-on, comes}
 use Rattle.laws_trace.proofs.TimerClaims.{Agrees}
 use Rattle.laws_trace.proofs.TimersAreTimely.{none-learned, moment-known, begins-true, sound-now, timely-now, config-now}
@@ -225,10 +225,10 @@ module _ (c : Config) (events : List Event) (number : ℕ) (ranged : IsInRange c
   off : state_of service tei (line_at number (fresh c)) ≡ None
   off = ap (state_of service tei) start ∙ off-state service tei (fresh_line c) (nowhere c tei)
 
-  off-link : link_of service tei (line_at number (fresh c)) ≡ fresh_link
+  pub off-link : link_of service tei (line_at number (fresh c)) ≡ fresh_link
   off-link = ap (link_of service tei) start ∙ off-fresh service tei (fresh_line c) (nowhere c tei)
 
-  at-start : Holds service tei nothing_yet false false 0 (line_at number (fresh c)) at_first
+  pub at-start : Holds service tei nothing_yet false false 0 (line_at number (fresh c)) at_first
   at-start = record {
     true_of = begins-true c events number ranged all within service tei;
     counts_of = subst (λ (y : Link). Counts y.state 0 y.repeats) (sym off-link) tt;
@@ -247,7 +247,7 @@ module _ (c : Config) (events : List Event) (number : ℕ) (ranged : IsInRange c
   abbrev owes_now : Owing
   owes_now = fold (owing c service tei number) none_owed (moments (fresh c) events)
 
-  known-is : (ms : List Moment) (k : Known) (w : Owing) → w.known ≡ k → (fold (owing c service tei number) w ms).known ≡ fold (watch c service tei number) k ms
+  pub known-is : (ms : List Moment) (k : Known) (w : Owing) → w.known ≡ k → (fold (owing c service tei number) w ms).known ≡ fold (watch c service tei number) k ms
   known-is [] k w is = is
   known-is (m ∷ ms) k w is = known-is ms (watch c service tei number k m) (owing c service tei number w m) (ap (λ x. watch c service tei number x m) is)
 

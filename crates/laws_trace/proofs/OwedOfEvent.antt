@@ -19,7 +19,7 @@ use Rattle.model_line.proofs.LinksSound.{sound_in}
 use Rattle.model_line.proofs.Ranges.{terms_in_range}
 use Rattle.laws_line.specs.Timers.{HaveTheirTimers}
 use Rattle.laws_trace.proofs.TimersWatched.{Known}
-use Rattle.laws_trace.specs.States.{is_state}
+use Rattle.laws_trace.proofs.States.{is_state}
 use Rattle.laws_trace.proofs.OneLink.{HasOne, Goes, event-goes}
 use Rattle.laws_trace.proofs.TimerActs.{Timing, timing}
 use Rattle.laws_trace.proofs.TimerClaims.{Agrees, IsKnown, Kept, told_state}

@@ -23,7 +23,7 @@ use Rattle.laws_trace.proofs.NewsOfEvent.{IsAskedOf}
 use Rattle.laws_trace.proofs.NewsOfLink.{Asks}
 use Rattle.laws_trace.proofs.News.{asked-now, asked-behind}
 use Rattle.laws_trace.proofs.Observed.{IsObserved, IsSeen}
-use Rattle.laws_trace.proofs.ObservedMoves.{When}
+use Rattle.laws_trace.proofs.ObservedShape.{When}
 use Rattle.laws_trace.proofs.ObservedRun.{Holds, holds-now, holds-behind}
 use Rattle.laws_trace.proofs.TimerClaims.{Agrees, IsKnown}
 use Rattle.laws_trace.proofs.TimersOfEvent.{state-on}

@@ -16,7 +16,7 @@ use Rattle.model_link.specs.Told.{runs}
 use Rattle.model_link.proofs.SoundRows.{named-within}
 use Rattle.model_link.proofs.Taking.{named-is_seq}
 use Rattle.laws_trace.proofs.TimersWatched.{Known, nothing_yet, number_heard, listens, renews}
-use Rattle.laws_trace.specs.States.{is_state, differ}
+use Rattle.laws_trace.proofs.States.{is_state, differ}
 use Rattle.laws_trace.proofs.TimerActs.{Timing, by_name, starts, begins, ends, awaits, fails, acknowledges, with_busy, informs, supervises, informed, recovers}
 use Rattle.laws_trace.proofs.TimerActs as acts
 

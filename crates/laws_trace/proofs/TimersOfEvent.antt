@@ -33,7 +33,7 @@ use Rattle.laws_line.specs.Timers.{is_needed, left_by, HaveTheirTimers}
 use Rattle.laws_trace.proofs.AgainWatched.{is_next}
 use Rattle.laws_trace.specs.LinkFrames.{Sent, is_for}
 use Rattle.laws_trace.proofs.TimersWatched.{Known, nothing_yet, listens, sends, control_in, learned}
-use Rattle.laws_trace.specs.States.{is_state}
+use Rattle.laws_trace.proofs.States.{is_state}
 use Rattle.laws_trace.specs.Trace.{frame_in, seen}
 use Rattle.laws_trace.proofs.DataGoesOut.{foreign, own-sent, sent_of, sent_with}
 use Rattle.laws_trace.proofs.Deliveries.{heard-by, frame_by, brings-frame, brings-none}

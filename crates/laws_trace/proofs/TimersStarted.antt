@@ -27,7 +27,7 @@ use Rattle.laws_line.specs.Steady.{timer_of}
 use Rattle.laws_line.specs.Timers.{is_needed, left_by, HaveTheirTimers}
 use Rattle.laws_line.proofs.TimersFollow.{followed, timely-line}
 use Rattle.laws_trace.proofs.TimersWatched.{Known, control_in, renews, is_anew}
-use Rattle.laws_trace.specs.States.{is_state, differ}
+use Rattle.laws_trace.proofs.States.{is_state, differ}
 use Rattle.laws_trace.specs.Trace.{seen}
 use Rattle.laws_trace.proofs.Deliveries.{frame_by}
 use Rattle.laws_trace.proofs.OneLink.{HasOne, HasNone, Goes, event-goes}

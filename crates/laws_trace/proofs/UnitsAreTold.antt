@@ -1,9 +1,11 @@
 -- Unit data that is heard is told: the law.
+use Rattle.model_card.specs.Machine.{answer}
 use Rattle.std.proofs.Common.{◌≡◌, ℕ, ◌≤◌, ◌==◌, ◌&&◌, ◌||◌, Bool, true, false, cond, List, length, Option, Some, None, refl, sym, ap, ◌∙◌, subst, eqb-true, true≢false, ◌⊎◌, inl, inr}
-use Rattle.std.specs.Prelude.{Ok, is_some}
+use Rattle.std.specs.Prelude.{Ok, is_some, ◌∷◌, ◌++◌}
 use Rattle.std.specs.List.{list_any}
 use Rattle.std.specs.Option.{option_or, option_map_or}
 use Rattle.std.proofs.lemmas.Bool.{le-leb}
+use Rattle.std.proofs.lemmas.Option.{none-some}
 use Rattle.model_bits.specs.Stream as stream
 use Rattle.lapd_frame.specs.declared.addresses.Side.TheVariants.{User}
 use Rattle.lapd_frame.specs.declared.controls.Control.{Control}
@@ -34,18 +36,18 @@ use Rattle.model_line.specs.Sides.{IsToGroup}
 use Rattle.model_line.specs.Sound.{IsInRange, IsSound}
 use Rattle.model_line.proofs.LinksSound.{sound_in}
 use Rattle.model_card.specs.Card.{fresh, line_at}
-use Rattle.model_card.specs.Event.{at}
+use Rattle.model_card.specs.Event.{at, Event}
 use Rattle.model_card.specs.Run.{after_all, AreAtLines}
 use Rattle.laws_line.specs.Heard.{notes_of, contents_in, is_unit_of}
 use Rattle.laws_line.proofs.Grouping.{group-read}
 use Rattle.laws_line.proofs.HandedOn.{own-all}
 use Rattle.laws_line.proofs.Obeyed.{service-same, both-true}
+use Rattle.laws_line.specs.Steady.{IsBy}
 use Rattle.laws_trace.specs.LinkFrames.{is_for, parts_of}
 use Rattle.laws_trace.specs.Trace.{Always}
 use Rattle.laws_trace.specs.Units.{is_ui}
-use Rattle.laws_trace.specs.UnitsAreTold.{UnitsAreTold}
-use Rattle.laws_trace.proofs.AllAreTold.{is-frame}
 use Rattle.laws_trace.proofs.AllDataGoesOut.{line-at-end}
+use Rattle.laws_trace.proofs.Deliveries.{frame_by, brings-frame, brings-none}
 use Rattle.laws_trace.proofs.DeliveriesRun.{event-aims}
 use Rattle.laws_trace.proofs.OneLink.{HasOne, Goes, event-goes}
 use Rattle.laws_trace.proofs.TimersAreTimely.{front-at, config-now}
@@ -68,6 +70,20 @@ which-ui (Xid p) is = absurd (true≢false (sym is))
 its-service : (service : Service) → service_of (sapi_of service) ≡ Some service
 its-service Call = refl
 its-service Packet = refl
+
+-- The event of the link is the frame.
+is-frame : (c : Config) (e : LineEvent) (a : Answer) (service : Service) (tei : ℕ) (f : Parts) → frame_by c e ≡ Some f → (le : link.Event)
+    → IsBy c e a service tei le → le ≡ link.received (link.frame f)
+is-frame c e a service tei f is (link.received (link.frame g)) by =
+    let same : g ≡ f = cc (sym (brings-frame c e a service tei g by).0 ∙ is) in
+    ap (λ f. link.received (link.frame f)) same
+is-frame c e a service tei f is (link.received link.undefined) by = absurd (none-some f (sym (brings-none c e a service tei link.undefined by) ∙ is))
+is-frame c e a service tei f is (link.received link.wrong_size) by = absurd (none-some f (sym (brings-none c e a service tei link.wrong_size by) ∙ is))
+is-frame c e a service tei f is (link.received link.overlong) by = absurd (none-some f (sym (brings-none c e a service tei link.overlong by) ∙ is))
+is-frame c e a service tei f is (link.expired timer) by = absurd (none-some f (sym (ap (λ e. frame_by c e) by) ∙ is))
+is-frame c e a service tei f is (link.requested asked full) by = absurd (none-some f (sym (ap (λ e. frame_by c e) by.0) ∙ is))
+is-frame c e a service tei f is link.offer by = absurd (none-some f (sym (ap (λ e. frame_by c e) by) ∙ is))
+is-frame c e a service tei f is link.cleared by = absurd by
 
 abbrev Tells : Service → ℕ → List ℕ → Answer → Type 0
 Tells service tei info a = (list_any (is_unit_of service tei) (notes_of a) ≡ true) × (contents_in a ≡ Some info)
@@ -139,6 +155,24 @@ module _ (c : Config) (ranged : IsInRange c) (l : Line) (s : IsSound c l) (servi
           absurd (true≢false (sym (event-aims c l service tei there.0 there.1 e f (ap parts_of read) for) ∙ x.aims))
       go (inr (inl x)) = one x
       go (inr (inr x)) = absurd (cc x.by.0)
+
+-- A UI of a service brings unit data, of at most N201 octets, to a TEI that is on the line, whatever the state of its link; or,
+-- on the user's side, to the group of all terminals, which is TEI 127 (Q.921 clauses 3.3.4, 5.2.2 and 5.2.3).
+pub record BringsUnit (c : Config) (state : Option ℕ) (service : Service) (tei : ℕ) (octets : List ℕ) (frame : Parts) : Type 0 where
+  pub read : reading (heard_side c) octets ≡ Ok frame
+  pub whose : is_for service tei frame.address ≡ true
+  pub control : is_ui frame.control ≡ true
+  pub size : length frame.info ≤ c.n201
+  pub there : (is_some state ≡ true) ⊎ ((c.side ≡ User) × (tei ≡ 127))
+
+-- It is told in the moment of the frame: its information, as unit data of that service and TEI.
+abbrev pub UnitsAreTold : Config → List Event → ℕ → Type 0
+UnitsAreTold c events number =
+    (service : Service) (tei : ℕ) (octets : List ℕ) (frame : Parts) (before behind : List Event) →
+    let e = at number (hears (stream.frame octets)) in
+    let card = after_all (fresh c) before in
+    events ≡ before ++ e ∷ behind → BringsUnit c (state_of service tei (line_at number card)) service tei octets frame →
+    (list_any (is_unit_of service tei) (notes_of (answer e card)) ≡ true) × (contents_in (answer e card) ≡ Some frame.info)
 
 pub units-are-told : Always UnitsAreTold
 unfolding lines.takes_slot

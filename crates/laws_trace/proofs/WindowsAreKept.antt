@@ -37,13 +37,13 @@ use Rattle.laws_trace.proofs.AllGoesAgain.{may-go-where-open}
 use Rattle.laws_trace.proofs.DataAsked.{only-offered}
 use Rattle.laws_trace.proofs.DataGoesOut.{foreign, own-sent, sent_of, sent_with}
 use Rattle.laws_trace.proofs.DataKnown.{IsOpen, none-sent}
-use Rattle.laws_trace.proofs.ObservedLaws.{numbers-now, state-now}
-use Rattle.laws_trace.proofs.ObservedMoves.{known_of}
+use Rattle.laws_trace.proofs.ObservedLaws.{numbers-now, state-now, next-goes-so}
+use Rattle.laws_trace.proofs.ObservedShape.{known_of}
 use Rattle.laws_trace.proofs.OneLink.{frames_given, IsForeign, Goes, event-goes}
 use Rattle.laws_trace.proofs.AgainWatched as again
 use Rattle.laws_trace.proofs.TimersAreTimely.{front-at, config-now}
 use Rattle.laws_trace.proofs.TimersWatched.{Known, nothing_yet, watch}
-use Rattle.laws_trace.specs.States.{is_state}
+use Rattle.laws_trace.proofs.States.{is_state}
 
 -- What is said of what there is holds of it.
 of-some : {X : Type 0} (P : X → Type 0) (o : Option X) (x : X) → o ≡ Some x → IfSome o P → P x
@@ -135,13 +135,29 @@ module _ (c : Config) (events : List Event) (number : ℕ) (ranged : IsInRange c
         few = subst (λ (z : Known). (z.next + 128 - z.acknowledged) % 128 < window c service) (sym same) may.few;
       }
 
+-- Two things of each of some.
+both-so : (P : Type 0) (Q : Sent → Type 0) (send : List ℕ → Option Sent) (frames : List (List ℕ)) → All (λ octets. IfSome (send octets) (λ sent. P)) frames
+    → All (λ octets. IfSome (send octets) Q) frames → All (λ octets. IfSome (send octets) (λ sent. P × Q sent)) frames
+both-so P Q send [] all others = All-nil (λ octets. IfSome (send octets) (λ sent. P × Q sent))
+both-so P Q send (x ∷ xs) all others =
+    All-cons (λ octets. IfSome (send octets) (λ sent. P × Q sent)) x xs
+    (one (send x) (All-head (λ octets. IfSome (send octets) (λ sent. P)) x xs all) (All-head (λ octets. IfSome (send octets) Q) x xs others))
+    (both-so P Q send xs (All-tail (λ octets. IfSome (send octets) (λ sent. P)) x xs all) (All-tail (λ octets. IfSome (send octets) Q) x xs others))
+  where
+    one : (o : Option Sent) → IfSome o (λ sent. P) → IfSome o Q → IfSome o (λ sent. P × Q sent)
+    one None p q = tt
+    one (Some sent) p q = (p, q)
+
 pub windows-are-kept : Always WindowsAreKept
 unfolding lines.takes_slot
 windows-are-kept c events number ranged all within service tei before behind is =
     let front = front-at (fresh c) before (at number next) behind (subst (AreAtLines (fresh c)) is all) in
     let card = after_all (fresh c) before in
     let l = line_at number card in
-    each-may (IsOpen (terms c service tei) (link_of service tei l)) (MayGo c service (view_of c service tei number before).link)
+    let o = (view_of c service tei number before).link in
+    both-so (MayGo c service o) (λ (sent : Sent). sent.ns ≡ o.next) (sent_of c service tei) (frame_in (answer (at number next) card))
+    (each-may (IsOpen (terms c service tei) (link_of service tei l)) (MayGo c service o)
     (sent_of c service tei) (frame_in (answer (at number next) card)) (λ may. may-go-observed c before number ranged front within service tei (may-go-where-open c before number ranged front within service tei may))
     (subst (λ (d : Config). All (λ octets. IfSome (sent_of c service tei octets) (λ sent. IsOpen (terms c service tei) (link_of service tei l))) (frame_in (line_answer d next l)))
-    (sym (config-now c before number ranged front within service tei)) (next-open c ranged l (line-at-end c before number ranged front within) service tei))
+    (sym (config-now c before number ranged front within service tei)) (next-open c ranged l (line-at-end c before number ranged front within) service tei)))
+    (next-goes-so c events number ranged all within service tei before behind is)

@@ -1,21 +1,17 @@
 -- All that is told of a link is acknowledged.
 use Rattle.std.specs.Prelude.{◌≡◌, ◌≤◌, ◌<◌, ℕ, ◌%◌, ◌==◌, Bool, true, false, List, [], ◌∷◌, ◌++◌, fold, flat_map, if◌then◌else◌}
 use Rattle.std.specs.List.{list_any}
-use Rattle.std.specs.Option.{option_map_or}
 use Rattle.lapd_frame.specs.declared.controls.Control.{Control}
 use Rattle.lapd_frame.specs.declared.controls.Control.TheVariants.{Information, ReceiveReady, ReceiveNotReady, Reject}
 use Rattle.lapd_frame.specs.declared.services.Service.{Service}
 use Rattle.lapd_frame.specs.Reading.{reading}
 use Rattle.model_line.specs.declared.config.Config.{Config}
-use Rattle.model_line.specs.Line.{state_of}
 use Rattle.laws_line.specs.Drains.{most_frames}
 use Rattle.laws_line.specs.Heard.{is_data_of}
-use Rattle.model_card.specs.Card.{fresh, line_at}
 use Rattle.model_card.specs.Event.{Event}
-use Rattle.model_card.specs.Run.{after_all}
 use Rattle.laws_card.specs.Among.{AreTakesAt, takes_at}
 use Rattle.laws_trace.specs.ControlFrames.{of_link}
-use Rattle.laws_trace.specs.Deliveries.{nothing_yet, watch}
+use Rattle.laws_trace.specs.Observer.{view_of}
 use Rattle.laws_trace.specs.Trace.{Seen, noted, begun, lost, trace_of, is_up}
 
 -- The N(R) of the frames of a link that begin: of I-frames, RR, RNR and REJ (Q.921 clause 3.5.2.6).
@@ -47,6 +43,5 @@ abbrev pub AllAreAcknowledged : Config → List Event → ℕ → Type 0
 AllAreAcknowledged c events number =
     (service : Service) (tei : ℕ) (before calls : List Event) → events ≡ before ++ calls → AreTakesAt number calls → most_frames c ≤ takes_at number calls →
     let t = trace_of c events number in
-    let count = (fold (watch c service tei) nothing_yet t).count in
-    option_map_or is_up (state_of service tei (line_at number (after_all (fresh c) events))) false ≡ true →
-    0 < count → fold (lost_since service tei) false t ≡ false → IsLast (count % 128) (flat_map (numbers_at c service tei) t)
+    let o = (view_of c service tei number events).link in
+    is_up o.state ≡ true → 0 < o.count → fold (lost_since service tei) false t ≡ false → IsLast (o.count % 128) (flat_map (numbers_at c service tei) t)

@@ -1,20 +1,14 @@
 -- What is to go again goes again.
-use Rattle.std.specs.Prelude.{◌≡◌, ◌≤◌, ◌<◌, ℕ, ◌+◌, ◌-◌, ◌%◌, false, List, ◌∷◌, ◌++◌, length, All, IfSome}
+use Rattle.std.specs.Prelude.{◌≡◌, ◌≤◌, ◌<◌, ℕ, ◌+◌, ◌-◌, ◌%◌, false, List, ◌++◌, length}
 use Rattle.lapd_frame.specs.declared.services.Service.{Service}
-use Rattle.lapd_frame.specs.Reading.{reading}
 use Rattle.model_line.specs.declared.config.Config.{Config}
-use Rattle.model_line.specs.Event.{next}
 use Rattle.model_line.specs.Line.{window}
 use Rattle.laws_line.specs.Drains.{most_frames}
-use Rattle.model_card.specs.Card.{fresh}
-use Rattle.model_card.specs.Event.{Event, at}
-use Rattle.model_card.specs.Machine.{answer}
-use Rattle.model_card.specs.Run.{after_all}
+use Rattle.model_card.specs.Event.{Event}
 use Rattle.laws_card.specs.Among.{AreTakesAt, takes_at}
 use Rattle.laws_trace.specs.DataGoesOut.{Going, none_yet, Reaches}
-use Rattle.laws_trace.specs.LinkFrames.{Sent, sent_in}
 use Rattle.laws_trace.specs.Observer.{Observed, view_of}
-use Rattle.laws_trace.specs.Trace.{frame_in, trace_of}
+use Rattle.laws_trace.specs.Trace.{trace_of}
 
 -- I-frames may go in state 7, while the terminal is not busy, and fewer than k are outstanding (Q.921 clauses 5.6.1 and
 -- 5.6.5).
@@ -32,13 +26,3 @@ AllGoesAgain c events number =
     let o = (view_of c service tei number events).link in
     MayGo c service o →
     (end : Going) × Reaches c service tei none_yet (trace_of c events number) end × (end.gone ≡ length end.contents) × (o.next ≡ end.gone % 128)
-
--- And each I-frame that begins is the one that goes next: so they go again in order, and none is passed over.
-abbrev pub goes_next : Observed → Sent → Type 0
-goes_next o sent = sent.ns ≡ o.next
-
-abbrev pub NextGoes : Config → List Event → ℕ → Type 0
-NextGoes c events number =
-    (service : Service) (tei : ℕ) (before behind : List Event) → events ≡ before ++ at number next ∷ behind →
-    let o = (view_of c service tei number before).link in
-    All (λ octets. IfSome (sent_in service tei (reading c.side octets)) (goes_next o)) (frame_in (answer (at number next) (after_all (fresh c) before)))

@@ -1,31 +1,34 @@
 -- The control frames of a link that go are those that are due.
-use Rattle.std.specs.Prelude.{◌≡◌, ◌≤◌, ℕ, ◌-◌, ◌==◌, ◌&&◌, ◌||◌, not, Bool, true, false, List, [], ◌∷◌, ◌++◌, length, take, fold, flat_map, All, Option, Result, Ok, Err, nat_lt, if◌then◌else◌}
+use Rattle.std.specs.Prelude.{◌≡◌, ◌≤◌, ℕ, ◌-◌, ◌==◌, ◌&&◌, ◌||◌, not, Bool, true, false, List, [], ◌∷◌, ◌++◌, length, take, flat_map, All, Result, Ok, Err, nat_lt, if◌then◌else◌}
 use Rattle.std.specs.Option.{option_map_or}
-use Rattle.model_bits.specs.Stream as stream
 use Rattle.lapd_seq.specs.Numbers.{seq}
 use Rattle.lapd_frame.specs.declared.controls.Control.{Control}
 use Rattle.lapd_frame.specs.declared.controls.Control.TheVariants.{Information, ReceiveReady, ReceiveNotReady, Reject, Sabme, Disc, Ui, Ua, Dm}
 use Rattle.lapd_frame.specs.declared.faults.ReadFault.{ReadFault}
 use Rattle.lapd_frame.specs.declared.services.Service.{Service}
+use Rattle.lapd_frame.specs.declared.timers.Timer.TheVariants.{T200}
 use Rattle.lapd_frame.specs.Grammar.{Parts}
 use Rattle.lapd_frame.specs.Reading.{reading}
 use Rattle.lapd_frame.specs.Services.{sapi_of}
 use Rattle.model_link.specs.declared.frames.ControlFrame.{ControlFrame}
 use Rattle.model_line.specs.declared.config.Config.{Config}
+use Rattle.model_line.specs.Event as line_event
+use Rattle.model_line.specs.Event.{hears, expiry, request, Answer}
 use Rattle.model_line.specs.Line.{has_tei}
-use Rattle.model_line.specs.Heard.{heard_side}
 use Rattle.laws_link.specs.Waiting.{as_response, as_command}
 use Rattle.laws_line.specs.Drains.{most_frames}
 use Rattle.laws_line.specs.Frames.{lost_in}
 use Rattle.laws_line.specs.Requests.{deactivates}
+use Rattle.laws_line.specs.Share.{is_granted}
 use Rattle.model_card.specs.Card.{Card, fresh, line_at}
 use Rattle.model_card.specs.Event.{Event}
 use Rattle.model_card.specs.Machine.{after}
 use Rattle.model_card.specs.Run.{Moment, moments, after_all}
 use Rattle.laws_card.specs.Among.{AreTakesAt, takes_at}
-use Rattle.laws_trace.specs.Deliveries.{Standing, at_first, stand}
-use Rattle.laws_trace.specs.States.{expired_of, one_more, is_state, state_before, state_after, differ}
-use Rattle.laws_trace.specs.Trace.{is_up, Seen, heard, begun, granted, seen_in, trace, trace_of}
+use Rattle.laws_trace.specs.LinkFrames.{frame_of, its_frame}
+use Rattle.laws_trace.specs.Managing.{is_on}
+use Rattle.laws_trace.specs.Observer.{Observed, View, views, view_of}
+use Rattle.laws_trace.specs.Trace.{is_own, is_up, Seen, begun, frames_begun, seen_in, trace}
 
 -- What a frame of the link of a service with a TEI shows.
 abbrev pub of_link : {X : Type 0} → Service → ℕ → (Bool → Control → List X) → Result Parts ReadFault → List X
@@ -45,92 +48,83 @@ controls_at c service tei other = []
 
 -- A receipt is RNR while layer 3 is busy, and RR while it is not; its N(R) is the number of contents told of the link
 -- since its numbers began, modulo 128 (Q.921 clauses 3.5.2.6, 3.6.6, 3.6.8 and 5.6.6).
-abbrev pub receipt : Standing → Bool → Control
-receipt now pf = if now.busy then ReceiveNotReady (seq now.told.count) pf else ReceiveReady (seq now.told.count) pf
+abbrev pub receipt : Observed → Bool → Control
+receipt o pf = if o.own_busy then ReceiveNotReady (seq o.count) pf else ReceiveReady (seq o.count) pf
 
-abbrev pub polled : Standing → Bool → List ControlFrame
+abbrev pub polled : Observed → Bool → List ControlFrame
 polled now p = if p then as_response (receipt now true) else []
 
--- In states 7 and 8 the first I-frame that is rejected is answered by REJ with F = P (clause 5.8.1).
-abbrev pub to_information : Bool → Standing → Standing → List ControlFrame
-to_information p was now = if now.rejected && not was.rejected then as_response (Reject (seq now.told.count) p) else polled now p
+-- What answers a frame, as the link stands before and behind it: in states 7 and 8 REJ with F = P the first I-frame that
+-- is rejected, and a receipt each other one with P=1, and each command RR, RNR and REJ with P=1. An I-frame whose
+-- information is longer than N201 octets has no answer (clause 5.8.5).
+abbrev pub answer_up : Observed → Observed → Bool → Bool → Control → List ControlFrame
+-- clauses 5.6.2 and 5.8.1
+answer_up was now long command (Information ns nr p) =
+    if long then [] else if now.rejected && not was.rejected then as_response (Reject (seq now.count) p) else polled now p
+-- clauses 5.6.3 to 5.6.5 and 5.6.7
+answer_up was now long command (ReceiveReady nr p) = polled now (command && p)
+answer_up was now long command (ReceiveNotReady nr p) = polled now (command && p)
+answer_up was now long command (Reject nr p) = polled now (command && p)
+answer_up was now long command other = []
 
-abbrev pub while_up : ℕ → List ControlFrame → List ControlFrame
-while_up state frames = if is_up state then frames else []
-
--- What answers a frame, as the link stands before and behind it, by its state before, whose number `Card::state` tells.
--- An I-frame whose information is longer than N201 octets has no answer (clause 5.8.5).
-abbrev pub answer_to : Standing → Standing → ℕ → Bool → Bool → Control → List ControlFrame
+abbrev pub answer_to : Config → Observed → Observed → Parts → Control → List ControlFrame
 -- clauses 5.5.1.2, 5.5.5 and 5.7
-answer_to was now state command too_long (Sabme p) = as_response (if state == 6 then Dm p else Ua p)
+answer_to c was now f (Sabme p) = as_response (if was.state == 6 then Dm p else Ua p)
 -- clauses 5.5.3.2, 5.5.4 and 5.5.5
-answer_to was now state command too_long (Disc p) = as_response (if state == 4 || state == 5 then Dm p else Ua p)
--- clauses 5.6.2 to 5.6.5, 5.6.7 and 5.8.1
-answer_to was now state command too_long (Information ns nr p) = if too_long then [] else while_up state (to_information p was now)
-answer_to was now state command too_long (ReceiveReady nr p) = while_up state (polled now (command && p))
-answer_to was now state command too_long (ReceiveNotReady nr p) = while_up state (polled now (command && p))
-answer_to was now state command too_long (Reject nr p) = while_up state (polled now (command && p))
-answer_to was now state command too_long other = []
+answer_to c was now f (Disc p) = as_response (if was.state == 4 || was.state == 5 then Dm p else Ua p)
+answer_to c was now f other = if is_up was.state then answer_up was now (nat_lt c.n201 (length f.info)) f.address.command other else []
 
 -- Layer 3 comes to be busy in states 7 and 8, which RNR says, or is so no more, and RR says it (clause 5.6.6).
-abbrev pub changed : Standing → Standing → List ControlFrame
-changed was now = if (if was.busy then not now.busy else now.busy) then as_response (receipt now false) else []
+abbrev pub changed : Observed → Observed → List ControlFrame
+changed was now = if is_up now.state && (if was.own_busy then not now.own_busy else now.own_busy) then as_response (receipt now false) else []
 
-abbrev pub answers_to_frame : Config → Service → ℕ → Standing → Standing → ℕ → Result Parts ReadFault → List ControlFrame
-answers_to_frame c service tei was now state (Ok frame) =
-    of_link service tei (λ command. answer_to was now state command (nat_lt c.n201 (length frame.info))) (Ok frame)
-answers_to_frame c service tei was now state (Err fault) = []
-
-abbrev pub answers_at : Config → Service → ℕ → Standing → Standing → ℕ → Seen → List ControlFrame
-answers_at c service tei was now state (heard (stream.frame octets)) = answers_to_frame c service tei was now state (reading (heard_side c) octets)
-answers_at c service tei was now state (granted r) = while_up state (changed was now)
-answers_at c service tei was now state other = []
+abbrev pub answers : Config → Service → ℕ → Observed → Observed → line_event.Event → Answer → List ControlFrame
+answers c service tei was now (hears e) a = option_map_or (λ (f : Parts). answer_to c was now f f.control) (its_frame service tei (frame_of c e)) []
+answers c service tei was now (request r) a = if is_granted a then changed was now else []
+answers c service tei was now other a = []
 
 -- A state that awaits the answer to a command puts it, with P=1: SABME state 5, DISC state 6, and state 8 an enquiry
 -- (clauses 5.5.1.1, 5.5.3.2 and 5.6.7); where the link comes to the state, and again where T200 expires and leaves it
 -- there (clauses 5.5.1.3, 5.5.3.3, 5.6.7 and 5.10.3).
-abbrev pub command_of : Standing → Option ℕ → List ControlFrame
-command_of now state =
-    if is_state 5 state then as_command (Sabme true)
-    else if is_state 6 state then as_command (Disc true)
-    else if is_state 8 state then as_command (receipt now true)
+abbrev pub command_of : Observed → List ControlFrame
+command_of now =
+    if now.state == 5 then as_command (Sabme true)
+    else if now.state == 6 then as_command (Disc true)
+    else if now.state == 8 then as_command (receipt now true)
     else []
 
-abbrev pub is_time : Service → ℕ → ℕ → Moment → Bool
-is_time service tei number m =
-    differ (state_before service tei number m) (state_after service tei number m)
-    || (m.event.line == number && option_map_or one_more (expired_of service tei m.event.what) 0 == 1)
+abbrev pub expires : Service → ℕ → line_event.Event → Bool
+expires service tei (expiry (T200 of by)) = is_own service tei of by
+expires service tei other = false
 
--- So these are due in a moment, an answer before a command, except the last of them that the answer counts as lost.
-abbrev pub put_in : Config → Service → ℕ → ℕ → Standing → Standing → Moment → List ControlFrame
-put_in c service tei number was now m =
-    option_map_or (λ state. flat_map (answers_at c service tei was now state) (seen_in number m)) (state_before service tei number m) []
-    ++ (if is_time service tei number m then command_of now (state_after service tei number m) else [])
+-- So these are due in a moment while the TEI is on the line, an answer before a command, except the last of them that
+-- the answer counts as lost.
+abbrev pub put_in : Config → Service → ℕ → Observed → Observed → Moment → List ControlFrame
+put_in c service tei was now m =
+    answers c service tei was now m.event.what m.answer
+    ++ (if not (was.state == now.state) || expires service tei m.event.what then command_of now else [])
 
-abbrev pub due_in : Config → Service → ℕ → ℕ → Standing → Standing → Moment → List ControlFrame
+abbrev pub due_in : Config → Service → ℕ → ℕ → Observed → Observed → Moment → List ControlFrame
 due_in c service tei number was now m =
-    let frames = put_in c service tei number was now m in take (length frames - lost_in m.answer) frames
+    let frames = if m.event.line == number && not (was.state == 1) then put_in c service tei was now m else [] in
+    take (length frames - lost_in m.answer) frames
 
 -- An acknowledgement that goes by itself in states 7 and 8 is due as it begins: RR with F=0, while layer 3 is not busy
 -- (clause 5.6.3.1).
-abbrev pub acknowledged_by : Standing → Bool → Control → List ControlFrame
-acknowledged_by now command (ReceiveReady nr pf) = if now.busy || (command || pf) then [] else as_response (receipt now false)
+abbrev pub acknowledged_by : Observed → Bool → Control → List ControlFrame
+acknowledged_by now command (ReceiveReady nr pf) = if now.own_busy || (command || pf) then [] else as_response (receipt now false)
 acknowledged_by now command other = []
 
-abbrev pub acknowledged_at : Config → Service → ℕ → Standing → ℕ → Seen → List ControlFrame
-acknowledged_at c service tei now state (begun octets) = while_up state (of_link service tei (acknowledged_by now) (reading c.side octets))
-acknowledged_at c service tei now state other = []
-
-abbrev pub may_go_in : Config → Service → ℕ → ℕ → Standing → Standing → Moment → List ControlFrame
+abbrev pub may_go_in : Config → Service → ℕ → ℕ → Observed → Observed → Moment → List ControlFrame
 may_go_in c service tei number was now m =
     due_in c service tei number was now m
-    ++ option_map_or (λ state. flat_map (acknowledged_at c service tei now state) (seen_in number m)) (state_before service tei number m) []
+    ++ (if is_up was.state then flat_map (λ octets. of_link service tei (acknowledged_by now) (reading c.side octets)) (frames_begun (seen_in number m)) else [])
 
--- Those of a run, by how the link stands before and behind each moment, to a watcher.
-unfoldable pub along : Config → Service → ℕ → ℕ → (Standing → Standing → Moment → List ControlFrame) → Standing → List Moment → List ControlFrame
-along c service tei number by w [] = []
-along c service tei number by w (m ∷ ms) =
-    let now = fold (stand c service tei) w (seen_in number m) in by w now m ++ along c service tei number by now ms
+-- Those of a run, by how the link stands before and behind each moment, to an observer.
+unfoldable pub along : Config → Service → ℕ → ℕ → (Observed → Observed → Moment → List ControlFrame) → View → List Moment → List ControlFrame
+along c service tei number by v [] = []
+along c service tei number by v (m ∷ ms) =
+    let now = views c service tei number v m in by v.link now.link m ++ along c service tei number by now ms
 
 -- One list is another from which some things may be left out.
 pub data IsPart {X : Type 0} : List X → List X → Type 0 where
@@ -144,10 +138,10 @@ abbrev pub OnlyDueGo : Config → List Event → ℕ → Type 0
 OnlyDueGo c events number =
     (service : Service) (tei : ℕ) (before since : List Event) → events ≡ before ++ since →
     let card = after_all (fresh c) before in
-    let w = fold (stand c service tei) at_first (trace_of c before number) in
-    has_tei tei (line_at number card) ≡ false →
+    let v = view_of c service tei number before in
+    is_on tei v.teis ≡ false →
     IsPart (flat_map (controls_at c service tei) (trace number (moments card since)))
-    (along c service tei number (may_go_in c service tei number) w (moments card since))
+    (along c service tei number (may_go_in c service tei number) v (moments card since))
 
 -- A TEI stays on the line.
 unfoldable pub StaysOn : ℕ → ℕ → Card → List Event → Type 0
@@ -168,7 +162,6 @@ AllDueGo c events number =
     (service : Service) (tei : ℕ) (before meanwhile calls : List Event) → events ≡ before ++ (meanwhile ++ calls) →
     AreTakesAt number calls → most_frames c ≤ takes_at number calls →
     let card = after_all (fresh c) before in
-    let w = fold (stand c service tei) at_first (trace_of c before number) in
     StaysOn number tei card meanwhile → IsNotDeactivated number service tei meanwhile →
-    IsPart (along c service tei number (due_in c service tei number) w (moments card meanwhile))
+    IsPart (along c service tei number (due_in c service tei number) (view_of c service tei number before) (moments card meanwhile))
     (flat_map (controls_at c service tei) (trace number (moments card (meanwhile ++ calls))))

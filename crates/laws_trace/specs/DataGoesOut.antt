@@ -10,7 +10,7 @@ use Rattle.model_line.specs.declared.config.Config.{Config}
 use Rattle.model_line.specs.Request as asked
 use Rattle.model_line.specs.Request.{Request}
 use Rattle.model_card.specs.Event.{Event}
-use Rattle.laws_trace.specs.Deliveries.{Watched, nothing_yet, begins, watch}
+use Rattle.laws_trace.specs.Counting.{Watched, nothing_yet, begins, watch}
 use Rattle.laws_trace.specs.LinkFrames.{Sent, sent_in}
 use Rattle.laws_trace.specs.Trace.{is_own, Seen, begun, noted, granted, trace_of}
 

@@ -1,6 +1,6 @@
 -- The trace of a line, and what is promised of it.
 pub mod Trace
-pub mod States
+pub mod Counting
 pub mod LinkFrames
 pub mod Observer
 pub mod Configurations
@@ -31,7 +31,6 @@ pub mod WorkedTurns
 pub mod Deliveries
 pub mod DataGoesOut
 pub mod WorkedData
-pub mod WorkedBusy
 pub mod WorkedAcknowledged
 pub mod WorkedDeliveries
 pub mod WorkedControls
@@ -44,8 +43,6 @@ pub mod WorkedWindows
 pub mod RoomsAreTold
 pub mod WorkedRooms
 pub mod UnitsAreSpelled
-pub mod UnitsAreTold
-pub mod DataIsForLinks
 pub mod WorkedUnitsTold
 pub mod CountersCount
 pub mod WorkedCounters

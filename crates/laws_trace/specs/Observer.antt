@@ -14,7 +14,7 @@ use Rattle.lapd_seq.specs.declared.numbers.Seq.{Seq}
 use Rattle.model_line.specs.declared.config.Config.{Config}
 use Rattle.model_line.specs.Event as line_event
 use Rattle.model_line.specs.Event.{hears, expiry, request, Answer}
-use Rattle.model_line.specs.Request.{Request, Establish, Release, Deactivate}
+use Rattle.model_line.specs.Request.{Request, Establish, Release, Deactivate, SetBusy, ClearBusy}
 use Rattle.laws_line.specs.Share.{is_granted}
 use Rattle.model_card.specs.Card.{fresh}
 use Rattle.model_card.specs.Event.{Event, at}
@@ -24,11 +24,16 @@ use Rattle.laws_trace.specs.LinkFrames.{frame_of, its_frame, malformed, Sent, se
 use Rattle.laws_trace.specs.Managing.{Managed, none_on, is_on, led}
 use Rattle.laws_trace.specs.Trace.{is_own, is_up, frame_in}
 
--- The state (Q.921 annex B: 1 where the TEI is not on the line); the N(R) that was heard last, to which V(A) is set; the
--- N(S) of the I-frame that goes next, which is V(S); and whether the terminal is busy. Of state 5 whether layer 3 asked for
--- it, and whether I-frames were outstanding as the link came there; and of states 5, 6 and 8 how often T200 expired there.
+-- The state (Q.921 annex B: 1 where the TEI is not on the line). Of this side how many contents were told since the
+-- numbers began, which is V(R); whether layer 3 is busy; and whether an I-frame was rejected, and none taken since. Of
+-- the other side the N(R) that was heard last, to which V(A) is set; the N(S) of the I-frame that goes next, which is
+-- V(S); and whether the terminal is busy. Of state 5 whether layer 3 asked for it, and whether I-frames were outstanding
+-- as the link came there; and of states 5, 6 and 8 how often T200 expired there.
 pub record Observed : Type 0 where
   pub state : ℕ
+  pub count : ℕ
+  pub own_busy : Bool
+  pub rejected : Bool
   pub acknowledged : ℕ
   pub next : ℕ
   pub busy : Bool
@@ -40,6 +45,9 @@ abbrev pub in_state : ℕ → Observed
 in_state n =
     record {
       state = n;
+      count = 0;
+      own_busy = false;
+      rejected = false;
       acknowledged = 0;
       next = 0;
       busy = false;
@@ -57,9 +65,18 @@ is_outstanding o = if o.state == 5 then o.outstanding else not (o.next == o.ackn
 abbrev pub awaits : Observed → Bool
 awaits o = o.state == 5 || o.state == 6 || o.state == 8 || (o.state == 7 && (o.busy || not (o.next == o.acknowledged)))
 
--- A link is established anew (clause 5.7.2).
+-- A link is established anew (clause 5.7.2). What was told, and whether layer 3 is busy, holds until the numbers begin.
 abbrev pub anew : Observed → Observed
 anew o = record o { state = 5; acknowledged = 0; next = 0; busy = false; asked = false; outstanding = not (o.next == o.acknowledged); expiries = 0 }
+
+-- The information of an I-frame is taken, and told, where its N(S) is the next, V(R), and else the frame is rejected;
+-- neither is it while layer 3 is busy (clauses 5.6.2, 5.6.6 and 5.8.1).
+abbrev pub is_next : Observed → Seq → Bool
+is_next o ns = not o.own_busy && ns.value == o.count % 128
+
+abbrev pub takes : Seq → Observed → Observed
+takes ns o =
+    record o { count = if is_next o ns then o.count + 1 else o.count; rejected = if is_next o ns then false else if not o.own_busy then true else o.rejected }
 
 -- N(R) is invalid where it is none of V(A) to V(S), counted upwards from V(A) (clauses 3.5.2.3 and 5.8.2). That of an
 -- I-frame acknowledges;
@@ -91,8 +108,8 @@ while_up long command (Disc p) o = in_state 4
 while_up long command (Dm f) o = if o.state == 8 || not f then anew o else o
 -- clause 5.8.6
 while_up long command (Frmr f) o = anew o
--- clauses 5.6.3, 5.8.2 and 5.8.5
-while_up long command (Information ns nr p) o = if long then anew o else numbered nr o
+-- clauses 5.6.2, 5.8.1, 5.8.2 and 5.8.5
+while_up long command (Information ns nr p) o = if long then anew o else numbered nr (takes ns o)
 while_up long command (ReceiveReady nr pf) o = receipt (not command && pf) false false nr o
 while_up long command (ReceiveNotReady nr pf) o = receipt (not command && pf) false true nr o
 while_up long command (Reject nr pf) o = receipt (not command && pf) true false nr o
@@ -114,11 +131,13 @@ by_heard c service tei e o =
     if is_up o.state && is_some (malformed c service tei e) then anew o else option_map_or (by_frame c o) (its_frame service tei (frame_of c e)) o
 
 -- What layer 3 asks, and is granted: that the link is established, or released (clauses 5.5.1.1 and 5.5.3.1); or, as its line
--- is down, deactivated (annex B).
+-- is down, deactivated (annex B); and that it is busy, or no more (clause 5.6.6).
 abbrev pub by_request : Service → ℕ → Request → Observed → Observed
 by_request service tei (Establish of by) o = if is_own service tei of by && o.state == 4 then record (in_state 5) { asked = true } else o
 by_request service tei (Release of by) o = if is_own service tei of by && is_up o.state then in_state 6 else o
 by_request service tei (Deactivate of by) o = if is_own service tei of by then in_state 4 else o
+by_request service tei (SetBusy of by) o = if is_own service tei of by then record o { own_busy = true } else o
+by_request service tei (ClearBusy of by) o = if is_own service tei of by then record o { own_busy = false } else o
 by_request service tei other o = o
 
 -- What runs out. The timer that runs in state 7 leads to an enquiry, in state 8 (clauses 5.6.7 and 5.10.3). In states 5,

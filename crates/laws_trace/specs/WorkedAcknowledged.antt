@@ -1,5 +1,6 @@
 -- Worked values: the numbers of frames that begin, and ones that break the law.
-use Rattle.std.specs.Prelude.{◌≡◌, ℕ, List, [], ◌∷◌, ◌++◌, true, false, fold, flat_map, refl}
+use Rattle.std.specs.Prelude.{◌≡◌, ℕ, List, [], ◌∷◌, ◌++◌, true, false, Some, fold, flat_map, refl}
+use Rattle.lapd_frame.specs.declared.notes.Note.TheVariants.{Data}
 use Rattle.lapd_frame.specs.declared.services.Service.TheVariants.{Call, Packet}
 use Rattle.lapd_frame.specs.Reading.{reading, header_of, control_of, unnumbered_of, supervisory_of}
 use Rattle.lapd_seq.specs.Circle.{named, distance_of}
@@ -10,8 +11,8 @@ use Rattle.model_card.specs.Event.{Event}
 use Rattle.model_card.specs.Run.{moments}
 use Rattle.laws_card.specs.Worked.{usual, up}
 use Rattle.laws_trace.specs.AllAreAcknowledged.{numbers_at, lost_since, IsLast}
-use Rattle.laws_trace.specs.Trace.{begun, lost, trace_of}
-use Rattle.laws_trace.specs.WorkedDeliveries.{i_frame, information}
+use Rattle.laws_trace.specs.Trace.{Seen, noted, begun, lost, trace_of}
+use Rattle.laws_trace.specs.WorkedDeliveries.{i_frame}
 use Rattle.laws_trace.specs.WorkedUnits.{calls}
 
 -- An I-frame is told; behind the UA, which has no N(R), RR with N(R)=1 begins. The packet link of the same TEI has none.
@@ -34,11 +35,14 @@ two_numbers : flat_map (numbers_at usual Call 64) (begun (0x00 ∷ 0x81 ∷ 0x01
 unfolding seq reading header_of control_of unnumbered_of supervisory_of
 two_numbers = refl
 
+abbrev data_told : Seen
+data_told = noted (Data Call 64 ∷ []) (Some (0x41 ∷ []))
+
 -- A frame that is told as lost counts from where data was told last.
-lost_then : fold (lost_since Call 64) false (information 0 0x41 ++ lost 1 ∷ []) ≡ true
+lost_then : fold (lost_since Call 64) false (data_told ∷ lost 0 ∷ lost 1 ∷ []) ≡ true
 lost_then = refl
 
-not_lost : fold (lost_since Call 64) false (lost 1 ∷ information 0 0x41) ≡ false
+not_lost : fold (lost_since Call 64) false (lost 1 ∷ data_told ∷ lost 0 ∷ []) ≡ false
 not_lost = refl
 
 -- Where none begins, or the last has another number, the law is broken.

@@ -1,5 +1,5 @@
 -- Worked values: control frames that are due, and that begin; and some that break the laws.
-use Rattle.std.specs.Prelude.{◌≡◌, List, [], ◌∷◌, ◌++◌, true, false, Bool, fold, flat_map, None, refl, ℕ}
+use Rattle.std.specs.Prelude.{◌≡◌, List, [], ◌∷◌, ◌++◌, true, false, Bool, flat_map, refl, ℕ}
 use Rattle.std.proofs.Common.{ap, sym, ◌∙◌}
 use Rattle.model_bits.specs.Stream as stream
 use Rattle.lapd_frame.specs.declared.controls.Control.{Control}
@@ -12,18 +12,18 @@ use Rattle.lapd_seq.specs.Numbers.{seq}
 use Rattle.lapd_tei.specs.Events as teis
 use Rattle.laws_link.specs.Waiting.{as_response, as_command}
 use Rattle.model_link.specs.declared.frames.ControlFrame.{ControlFrame}
-use Rattle.model_line.specs.Event.{expiry}
+use Rattle.model_line.specs.Event.{hears, expiry, nothing, told}
 use Rattle.model_line.specs.Machine as lines
 use Rattle.model_line.specs.Request.{Assign, Remove, Establish, Release, SetBusy, ClearBusy, Deactivate}
 use Rattle.model_card.specs.Card.{fresh}
 use Rattle.model_card.specs.Event.{Event, at}
 use Rattle.model_card.specs.Run.{moments}
 use Rattle.laws_card.specs.Worked.{usual, on_0, up}
-use Rattle.laws_trace.specs.ControlFrames.{controls_at, answer_to, answers_at, due_in, may_go_in, along, IsPart, none, left_out, taken}
-use Rattle.laws_trace.specs.Deliveries.{Standing, at_first, stand}
-use Rattle.laws_trace.specs.Trace.{Seen, heard, noted, lost, begun, trace_of}
+use Rattle.laws_trace.specs.ControlFrames.{controls_at, answer_to, answers, due_in, may_go_in, along, IsPart, none, left_out, taken}
+use Rattle.laws_trace.specs.Observer.{Observed, at_first, in_state}
+use Rattle.laws_trace.specs.Trace.{begun, trace_of}
 use Rattle.laws_trace.specs.WorkedDeliveries.{i_frame}
-use Rattle.laws_trace.specs.WorkedUnits.{calls}
+use Rattle.laws_trace.specs.WorkedUnits.{calls, comes}
 
 abbrev due : List Event → List ControlFrame
 due events = along usual Call 64 0 (due_in usual Call 64 0) at_first (moments (fresh usual) events)
@@ -58,10 +58,14 @@ unfolding moments lines.after lines.answer lines.takes_slot teis.course teis.ref
 gone_with_its_line = refl
 
 -- In state 6 SABME is answered by DM, and in state 4 DISC; XID by nothing.
-by_dm : answer_to at_first at_first 6 true false (Sabme true) ++ answer_to at_first at_first 4 true false (Disc false) ≡ as_response (Dm true) ++ as_response (Dm false)
+abbrev answers_in : ℕ → Control → List ControlFrame
+answers_in state control =
+    answer_to usual (in_state state) (in_state state) (record { address = record { sapi = 0; command = true; tei = 64 }; control = control; info = [] }) control
+
+by_dm : answers_in 6 (Sabme true) ++ answers_in 4 (Disc false) ≡ as_response (Dm true) ++ as_response (Dm false)
 by_dm = refl
 
-by_none : answer_to at_first at_first 7 true false (Xid true) ≡ []
+by_none : answers_in 7 (Xid true) ≡ []
 by_none = refl
 
 -- An I-frame is told, and behind the UA its acknowledgement goes by itself: RR with N(R)=1, which may go as it begins.
@@ -117,18 +121,20 @@ four_due = refl
 
 -- An I-frame with N(S)=1 and P=0, of which nothing is told, is answered by REJ with N(R)=0 in state 7, and by nothing
 -- in state 5; a second one by nothing.
-abbrev out_of_sequence : List Seen
-out_of_sequence = heard (stream.frame (0x00 ∷ 0x81 ∷ 0x02 ∷ 0x00 ∷ 0x41 ∷ [])) ∷ noted [] None ∷ lost 0 ∷ []
+abbrev out_of_sequence : Event
+out_of_sequence = comes (0x00 ∷ 0x81 ∷ 0x02 ∷ 0x00 ∷ 0x41 ∷ [])
 
-abbrev once_rejected : Standing
-once_rejected = fold (stand usual Call 64) at_first out_of_sequence
+abbrev rejected : Observed
+rejected = record (in_state 7) { rejected = true }
 
-rej_due : flat_map (answers_at usual Call 64 at_first once_rejected 7) out_of_sequence ≡ as_response (Reject (seq 0) false)
+abbrev answers_it : Observed → Observed → List ControlFrame
+answers_it was now = answers usual Call 64 was now out_of_sequence.what (told nothing)
+
+rej_due : answers_it (in_state 7) rejected ≡ as_response (Reject (seq 0) false)
 unfolding seq reading header_of control_of unnumbered_of supervisory_of
 rej_due = refl
 
-none_due : flat_map (answers_at usual Call 64 at_first once_rejected 5) out_of_sequence
-    ++ flat_map (answers_at usual Call 64 once_rejected (fold (stand usual Call 64) once_rejected out_of_sequence) 7) out_of_sequence ≡ []
+none_due : answers_it (in_state 5) (in_state 5) ++ answers_it rejected rejected ≡ []
 unfolding seq reading header_of control_of unnumbered_of supervisory_of
 none_due = refl
 
@@ -137,7 +143,7 @@ abbrev of_eight : List ℕ
 of_eight = 1 ∷ 2 ∷ 3 ∷ 4 ∷ 5 ∷ 6 ∷ 7 ∷ 8 ∷ []
 
 abbrev answers_poll : List ℕ → List ControlFrame
-answers_poll info = answers_at (record usual { n201 = 8 }) Call 64 at_first at_first 7 (heard (stream.frame (0x00 ∷ 0x81 ∷ 0x00 ∷ 0x01 ∷ info)))
+answers_poll info = answers (record usual { n201 = 8 }) Call 64 (in_state 7) (in_state 7) (hears (stream.frame (0x00 ∷ 0x81 ∷ 0x00 ∷ 0x01 ∷ info))) (told nothing)
 
 eight_answered : answers_poll of_eight ≡ as_response (ReceiveReady (seq 0) true)
 unfolding seq reading header_of control_of unnumbered_of supervisory_of
@@ -146,6 +152,11 @@ eight_answered = refl
 nine_unanswered : answers_poll (0 ∷ of_eight) ≡ []
 unfolding seq reading header_of control_of unnumbered_of supervisory_of
 nine_unanswered = refl
+
+-- A poll is answered by RNR while layer 3 is busy.
+busy_answered : answer_to usual (record (in_state 7) { own_busy = true }) (record (in_state 7) { own_busy = true })
+    (record { address = record { sapi = 0; command = true; tei = 64 }; control = ReceiveReady (seq 0) true; info = [] }) (ReceiveReady (seq 0) true) ≡ as_response (ReceiveNotReady (seq 0) true)
+busy_answered = refl
 
 -- Where DM begins in place of the UA that is due, both laws are broken; where nothing does, the second one is.
 dm_begins : controls_at usual Call 64 (begun (0x00 ∷ 0x81 ∷ 0x1F ∷ [])) ≡ as_response (Dm true)
@@ -199,5 +210,5 @@ sabme_without_p part =
     alone (record { command = true; control = Sabme false }) (record { command = true; control = Sabme true })
     (λ e. let same : false ≡ true = ap (λ (f : ControlFrame). has_p f.control) e in cc same) _ _ part refl refl
 
-answered_in_4 : IsPart (as_response (ReceiveReady (seq 0) true)) (answer_to at_first at_first 4 true false (ReceiveReady (seq 0) true)) → ⊥
+answered_in_4 : IsPart (as_response (ReceiveReady (seq 0) true)) (answers_in 4 (ReceiveReady (seq 0) true)) → ⊥
 answered_in_4 part = no_other _ _ part (record { command = false; control = ReceiveReady (seq 0) true }) refl refl

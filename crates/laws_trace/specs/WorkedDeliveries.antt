@@ -1,84 +1,100 @@
--- Worked values: what a watcher of a link counts, and traces that break the law.
-use Rattle.std.specs.Prelude.{◌≡◌, ℕ, ◌*◌, List, [], ◌∷◌, ◌++◌, take, Some, None, fold, refl}
-use Rattle.std.specs.Option.{option_map_or}
-use Rattle.std.proofs.Common.{ap, ◌∙◌}
-use Rattle.model_bits.specs.Stream as stream
-use Rattle.lapd_frame.specs.declared.notes.ErrorCode.TheVariants.{F}
-use Rattle.lapd_frame.specs.declared.notes.Note.{Note}
-use Rattle.lapd_frame.specs.declared.notes.Note.TheVariants.{EstablishIndication, Error, Data}
-use Rattle.lapd_frame.specs.declared.services.Service.TheVariants.{Call}
+-- Worked values: which I-frames are taken, and told; and answers that break the law.
+use Rattle.std.specs.Prelude.{◌≡◌, ℕ, List, [], ◌∷◌, ◌++◌, true, false, None, Some, refl}
+use Rattle.lapd_frame.specs.declared.controls.Control.TheVariants.{Information}
+use Rattle.lapd_frame.specs.declared.notes.Note.TheVariants.{Data}
+use Rattle.lapd_frame.specs.declared.services.Service.TheVariants.{Call, Packet}
 use Rattle.lapd_frame.specs.Grammar.{Parts}
-use Rattle.lapd_frame.specs.Reading.{reading, header_of, control_of, unnumbered_of}
-use Rattle.lapd_seq.specs.Numbers.{seq}
+use Rattle.lapd_frame.specs.Reading.{reading, header_of, control_of, unnumbered_of, supervisory_of}
 use Rattle.lapd_seq.specs.Circle.{named, distance_of}
+use Rattle.lapd_seq.specs.Numbers.{seq}
 use Rattle.lapd_tei.specs.Events as teis
+use Rattle.model_line.specs.Event.{nothing, told}
 use Rattle.model_line.specs.Machine as lines
+use Rattle.model_line.specs.Request.{SetBusy, ClearBusy}
 use Rattle.model_card.specs.Card.{fresh}
 use Rattle.model_card.specs.Event.{Event}
+use Rattle.model_card.specs.Machine.{answer}
 use Rattle.model_card.specs.Run.{moments, after_all}
+use Rattle.laws_line.specs.Heard.{notes_of, contents_in}
 use Rattle.laws_card.specs.Worked as worked
-use Rattle.laws_card.specs.Worked.{usual}
-use Rattle.laws_trace.specs.Deliveries.{nothing_yet, number_in, watch, IsHeard, IsTold}
-use Rattle.laws_trace.specs.Trace.{Seen, heard, noted, lost, trace, trace_of}
+use Rattle.laws_card.specs.Worked.{usual, on_0}
+use Rattle.laws_trace.specs.Deliveries.{IsTold}
+use Rattle.laws_trace.specs.Managing.{none_on}
+use Rattle.laws_trace.specs.Observer.{View, in_state}
+use Rattle.laws_trace.specs.WorkedObserver.{link_after}
 use Rattle.laws_trace.specs.WorkedUnits.{comes}
 
--- A frame of TEI 64, and what is told of it: SABME, and an I-frame by its N(S).
-abbrev pub sabme : List Note → List Seen
-sabme notes = heard (stream.frame (0x00 ∷ 0x81 ∷ 0x7F ∷ [])) ∷ noted notes None ∷ lost 0 ∷ []
-
-abbrev pub information : ℕ → ℕ → List Seen
-information ns n = heard (stream.frame (0x00 ∷ 0x81 ∷ 2 * ns ∷ 0x00 ∷ n ∷ [])) ∷ noted (Data Call 64 ∷ []) (Some (n ∷ [])) ∷ lost 0 ∷ []
-
-abbrev pub up : List Seen
-up = sabme (EstablishIndication Call 64 ∷ [])
-
--- Two contents are counted; a SABME that is told ends the count, and one that is not told (in states 5 and 6) does not.
-two : (fold (watch usual Call 64) nothing_yet (up ++ information 0 0xAB ++ information 1 0xCD)).count ≡ 2
-unfolding reading header_of control_of unnumbered_of
-two = refl
-
-none_again : (fold (watch usual Call 64) nothing_yet (up ++ information 0 0xAB ++ sabme (Error Call 64 F ∷ []))).count ≡ 0
-unfolding reading header_of control_of unnumbered_of
-none_again = refl
-
-still_one : (fold (watch usual Call 64) nothing_yet (up ++ information 0 0xAB ++ sabme [])).count ≡ 1
-unfolding reading header_of control_of unnumbered_of
-still_one = refl
-
--- What is told with no frame breaks the law; so does an I-frame that leaves a gap.
-unheard : IsHeard Call 64 nothing_yet (Data Call 64 ∷ []) (Some (0xAB ∷ [])) → ⊥
-unheard h = cc ((h.data_is refl).heard)
-
-gap : IsHeard Call 64 (fold (watch usual Call 64) nothing_yet (up ++ take 1 (information 1 0xAB))) (Data Call 64 ∷ []) (Some (0xAB ∷ [])) → ⊥
-unfolding seq reading header_of control_of unnumbered_of
-gap h =
-    let x = h.data_is refl in
-    let apart : Some 1 ≡ Some 0 = ap (λ o. option_map_or (λ (f : Parts). number_in f.control) o None) x.heard ∙ x.control in
-    cc apart
-
--- An I-frame with N(S)=0 that is heard on a link that was just established is told, in its moment; where it is not, the
--- law is broken.
+-- I-frames of TEI 64 with N(S) 0 and 1, and SABME.
 abbrev pub i_frame : Event
 i_frame = comes (0x00 ∷ 0x81 ∷ 0x00 ∷ 0x00 ∷ 0x41 ∷ [])
 
-abbrev of_i_frame : Seen
-of_i_frame = heard (stream.frame (0x00 ∷ 0x81 ∷ 0x00 ∷ 0x00 ∷ 0x41 ∷ []))
+abbrev second : Event
+second = comes (0x00 ∷ 0x81 ∷ 0x02 ∷ 0x00 ∷ 0x42 ∷ [])
 
-none_before : (fold (watch usual Call 64) nothing_yet (trace_of usual worked.up 0)).count ≡ 0
-unfolding moments lines.after lines.answer lines.takes_slot teis.course teis.refusal seq reading header_of control_of unnumbered_of
-none_before = refl
+abbrev sabme : Event
+sabme = comes (0x00 ∷ 0x81 ∷ 0x7F ∷ [])
 
-told_at_once : trace 0 (moments (after_all (fresh usual) worked.up) (i_frame ∷ []))
-    ≡ of_i_frame ∷ noted (Data Call 64 ∷ []) (Some (0x41 ∷ [])) ∷ lost 0 ∷ []
-unfolding moments after_all lines.after lines.answer lines.takes_slot teis.course teis.refusal seq distance_of named reading header_of control_of unnumbered_of
+-- Two contents are counted, until SABME begins the numbers anew.
+two : (link_after (worked.up ++ i_frame ∷ second ∷ [])).count ≡ 2
+unfolding moments lines.after lines.answer lines.takes_slot teis.course teis.refusal seq distance_of named reading header_of control_of unnumbered_of supervisory_of
+two = refl
+
+none_again : (link_after (worked.up ++ i_frame ∷ sabme ∷ [])).count ≡ 0
+unfolding moments lines.after lines.answer lines.takes_slot teis.course teis.refusal seq distance_of named reading header_of control_of unnumbered_of supervisory_of
+none_again = refl
+
+-- One that leaves a gap is rejected, until the one that is missing is taken; and none is while layer 3 is busy.
+a_gap : (link_after (worked.up ++ second ∷ [])).rejected ≡ true
+unfolding moments lines.after lines.answer lines.takes_slot teis.course teis.refusal seq distance_of named reading header_of control_of unnumbered_of supervisory_of
+a_gap = refl
+
+no_gap : (link_after (worked.up ++ second ∷ i_frame ∷ [])).rejected ≡ false
+unfolding moments lines.after lines.answer lines.takes_slot teis.course teis.refusal seq distance_of named reading header_of control_of unnumbered_of supervisory_of
+no_gap = refl
+
+abbrev busy : List Event
+busy = worked.up ++ on_0 (SetBusy Call 64) ∷ []
+
+none_taken : link_after (busy ++ i_frame ∷ second ∷ []) ≡ record (in_state 7) { own_busy = true }
+unfolding moments lines.after lines.answer lines.takes_slot teis.course teis.refusal seq distance_of named reading header_of control_of unnumbered_of supervisory_of
+none_taken = refl
+
+-- Layer 3 is busy until ClearBusy of the link, or until the numbers begin; and not by one of another link.
+is_busy : (link_after (busy ++ on_0 (ClearBusy Packet 64) ∷ [])).own_busy ≡ true
+unfolding moments lines.after lines.answer lines.takes_slot teis.course teis.refusal seq reading header_of control_of unnumbered_of supervisory_of
+is_busy = refl
+
+is_free : (link_after (busy ++ on_0 (ClearBusy Call 64) ∷ [])).own_busy ≡ false
+unfolding moments lines.after lines.answer lines.takes_slot teis.course teis.refusal seq reading header_of control_of unnumbered_of supervisory_of
+is_free = refl
+
+free_again : (link_after (busy ++ sabme ∷ [])).own_busy ≡ false
+unfolding moments lines.after lines.answer lines.takes_slot teis.course teis.refusal seq reading header_of control_of unnumbered_of supervisory_of
+free_again = refl
+
+-- The first is told in its moment.
+noted_at_once : notes_of (answer i_frame (after_all (fresh usual) worked.up)) ≡ Data Call 64 ∷ []
+unfolding after_all lines.after lines.answer lines.takes_slot teis.course teis.refusal seq distance_of named reading header_of control_of unnumbered_of supervisory_of
+noted_at_once = refl
+
+told_at_once : contents_in (answer i_frame (after_all (fresh usual) worked.up)) ≡ Some (0x41 ∷ [])
+unfolding after_all lines.after lines.answer lines.takes_slot teis.course teis.refusal seq distance_of named reading header_of control_of unnumbered_of supervisory_of
 told_at_once = refl
 
-untold : IsTold Call 64 (0x41 ∷ []) (of_i_frame ∷ noted [] None ∷ lost 0 ∷ []) → ⊥
-untold h = go h.told.front h.told.split
-  where
-    go : (front : List Seen) → of_i_frame ∷ noted [] None ∷ lost 0 ∷ [] ≡ front ++ noted h.notes (Some (0x41 ∷ [])) ∷ h.told.back → ⊥
-    go [] e = cc e
-    go (x ∷ []) e = cc e
-    go (x ∷ y ∷ []) e = cc e
-    go (x ∷ y ∷ z ∷ []) e = cc e
-    go (x ∷ y ∷ z ∷ u ∷ front) e = cc e
+-- Where it is not, the law is broken; so it is by data of no frame, and of the second one.
+abbrev established : View
+established = record { teis = none_on; link = in_state 7 }
+
+abbrev parts_with : ℕ → Parts
+parts_with ns = record { address = record { sapi = 0; command = true; tei = 64 }; control = Information (seq ns) (seq 0) false; info = 0x41 ∷ [] }
+
+untold : IsTold usual Call 64 established (Some (parts_with 0)) (told nothing) → ⊥
+unfolding seq
+untold h = cc h.data_is
+
+unheard : IsTold usual Call 64 established None (told (record nothing { notes = Data Call 64 ∷ []; contents = Some (0x41 ∷ []) })) → ⊥
+unheard h = cc h.data_is
+
+told_too_early : IsTold usual Call 64 established (Some (parts_with 1)) (told (record nothing { notes = Data Call 64 ∷ []; contents = Some (0x41 ∷ []) })) → ⊥
+unfolding seq
+told_too_early h = cc h.data_is

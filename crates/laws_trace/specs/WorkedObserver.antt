@@ -21,7 +21,7 @@ use Rattle.model_card.specs.Machine.{answer}
 use Rattle.model_card.specs.Run.{moments, after_all}
 use Rattle.laws_card.specs.Timers.{runs_at_callers}
 use Rattle.laws_card.specs.Worked.{usual, on_0, up}
-use Rattle.laws_trace.specs.AllGoesAgain.{MayGo, goes_next}
+use Rattle.laws_trace.specs.AllGoesAgain.{MayGo}
 use Rattle.laws_trace.specs.Observer.{Observed, in_state, awaits, by_heard, by_t200, by_expiry, view_of}
 use Rattle.laws_trace.specs.TimersAreTimely.{is_anew}
 use Rattle.laws_trace.specs.WorkedUnits.{calls, comes}
@@ -143,9 +143,6 @@ by_nothing_new e = cc e
 never_started : runs_at_callers 0 (timers.T200 Call 64) false [] ≡ awaits two_out → ⊥
 never_started e = cc e
 
--- I-frames may go while two are outstanding; where the second goes, though REJ set back to the first, the law is broken.
+-- I-frames may go while two are outstanding.
 may_go : MayGo usual Call two_out
 may_go = record { up = refl; free = refl; few = omega arith }
-
-passed_over : goes_next (in_state 7) (record { ns = 1; nr = 0; contents = 8 ∷ [] }) → ⊥
-passed_over e = cc e

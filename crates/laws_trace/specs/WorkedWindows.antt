@@ -1,5 +1,5 @@
 -- Worked values: when an I-frame may begin, and one that goes to a terminal that is busy, which breaks the law.
-use Rattle.std.specs.Prelude.{◌≡◌, true, false, List, [], ◌∷◌, ◌++◌, refl}
+use Rattle.std.specs.Prelude.{◌≡◌, ℕ, true, false, List, [], ◌∷◌, ◌++◌, refl}
 use Rattle.std.proofs.Common.{sym, ◌∙◌}
 use Rattle.lapd_frame.specs.declared.services.Service.TheVariants.{Call}
 use Rattle.lapd_frame.specs.Reading.{reading, header_of, control_of, unnumbered_of, supervisory_of}
@@ -35,3 +35,7 @@ is_free = refl
 
 to_busy : (o : Observed) → o.busy ≡ true → MayGo usual Call o → ⊥
 to_busy o busy may = cc (sym busy ∙ may.free)
+
+-- Where the second goes first, the law is broken.
+passed_over : MayGo usual Call (in_state 7) × (◌≡◌ {A = ℕ} 1 (in_state 7).next) → ⊥
+passed_over h = cc h.1

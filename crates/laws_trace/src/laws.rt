@@ -2,15 +2,14 @@
 
 ghost use Rattle.laws_trace.specs.Trace.{Always};
 ghost use Rattle.laws_trace.specs.AllAreAcknowledged.{AllAreAcknowledged};
-ghost use Rattle.laws_trace.specs.AllGoesAgain.{AllGoesAgain, NextGoes};
+ghost use Rattle.laws_trace.specs.AllGoesAgain.{AllGoesAgain};
 ghost use Rattle.laws_trace.specs.ControlFrames.{OnlyDueGo, AllDueGo};
 ghost use Rattle.laws_trace.specs.Configurations.{RangesAreServed};
 ghost use Rattle.laws_trace.specs.CountersCount.{CountersCount};
 ghost use Rattle.laws_trace.specs.OtherSide.{TheOtherSideIsHeard};
 ghost use Rattle.laws_trace.specs.FramesAreRead.{FramesAreRead, FramesAreOctets};
 ghost use Rattle.laws_trace.specs.DataGoesOut.{DataGoesOut};
-ghost use Rattle.laws_trace.specs.DataIsForLinks.{DataIsForLinks};
-ghost use Rattle.laws_trace.specs.Deliveries.{Deliveries, AllAreTold};
+ghost use Rattle.laws_trace.specs.Deliveries.{Deliveries};
 ghost use Rattle.laws_trace.specs.LinksMove.{LinksMove};
 ghost use Rattle.laws_trace.specs.LinksTakeTurns.{LinksTakeTurns};
 ghost use Rattle.laws_trace.specs.MessagesComeFirst.{MessagesComeFirst};
@@ -23,7 +22,6 @@ ghost use Rattle.laws_trace.specs.TeisAreManaged.{TeisAreManaged};
 ghost use Rattle.laws_trace.specs.TimersAreTimely.{TimersRun, TimersAreStarted};
 ghost use Rattle.laws_trace.specs.TurnsMeanwhile.{LinksTakeTurnsMeanwhile};
 ghost use Rattle.laws_trace.specs.UnitsAreSpelled.{UnitsAreSpelled};
-ghost use Rattle.laws_trace.specs.UnitsAreTold.{UnitsAreTold};
 ghost use Rattle.laws_trace.specs.UnitsGoOut.{UnitsGoOut, AllUnitsGoOut};
 ghost use Rattle.laws_trace.specs.WindowsAreKept.{WindowsAreKept};
 
@@ -75,19 +73,15 @@ pub fn messages_come_first()
     ensures { Always MessagesComeFirst }
 {}
 
-/// What layer 3 is told was heard. Data of a link is the information of an I-frame for it that was heard right before,
-/// and the N(S) of these count them, modulo 128, from the establishment of the link on, without gap; none is told while
-/// layer 3 is busy; unit data is that of a UI; and contents that are told are noted as one or the other, once
-/// (`heard`). The numbers of a link begin with SABME that is told, and with UA with F=1 unless it is told as error C,
-/// or as the end of the link. Layer 3 is busy from SetBusy that is granted to ClearBusy that is, or to where the
-/// numbers begin. And the information of each I-frame that a link in state 7 or 8 may take is told, in the moment of
-/// the frame: while layer 3 is not busy, of at most N201 octets, and with the N(S) that is the next (`told`). No data is
-/// told of a link that was not up before, and no unit data of a TEI that was not on the line, but for that of the group, TEI 127,
-/// on the user's side (`whose`; Q.921 clauses 3.3.4, 3.5.2.4 to 3.5.2.6, 5.2.2, 5.2.3, 5.5.1.2, 5.6.2, 5.6.6 and 5.7).
+/// What layer 3 is told was heard. At each event of a line data of a link is told exactly where an I-frame for it comes,
+/// which it takes: in states 7 and 8, while layer 3 is not busy, of at most N201 octets, with an N(S) that counts the
+/// contents told of the link since its numbers began, modulo 128, as whoever watches the link has all this (`Observer` of
+/// specs/). Unit data is told where a UI comes to a TEI that was on the line, whatever the state of its link, or, on the
+/// user's side, to the group, TEI 127; and of each that has at most N201 octets. The contents that are told are the
+/// information of that frame, and are noted as one or the other, once (Q.921 clauses 3.3.4, 3.5.2.4 to 3.5.2.6, 5.2.2, 5.2.3,
+/// 5.5.1.2, 5.6.2, 5.6.6 and 5.7).
 pub fn what_is_told_was_heard()
-    ensures heard { Always Deliveries }
-    ensures told { Always AllAreTold }
-    ensures whose { Always DataIsForLinks }
+    ensures { Always Deliveries }
 {}
 
 /// Data goes out. Of each link, since its numbers began: the contents of new I-frames that begin are the first of the
@@ -99,12 +93,11 @@ pub fn what_is_told_was_heard()
 /// frame, as often as the configuration says, on a link in state 7 whose terminal is not busy, with fewer than k
 /// I-frames outstanding, by what was heard and what began; and the number that goes next is then behind all of it,
 /// though REJ and the end of a recovery set it back to their N(R); each I-frame that begins sets it behind its own
-/// (`again`). And each has that number, so that they go again in order, from there on, and none is passed over (`next`;
-/// Q.921 clauses 3.5.2.1 to 3.5.2.6, 5.5.1.2, 5.6.1, 5.6.4, 5.6.5, 5.6.7 and 5.7).
+/// (`again`). That each has this number, [`windows_are_kept`] says (Q.921 clauses 3.5.2.1 to 3.5.2.6, 5.5.1.2, 5.6.1, 5.6.4,
+/// 5.6.5, 5.6.7 and 5.7).
 pub fn data_goes_out()
     ensures front { Always DataGoesOut }
     ensures again { Always AllGoesAgain }
-    ensures next { Always NextGoes }
 {}
 
 /// Control frames that are due go, and no others: of a link, all frames except I-frames and UI. Due are, by the state
@@ -208,8 +201,9 @@ pub fn news_is_told()
 {}
 
 /// Windows are kept. Each I-frame of a link that begins may go, by what was heard and what began before: the link is in
-/// state 7, so that no recovery runs, the terminal is not busy by the last RR, RNR or REJ, and fewer than k are outstanding
-/// (Q.921 clauses 5.6.1, 5.6.5 and 5.6.7).
+/// state 7, so that no recovery runs, the terminal is not busy by the last RR, RNR or REJ, and fewer than k are outstanding.
+/// And it has the number that goes next, so that they go again in order, from the number to which REJ or the end of a recovery
+/// set back, and none is passed over (Q.921 clauses 5.6.1, 5.6.4, 5.6.5 and 5.6.7).
 pub fn windows_are_kept()
     ensures { Always WindowsAreKept }
 {}
@@ -238,13 +232,6 @@ pub fn places_are_kept()
 /// its service and its TEI, that has its contents (Q.921 clauses 3.6.5 and 5.2.2).
 pub fn units_are_spelled()
     ensures { UnitsAreSpelled }
-{}
-
-/// Unit data that is heard is told, in the moment of its frame: a UI of a service, of at most N201 octets, to a TEI that is on
-/// the line, whatever the state of its link, or, on the user's side, to the group, TEI 127 (Q.921 clauses 3.3.4, 5.2.2 and
-/// 5.2.3).
-pub fn units_are_told()
-    ensures { Always UnitsAreTold }
 {}
 
 /// Counters count what is seen. What the moments at a line show under a name, but those of what is dropped, is as much as its

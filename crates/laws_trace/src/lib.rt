@@ -20,6 +20,6 @@ pub use laws::{
     all_are_acknowledged, control_frames_go, counters_count, data_goes_out, frames_are_read,
     links_move, links_take_turns, links_take_turns_meanwhile, messages_come_first, news_is_told,
     nothing_is_lost_in_vain, places_are_kept, ranges_are_served, rooms_are_told, teis_are_managed,
-    the_other_side_is_heard, timers_are_timely, units_are_spelled, units_are_told, units_go_out,
+    the_other_side_is_heard, timers_are_timely, units_are_spelled, units_go_out,
     what_is_told_was_heard, windows_are_kept,
 };

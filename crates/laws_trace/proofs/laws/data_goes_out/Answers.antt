@@ -1,5 +1,5 @@
 -- Hand-written answers for `data_goes_out`.
-use Rattle.laws_trace.proofs.ObservedLaws.{all-goes-again-so, next-goes-so}
+use Rattle.laws_trace.proofs.ObservedLaws.{all-goes-again-so}
 use Rattle.laws_trace.proofs.DataRun.{data-goes-out}
 use Rattle.laws_trace.proofs.laws.data_goes_out.Goals as goal
 
@@ -8,6 +8,3 @@ returns-clause-front c = λ config events number ranged all within. data-goes-ou
 
 pub returns-clause-again : goal.returns-clause-again
 returns-clause-again c = λ config events number ranged all within. all-goes-again-so config events number ranged all within
-
-pub returns-clause-next : goal.returns-clause-next
-returns-clause-next c = λ config events number ranged all within. next-goes-so config events number ranged all within

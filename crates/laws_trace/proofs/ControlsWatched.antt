@@ -1,0 +1,138 @@
+-- The control frames of a link that go are those that are due.
+use Rattle.std.specs.Prelude.{◌≡◌, ◌≤◌, ℕ, ◌-◌, ◌==◌, ◌&&◌, ◌||◌, not, Bool, true, false, List, [], ◌∷◌, ◌++◌, length, take, fold, flat_map, Option, Result, Ok, Err, nat_lt, if◌then◌else◌}
+use Rattle.std.specs.Option.{option_map_or}
+use Rattle.model_bits.specs.Stream as stream
+use Rattle.lapd_seq.specs.Numbers.{seq}
+use Rattle.lapd_frame.specs.declared.controls.Control.{Control}
+use Rattle.lapd_frame.specs.declared.controls.Control.TheVariants.{Information, ReceiveReady, ReceiveNotReady, Reject, Sabme, Disc, Ua, Dm}
+use Rattle.lapd_frame.specs.declared.faults.ReadFault.{ReadFault}
+use Rattle.lapd_frame.specs.declared.services.Service.{Service}
+use Rattle.lapd_frame.specs.Grammar.{Parts}
+use Rattle.lapd_frame.specs.Reading.{reading}
+use Rattle.model_link.specs.declared.frames.ControlFrame.{ControlFrame}
+use Rattle.model_line.specs.declared.config.Config.{Config}
+use Rattle.model_line.specs.Line.{has_tei}
+use Rattle.model_line.specs.Heard.{heard_side}
+use Rattle.laws_link.specs.Waiting.{as_response, as_command}
+use Rattle.laws_line.specs.Drains.{most_frames}
+use Rattle.laws_line.specs.Frames.{lost_in}
+use Rattle.model_card.specs.Card.{fresh, line_at}
+use Rattle.model_card.specs.Event.{Event}
+use Rattle.model_card.specs.Run.{Moment, moments, after_all}
+use Rattle.laws_card.specs.Among.{AreTakesAt, takes_at}
+use Rattle.laws_trace.proofs.DeliveriesWatched.{Standing, at_first, stand}
+use Rattle.laws_trace.proofs.States.{expired_of, one_more, is_state, state_before, state_after, differ}
+use Rattle.laws_trace.specs.Trace.{is_up, Seen, heard, begun, granted, seen_in, trace, trace_of}
+use Rattle.laws_trace.specs.ControlFrames.{of_link, controls_at, IsPart, StaysOn, IsNotDeactivated}
+
+-- A receipt is RNR while layer 3 is busy, and RR while it is not; its N(R) is the number of contents told of the link
+-- since its numbers began, modulo 128 (Q.921 clauses 3.5.2.6, 3.6.6, 3.6.8 and 5.6.6).
+abbrev pub receipt : Standing → Bool → Control
+receipt now pf = if now.busy then ReceiveNotReady (seq now.told.count) pf else ReceiveReady (seq now.told.count) pf
+
+abbrev pub polled : Standing → Bool → List ControlFrame
+polled now p = if p then as_response (receipt now true) else []
+
+-- In states 7 and 8 the first I-frame that is rejected is answered by REJ with F = P (clause 5.8.1).
+abbrev pub to_information : Bool → Standing → Standing → List ControlFrame
+to_information p was now = if now.rejected && not was.rejected then as_response (Reject (seq now.told.count) p) else polled now p
+
+abbrev pub while_up : ℕ → List ControlFrame → List ControlFrame
+while_up state frames = if is_up state then frames else []
+
+-- What answers a frame, as the link stands before and behind it, by its state before, whose number `Card::state` tells.
+-- An I-frame whose information is longer than N201 octets has no answer (clause 5.8.5).
+abbrev pub answer_to : Standing → Standing → ℕ → Bool → Bool → Control → List ControlFrame
+-- clauses 5.5.1.2, 5.5.5 and 5.7
+answer_to was now state command too_long (Sabme p) = as_response (if state == 6 then Dm p else Ua p)
+-- clauses 5.5.3.2, 5.5.4 and 5.5.5
+answer_to was now state command too_long (Disc p) = as_response (if state == 4 || state == 5 then Dm p else Ua p)
+-- clauses 5.6.2 to 5.6.5, 5.6.7 and 5.8.1
+answer_to was now state command too_long (Information ns nr p) = if too_long then [] else while_up state (to_information p was now)
+answer_to was now state command too_long (ReceiveReady nr p) = while_up state (polled now (command && p))
+answer_to was now state command too_long (ReceiveNotReady nr p) = while_up state (polled now (command && p))
+answer_to was now state command too_long (Reject nr p) = while_up state (polled now (command && p))
+answer_to was now state command too_long other = []
+
+-- Layer 3 comes to be busy in states 7 and 8, which RNR says, or is so no more, and RR says it (clause 5.6.6).
+abbrev pub changed : Standing → Standing → List ControlFrame
+changed was now = if (if was.busy then not now.busy else now.busy) then as_response (receipt now false) else []
+
+abbrev pub answers_to_frame : Config → Service → ℕ → Standing → Standing → ℕ → Result Parts ReadFault → List ControlFrame
+answers_to_frame c service tei was now state (Ok frame) =
+    of_link service tei (λ command. answer_to was now state command (nat_lt c.n201 (length frame.info))) (Ok frame)
+answers_to_frame c service tei was now state (Err fault) = []
+
+abbrev pub answers_at : Config → Service → ℕ → Standing → Standing → ℕ → Seen → List ControlFrame
+answers_at c service tei was now state (heard (stream.frame octets)) = answers_to_frame c service tei was now state (reading (heard_side c) octets)
+answers_at c service tei was now state (granted r) = while_up state (changed was now)
+answers_at c service tei was now state other = []
+
+-- A state that awaits the answer to a command puts it, with P=1: SABME state 5, DISC state 6, and state 8 an enquiry
+-- (clauses 5.5.1.1, 5.5.3.2 and 5.6.7); where the link comes to the state, and again where T200 expires and leaves it
+-- there (clauses 5.5.1.3, 5.5.3.3, 5.6.7 and 5.10.3).
+abbrev pub command_of : Standing → Option ℕ → List ControlFrame
+command_of now state =
+    if is_state 5 state then as_command (Sabme true)
+    else if is_state 6 state then as_command (Disc true)
+    else if is_state 8 state then as_command (receipt now true)
+    else []
+
+abbrev pub is_time : Service → ℕ → ℕ → Moment → Bool
+is_time service tei number m =
+    differ (state_before service tei number m) (state_after service tei number m)
+    || (m.event.line == number && option_map_or one_more (expired_of service tei m.event.what) 0 == 1)
+
+-- So these are due in a moment, an answer before a command, except the last of them that the answer counts as lost.
+abbrev pub put_in : Config → Service → ℕ → ℕ → Standing → Standing → Moment → List ControlFrame
+put_in c service tei number was now m =
+    option_map_or (λ state. flat_map (answers_at c service tei was now state) (seen_in number m)) (state_before service tei number m) []
+    ++ (if is_time service tei number m then command_of now (state_after service tei number m) else [])
+
+abbrev pub due_in : Config → Service → ℕ → ℕ → Standing → Standing → Moment → List ControlFrame
+due_in c service tei number was now m =
+    let frames = put_in c service tei number was now m in take (length frames - lost_in m.answer) frames
+
+-- An acknowledgement that goes by itself in states 7 and 8 is due as it begins: RR with F=0, while layer 3 is not busy
+-- (clause 5.6.3.1).
+abbrev pub acknowledged_by : Standing → Bool → Control → List ControlFrame
+acknowledged_by now command (ReceiveReady nr pf) = if now.busy || (command || pf) then [] else as_response (receipt now false)
+acknowledged_by now command other = []
+
+abbrev pub acknowledged_at : Config → Service → ℕ → Standing → ℕ → Seen → List ControlFrame
+acknowledged_at c service tei now state (begun octets) = while_up state (of_link service tei (acknowledged_by now) (reading c.side octets))
+acknowledged_at c service tei now state other = []
+
+abbrev pub may_go_in : Config → Service → ℕ → ℕ → Standing → Standing → Moment → List ControlFrame
+may_go_in c service tei number was now m =
+    due_in c service tei number was now m
+    ++ option_map_or (λ state. flat_map (acknowledged_at c service tei now state) (seen_in number m)) (state_before service tei number m) []
+
+-- Those of a run, by how the link stands before and behind each moment, to a watcher.
+unfoldable pub along : Config → Service → ℕ → ℕ → (Standing → Standing → Moment → List ControlFrame) → Standing → List Moment → List ControlFrame
+along c service tei number by w [] = []
+along c service tei number by w (m ∷ ms) =
+    let now = fold (stand c service tei) w (seen_in number m) in by w now m ++ along c service tei number by now ms
+
+-- From whenever the TEI of a link is not on the line, the control frames of the link that begin are those that may go
+-- since then, in their order, and none twice: so what waits where it leaves the line does not go (clause 5.3.4).
+abbrev pub OnlyDueGo : Config → List Event → ℕ → Type 0
+OnlyDueGo c events number =
+    (service : Service) (tei : ℕ) (before since : List Event) → events ≡ before ++ since →
+    let card = after_all (fresh c) before in
+    let w = fold (stand c service tei) at_first (trace_of c before number) in
+    has_tei tei (line_at number card) ≡ false →
+    IsPart (flat_map (controls_at c service tei) (trace number (moments card since)))
+    (along c service tei number (may_go_in c service tei number) w (moments card since))
+
+-- While it stays, and the link is not deactivated, after whatever happened before, each that is due goes: it has begun
+-- once the line was only called for its next frame, as often as the configuration says, in their order.
+abbrev pub AllDueGo : Config → List Event → ℕ → Type 0
+AllDueGo c events number =
+    (service : Service) (tei : ℕ) (before meanwhile calls : List Event) → events ≡ before ++ (meanwhile ++ calls) →
+    AreTakesAt number calls → most_frames c ≤ takes_at number calls →
+    let card = after_all (fresh c) before in
+    let w = fold (stand c service tei) at_first (trace_of c before number) in
+    StaysOn number tei card meanwhile → IsNotDeactivated number service tei meanwhile →
+    IsPart (along c service tei number (due_in c service tei number) w (moments card meanwhile))
+    (flat_map (controls_at c service tei) (trace number (moments card (meanwhile ++ calls))))

@@ -1,0 +1,271 @@
+-- The control frames of a link that are due by what the observer knows are those that are due by how the link stands.
+use Rattle.std.proofs.Common.{◌≡◌, ℕ, ◌+◌, ◌%◌, ◌==◌, ◌&&◌, ◌||◌, not, Bool, true, false, cond, length, List, [], ◌∷◌, ◌++◌, Option, Some, None, refl, sym, ap, ◌∙◌, true≢false}
+use Rattle.std.specs.Prelude.{fold, nat_lt, Result, Ok, Err}
+use Rattle.std.specs.Option.{option_map_or}
+use Rattle.model_bits.specs.Stream as stream
+use Rattle.lapd_seq.specs.Numbers.{seq}
+use Rattle.lapd_frame.specs.declared.controls.Control.{Control}
+use Rattle.lapd_frame.specs.declared.controls.Control.TheVariants.{Information, ReceiveReady, ReceiveNotReady, Reject, Sabme, Disc, Ui, Ua, Dm, Frmr, Xid}
+use Rattle.lapd_frame.specs.declared.faults.ReadFault.{ReadFault}
+use Rattle.lapd_frame.specs.declared.services.Service.{Service}
+use Rattle.lapd_frame.specs.declared.timers.Timer.TheVariants as timers
+use Rattle.lapd_frame.specs.Grammar.{Parts}
+use Rattle.lapd_frame.specs.Reading.{reading}
+use Rattle.model_link.specs.declared.frames.ControlFrame.{ControlFrame}
+use Rattle.model_link.specs.declared.timers.LinkTimer.TheVariants.{T200, T203}
+use Rattle.model_line.specs.declared.config.Config.{Config}
+use Rattle.model_line.specs.Event as line_event
+use Rattle.model_line.specs.Event.{hears, expiry, request, next, Answer, told, refused, gave}
+use Rattle.model_line.specs.Heard.{heard_side}
+use Rattle.model_line.specs.Request.{Request, Establish, Release, Data, Assign, Remove, Check, SetBusy, ClearBusy, Deactivate}
+use Rattle.laws_link.specs.Waiting.{as_response}
+use Rattle.laws_line.specs.Share.{is_granted}
+use Rattle.laws_trace.specs.ControlFrames as now_due
+use Rattle.laws_trace.specs.ControlFrames.{of_link}
+use Rattle.laws_trace.specs.LinkFrames.{parts_of, frame_of, its_frame, is_for, Sent, sent_in}
+use Rattle.laws_trace.specs.Managing.{Managed, due}
+use Rattle.laws_trace.specs.Observer.{Observed, in_state, by_request, sends, by_frame_begun}
+use Rattle.laws_trace.specs.Trace.{is_own, is_up, heard, seen_told, seen_granted}
+use Rattle.laws_trace.proofs.ControlsSeen.{answers_seen, asked-answers}
+use Rattle.laws_trace.proofs.ControlsWatched as old
+use Rattle.laws_trace.proofs.DeliveriesWatched.{Standing, busy_asked}
+use Rattle.laws_trace.proofs.ObservedAnswers.{is_answered}
+use Rattle.laws_trace.proofs.ObservedCount.{Same}
+use Rattle.laws_trace.proofs.States.{expired_of, one_more}
+
+pub either-none : (b : Bool) → cond {A = List ControlFrame} b [] [] ≡ []
+either-none true = refl
+either-none false = refl
+
+pub as-busy : (b : Bool) (frames : List ControlFrame) → cond (cond b (not b) b) frames [] ≡ []
+as-busy true frames = refl
+as-busy false frames = refl
+
+-- What the link says, by the observer and by how it stands.
+module _ (q : Observed) (u : Standing) (same : Same q u.told.count u.busy u.rejected) where
+  pub receipt-is : (pf : Bool) → old.receipt u pf ≡ now_due.receipt q pf
+  receipt-is pf =
+      ap (λ b. cond b (ReceiveNotReady (seq u.told.count) pf) (ReceiveReady (seq u.told.count) pf)) (sym same.busy_is)
+      ∙ ap (λ n. cond q.own_busy (ReceiveNotReady (seq n) pf) (ReceiveReady (seq n) pf)) (sym same.count_is)
+
+  polled-is : (p : Bool) → old.polled u p ≡ now_due.polled q p
+  polled-is true = ap as_response (receipt-is true)
+  polled-is false = refl
+
+  pub acknowledged-is : (command : Bool) (control : Control) → old.acknowledged_by u command control ≡ now_due.acknowledged_by q command control
+  acknowledged-is command (ReceiveReady nr pf) =
+      ap (λ b. cond (b || (command || pf)) [] (as_response (old.receipt u false))) (sym same.busy_is)
+      ∙ ap (λ r. cond (q.own_busy || (command || pf)) [] (as_response r)) (receipt-is false)
+  acknowledged-is command (Information ns nr p) = refl
+  acknowledged-is command (ReceiveNotReady nr pf) = refl
+  acknowledged-is command (Reject nr pf) = refl
+  acknowledged-is command (Sabme p) = refl
+  acknowledged-is command (Disc p) = refl
+  acknowledged-is command (Ui p) = refl
+  acknowledged-is command (Ua f) = refl
+  acknowledged-is command (Dm f) = refl
+  acknowledged-is command (Frmr f) = refl
+  acknowledged-is command (Xid pf) = refl
+
+  -- layer 3 comes to be busy, or is so no more
+  changed-is : (o : Observed) (w : Standing) → Same o w.told.count w.busy w.rejected
+      → old.changed w u ≡ cond (cond o.own_busy (not q.own_busy) q.own_busy) (as_response (now_due.receipt q false)) []
+  changed-is o w before =
+      ap (λ b. cond (cond b (not u.busy) u.busy) (as_response (old.receipt u false)) []) (sym before.busy_is)
+      ∙ ap (λ b. cond (cond o.own_busy (not b) b) (as_response (old.receipt u false)) []) (sym same.busy_is)
+      ∙ ap (λ r. cond (cond o.own_busy (not q.own_busy) q.own_busy) (as_response r) []) (receipt-is false)
+
+module _ (c : Config) (service : Service) (tei : ℕ) (o q : Observed) (w u : Standing) (before : is_up o.state ≡ true → Same o w.told.count w.busy w.rejected) where
+  abbrev Answered : Parts → Control → Type 0
+  Answered f control =
+      old.answer_to w u o.state f.address.command (nat_lt c.n201 (length f.info)) control ≡ now_due.answer_to c o q f control
+
+  -- An I-frame, and RR, RNR and REJ.
+  informed : (p long up : Bool) → is_up o.state ≡ up → (up ≡ true → long ≡ false → Same q u.told.count u.busy u.rejected)
+      → cond long [] (cond up (old.to_information p w u) [])
+      ≡ cond up (cond long [] (cond (q.rejected && not o.rejected) (as_response (Reject (seq q.count) p)) (now_due.polled q p))) []
+  informed p true true is behind = refl
+  informed p true false is behind = refl
+  informed p false false is behind = refl
+  informed p false true is behind =
+      let same = behind refl refl in
+      ap (λ b. cond (b && not w.rejected) (as_response (Reject (seq u.told.count) p)) (old.polled u p)) (sym same.rejected_is)
+      ∙ ap (λ b. cond (q.rejected && not b) (as_response (Reject (seq u.told.count) p)) (old.polled u p)) (sym (before is).rejected_is)
+      ∙ ap (λ n. cond (q.rejected && not o.rejected) (as_response (Reject (seq n) p)) (old.polled u p)) (sym same.count_is)
+      ∙ ap (λ r. cond (q.rejected && not o.rejected) (as_response (Reject (seq q.count) p)) r) (polled-is q u same p)
+
+  received : (p up : Bool) → (up ≡ true → Same q u.told.count u.busy u.rejected) → cond up (old.polled u p) [] ≡ cond up (now_due.polled q p) []
+  received p true behind = polled-is q u (behind refl) p
+  received p false behind = refl
+
+  by-control : (f : Parts) (control : Control) → (is_up o.state ≡ true → is_answered (nat_lt c.n201 (length f.info)) control ≡ true → Same q u.told.count u.busy u.rejected) → Answered f control
+  by-control f (Information ns nr p) behind = informed p (nat_lt c.n201 (length f.info)) (is_up o.state) refl (λ up short. behind up (ap not short))
+  by-control f (ReceiveReady nr p) behind = received (f.address.command && p) (is_up o.state) (λ up. behind up refl)
+  by-control f (ReceiveNotReady nr p) behind = received (f.address.command && p) (is_up o.state) (λ up. behind up refl)
+  by-control f (Reject nr p) behind = received (f.address.command && p) (is_up o.state) (λ up. behind up refl)
+  by-control f (Sabme p) behind = refl
+  by-control f (Disc p) behind = refl
+  by-control f (Ui p) behind = sym (either-none (is_up o.state))
+  by-control f (Ua p) behind = sym (either-none (is_up o.state))
+  by-control f (Dm p) behind = sym (either-none (is_up o.state))
+  by-control f (Frmr p) behind = sym (either-none (is_up o.state))
+  by-control f (Xid p) behind = sym (either-none (is_up o.state))
+
+  -- A frame that comes.
+  abbrev Behind : stream.Event → Type 0
+  Behind e =
+      (f : Parts) → its_frame service tei (frame_of c e) ≡ Some f → is_up o.state ≡ true → is_answered (nat_lt c.n201 (length f.info)) f.control ≡ true
+      → Same q u.told.count u.busy u.rejected
+
+  abbrev Answers : stream.Event → Type 0
+  Answers e = old.answers_at c service tei w u o.state (heard e) ≡ option_map_or (λ (f : Parts). now_due.answer_to c o q f f.control) (its_frame service tei (frame_of c e)) []
+
+  by-frame : (octets : List ℕ) → Behind (stream.frame octets) → Answers (stream.frame octets)
+  by-frame octets behind = go (reading (heard_side c) octets) behind
+    where
+      go : (r : Result Parts ReadFault)
+          → ((f : Parts) → its_frame service tei (parts_of r) ≡ Some f → is_up o.state ≡ true → is_answered (nat_lt c.n201 (length f.info)) f.control ≡ true → Same q u.told.count u.busy u.rejected)
+          → old.answers_to_frame c service tei w u o.state r ≡ option_map_or (λ (f : Parts). now_due.answer_to c o q f f.control) (its_frame service tei (parts_of r)) []
+      go (Err fault) behind = refl
+      go (Ok f) behind = on (is_for service tei f.address) (λ is. behind f (ap (λ b. cond b (Some f) None) is))
+        where
+          on : (b : Bool)
+              → (b ≡ true → is_up o.state ≡ true → is_answered (nat_lt c.n201 (length f.info)) f.control ≡ true → Same q u.told.count u.busy u.rejected)
+              → cond b (old.answer_to w u o.state f.address.command (nat_lt c.n201 (length f.info)) f.control) []
+              ≡ option_map_or (λ (f : Parts). now_due.answer_to c o q f f.control) (cond b (Some f) None) []
+          on true behind = by-control f f.control (behind refl)
+          on false behind = refl
+
+  pub by-heard : (e : stream.Event) → Behind e → Answers e
+  by-heard (stream.frame octets) behind = by-frame octets behind
+  by-heard (stream.overlong head) behind = refl
+  by-heard (stream.dropped cause) behind = refl
+
+  -- A request.
+  pub asked-answers-is : (r : Request) (a : Answer) → (is_up q.state ≡ true → Same q u.told.count u.busy u.rejected) → (is_up o.state ≡ false → is_up q.state ≡ false)
+      → (is_granted a ≡ true → is_up o.state ≡ true → is_up q.state ≡ false → old.changed w u ≡ [])
+      → answers_seen c service tei w u o.state (seen_granted r a ++ seen_told a) ≡ cond (is_granted a) (now_due.changed o q) []
+  asked-answers-is r (refused why) behind down as_before = refl
+  asked-answers-is r (gave given) behind down as_before = refl
+  asked-answers-is r (told t) behind down as_before = asked-answers c service tei w u o.state r (told t) refl ∙ go (is_up o.state) refl (is_up q.state) refl
+    where
+      go : (b : Bool) → is_up o.state ≡ b → (d : Bool) → is_up q.state ≡ d
+          → cond b (old.changed w u) [] ≡ cond (d && cond o.own_busy (not q.own_busy) q.own_busy) (as_response (now_due.receipt q false)) []
+      go true was true is = changed-is q u (behind is) o w (before was)
+      go true was false is = as_before refl was is
+      go false was true is = absurd (true≢false (sym is ∙ down was))
+      go false was false is = refl
+
+-- What is kept while layer 3 asks for something else.
+module _ (service : Service) (tei : ℕ) where
+  pub stays-down : (r : Request) (o : Observed) → is_up o.state ≡ false → is_up (by_request service tei r o).state ≡ false
+  stays-down (Establish of by) o down = go (is_own service tei of by && o.state == 4)
+    where
+      go : (b : Bool) → is_up (cond b (record (in_state 5) { asked = true }) o).state ≡ false
+      go true = refl
+      go false = down
+  stays-down (Release of by) o down = go (is_own service tei of by && is_up o.state)
+    where
+      go : (b : Bool) → is_up (cond b (in_state 6) o).state ≡ false
+      go true = refl
+      go false = down
+  stays-down (Deactivate of by) o down = go (is_own service tei of by)
+    where
+      go : (b : Bool) → is_up (cond b (in_state 4) o).state ≡ false
+      go true = refl
+      go false = down
+  stays-down (SetBusy of by) o down = go (is_own service tei of by)
+    where
+      go : (b : Bool) → is_up (cond b (record o { own_busy = true }) o).state ≡ false
+      go true = down
+      go false = down
+  stays-down (ClearBusy of by) o down = go (is_own service tei of by)
+    where
+      go : (b : Bool) → is_up (cond b (record o { own_busy = false }) o).state ≡ false
+      go true = down
+      go false = down
+  stays-down (Data of by contents) o down = down
+  stays-down (Request.Unit of by contents) o down = down
+  stays-down (Assign by) o down = down
+  stays-down (Remove by) o down = down
+  stays-down (Check by) o down = down
+
+  -- layer 3 is as busy as before, unless it says so
+  abbrev pub busies : Request → Bool
+  busies (SetBusy of by) = true
+  busies (ClearBusy of by) = true
+  busies other = false
+
+  pub still-busy : (r : Request) (busy : Bool) → busies r ≡ false → busy_asked service tei busy r ≡ busy
+  still-busy (SetBusy of by) busy is = absurd (true≢false is)
+  still-busy (ClearBusy of by) busy is = absurd (true≢false is)
+  still-busy (Establish of by) busy is = refl
+  still-busy (Release of by) busy is = refl
+  still-busy (Deactivate of by) busy is = refl
+  still-busy (Data of by contents) busy is = refl
+  still-busy (Request.Unit of by contents) busy is = refl
+  still-busy (Assign by) busy is = refl
+  still-busy (Remove by) busy is = refl
+  still-busy (Check by) busy is = refl
+
+  pub none-led : (c : Config) (r : Request) (w : Managed) → busies r ≡ true → (due c (request r) w).known ≡ w
+  none-led c (SetBusy of by) w is = refl
+  none-led c (ClearBusy of by) w is = refl
+  none-led c (Establish of by) w is = absurd (true≢false (sym is))
+  none-led c (Release of by) w is = absurd (true≢false (sym is))
+  none-led c (Deactivate of by) w is = absurd (true≢false (sym is))
+  none-led c (Data of by contents) w is = absurd (true≢false (sym is))
+  none-led c (Request.Unit of by contents) w is = absurd (true≢false (sym is))
+  none-led c (Assign by) w is = absurd (true≢false (sym is))
+  none-led c (Remove by) w is = absurd (true≢false (sym is))
+  none-led c (Check by) w is = absurd (true≢false (sym is))
+
+  -- where it says so, the link stays up
+  pub stays-up : (r : Request) (o : Observed) → busies r ≡ true → (by_request service tei r o).state ≡ o.state
+  stays-up (SetBusy of by) o is = go (is_own service tei of by)
+    where
+      go : (b : Bool) → (cond b (record o { own_busy = true }) o).state ≡ o.state
+      go true = refl
+      go false = refl
+  stays-up (ClearBusy of by) o is = go (is_own service tei of by)
+    where
+      go : (b : Bool) → (cond b (record o { own_busy = false }) o).state ≡ o.state
+      go true = refl
+      go false = refl
+  stays-up (Establish of by) o is = absurd (true≢false (sym is))
+  stays-up (Release of by) o is = absurd (true≢false (sym is))
+  stays-up (Deactivate of by) o is = absurd (true≢false (sym is))
+  stays-up (Data of by contents) o is = absurd (true≢false (sym is))
+  stays-up (Request.Unit of by contents) o is = absurd (true≢false (sym is))
+  stays-up (Assign by) o is = absurd (true≢false (sym is))
+  stays-up (Remove by) o is = absurd (true≢false (sym is))
+  stays-up (Check by) o is = absurd (true≢false (sym is))
+
+  pub expires-is : (what : line_event.Event) → now_due.expires service tei what ≡ option_map_or one_more (expired_of service tei what) 0 == 1
+  expires-is (hears e) = refl
+  expires-is (request r) = refl
+  expires-is next = refl
+  expires-is (expiry timers.T201) = refl
+  expires-is (expiry (timers.T200 of by)) = go (is_own service tei of by)
+    where
+      go : (b : Bool) → b ≡ option_map_or one_more (cond b (Some T200) None) 0 == 1
+      go true = refl
+      go false = refl
+  expires-is (expiry (timers.T203 of by)) = go (is_own service tei of by)
+    where
+      go : (b : Bool) → false ≡ option_map_or one_more (cond b (Some T203) None) 0 == 1
+      go true = refl
+      go false = refl
+
+  -- An I-frame that goes moves no state.
+  pub sent-state : (c : Config) (o : Observed) (frames : List (List ℕ)) → (fold (by_frame_begun c service tei) o frames).state ≡ o.state
+  sent-state c o [] = refl
+  sent-state c o (f ∷ frames) = sent-state c (by_frame_begun c service tei o f) frames ∙ one (sent_in service tei (reading c.side f))
+    where
+      one : (x : Option Sent) → (option_map_or (sends o) x o).state ≡ o.state
+      one None = refl
+      one (Some sent) = go (is_up o.state)
+        where
+          go : (b : Bool) → (cond b (record o { next = (sent.ns + 1) % 128 }) o).state ≡ o.state
+          go true = refl
+          go false = refl

@@ -1,0 +1,320 @@
+-- The control frames of a link that are due, and may go, in a moment, by what the observer knows.
+use Rattle.std.proofs.Common.{◌≡◌, inl, inr, ℕ, ◌<◌, ◌-◌, ◌==◌, ◌&&◌, ◌||◌, not, Bool, true, false, cond, length, take, List, [], ◌++◌, Option, Some, None, is_some, refl, sym, ap, ◌∙◌, subst, eqb-true, eq-eqb, true≢false}
+use Rattle.std.specs.Prelude.{flat_map, nat_lt}
+use Rattle.std.specs.List.{list_any}
+use Rattle.std.specs.Option.{option_map_or}
+use Rattle.std.proofs.lemmas.Option.{none-some}
+use Rattle.model_bits.specs.Stream as stream
+use Rattle.lapd_frame.specs.declared.controls.Control.TheVariants.{Sabme, Disc}
+use Rattle.lapd_frame.specs.declared.services.Service.{Service}
+use Rattle.lapd_frame.specs.Grammar.{Parts}
+use Rattle.model_link.specs.declared.states.State.{State}
+use Rattle.model_link.specs.Link.{state_number}
+use Rattle.model_line.specs.declared.config.Config.{Config}
+use Rattle.model_line.specs.Event as line_event
+use Rattle.model_line.specs.Event.{hears, expiry, request, next, Answer, told, refused, gave}
+use Rattle.model_line.specs.Line.{Line, link_of, place_in, state_of}
+use Rattle.model_line.specs.Request.{Request}
+use Rattle.laws_link.specs.Waiting.{as_response, as_command}
+use Rattle.laws_line.specs.Frames.{lost_in}
+use Rattle.laws_line.specs.Share.{is_granted}
+use Rattle.laws_card.specs.Timers.{AllHaveTheirTimers}
+use Rattle.model_card.specs.Card.{Card, line_at}
+use Rattle.model_card.specs.Event.{Event, at}
+use Rattle.model_card.specs.Machine.{after, answer}
+use Rattle.model_card.specs.Run.{Moment, IsAtLine}
+use Rattle.model_card.specs.Sound as card_sound
+use Rattle.laws_trace.specs.ControlFrames as now_due
+use Rattle.laws_trace.specs.ControlFrames.{of_link, controls_at, IsPart, OnlyDueGo, AllDueGo}
+use Rattle.laws_trace.specs.LinkFrames.{frame_of, its_frame}
+use Rattle.laws_trace.specs.Managing.{Managed, is_on, led, due}
+use Rattle.laws_trace.specs.Observer.{Observed, View, in_state, by_event, by_heard, by_request, views}
+use Rattle.laws_trace.specs.Trace.{is_up, Seen, frame_in, frames_begun, seen, seen_told, seen_granted, seen_in}
+use Rattle.laws_trace.proofs.CallRuns.{apart}
+use Rattle.laws_trace.proofs.ControlsSeen.{answers_seen, heard-answers, told-none, begun-none}
+use Rattle.laws_trace.proofs.ControlsWatched as old
+use Rattle.laws_trace.proofs.DeliveriesWatched.{Standing, busy_asked}
+use Rattle.laws_trace.proofs.LinksMove.{differ-self}
+use Rattle.laws_trace.proofs.MovesWatched.{repeated}
+use Rattle.laws_trace.proofs.NewsWatched as news
+use Rattle.laws_trace.proofs.NewsWatched.{Owing, none_owed, owing}
+use Rattle.laws_trace.proofs.ObservedAnswers.{is_answered, card-answered}
+use Rattle.laws_trace.proofs.ObservedControls.{either-none, as-busy, receipt-is, by-heard, asked-answers-is, busies, still-busy, none-led, stays-up, expires-is, sent-state}
+use Rattle.laws_trace.proofs.ObservedCount.{Same, Agree}
+use Rattle.laws_trace.proofs.ObservedCounted.{Stands, agrees-then}
+use Rattle.laws_trace.proofs.ObservedFacts.{Facts, facts, state-is, differs-is}
+use Rattle.laws_trace.proofs.ObservedRun.{Holds, on-is, holds-then}
+use Rattle.laws_trace.proofs.Standing.{standing}
+use Rattle.laws_trace.proofs.StandingOfLink.{calm}
+use Rattle.laws_trace.proofs.States.{is_state, differ, expired_of, one_more}
+use Rattle.laws_trace.proofs.TimersOfEvent.{state-on, off-state}
+use Rattle.laws_trace.proofs.TimersWatched.{Known, watch}
+use Rattle.laws_trace.proofs.ObservedControlsSeen.{none-mapped, not-one, frame-leads, OldOwn, Own, own-seen, own-same, told-begins, asked-begins, granted-busy, asked-moves}
+
+module _ (service : Service) (tei number : ℕ) where
+  module _ (card : Card) (s : card_sound.IsSound card) (timely : AllHaveTheirTimers card) (e : Event) (here : IsAtLine card e)
+      (k : Known) (asked : Bool) (w : Owing) (known_is : w.known ≡ k) (m : ℕ) (v : View) (h : Holds service tei k asked w.outstanding m (line_at number card) v)
+      (n : ℕ) (busy rejected : Bool) (stands : Stands service tei number n busy rejected (line_at number card)) (agree : Agree v.link (calm n busy rejected)) where
+    abbrev c : Config
+    c = card.config
+
+    abbrev its : Moment
+    its = record { card = card; event = e; answer = answer e card }
+
+    abbrev a : Answer
+    a = answer e card
+
+    abbrev o : Observed
+    o = v.link
+
+    abbrev was : Standing
+    was = calm n busy rejected
+
+    abbrev from : Option ℕ
+    from = state_of service tei (line_at number card)
+
+    abbrev to : Option ℕ
+    to = state_of service tei (line_at number (after e card))
+
+    abbrev on-before : Bool
+    on-before = is_on tei v.teis
+
+    abbrev on-then : Bool
+    on-then = is_on tei (led c number v.teis e)
+
+    -- what is seen, and how the link stands behind it, by whether the event is one of this line
+    abbrev shown-by : Bool → List Seen
+    shown-by b = cond b (seen e.what a) []
+
+    abbrev stands-by : Bool → Standing
+    stands-by b = standing service tei c (calm n busy rejected) (cond b (seen e.what (answer e card)) [])
+
+    abbrev q : Observed
+    q = (views c service tei number v its).link
+
+    abbrev Puts : Bool → Type 0
+    Puts b =
+        let u = stands-by b in
+        (option_map_or (λ state. answers_seen c service tei was u state (shown-by b)) from []
+        ++ cond (differ from to || (b && option_map_or one_more (expired_of service tei e.what) 0 == 1)) (old.command_of u to) [])
+        ≡ cond (b && not (o.state == 1)) (now_due.put_in c service tei o q its) []
+
+    abbrev Owns : Bool → Type 0
+    Owns b =
+        let u = stands-by b in
+        option_map_or (λ state. flat_map (old.acknowledged_at c service tei u state) (shown-by b)) from []
+        ≡ cond (is_up o.state) (flat_map (Own c service tei q) (frames_begun (shown-by b))) []
+
+    before : Facts from k asked w.outstanding m o
+    before = facts service tei k asked w.outstanding m (line_at number card) v h
+
+    behind : Facts to (watch c service tei number k its) (news.asked service tei number asked its) (owing c service tei number w its).outstanding (repeated service tei number m its) q
+    behind = facts service tei (watch c service tei number k its) (news.asked service tei number asked its) (owing c service tei number w its).outstanding (repeated service tei number m its)
+        (line_at number (after e card)) (views c service tei number v its) (holds-then service tei number card s timely e here k asked w known_is m v h)
+
+    agrees : Agree q (stands-by (e.line == number))
+    agrees = agrees-then service tei number card s timely e here k asked w known_is m v h n busy rejected stands agree
+
+    on-is-so : on-before ≡ is_some from
+    on-is-so = on-is service tei number k asked w.outstanding m (line_at number card) v h
+
+    -- Another line's event.
+    other-puts : line_at number (after e card) ≡ line_at number card → Puts false
+    other-puts same =
+        ap (λ xs. xs ++ cond (differ from to || false) (old.command_of was to) []) (none-mapped from [] refl)
+        ∙ ap (λ (x : Line). cond (differ from (state_of service tei x) || false) (old.command_of was (state_of service tei x)) []) same
+        ∙ ap (λ b. cond (b || false) (old.command_of was from) []) (differ-self from)
+
+    other-owns : Owns false
+    other-owns = none-mapped from [] refl ∙ sym (either-none (is_up o.state))
+
+    -- Where the TEI is not on the line.
+    module _ (off : from ≡ None) (first : o ≡ in_state 1) where
+      comes : (is : Bool) → to ≡ Some (cond (not is) (in_state 1) (in_state 4)).state → (u : Standing) → old.command_of u to ≡ []
+      comes true is u = ap (old.command_of u) is
+      comes false is u = ap (old.command_of u) is
+
+      none-commanded : (u : Standing) → old.command_of u to ≡ []
+      none-commanded u = go behind
+        where
+          go : Facts to (watch c service tei number k its) (news.asked service tei number asked its) (owing c service tei number w its).outstanding (repeated service tei number m its) q → old.command_of u to ≡ []
+          go (inl y) = ap (old.command_of u) y.0
+          go (inr y) =
+              comes on-then
+              (y.1 ∙ ap (λ s. Some s) (sym y.2.state_is)
+              ∙ ap (λ was. Some (cond (not on-then) (in_state 1) (cond was (cond (e.line == number) (by_event c service tei e.what a o) o) (in_state 4))).state) (on-is-so ∙ ap is_some off)) u
+
+      off-puts : Puts true
+      off-puts =
+          let u = stands-by true in
+          let time = differ from to || (option_map_or one_more (expired_of service tei e.what) 0 == 1) in
+          ap (λ st. option_map_or (λ state. answers_seen c service tei was u state (seen e.what a)) st [] ++ cond time (old.command_of u to) []) off
+          ∙ ap (λ xs. cond time xs []) (none-commanded u) ∙ either-none time
+          ∙ sym (ap (λ (o' : Observed). cond (not (o'.state == 1)) (now_due.put_in c service tei o q its) []) first)
+
+      off-owns : Owns true
+      off-owns =
+          let u = stands-by true in
+          ap (λ st. option_map_or (λ state. flat_map (old.acknowledged_at c service tei u state) (seen e.what a)) st []) off
+          ∙ sym (ap (λ (o' : Observed). cond (is_up o'.state) (flat_map (Own c service tei q) (frames_begun (seen e.what a))) []) first)
+
+    -- Where it is.
+    module _ (mine : (e.line == number) ≡ true) (x : State) (there : from ≡ Some (state_number x)) (state : o.state ≡ state_number x) where
+      abbrev u' : Standing
+      u' = stands-by true
+
+      from-is : from ≡ Some o.state
+      from-is = there ∙ ap (λ s. Some s) (sym state)
+
+      was-on : on-before ≡ true
+      was-on = on-is-so ∙ ap is_some there
+
+      same-line : number ≡ e.line
+      same-line = sym (eqb-true e.line number mine)
+
+      agrees-here : Agree q (stands-by true)
+      agrees-here = subst (λ b. Agree q (stands-by b)) mine agrees
+
+      q-is : (is : Bool) → on-then ≡ is → q ≡ cond (not is) (in_state 1) (by_event c service tei e.what a o)
+      q-is is then =
+          ap (λ is. cond (not is) (in_state 1) (cond on-before (cond (e.line == number) (by_event c service tei e.what a o) o) (in_state 4))) then
+          ∙ ap (λ on. cond (not is) (in_state 1) (cond on (cond (e.line == number) (by_event c service tei e.what a o) o) (in_state 4))) was-on
+          ∙ ap (λ b. cond (not is) (in_state 1) (cond b (by_event c service tei e.what a o) o)) mine
+
+      on-by : (known : (due c e.what v.teis).known.on ≡ v.teis.on) → on-then ≡ true
+      on-by known =
+          ap (λ b. is_on tei (cond b (due c e.what v.teis).known v.teis)) mine
+          ∙ ap (λ on. list_any (λ n. n == tei) on) known ∙ was-on
+
+      -- a frame that comes
+      heard-there : (e' : stream.Event) → e.what ≡ hears e' → (f : Parts) → its_frame service tei (frame_of c e') ≡ Some f → is_up o.state ≡ true
+          → is_answered (nat_lt c.n201 (length f.info)) f.control ≡ true → Same q u'.told.count u'.busy u'.rejected
+      heard-there e' what f frame up answered = go (place_in (line_at number card) tei) refl
+        where
+          is-at : at number (hears e') ≡ e
+          is-at = λ i. record { line = same-line i; what = sym what i }
+
+          stays : on-then ≡ true
+          stays = on-by (ap (λ z. (due c z v.teis).known.on) what ∙ ap (λ (w : Managed). w.on) (frame-leads c service tei e' f v.teis frame))
+
+          q-now : q ≡ by_heard c service tei e' o
+          q-now = q-is true stays ∙ ap (λ z. by_event c service tei z a o) what
+
+          go : (p : Option ℕ) → place_in (line_at number card) tei ≡ p → Same q u'.told.count u'.busy u'.rejected
+          go None off = absurd (none-some (state_number x) (sym (off-state service tei (line_at number card) off) ∙ there))
+          go (Some place) on =
+              let l = link_of service tei (line_at number card) in
+              let some : Some (state_number x) ≡ Some (state_number l.state) = sym there ∙ state-on service tei (line_at number card) place on in
+              let inner : state_number x ≡ state_number l.state = cc some in
+              subst (λ (p : Observed). Same p u'.told.count u'.busy u'.rejected) (sym q-now)
+              (subst (λ (z : Event). let u = standing service tei c (calm n busy rejected) (seen z.what (answer z card)) in Same (by_heard c service tei e' o) u.told.count u.busy u.rejected) is-at
+              (card-answered card s number e' (subst (λ i. i < c.lines) (sym same-line) here) service tei place on n stands.0 busy rejected stands.1 o (state ∙ inner) up (agree up) f frame answered))
+
+      -- a request
+      asked-there : (r : Request) → e.what ≡ request r → answers_seen c service tei was u' o.state (seen_granted r a ++ seen_told a) ≡ cond (is_granted a) (now_due.changed o q) []
+      asked-there r what = asked-answers-is c service tei o q was u' agree r a agrees-here down kept
+        where
+          down : is_up o.state ≡ false → is_up q.state ≡ false
+          down none = go on-then refl
+            where
+              go : (is : Bool) → on-then ≡ is → is_up q.state ≡ false
+              go true is = ap (λ (p : Observed). is_up p.state) (q-is true is) ∙ ap (λ z. is_up (by_event c service tei z a o).state) what ∙ asked-moves c service tei r a o none
+              go false is = ap (λ (p : Observed). is_up p.state) (q-is false is)
+
+          kept : is_granted a ≡ true → is_up o.state ≡ true → is_up q.state ≡ false → old.changed was u' ≡ []
+          kept granted up none =
+              ap (λ b. cond (cond busy (not b) b) (as_response (old.receipt u' false)) []) (says ∙ still (busies service tei r) refl)
+              ∙ as-busy busy (as_response (old.receipt u' false))
+            where
+              says : u'.busy ≡ busy_asked service tei busy r
+              says = ap (λ z. (standing service tei c (calm n busy rejected) (seen z a)).busy) what ∙ granted-busy c service tei r a n busy rejected granted
+
+              still : (b : Bool) → busies service tei r ≡ b → busy_asked service tei busy r ≡ busy
+              still false is = still-busy service tei r busy is
+              still true is =
+                  let on = on-by (ap (λ z. (due c z v.teis).known.on) what ∙ ap (λ (w : Managed). w.on) (none-led service tei c r v.teis is)) in
+                  let stays = ap (λ (p : Observed). is_up p.state) (q-is true on) ∙ ap (λ z. is_up (by_event c service tei z a o).state) what
+                  ∙ ap (λ b. is_up (cond b (by_request service tei r o) o).state) granted ∙ ap is_up (stays-up service tei r o is) in
+                  absurd (true≢false (sym (stays ∙ up) ∙ none))
+
+      answers-so : (what : line_event.Event) → e.what ≡ what → answers_seen c service tei was u' o.state (seen what a) ≡ now_due.answers c service tei o q what a
+      answers-so (hears e') is = heard-answers c service tei was u' o.state (hears e') a e' refl ∙ by-heard c service tei o q was u' agree e' (heard-there e' is)
+      answers-so (expiry timer) is = told-none c service tei was u' o.state a
+      answers-so (request r) is = asked-there r is
+      answers-so next is = begun-none c service tei was u' o.state (frame_in a)
+
+      -- a command
+      abbrev l' : Known
+      l' = watch c service tei number k its
+
+      abbrev asks' : Bool
+      asks' = news.asked service tei number asked its
+
+      abbrev owes' : Bool
+      owes' = (owing c service tei number w its).outstanding
+
+      abbrev m' : ℕ
+      m' = repeated service tei number m its
+
+      time-so : (differ from to || (option_map_or one_more (expired_of service tei e.what) 0 == 1)) ≡ (not (o.state == q.state) || now_due.expires service tei e.what)
+      time-so =
+          ap (λ b. b || (option_map_or one_more (expired_of service tei e.what) 0 == 1)) (sym (differs-is from to k l' asked asks' w.outstanding owes' m m' o q before behind))
+          ∙ ap (λ b. not (o.state == q.state) || b) (sym (expires-is service tei e.what))
+
+      command-so : old.command_of u' to ≡ now_due.command_of q
+      command-so =
+          ap (λ b. cond b (as_command (Sabme true)) (cond (is_state 6 to) (as_command (Disc true)) (cond (is_state 8 to) (as_command (old.receipt u' true)) []))) (sym (state-is to l' asks' owes' m' q 5 refl behind))
+          ∙ ap (λ b. cond (q.state == 5) (as_command (Sabme true)) (cond b (as_command (Disc true)) (cond (is_state 8 to) (as_command (old.receipt u' true)) []))) (sym (state-is to l' asks' owes' m' q 6 refl behind))
+          ∙ ap (λ b. cond (q.state == 5) (as_command (Sabme true)) (cond (q.state == 6) (as_command (Disc true)) (cond b (as_command (old.receipt u' true)) []))) (sym (state-is to l' asks' owes' m' q 8 refl behind))
+          ∙ ap (λ xs. cond (q.state == 5) (as_command (Sabme true)) (cond (q.state == 6) (as_command (Disc true)) xs)) (enquiry (q.state == 8) refl)
+        where
+          enquiry : (b : Bool) → (q.state == 8) ≡ b → cond b (as_command (old.receipt u' true)) [] ≡ cond b (as_command (now_due.receipt q true)) []
+          enquiry false other = refl
+          enquiry true is = ap as_command (receipt-is q u' (agrees-here (ap is_up (eqb-true q.state 8 is))) true)
+
+      on-puts : Puts true
+      on-puts =
+          let commands = cond (differ from to || (option_map_or one_more (expired_of service tei e.what) 0 == 1)) (old.command_of u' to) [] in
+          ap (λ st. option_map_or (λ state. answers_seen c service tei was u' state (seen e.what a)) st [] ++ commands) from-is
+          ∙ ap (λ xs. xs ++ commands) (answers-so e.what refl)
+          ∙ ap (λ b. now_due.answers c service tei o q e.what a ++ cond b (old.command_of u' to) []) time-so
+          ∙ ap (λ xs. now_due.answers c service tei o q e.what a ++ cond (not (o.state == q.state) || now_due.expires service tei e.what) xs []) command-so
+          ∙ sym (ap (λ b. cond (not b) (now_due.put_in c service tei o q its) []) (ap (λ s. s == 1) state ∙ not-one x))
+
+      owned : (what : line_event.Event) → e.what ≡ what → is_up o.state ≡ true → flat_map (OldOwn c service tei u') (frames_begun (seen what a)) ≡ flat_map (Own c service tei q) (frames_begun (seen what a))
+      owned (hears e') is up = ap (flat_map (OldOwn c service tei u')) (told-begins c service tei a) ∙ sym (ap (flat_map (Own c service tei q)) (told-begins c service tei a))
+      owned (expiry timer) is up = ap (flat_map (OldOwn c service tei u')) (told-begins c service tei a) ∙ sym (ap (flat_map (Own c service tei q)) (told-begins c service tei a))
+      owned (request r) is up = ap (flat_map (OldOwn c service tei u')) (asked-begins c service tei r a) ∙ sym (ap (flat_map (Own c service tei q)) (asked-begins c service tei r a))
+      owned next is up =
+          let on = on-by (ap (λ z. (due c z v.teis).known.on) is) in
+          let up-then : is_up q.state ≡ true = ap (λ (p : Observed). is_up p.state) (q-is true on) ∙ ap (λ z. is_up (by_event c service tei z a o).state) is
+          ∙ ap is_up (sent-state service tei c o (frame_in a)) ∙ up in
+          own-same c service tei q u' (agrees-here up-then) (frames_begun (seen next a))
+
+      on-owns : Owns true
+      on-owns =
+          ap (λ st. option_map_or (λ state. flat_map (old.acknowledged_at c service tei u' state) (seen e.what a)) st []) from-is
+          ∙ own-seen c service tei u' o.state (is_up o.state) refl (seen e.what a) ∙ go (is_up o.state) refl
+        where
+          go : (b : Bool) → is_up o.state ≡ b → cond b (flat_map (OldOwn c service tei u') (frames_begun (seen e.what a))) [] ≡ cond b (flat_map (Own c service tei q) (frames_begun (seen e.what a))) []
+          go false down = refl
+          go true up = owned e.what refl up
+
+    both-by : (b : Bool) → (e.line == number) ≡ b → Puts b × Owns b
+    both-by false other = (other-puts (apart card e number (λ same. true≢false (sym (eq-eqb e.line number (sym same)) ∙ other))), other-owns)
+    both-by true mine = go before
+      where
+        go : Facts from k asked w.outstanding m o → Puts true × Owns true
+        go (inl y) = (off-puts y.0 y.2, off-owns y.0 y.2)
+        go (inr y) = (on-puts mine y.0 y.1 y.2.state_is, on-owns mine y.0 y.1 y.2.state_is)
+
+    abbrev u-then : Standing
+    u-then = standing service tei c (calm n busy rejected) (seen_in number its)
+
+    pub due-same : old.due_in c service tei number was u-then its ≡ now_due.due_in c service tei number o q its
+    due-same = ap (λ xs. take (length xs - lost_in a) xs) (both-by (e.line == number) refl).0
+
+    pub may-same : old.may_go_in c service tei number was u-then its ≡ now_due.may_go_in c service tei number o q its
+    may-same =
+        ap (λ xs. xs ++ option_map_or (λ state. flat_map (old.acknowledged_at c service tei u-then state) (seen_in number its)) from []) due-same
+        ∙ ap (λ xs. now_due.due_in c service tei number o q its ++ xs) (both-by (e.line == number) refl).1

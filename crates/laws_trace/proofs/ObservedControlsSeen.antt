@@ -1,0 +1,123 @@
+-- What is seen of the control frames of a link in a moment, by what the observer knows.
+use Rattle.std.proofs.Common.{◌≡◌, ℕ, ◌==◌, ◌&&◌, Bool, true, false, cond, List, [], ◌∷◌, ◌++◌, Option, Some, None, refl, sym, ap, ◌∙◌, eqb-true, true≢false}
+use Rattle.std.specs.Prelude.{flat_map, Result, Ok, Err}
+use Rattle.std.specs.Option.{option_map_or}
+use Rattle.std.proofs.lemmas.Option.{none-some}
+use Rattle.model_bits.specs.Stream as stream
+use Rattle.lapd_frame.specs.declared.faults.ReadFault.{ReadFault}
+use Rattle.lapd_frame.specs.declared.services.Service.{Service}
+use Rattle.lapd_frame.specs.declared.services.Service.TheVariants.{Call, Packet}
+use Rattle.lapd_frame.specs.Grammar.{Parts}
+use Rattle.lapd_frame.specs.Reading.{reading}
+use Rattle.lapd_frame.specs.Services.{sapi_of}
+use Rattle.model_link.specs.declared.frames.ControlFrame.{ControlFrame}
+use Rattle.model_link.specs.declared.states.State.{State}
+use Rattle.model_link.specs.declared.states.State.TheVariants.{TeiAssigned, AwaitingEstablishment, AwaitingRelease, Established, TimerRecovery}
+use Rattle.model_link.specs.Link.{state_number}
+use Rattle.model_line.specs.declared.config.Config.{Config}
+use Rattle.model_line.specs.Event.{hears, request, Answer, told, refused, gave}
+use Rattle.model_line.specs.Heard.{management_sapi}
+use Rattle.model_line.specs.Request.{Request}
+use Rattle.model_line.specs.Sides.{has_management}
+use Rattle.laws_line.specs.Share.{is_granted}
+use Rattle.laws_trace.specs.ControlFrames as now_due
+use Rattle.laws_trace.specs.ControlFrames.{of_link, controls_at, IsPart, OnlyDueGo, AllDueGo}
+use Rattle.laws_trace.specs.LinkFrames.{frame_of, its_frame, is_for}
+use Rattle.laws_trace.specs.Managing.{Managed, due, message_by, by_message, nothing_due}
+use Rattle.laws_trace.specs.Observer.{Observed, by_event, by_request}
+use Rattle.laws_trace.specs.Trace.{is_up, Seen, begun, frames_begun, seen, seen_told, seen_granted}
+use Rattle.laws_trace.specs.Units.{is_ui}
+use Rattle.laws_trace.proofs.ControlsWatched as old
+use Rattle.laws_trace.proofs.DeliveriesWatched.{Standing, busy_asked}
+use Rattle.laws_trace.proofs.ObservedControls.{acknowledged-is, stays-down}
+use Rattle.laws_trace.proofs.ObservedCount.{Same}
+use Rattle.laws_trace.proofs.Standing.{standing}
+use Rattle.laws_trace.proofs.StandingOfLink.{calm}
+
+pub none-mapped : (o : Option ℕ) (xs : List ControlFrame) → xs ≡ [] → option_map_or (λ s. xs) o xs ≡ []
+none-mapped None xs none = none
+none-mapped (Some s) xs none = none
+
+pub not-one : (x : State) → (state_number x == 1) ≡ false
+not-one TeiAssigned = refl
+not-one AwaitingEstablishment = refl
+not-one AwaitingRelease = refl
+not-one Established = refl
+not-one TimerRecovery = refl
+
+and-none : (b : Bool) → (b && false) ≡ false
+and-none true = refl
+and-none false = refl
+
+-- A frame of a link is no message of TEI management.
+its-own : (service : Service) → (sapi_of service == management_sapi) ≡ false
+its-own Call = refl
+its-own Packet = refl
+
+module _ (c : Config) (service : Service) (tei : ℕ) where
+  no-message : (o : Option Parts) (f : Parts) → its_frame service tei o ≡ Some f → message_by c o ≡ None
+  no-message None f is = refl
+  no-message (Some g) f is = go (is_for service tei g.address) refl is
+    where
+      away : is_for service tei g.address ≡ true → (g.address.sapi == management_sapi) ≡ false
+      away for = ap (λ n. n == management_sapi) (eqb-true g.address.sapi (sapi_of service) (both (g.address.sapi == sapi_of service) (g.address.tei == tei) for)) ∙ its-own service
+        where
+          both : (a b : Bool) → (a && b) ≡ true → a ≡ true
+          both true b e = refl
+          both false b e = e
+
+      go : (b : Bool) → is_for service tei g.address ≡ b → cond b (Some g) None ≡ Some f → message_by c (Some g) ≡ None
+      go false none e = absurd (none-some f e)
+      go true for e =
+          ap (λ b. cond (has_management c.side && ((b && g.address.tei == 127) && is_ui g.control)) (Some g.info) None) (away for)
+          ∙ ap (λ b. cond b (Some g.info) None) (and-none (has_management c.side))
+
+  pub frame-leads : (e : stream.Event) (f : Parts) (w : Managed) → its_frame service tei (frame_of c e) ≡ Some f → (due c (hears e) w).known ≡ w
+  frame-leads e f w is = ap (λ m. (option_map_or (by_message c w) m (nothing_due w)).known) (no-message (frame_of c e) f is)
+
+  -- Acknowledgements that go by themselves.
+  abbrev pub OldOwn : Standing → List ℕ → List ControlFrame
+  OldOwn u octets = of_link service tei (old.acknowledged_by u) (reading c.side octets)
+
+  abbrev pub Own : Observed → List ℕ → List ControlFrame
+  Own q octets = of_link service tei (now_due.acknowledged_by q) (reading c.side octets)
+
+  pub own-seen : (u : Standing) (s : ℕ) (b : Bool) → is_up s ≡ b → (t : List Seen) → flat_map (old.acknowledged_at c service tei u s) t ≡ cond b (flat_map (OldOwn u) (frames_begun t)) []
+  own-seen u s true up [] = refl
+  own-seen u s false up [] = refl
+  own-seen u s true up (begun f ∷ t) = ap (λ b. cond b (OldOwn u f) [] ++ flat_map (old.acknowledged_at c service tei u s) t) up ∙ ap (λ xs. OldOwn u f ++ xs) (own-seen u s true up t)
+  own-seen u s false up (begun f ∷ t) = ap (λ b. cond b (OldOwn u f) [] ++ flat_map (old.acknowledged_at c service tei u s) t) up ∙ own-seen u s false up t
+  own-seen u s b up (Seen.heard e ∷ t) = own-seen u s b up t
+  own-seen u s b up (Seen.noted ns contents ∷ t) = own-seen u s b up t
+  own-seen u s b up (Seen.granted r ∷ t) = own-seen u s b up t
+  own-seen u s b up (Seen.lost n ∷ t) = own-seen u s b up t
+
+  pub own-same : (q : Observed) (u : Standing) → Same q u.told.count u.busy u.rejected → (frames : List (List ℕ)) → flat_map (OldOwn u) frames ≡ flat_map (Own q) frames
+  own-same q u same [] = refl
+  own-same q u same (f ∷ frames) = ap (λ xs. xs ++ flat_map (OldOwn u) frames) (one (reading c.side f)) ∙ ap (λ xs. Own q f ++ xs) (own-same q u same frames)
+    where
+      one : (r : Result Parts ReadFault) → of_link service tei (old.acknowledged_by u) r ≡ of_link service tei (now_due.acknowledged_by q) r
+      one (Err fault) = refl
+      one (Ok frame) = ap (λ xs. cond (frame.address.sapi == sapi_of service && frame.address.tei == tei) xs []) (acknowledged-is q u same frame.address.command frame.control)
+
+  pub told-begins : (a : Answer) → frames_begun (seen_told a) ≡ []
+  told-begins (told t) = refl
+  told-begins (refused why) = refl
+  told-begins (gave given) = refl
+
+  pub asked-begins : (r : Request) (a : Answer) → frames_begun (seen_granted r a ++ seen_told a) ≡ []
+  asked-begins r (told t) = refl
+  asked-begins r (refused why) = refl
+  asked-begins r (gave given) = refl
+
+  pub granted-busy : (r : Request) (a : Answer) (n : ℕ) (busy rejected : Bool) → is_granted a ≡ true → (standing service tei c (calm n busy rejected) (seen (request r) a)).busy ≡ busy_asked service tei busy r
+  granted-busy r (told t) n busy rejected granted = refl
+  granted-busy r (refused why) n busy rejected granted = absurd (true≢false (sym granted))
+  granted-busy r (gave given) n busy rejected granted = absurd (true≢false (sym granted))
+
+  pub asked-moves : (r : Request) (a : Answer) (o : Observed) → is_up o.state ≡ false → is_up (by_event c service tei (request r) a o).state ≡ false
+  asked-moves r a o down = go (is_granted a)
+    where
+      go : (b : Bool) → is_up (cond b (by_request service tei r o) o).state ≡ false
+      go true = stays-down service tei r o down
+      go false = down

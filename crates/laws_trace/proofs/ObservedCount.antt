@@ -1,0 +1,124 @@
+-- What an observer knows of this side of a link is how the link stands by what is heard and noted: over runs.
+use Rattle.std.proofs.Common.{◌≡◌, ℕ, ◌+◌, ◌&&◌, ◌||◌, not, Bool, true, false, cond, Some, refl, sym, ap, ◌∙◌, subst, true≢false}
+use Rattle.std.specs.List.{list_any}
+use Rattle.lapd_frame.specs.declared.services.Service.{Service}
+use Rattle.model_link.specs.declared.states.State.{State}
+use Rattle.model_link.specs.declared.states.State.TheVariants.{TeiAssigned, AwaitingEstablishment, AwaitingRelease, Established, TimerRecovery}
+use Rattle.model_link.specs.Link.{Link, is_multiple_frame, state_number}
+use Rattle.model_line.specs.declared.config.Config.{Config}
+use Rattle.model_line.specs.Event.{Event, hears, expiry, request, next, Answer}
+use Rattle.model_line.specs.Line.{Line, link_of, place_in}
+use Rattle.model_line.specs.Machine as lines
+use Rattle.model_line.specs.Sound.{IsInRange, IsSound}
+use Rattle.laws_line.specs.Heard.{notes_of, is_data_of}
+use Rattle.laws_trace.specs.Counting.{begins}
+use Rattle.laws_trace.specs.Deliveries.{brought}
+use Rattle.laws_trace.specs.Observer.{Observed, by_event}
+use Rattle.laws_trace.specs.Trace.{is_up}
+use Rattle.laws_trace.proofs.Deliveries.{frame_by}
+use Rattle.laws_trace.proofs.DeliveriesRun.{IsCount}
+use Rattle.laws_trace.proofs.DeliveriesWatched.{Standing, brings_information}
+use Rattle.laws_trace.proofs.ObservedShape.{When}
+use Rattle.laws_trace.proofs.ObservedStanding.{Stood, in_number, begins_by, taken_by, informs, event-stands-so}
+use Rattle.laws_trace.proofs.ObservedTold.{begins-so, informs-so, data-so}
+use Rattle.laws_trace.proofs.Standing.{asked_busy, behind}
+use Rattle.laws_trace.proofs.StandingOfLink.{IsStanding}
+
+pub record Same (o : Observed) (n : ℕ) (busy rejected : Bool) : Type 0 where
+  pub count_is : o.count ≡ n
+  pub busy_is : o.own_busy ≡ busy
+  pub rejected_is : o.rejected ≡ rejected
+
+-- In states 7 and 8.
+abbrev pub Agree : Observed → Standing → Type 0
+Agree o w = is_up o.state ≡ true → Same o w.told.count w.busy w.rejected
+
+pub when-holds : (b : Bool) (P : Type 0) → b ≡ true → When b P → P
+when-holds true P e w = w
+when-holds false P e w = absurd (true≢false (sym e))
+
+-- One event of a line, where the TEI is on it.
+module _ (service : Service) (tei : ℕ) (c : Config) (ranged : IsInRange c) (l : Line) (s : IsSound c l) (e : Event) (place : ℕ) (on : place_in l tei ≡ Some place) (n : ℕ)
+    (count : IsCount (link_of service tei l) n) (busy rejected : Bool) (stands : IsStanding (link_of service tei l) busy rejected) (o : Observed)
+    (is : o.state ≡ state_number (link_of service tei l).state) (agree : is_up o.state ≡ true → Same o n busy rejected) where
+  abbrev a : Answer
+  a = lines.answer c e l
+
+  abbrev own : Link
+  own = link_of service tei l
+
+  abbrev its : State
+  its = (link_of service tei l).state
+
+  abbrev q : Observed
+  q = by_event c service tei e (lines.answer c e l) o
+
+  abbrev now : Standing
+  now = behind service tei c e l (lines.answer c e l) n busy rejected
+
+  up-here : is_multiple_frame its ≡ true → is_up o.state ≡ true
+  up-here up = ap is_up is ∙ number-up its ∙ up
+    where
+      number-up : (x : State) → is_up (state_number x) ≡ is_multiple_frame x
+      number-up TeiAssigned = refl
+      number-up AwaitingEstablishment = refl
+      number-up AwaitingRelease = refl
+      number-up Established = refl
+      number-up TimerRecovery = refl
+
+  abbrev B : Bool
+  B = begins service tei (frame_by c e) (notes_of a)
+
+  abbrev D : Bool
+  D = list_any (is_data_of service tei) (notes_of a)
+
+  abbrev I : Bool
+  I = brings_information service tei (frame_by c e)
+
+  same : o ≡ in_number (state_number its) o
+  same = λ i. record o { state = is i }
+
+  stood : is_up q.state ≡ true → Stood (is_up (state_number its)) B D I (asked_busy service tei e a o.own_busy) o q
+  stood up =
+      let f = brought c service tei e in
+      let u = is_up (state_number its) in
+      let b = asked_busy service tei e a o.own_busy in
+      let h = subst (λ p. When (is_up (by_event c service tei e a p).state) (Stood u (begins_by c service tei its f) (taken_by c service tei p f) (informs c service tei f)
+      (asked_busy service tei e a p.own_busy) p (by_event c service tei e a p))) (sym same) (event-stands-so c service tei its o e a) in
+      subst (λ i. Stood u B D i b o q) (sym (informs-so c ranged l s e service tei place on))
+      (subst (λ d. Stood u B d (informs c service tei f) b o q)
+      (sym (data-so c ranged l s e service tei place on o n count is (λ m. count m ∙ sym (agree (up-here m)).count_is) (λ m. stands.busy_is m ∙ sym (agree (up-here m)).busy_is)))
+      (subst (λ b'. Stood u b' (taken_by c service tei o f) (informs c service tei f) b o q) (sym (begins-so c ranged l s e service tei place on))
+      (when-holds (is_up q.state) (Stood u (begins_by c service tei its f) (taken_by c service tei o f) (informs c service tei f) b o q) up h)))
+
+  still-busy : (e : Event) (b : Bool) → (brings_information service tei (frame_by c e) && not (asked_busy service tei e a b)) ≡ (brings_information service tei (frame_by c e) && not b)
+  still-busy (hears what) b = refl
+  still-busy (expiry timer) b = refl
+  still-busy (request r) b = refl
+  still-busy next b = refl
+
+  pub stands-behind : is_up q.state ≡ true → Same q now.told.count now.busy now.rejected
+  stands-behind up = go (is_up (state_number its)) refl
+    where
+      h : Stood (is_up (state_number its)) B D I (asked_busy service tei e a o.own_busy) o q
+      h = stood up
+
+      go : (u : Bool) → is_up (state_number its) ≡ u → Same q now.told.count now.busy now.rejected
+      go true before =
+          let same = agree (ap is_up is ∙ before) in
+          record {
+            count_is = h.count_is ∙ ap (λ m. cond B 0 (cond D (m + 1) m)) same.count_is;
+            busy_is = h.busy_is ∙ ap (λ b. cond B false (asked_busy service tei e a b)) same.busy_is;
+            rejected_is =
+                h.rejected_is ∙ ap (λ b. cond (B || D) false (cond b true o.rejected)) (still-busy e o.own_busy)
+                ∙ ap (λ b. cond (B || D) false (cond (I && not b) true o.rejected)) same.busy_is ∙ ap (λ r. cond (B || D) false (cond (I && not busy) true r)) same.rejected_is;
+          }
+      go false before =
+          let anew : B ≡ true = sym (ap (λ u. u || B) before) ∙ h.before in
+          record {
+            count_is = h.count_is ∙ ap (λ b. cond b 0 (cond D (o.count + 1) o.count)) anew ∙ sym (ap (λ b. cond b 0 (cond D (n + 1) n)) anew);
+            busy_is = h.busy_is ∙ ap (λ b. cond b false (asked_busy service tei e a o.own_busy)) anew ∙ sym (ap (λ b. cond b false (asked_busy service tei e a busy)) anew);
+            rejected_is =
+                h.rejected_is ∙ ap (λ b. cond (b || D) false (cond (I && not (asked_busy service tei e a o.own_busy)) true o.rejected)) anew
+                ∙ sym (ap (λ b. cond (b || D) false (cond (I && not busy) true rejected)) anew);
+          }

@@ -1,0 +1,130 @@
+-- What an observer knows of this side of a link, after a list of events.
+use Rattle.std.proofs.Common.{◌≡◌, ℕ, ◌==◌, not, Bool, true, false, cond, List, [], ◌∷◌, Option, Some, None, is_some, refl, sym, ap, ◌∙◌, subst, eqb-true, true≢false, inl, inr}
+use Rattle.std.specs.Prelude.{fold}
+use Rattle.std.proofs.lemmas.Bool.{and_parts}
+use Rattle.std.proofs.lemmas.List.Elements.{All-head, All-tail}
+use Rattle.std.proofs.lemmas.List.Sums.{fold-append}
+use Rattle.lapd_frame.specs.declared.refusals.Refusal.TheVariants.{PoolFull}
+use Rattle.lapd_frame.specs.declared.services.Service.{Service}
+use Rattle.model_link.specs.Link.{state_number}
+use Rattle.model_line.specs.declared.config.Config.{Config}
+use Rattle.model_line.specs.Event as line_event
+use Rattle.model_line.specs.Event.{refused}
+use Rattle.model_line.specs.Line.{Line, link_of, place_in, state_of}
+use Rattle.model_line.specs.Machine as lines
+use Rattle.model_card.specs.Card.{Card, line_at, is_full}
+use Rattle.model_card.specs.Event.{Event}
+use Rattle.model_card.specs.Machine.{after, answer}
+use Rattle.model_card.specs.Run.{Moment, moments, after_all, IsAtLine, AreAtLines}
+use Rattle.model_card.specs.Sound as card_sound
+use Rattle.model_card.proofs.CardSound.{after_is_sound}
+use Rattle.model_card.proofs.Steps.{has_lines, by_room, line_sound}
+use Rattle.laws_card.specs.Timers.{AllHaveTheirTimers}
+use Rattle.laws_card.proofs.TimersRun.{timely-after}
+use Rattle.laws_trace.specs.Managing.{is_on, led}
+use Rattle.laws_trace.specs.Observer.{Observed, View, in_state, by_event, views}
+use Rattle.laws_trace.specs.Trace.{seen, seen_in, trace}
+use Rattle.laws_trace.proofs.ControlFrames.{moment, as-calm}
+use Rattle.laws_trace.proofs.DeliveriesRun.{IsCount}
+use Rattle.laws_trace.proofs.DeliveriesWatched.{stand}
+use Rattle.laws_trace.proofs.MovesWatched.{repeated}
+use Rattle.laws_trace.proofs.NewsWatched as news
+use Rattle.laws_trace.proofs.NewsWatched.{Owing, owing}
+use Rattle.laws_trace.proofs.ObservedCount.{Agree, stands-behind}
+use Rattle.laws_trace.proofs.ObservedRun.{Holds, on-is, holds-then, known-then}
+use Rattle.laws_trace.proofs.Runs.{nothing-seen}
+use Rattle.laws_trace.proofs.Standing.{standing, stand-is}
+use Rattle.laws_trace.proofs.StandingOfLink.{calm, IsStanding}
+use Rattle.laws_trace.proofs.TimersOfEvent.{state-on, off-state}
+use Rattle.laws_trace.proofs.TimersWatched.{Known, watch}
+use Rattle.laws_trace.proofs.ObservedFacts.{Facts, facts}
+
+-- A request that finds the pool full moves nothing.
+pub still : (c : Config) (service : Service) (tei : ℕ) (e : line_event.Event) (l : Line) (o : Observed) → lines.takes_slot c e l ≡ true → by_event c service tei e (refused PoolFull) o ≡ o
+unfolding lines.takes_slot
+still c service tei (line_event.hears what) l o takes = absurd (true≢false (sym takes))
+still c service tei (line_event.expiry timer) l o takes = absurd (true≢false (sym takes))
+still c service tei (line_event.request r) l o takes = refl
+still c service tei line_event.next l o takes = absurd (true≢false (sym takes))
+
+module _ (service : Service) (tei number : ℕ) where
+  abbrev pub Stands : ℕ → Bool → Bool → Line → Type 0
+  Stands n busy rejected l = IsCount (link_of service tei l) n × IsStanding (link_of service tei l) busy rejected
+
+  -- One event of the line.
+  own-behind : (card : Card) → card_sound.IsSound card → (e : Event) → IsAtLine card e → (n : ℕ) (busy rejected : Bool) → let l = line_at e.line card in Stands n busy rejected l
+      → (place : ℕ) → place_in l tei ≡ Some place → (o : Observed) → o.state ≡ state_number (link_of service tei l).state → Agree o (calm n busy rejected)
+      → Agree (by_event card.config service tei e.what (answer e card) o) (standing service tei card.config (calm n busy rejected) (seen e.what (answer e card)))
+  own-behind card s e here n busy rejected stands place on o is agree =
+      let c = card.config in
+      let l = line_at e.line card in
+      by_room (λ ls a. Agree (by_event c service tei e.what a o) (standing service tei c (calm n busy rejected) (seen e.what a))) e card
+      (λ full.
+      let takes = (and_parts (lines.takes_slot c e.what l) (is_full card) full).0 in
+      subst (λ t. Agree (by_event c service tei e.what (refused PoolFull) o) (standing service tei c (calm n busy rejected) t)) (sym (nothing-seen c e.what l takes))
+      (subst (λ p. Agree p (calm n busy rejected)) (sym (still c service tei e.what l o takes)) agree))
+      (λ room.
+      subst (Agree (by_event c service tei e.what (lines.answer c e.what l) o)) (sym (stand-is service tei c e.what l n busy rejected))
+      (stands-behind service tei c s.config l (line_sound card e.line (has_lines card s) here) e.what place on n stands.0 busy rejected stands.1 o is agree))
+
+  module _ (card : Card) (s : card_sound.IsSound card) (timely : AllHaveTheirTimers card) (e : Event) (here : IsAtLine card e)
+      (k : Known) (asked : Bool) (w : Owing) (known_is : w.known ≡ k) (m : ℕ) (v : View) (h : Holds service tei k asked w.outstanding m (line_at number card) v)
+      (n : ℕ) (busy rejected : Bool) (stands : Stands n busy rejected (line_at number card)) (agree : Agree v.link (calm n busy rejected)) where
+    abbrev c : Config
+    c = card.config
+
+    abbrev its : Moment
+    its = record { card = card; event = e; answer = answer e card }
+
+    abbrev Next : Bool → Bool → Bool → Type 0
+    Next b is was =
+        Agree (cond (not is) (in_state 1) (cond was (cond b (by_event c service tei e.what (answer e card) v.link) v.link) (in_state 4)))
+        (standing service tei c (calm n busy rejected) (cond b (seen e.what (answer e card)) []))
+
+    before : Facts (state_of service tei (line_at number card)) k asked w.outstanding m v.link
+    before = facts service tei k asked w.outstanding m (line_at number card) v h
+
+    by-line : (b : Bool) → (e.line == number) ≡ b → (is was : Bool) → was ≡ is_some (state_of service tei (line_at number card)) → Next b is was
+    by-line b eq false was on = λ up. absurd (true≢false (sym up))
+    by-line b eq true false on = λ up. absurd (true≢false (sym up))
+    by-line false eq true true on = agree
+    by-line true eq true true on = go (place_in (line_at number card) tei) refl before
+      where
+        go : (p : Option ℕ) → place_in (line_at number card) tei ≡ p → Facts (state_of service tei (line_at number card)) k asked w.outstanding m v.link → Next true true true
+        go None off facts = absurd (true≢false (on ∙ ap is_some (off-state service tei (line_at number card) off)))
+        go (Some place) at (inl y) = absurd (true≢false (on ∙ ap is_some y.0))
+        go (Some place) at (inr y) =
+            let same : number ≡ e.line = sym (eqb-true e.line number eq) in
+            let l = link_of service tei (line_at number card) in
+            let some : Some (state_number y.0) ≡ Some (state_number l.state) = sym y.1 ∙ state-on service tei (line_at number card) place at in
+            let inner : state_number y.0 ≡ state_number l.state = cc some in
+            let is : v.link.state ≡ state_number l.state = y.2.state_is ∙ inner in
+            own-behind card s e here n busy rejected (subst (λ i. Stands n busy rejected (line_at i card)) same stands) place (subst (λ i. place_in (line_at i card) tei ≡ Some place) same at) v.link
+            (subst (λ i. v.link.state ≡ state_number (link_of service tei (line_at i card)).state) same is) agree
+
+    pub agrees-then : Agree (views c service tei number v its).link (standing service tei c (calm n busy rejected) (seen_in number its))
+    agrees-then =
+        by-line (e.line == number) refl (is_on tei (led c number v.teis e)) (is_on tei v.teis) (on-is service tei number k asked w.outstanding m (line_at number card) v h)
+
+  pub run-agrees : (card : Card) (events : List Event) → card_sound.IsSound card → AllHaveTheirTimers card → AreAtLines card events
+      → (k : Known) (asked : Bool) (w : Owing) → w.known ≡ k → (m : ℕ) (v : View) → Holds service tei k asked w.outstanding m (line_at number card) v
+      → (n : ℕ) (busy rejected : Bool) → Stands n busy rejected (line_at number card) → Agree v.link (calm n busy rejected)
+      → Agree (fold (views card.config service tei number) v (moments card events)).link (standing service tei card.config (calm n busy rejected) (trace number (moments card events)))
+  unfolding moments after_all
+  run-agrees card [] s timely all k asked w is m v h n busy rejected stands agree = agree
+  run-agrees card (e ∷ events) s timely all k asked w is m v h n busy rejected stands agree =
+      let here = All-head (IsAtLine card) e events all in
+      let its : Moment = record { card = card; event = e; answer = answer e card } in
+      let c = card.config in
+      let x = moment service tei n busy rejected card e number s timely here stands (e.line == number) refl in
+      let first = seen_in number its in
+      let rest = trace number (moments (after e card) events) in
+      let u = standing service tei c (calm n busy rejected) first in
+      let v2 = views c service tei number v its in
+      let kept : u ≡ calm u.told.count u.busy u.rejected = as-calm u x.quiet_is in
+      subst (Agree (fold (views c service tei number) v2 (moments (after e card) events)).link) (sym (fold-append (stand c service tei) (calm n busy rejected) first rest))
+      (subst (λ z. Agree (fold (views c service tei number) v2 (moments (after e card) events)).link (standing service tei c z rest)) (sym kept)
+      (run-agrees (after e card) events (after_is_sound card e s here) (timely-after card e s timely here) (All-tail (IsAtLine card) e events all)
+      (watch c service tei number k its) (news.asked service tei number asked its) (owing c service tei number w its) (known-then service tei number card s timely e here k asked w is m v h)
+      (repeated service tei number m its) v2 (holds-then service tei number card s timely e here k asked w is m v h) u.told.count u.busy u.rejected (x.count, x.stands)
+      (subst (Agree v2.link) kept (agrees-then card s timely e here k asked w is m v h n busy rejected stands agree))))

@@ -1,0 +1,160 @@
+-- What layer 3 is told of what is heard, by what the observer knows of the link.
+use Rattle.std.proofs.Common.{◌≡◌, ℕ, ◌<◌, ◌||◌, Bool, true, false, cond, Option, Some, None, option_map, refl, sym, ap, ◌∙◌, subst, true≢false, inl, inr}
+use Rattle.std.specs.Prelude.{fold, count_by, length, option_to_list}
+use Rattle.std.specs.List.{list_any}
+use Rattle.std.specs.Option.{option_map_or}
+use Rattle.std.proofs.lemmas.Bool.{and_parts}
+use Rattle.std.proofs.lemmas.Option.{none-some}
+use Rattle.lapd_frame.specs.declared.refusals.Refusal.TheVariants.{PoolFull}
+use Rattle.lapd_frame.specs.declared.services.Service.{Service}
+use Rattle.lapd_frame.specs.Grammar.{Parts}
+use Rattle.model_link.specs.declared.states.State.{State}
+use Rattle.model_link.specs.declared.states.State.TheVariants.{TeiAssigned, AwaitingEstablishment, AwaitingRelease, Established, TimerRecovery}
+use Rattle.model_link.specs.Link.{is_multiple_frame, state_number}
+use Rattle.model_line.specs.declared.config.Config.{Config}
+use Rattle.model_line.specs.Event as line_event
+use Rattle.model_line.specs.Event.{hears, expiry, request, next, Answer, refused}
+use Rattle.model_line.specs.Line.{Line, link_of, place_in, state_of}
+use Rattle.model_line.specs.Machine as lines
+use Rattle.model_line.specs.Sound.{IsInRange, IsSound}
+use Rattle.laws_line.specs.Heard.{notes_of, contents_in, is_data_of, is_unit_of, tells_contents}
+use Rattle.model_card.specs.Card.{fresh, line_at, is_full}
+use Rattle.model_card.specs.Event.{at}
+use Rattle.model_card.specs.Machine.{answer}
+use Rattle.model_card.specs.Run.{after_all, AreAtLines}
+use Rattle.model_card.proofs.Steps.{has_lines, by_room, line_sound}
+use Rattle.laws_trace.specs.Deliveries.{brought, Deliveries}
+use Rattle.laws_trace.specs.LinkFrames.{its_frame, is_for}
+use Rattle.laws_trace.specs.Observer.{Observed, in_state, view_of}
+use Rattle.laws_trace.specs.Trace.{is_up, trace_of, Always}
+use Rattle.laws_trace.specs.Units.{is_ui}
+use Rattle.laws_trace.proofs.Deliveries.{frame_by}
+use Rattle.laws_trace.proofs.DeliveriesKept.{run-stands}
+use Rattle.laws_trace.proofs.DeliveriesRun.{IsCount, no-data, event-told}
+use Rattle.laws_trace.proofs.DeliveriesWatched.{at_first, stand, IsHeard}
+use Rattle.laws_trace.proofs.ObservedAcknowledged.{agrees-now}
+use Rattle.laws_trace.proofs.ObservedCount.{Same}
+use Rattle.laws_trace.proofs.ObservedFacts.{Facts}
+use Rattle.laws_trace.proofs.ObservedLaws.{known-now}
+use Rattle.laws_trace.proofs.ObservedStanding.{taken_by}
+use Rattle.laws_trace.proofs.ObservedTold.{data-so}
+use Rattle.laws_trace.proofs.OneLink.{HasNone, Goes, event-goes}
+use Rattle.laws_trace.proofs.StandingOfLink.{IsStanding}
+use Rattle.laws_trace.proofs.TimersAreTimely.{sound-now, config-now, front-at}
+use Rattle.laws_trace.proofs.TimersOfEvent.{state-on, off-state}
+use Rattle.laws_trace.proofs.TimersWatched.{Known}
+use Rattle.laws_trace.proofs.UnitsAreFor.{unit-is, units-are}
+
+number-up : (x : State) → is_up (state_number x) ≡ is_multiple_frame x
+number-up TeiAssigned = refl
+number-up AwaitingEstablishment = refl
+number-up AwaitingRelease = refl
+number-up Established = refl
+number-up TimerRecovery = refl
+
+-- All but to whom unit data is told.
+record Told (c : Config) (service : Service) (tei : ℕ) (o : Observed) (frame : Option Parts) (a : Answer) : Type 0 where
+  data_is : list_any (is_data_of service tei) (notes_of a) ≡ taken_by c service tei o frame
+  unit_is : list_any (is_unit_of service tei) (notes_of a) ≡ true → option_map_or (λ (f : Parts). is_ui f.control) frame false ≡ true
+  contents_are : (list_any (is_data_of service tei) (notes_of a) || list_any (is_unit_of service tei) (notes_of a)) ≡ true
+      → contents_in a ≡ option_map (λ (f : Parts). f.info) frame
+  once : count_by tells_contents (notes_of a) ≡ length (option_to_list (contents_in a))
+
+-- One event of a line.
+module _ (service : Service) (tei : ℕ) (c : Config) (ranged : IsInRange c) (l : Line) (s : IsSound c l) (e : line_event.Event) (n : ℕ) (count : IsCount (link_of service tei l) n)
+    (busy rejected : Bool) (stands : IsStanding (link_of service tei l) busy rejected) (o : Observed) (agree : is_up o.state ≡ true → Same o n busy rejected) where
+  abbrev a : Answer
+  a = lines.answer c e l
+
+  brought-is : (e : line_event.Event) (f : Parts) → frame_by c e ≡ Some f → is_for service tei f.address ≡ true → brought c service tei e ≡ Some f
+  brought-is (hears what) f is for = ap (its_frame service tei) is ∙ ap (λ b. cond b (Some f) None) for
+  brought-is (expiry timer) f is for = absurd (none-some f is)
+  brought-is (request r) f is for = absurd (none-some f is)
+  brought-is next f is for = absurd (none-some f is)
+
+  heard : IsHeard service tei (record { frame = frame_by c e; count = n }) (notes_of a) (contents_in a)
+  heard = (event-told c ranged l s e service tei n count).0
+
+  told-by : (d : Bool) → list_any (is_data_of service tei) (notes_of a) ≡ d → (u : Bool) → list_any (is_unit_of service tei) (notes_of a) ≡ u → (d || u) ≡ true
+      → contents_in a ≡ option_map (λ (f : Parts). f.info) (brought c service tei e)
+  told-by true is u unit some =
+      let x = heard.data_is is in x.told ∙ sym (ap (option_map (λ (f : Parts). f.info)) (brought-is e x.frame x.heard x.whose))
+  told-by false is true unit some =
+      let x = heard.unit_is unit in x.told ∙ sym (ap (option_map (λ (f : Parts). f.info)) (brought-is e x.frame x.heard x.whose))
+  told-by false is false unit some = absurd (true≢false (sym some))
+
+  with-data : list_any (is_data_of service tei) (notes_of a) ≡ taken_by c service tei o (brought c service tei e) → Told c service tei o (brought c service tei e) a
+  with-data is = record {
+    data_is = is;
+    unit_is = λ some. let x = heard.unit_is some in ap (λ f. option_map_or (λ (f : Parts). is_ui f.control) f false) (brought-is e x.frame x.heard x.whose) ∙ x.control;
+    contents_are = told-by (list_any (is_data_of service tei) (notes_of a)) refl (list_any (is_unit_of service tei) (notes_of a)) refl;
+    once = heard.once;
+  }
+
+  none-taken : (f : Option Parts) → taken_by c service tei (in_state 1) f ≡ false
+  none-taken None = refl
+  none-taken (Some f) = refl
+
+  off-told : place_in l tei ≡ None → o ≡ in_state 1 → Told c service tei o (brought c service tei e) a
+  off-told off is = with-data (go (event-goes c e l service tei s) ∙ sym (ap (λ o. taken_by c service tei o (brought c service tei e)) is ∙ none-taken (brought c service tei e)))
+    where
+      untold : HasNone c service tei e l (lines.after c e l) a → (b : Bool) → list_any (is_data_of service tei) (notes_of a) ≡ b → list_any (is_data_of service tei) (notes_of a) ≡ false
+      untold x false none = none
+      untold x true some = absurd (no-data c ranged l s e service tei n count x some)
+
+      go : Goes c service tei e l (lines.after c e l) a → list_any (is_data_of service tei) (notes_of a) ≡ false
+      go (inl x) = untold x (list_any (is_data_of service tei) (notes_of a)) refl
+      go (inr (inl x)) = absurd (none-some x.place (sym off ∙ x.placed))
+      go (inr (inr x)) = absurd (none-some x.place (sym off ∙ x.placed))
+
+  on-told : (place : ℕ) → place_in l tei ≡ Some place → o.state ≡ state_number (link_of service tei l).state → Told c service tei o (brought c service tei e) a
+  on-told place on is =
+      let own = link_of service tei l in
+      with-data (data-so c ranged l s e service tei place on o n count is
+      (λ up. count up ∙ sym (agree (ap is_up is ∙ number-up own.state ∙ up)).count_is) (λ up. stands.busy_is up ∙ sym (agree (ap is_up is ∙ number-up own.state ∙ up)).busy_is))
+
+  told-so : (k : Known) (asked owed : Bool) (m : ℕ) → Facts (state_of service tei l) k asked owed m o → Told c service tei o (brought c service tei e) a
+  told-so k asked owed m facts = go (place_in l tei) refl facts
+    where
+      go : (p : Option ℕ) → place_in l tei ≡ p → Facts (state_of service tei l) k asked owed m o → Told c service tei o (brought c service tei e) a
+      go None off (inl y) = off-told off y.2
+      go None off (inr y) = absurd (none-some (state_number y.0) (sym (off-state service tei l off) ∙ y.1))
+      go (Some place) on (inl y) = let x = link_of service tei l in absurd (none-some (state_number x.state) (sym y.0 ∙ state-on service tei l place on))
+      go (Some place) on (inr y) =
+          let x = link_of service tei l in
+          let some : Some (state_number y.0) ≡ Some (state_number x.state) = sym y.1 ∙ state-on service tei l place on in
+          let inner : state_number y.0 ≡ state_number x.state = cc some in
+          on-told place on (y.2.state_is ∙ inner)
+
+-- A request that finds the pool full tells nothing.
+none-told : (c : Config) (service : Service) (tei : ℕ) (o : Observed) (e : line_event.Event) (l : Line) → lines.takes_slot c e l ≡ true → Told c service tei o (brought c service tei e) (refused PoolFull)
+unfolding lines.takes_slot
+none-told c service tei o (hears what) l takes = absurd (true≢false (sym takes))
+none-told c service tei o (expiry timer) l takes = absurd (true≢false (sym takes))
+none-told c service tei o (request r) l takes =
+    record { data_is = refl; unit_is = λ some. absurd (true≢false (sym some)); contents_are = λ some. absurd (true≢false (sym some)); once = refl }
+none-told c service tei o next l takes = absurd (true≢false (sym takes))
+
+pub deliveries-so : Always Deliveries
+deliveries-so c events number ranged all within service tei before what behind is =
+    let first = front-at (fresh c) before (at number what) behind (subst (AreAtLines (fresh c)) is all) in
+    let card = after_all (fresh c) before in
+    let kept = config-now c before number ranged first within service tei in
+    let s = sound-now c before number ranged first within service tei in
+    let here : number < card.config.lines = subst (λ (c : Config). number < c.lines) (sym kept) within in
+    let o = (view_of c service tei number before).link in
+    let x = run-stands c before number ranged first within service tei in
+    let w = fold (stand c service tei) at_first (trace_of c before number) in
+    let told = subst (λ (d : Config). Told d service tei o (brought d service tei what) (answer (at number what) card)) kept
+    (by_room (λ ls a. Told card.config service tei o (brought card.config service tei what) a) (at number what) card
+    (λ full. none-told card.config service tei o what (line_at number card) (and_parts (lines.takes_slot card.config what (line_at number card)) (is_full card) full).0)
+    (λ room.
+    told-so service tei card.config s.config (line_at number card) (line_sound card number (has_lines card s) here) what w.told.count x.1 w.busy w.rejected x.2 o
+    (agrees-now c before number ranged first within service tei) _ _ _ _ (known-now c before number ranged first within service tei))) in
+    record {
+      data_is = told.data_is;
+      unit_is = unit-is c before number ranged first within service tei what (brought c service tei what) told.unit_is;
+      units_are = units-are c events number ranged all within service tei before what behind is;
+      contents_are = told.contents_are;
+      once = told.once;
+    }

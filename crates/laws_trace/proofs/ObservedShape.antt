@@ -1,0 +1,39 @@
+-- What an observer knows of a link in a state, and what of it moves.
+use Rattle.std.proofs.Common.{◌≡◌, ℕ, ◌+◌, ◌==◌, ◌||◌, not, Bool, true, false, cond}
+use Rattle.model_link.specs.declared.states.State.{State}
+use Rattle.model_link.specs.declared.states.State.TheVariants.{TeiAssigned, AwaitingEstablishment, AwaitingRelease, Established, TimerRecovery}
+use Rattle.laws_trace.specs.Observer.{Observed}
+use Rattle.laws_trace.proofs.TimersWatched.{Known, nothing_yet}
+
+-- What is only said where it is asked.
+abbrev pub When : Bool → Type 0 → Type 0
+When true P = P
+When false P = Unit {0}
+
+abbrev pub known_of : Observed → Known
+known_of o = record { acknowledged = o.acknowledged; next = o.next; busy = o.busy }
+
+-- What is known, in a state, with these numbers.
+abbrev pub at_state : ℕ → Known → Observed → Observed
+at_state s k o = record o { state = s; acknowledged = k.acknowledged; next = k.next; busy = k.busy }
+
+abbrev pub Shape : State → Known → Type 0
+Shape TeiAssigned k = k ≡ nothing_yet
+Shape AwaitingEstablishment k = k ≡ nothing_yet
+Shape AwaitingRelease k = k ≡ nothing_yet
+Shape Established k = Unit {0}
+Shape TimerRecovery k = Unit {0}
+
+-- From one state to another, with numbers, whether layer 3 asked for the establishment, and what an expiry adds.
+pub record Moved (s to : ℕ) (k : Known) (new : Bool) (more : ℕ → ℕ) (o p : Observed) : Type 0 where
+  pub state_is : p.state ≡ to
+  pub known_is : known_of p ≡ k
+  pub asks : When (to == 5) (p.asked ≡ cond (s == 5) o.asked new)
+  pub owes : When (to == 5) (p.outstanding ≡ cond (s == 5) o.outstanding (not (o.next == o.acknowledged)))
+  pub counts : When (to == 5 || (to == 6 || to == 8)) (p.expiries ≡ cond (s == to) (more o.expiries) 0)
+
+abbrev pub none_more : ℕ → ℕ
+none_more n = n
+
+abbrev pub one_more : ℕ → ℕ
+one_more n = n + 1

@@ -1,0 +1,317 @@
+-- How an event of a line moves what an observer knows of this side of a link: how many contents were told, whether layer 3
+-- is busy, and whether an I-frame is rejected.
+use Rattle.std.proofs.Common.{◌≡◌, ℕ, ◌+◌, ◌==◌, ◌&&◌, ◌||◌, not, Bool, true, false, cond, length, Option, Some, None, refl, ap}
+use Rattle.std.specs.Prelude.{is_some, nat_lt}
+use Rattle.std.specs.Option.{option_map_or}
+use Rattle.lapd_frame.specs.declared.controls.Control.{Control}
+use Rattle.lapd_frame.specs.declared.controls.Control.TheVariants.{Information, ReceiveReady, ReceiveNotReady, Reject, Sabme, Disc, Ui, Ua, Dm, Frmr, Xid}
+use Rattle.lapd_frame.specs.declared.services.Service.{Service}
+use Rattle.lapd_frame.specs.declared.timers.Timer.{Timer}
+use Rattle.lapd_frame.specs.declared.timers.Timer.TheVariants as timers
+use Rattle.lapd_frame.specs.Grammar.{Parts}
+use Rattle.lapd_frame.specs.Reading.{reading}
+use Rattle.model_link.specs.declared.states.State.{State}
+use Rattle.model_link.specs.declared.states.State.TheVariants.{TeiAssigned, AwaitingEstablishment, AwaitingRelease, Established, TimerRecovery}
+use Rattle.model_link.specs.Link.{state_number}
+use Rattle.model_line.specs.declared.config.Config.{Config}
+use Rattle.model_line.specs.Event.{Event, hears, expiry, request, next, Answer, LineTold, told, refused, gave}
+use Rattle.model_line.specs.Request.{Request, Establish, Release, Data, Assign, Remove, Check, SetBusy, ClearBusy, Deactivate}
+use Rattle.laws_trace.specs.Deliveries.{brings_next, is_taken, brought}
+use Rattle.laws_trace.specs.LinkFrames.{frame_of, its_frame, malformed, Sent, sent_in}
+use Rattle.laws_trace.specs.Observer.{Observed, in_state, awaits, anew, takes, is_next, is_invalid, while_up, while_down, by_frame, by_t200, by_expiry, enquires, sends, by_event}
+use Rattle.laws_trace.specs.Trace.{is_own, is_up}
+use Rattle.laws_trace.proofs.ObservedShape.{When}
+use Rattle.laws_trace.proofs.Standing.{asked_busy}
+use Rattle.laws_trace.proofs.DeliveriesWatched.{is_information}
+
+-- The numbers begin by SABME in states 4, 7 and 8, and by UA with F=1 in state 5.
+abbrev pub begun_by : ℕ → Control → Bool
+begun_by s (Sabme p) = s == 4 || is_up s
+begun_by s (Ua f) = f && s == 5
+begun_by s other = false
+
+-- Behind a step that leads to state 7 or 8, by whether the link was there before, the numbers begin, data is told, and an I-frame comes; and by whether layer 3 is busy then.
+pub record Stood (up begins taken information busy : Bool) (o q : Observed) : Type 0 where
+  pub before : (up || begins) ≡ true
+  pub count_is : q.count ≡ cond begins 0 (cond taken (o.count + 1) o.count)
+  pub busy_is : q.own_busy ≡ cond begins false busy
+  pub rejected_is : q.rejected ≡ cond (begins || taken) false (cond (information && not busy) true o.rejected)
+
+abbrev pub in_number : ℕ → Observed → Observed
+in_number s o = record o { state = s }
+
+abbrev Frame : State → Bool → Bool → Control → Type 0
+Frame x long command control =
+    (o : Observed) → let s = state_number x in let p = in_number s o in let q = cond (is_up s) (while_up long command control p) (while_down control p) in
+    When (is_up q.state) (Stood (is_up s) (begun_by s control) (is_up s && (not long && brings_next p control)) (is_information control) p.own_busy p q)
+
+in_4 : (long command : Bool) (control : Control) → Frame TeiAssigned long command control
+in_4 long command (Information ns nr p) o = tt
+in_4 long command (ReceiveReady nr f) o = tt
+in_4 long command (ReceiveNotReady nr f) o = tt
+in_4 long command (Reject nr f) o = tt
+in_4 long command (Sabme p) o = record { before = refl; count_is = refl; busy_is = refl; rejected_is = refl }
+in_4 long command (Disc p) o = tt
+in_4 long command (Ui p) o = tt
+in_4 long command (Xid p) o = tt
+in_4 long command (Frmr f) o = tt
+in_4 long command (Ua true) o = tt
+in_4 long command (Ua false) o = tt
+in_4 long command (Dm true) o = tt
+in_4 long command (Dm false) o = tt
+
+in_5 : (long command : Bool) (control : Control) → Frame AwaitingEstablishment long command control
+in_5 long command (Information ns nr p) o = tt
+in_5 long command (ReceiveReady nr f) o = tt
+in_5 long command (ReceiveNotReady nr f) o = tt
+in_5 long command (Reject nr f) o = tt
+in_5 long command (Sabme p) o = tt
+in_5 long command (Disc p) o = tt
+in_5 long command (Ui p) o = tt
+in_5 long command (Xid p) o = tt
+in_5 long command (Frmr f) o = tt
+in_5 long command (Ua true) o = record { before = refl; count_is = refl; busy_is = refl; rejected_is = refl }
+in_5 long command (Ua false) o = tt
+in_5 long command (Dm true) o = tt
+in_5 long command (Dm false) o = tt
+
+in_6 : (long command : Bool) (control : Control) → Frame AwaitingRelease long command control
+in_6 long command (Information ns nr p) o = tt
+in_6 long command (ReceiveReady nr f) o = tt
+in_6 long command (ReceiveNotReady nr f) o = tt
+in_6 long command (Reject nr f) o = tt
+in_6 long command (Sabme p) o = tt
+in_6 long command (Disc p) o = tt
+in_6 long command (Ui p) o = tt
+in_6 long command (Xid p) o = tt
+in_6 long command (Frmr f) o = tt
+in_6 long command (Ua true) o = tt
+in_6 long command (Ua false) o = tt
+in_6 long command (Dm true) o = tt
+in_6 long command (Dm false) o = tt
+
+when-so : {P : Type 0} → (b : Bool) → P → When b P
+when-so true x = x
+when-so false x = tt
+
+-- An N(R) in states 7 and 8, by whether it is invalid.
+numbered-so : (s : ℕ) → is_up s ≡ true → (information taken invalid : Bool) (ack : ℕ) (p r : Observed) → r.state ≡ s → Stood (is_up s) false taken information p.own_busy p r
+    → When (is_up (cond invalid (anew r) (record r { acknowledged = ack })).state) (Stood (is_up s) false taken information p.own_busy p (cond invalid (anew r) (record r { acknowledged = ack })))
+numbered-so s up information taken true ack p r is h = tt
+numbered-so s up information taken false ack p r is h = when-so (is_up r.state) (record { before = h.before; count_is = h.count_is; busy_is = h.busy_is; rejected_is = h.rejected_is })
+
+receipt-so : (s : ℕ) → is_up s ≡ true → (busy invalid final : Bool) (ack again : ℕ) (p : Observed)
+    → let q = cond invalid (anew p) (cond final (record p { state = 7; acknowledged = ack; next = ack; busy = busy }) (record p { acknowledged = ack; next = again; busy = busy })) in
+    When (is_up q.state) (Stood (is_up s) false false false p.own_busy p q)
+receipt-so s up busy true final ack again p = tt
+receipt-so s up busy false true ack again p = record { before = ap (λ b. b || false) up; count_is = refl; busy_is = refl; rejected_is = refl }
+receipt-so s up busy false false ack again p = when-so (is_up p.state) (record { before = ap (λ b. b || false) up; count_is = refl; busy_is = refl; rejected_is = refl })
+
+in_7 : (long command : Bool) (control : Control) → Frame Established long command control
+in_7 true command (Information ns nr p) o = tt
+in_7 false command (Information ns nr p) o = let p = in_number 7 o in numbered-so 7 refl true (is_next p ns) (is_invalid (takes ns p) nr) nr.value p (takes ns p) refl record { before = refl; count_is = refl; busy_is = refl; rejected_is = refl }
+in_7 true command (ReceiveReady nr f) o = receipt-so 7 refl false (is_invalid (in_number 7 o) nr) (7 == 8 && (not command && f)) nr.value (cond (false && 7 == 7) nr.value o.next) (in_number 7 o)
+in_7 false command (ReceiveReady nr f) o = receipt-so 7 refl false (is_invalid (in_number 7 o) nr) (7 == 8 && (not command && f)) nr.value (cond (false && 7 == 7) nr.value o.next) (in_number 7 o)
+in_7 true command (ReceiveNotReady nr f) o = receipt-so 7 refl true (is_invalid (in_number 7 o) nr) (7 == 8 && (not command && f)) nr.value (cond (false && 7 == 7) nr.value o.next) (in_number 7 o)
+in_7 false command (ReceiveNotReady nr f) o = receipt-so 7 refl true (is_invalid (in_number 7 o) nr) (7 == 8 && (not command && f)) nr.value (cond (false && 7 == 7) nr.value o.next) (in_number 7 o)
+in_7 true command (Reject nr f) o = receipt-so 7 refl false (is_invalid (in_number 7 o) nr) (7 == 8 && (not command && f)) nr.value (cond (true && 7 == 7) nr.value o.next) (in_number 7 o)
+in_7 false command (Reject nr f) o = receipt-so 7 refl false (is_invalid (in_number 7 o) nr) (7 == 8 && (not command && f)) nr.value (cond (true && 7 == 7) nr.value o.next) (in_number 7 o)
+in_7 long command (Sabme p) o = record { before = refl; count_is = refl; busy_is = refl; rejected_is = refl }
+in_7 long command (Disc p) o = tt
+in_7 true command (Ui p) o = record { before = refl; count_is = refl; busy_is = refl; rejected_is = refl }
+in_7 false command (Ui p) o = record { before = refl; count_is = refl; busy_is = refl; rejected_is = refl }
+in_7 true command (Xid p) o = record { before = refl; count_is = refl; busy_is = refl; rejected_is = refl }
+in_7 false command (Xid p) o = record { before = refl; count_is = refl; busy_is = refl; rejected_is = refl }
+in_7 long command (Frmr f) o = tt
+in_7 true command (Ua true) o = record { before = refl; count_is = refl; busy_is = refl; rejected_is = refl }
+in_7 false command (Ua true) o = record { before = refl; count_is = refl; busy_is = refl; rejected_is = refl }
+in_7 true command (Ua false) o = record { before = refl; count_is = refl; busy_is = refl; rejected_is = refl }
+in_7 false command (Ua false) o = record { before = refl; count_is = refl; busy_is = refl; rejected_is = refl }
+in_7 true command (Dm true) o = record { before = refl; count_is = refl; busy_is = refl; rejected_is = refl }
+in_7 false command (Dm true) o = record { before = refl; count_is = refl; busy_is = refl; rejected_is = refl }
+in_7 long command (Dm false) o = tt
+
+in_8 : (long command : Bool) (control : Control) → Frame TimerRecovery long command control
+in_8 true command (Information ns nr p) o = tt
+in_8 false command (Information ns nr p) o = let p = in_number 8 o in numbered-so 8 refl true (is_next p ns) (is_invalid (takes ns p) nr) nr.value p (takes ns p) refl record { before = refl; count_is = refl; busy_is = refl; rejected_is = refl }
+in_8 true command (ReceiveReady nr f) o = receipt-so 8 refl false (is_invalid (in_number 8 o) nr) (8 == 8 && (not command && f)) nr.value (cond (false && 8 == 7) nr.value o.next) (in_number 8 o)
+in_8 false command (ReceiveReady nr f) o = receipt-so 8 refl false (is_invalid (in_number 8 o) nr) (8 == 8 && (not command && f)) nr.value (cond (false && 8 == 7) nr.value o.next) (in_number 8 o)
+in_8 true command (ReceiveNotReady nr f) o = receipt-so 8 refl true (is_invalid (in_number 8 o) nr) (8 == 8 && (not command && f)) nr.value (cond (false && 8 == 7) nr.value o.next) (in_number 8 o)
+in_8 false command (ReceiveNotReady nr f) o = receipt-so 8 refl true (is_invalid (in_number 8 o) nr) (8 == 8 && (not command && f)) nr.value (cond (false && 8 == 7) nr.value o.next) (in_number 8 o)
+in_8 true command (Reject nr f) o = receipt-so 8 refl false (is_invalid (in_number 8 o) nr) (8 == 8 && (not command && f)) nr.value (cond (true && 8 == 7) nr.value o.next) (in_number 8 o)
+in_8 false command (Reject nr f) o = receipt-so 8 refl false (is_invalid (in_number 8 o) nr) (8 == 8 && (not command && f)) nr.value (cond (true && 8 == 7) nr.value o.next) (in_number 8 o)
+in_8 long command (Sabme p) o = record { before = refl; count_is = refl; busy_is = refl; rejected_is = refl }
+in_8 long command (Disc p) o = tt
+in_8 true command (Ui p) o = record { before = refl; count_is = refl; busy_is = refl; rejected_is = refl }
+in_8 false command (Ui p) o = record { before = refl; count_is = refl; busy_is = refl; rejected_is = refl }
+in_8 true command (Xid p) o = record { before = refl; count_is = refl; busy_is = refl; rejected_is = refl }
+in_8 false command (Xid p) o = record { before = refl; count_is = refl; busy_is = refl; rejected_is = refl }
+in_8 long command (Frmr f) o = tt
+in_8 true command (Ua true) o = record { before = refl; count_is = refl; busy_is = refl; rejected_is = refl }
+in_8 false command (Ua true) o = record { before = refl; count_is = refl; busy_is = refl; rejected_is = refl }
+in_8 true command (Ua false) o = record { before = refl; count_is = refl; busy_is = refl; rejected_is = refl }
+in_8 false command (Ua false) o = record { before = refl; count_is = refl; busy_is = refl; rejected_is = refl }
+in_8 long command (Dm true) o = tt
+in_8 long command (Dm false) o = tt
+
+pub frame-stands : (x : State) (long command : Bool) (control : Control) → Frame x long command control
+frame-stands TeiAssigned = in_4
+frame-stands AwaitingEstablishment = in_5
+frame-stands AwaitingRelease = in_6
+frame-stands Established = in_7
+frame-stands TimerRecovery = in_8
+
+-- Nothing moves.
+rests : (x : State) (o : Observed) → let p = in_number (state_number x) o in When (is_up (state_number x)) (Stood (is_up (state_number x)) false false false p.own_busy p p)
+rests TeiAssigned o = tt
+rests AwaitingEstablishment o = tt
+rests AwaitingRelease o = tt
+rests Established o = record { before = refl; count_is = refl; busy_is = refl; rejected_is = refl }
+rests TimerRecovery o = record { before = refl; count_is = refl; busy_is = refl; rejected_is = refl }
+
+module _ (c : Config) (service : Service) (tei : ℕ) where
+  abbrev pub begins_by : State → Option Parts → Bool
+  begins_by x f = option_map_or (λ (f : Parts). begun_by (state_number x) f.control) f false
+
+  abbrev pub taken_by : Observed → Option Parts → Bool
+  taken_by p f = option_map_or (is_taken c p) f false
+
+  abbrev pub informs : Option Parts → Bool
+  informs f = option_map_or (λ (f : Parts). is_information f.control) f false
+
+  abbrev Heard : State → Observed → Bool → Option Parts → Type 0
+  Heard x o m f =
+      let s = state_number x in let p = in_number s o in
+      let q = cond (is_up s && m) (anew p) (option_map_or (by_frame c p) f p) in
+      When (is_up q.state) (Stood (is_up (state_number x)) (begins_by x f) (taken_by p f) (informs f) p.own_busy p q)
+
+  parts : (x : State) (o : Observed) (f : Option Parts) → let p = in_number (state_number x) o in let q = option_map_or (by_frame c p) f p in
+      When (is_up q.state) (Stood (is_up (state_number x)) (begins_by x f) (taken_by p f) (informs f) p.own_busy p q)
+  parts x o None = rests x o
+  parts x o (Some f) = frame-stands x (nat_lt c.n201 (length f.info)) f.address.command f.control o
+
+  heard-stands : (x : State) (o : Observed) (m : Bool) (f : Option Parts) → Heard x o m f
+  heard-stands TeiAssigned o m f = parts TeiAssigned o f
+  heard-stands AwaitingEstablishment o m f = parts AwaitingEstablishment o f
+  heard-stands AwaitingRelease o m f = parts AwaitingRelease o f
+  heard-stands Established o true f = tt
+  heard-stands Established o false f = parts Established o f
+  heard-stands TimerRecovery o true f = tt
+  heard-stands TimerRecovery o false f = parts TimerRecovery o f
+
+  abbrev Quiet : State → Observed → Observed → Type 0
+  Quiet x o q = let p = in_number (state_number x) o in When (is_up q.state) (Stood (is_up (state_number x)) false false false p.own_busy p q)
+
+  enquiry : (o : Observed) (b : Bool) → let p = in_number 7 o in Quiet Established o (cond b (enquires p) p)
+  enquiry o true = record { before = refl; count_is = refl; busy_is = refl; rejected_is = refl }
+  enquiry o false = record { before = refl; count_is = refl; busy_is = refl; rejected_is = refl }
+
+  again : (x : State) (o : Observed) (b : Bool) → let s = state_number x in let p = in_number s o in
+      Quiet x o (cond b (record p { expiries = p.expiries + 1 }) (cond (s == 8) (anew p) (in_state 4)))
+  again TeiAssigned o true = tt
+  again TeiAssigned o false = tt
+  again AwaitingEstablishment o true = tt
+  again AwaitingEstablishment o false = tt
+  again AwaitingRelease o true = tt
+  again AwaitingRelease o false = tt
+  again Established o true = record { before = refl; count_is = refl; busy_is = refl; rejected_is = refl }
+  again Established o false = tt
+  again TimerRecovery o true = record { before = refl; count_is = refl; busy_is = refl; rejected_is = refl }
+  again TimerRecovery o false = tt
+
+  t200 : (x : State) (o : Observed) (b : Bool) → let p = in_number (state_number x) o in Quiet x o (cond b (by_t200 c.n200 p) p)
+  t200 x o false = rests x o
+  t200 TeiAssigned o true = tt
+  t200 AwaitingEstablishment o true = again AwaitingEstablishment o (nat_lt o.expiries c.n200)
+  t200 AwaitingRelease o true = again AwaitingRelease o (nat_lt o.expiries c.n200)
+  t200 Established o true = enquiry o (awaits (in_number 7 o))
+  t200 TimerRecovery o true = again TimerRecovery o (nat_lt o.expiries c.n200)
+
+  t203 : (x : State) (o : Observed) (b : Bool) → let p = in_number (state_number x) o in Quiet x o (cond (b && (p.state == 7 && not (awaits p))) (enquires p) p)
+  t203 x o false = rests x o
+  t203 TeiAssigned o true = tt
+  t203 AwaitingEstablishment o true = tt
+  t203 AwaitingRelease o true = tt
+  t203 Established o true = enquiry o (not (awaits (in_number 7 o)))
+  t203 TimerRecovery o true = rests TimerRecovery o
+
+  timer-stands : (x : State) (o : Observed) (timer : Timer) → Quiet x o (by_expiry c service tei timer (in_number (state_number x) o))
+  timer-stands x o (timers.T200 of by) = t200 x o (is_own service tei of by)
+  timer-stands x o (timers.T203 of by) = t203 x o (is_own service tei of by)
+  timer-stands x o timers.T201 = rests x o
+
+  establish : (x : State) (o : Observed) (b : Bool) → let p = in_number (state_number x) o in Quiet x o (cond (b && p.state == 4) (record (in_state 5) { asked = true }) p)
+  establish x o false = rests x o
+  establish TeiAssigned o true = tt
+  establish AwaitingEstablishment o true = tt
+  establish AwaitingRelease o true = tt
+  establish Established o true = record { before = refl; count_is = refl; busy_is = refl; rejected_is = refl }
+  establish TimerRecovery o true = record { before = refl; count_is = refl; busy_is = refl; rejected_is = refl }
+
+  release : (x : State) (o : Observed) (b : Bool) → let p = in_number (state_number x) o in Quiet x o (cond (b && is_up p.state) (in_state 6) p)
+  release x o false = rests x o
+  release TeiAssigned o true = tt
+  release AwaitingEstablishment o true = tt
+  release AwaitingRelease o true = tt
+  release Established o true = tt
+  release TimerRecovery o true = tt
+
+  deactivate : (x : State) (o : Observed) (b : Bool) → let p = in_number (state_number x) o in Quiet x o (cond b (in_state 4) p)
+  deactivate x o false = rests x o
+  deactivate x o true = tt
+
+  abbrev Busied : State → Observed → Bool → Observed → Type 0
+  Busied x o busy q = let p = in_number (state_number x) o in When (is_up q.state) (Stood (is_up (state_number x)) false false false busy p q)
+
+  comes-busy : (x : State) (o : Observed) (b : Bool) → let p = in_number (state_number x) o in Busied x o (b || p.own_busy) (cond b (record p { own_busy = true }) p)
+  comes-busy x o false = rests x o
+  comes-busy TeiAssigned o true = tt
+  comes-busy AwaitingEstablishment o true = tt
+  comes-busy AwaitingRelease o true = tt
+  comes-busy Established o true = record { before = refl; count_is = refl; busy_is = refl; rejected_is = refl }
+  comes-busy TimerRecovery o true = record { before = refl; count_is = refl; busy_is = refl; rejected_is = refl }
+
+  ends-busy : (x : State) (o : Observed) (b : Bool) → let p = in_number (state_number x) o in Busied x o (not b && p.own_busy) (cond b (record p { own_busy = false }) p)
+  ends-busy x o false = rests x o
+  ends-busy TeiAssigned o true = tt
+  ends-busy AwaitingEstablishment o true = tt
+  ends-busy AwaitingRelease o true = tt
+  ends-busy Established o true = record { before = refl; count_is = refl; busy_is = refl; rejected_is = refl }
+  ends-busy TimerRecovery o true = record { before = refl; count_is = refl; busy_is = refl; rejected_is = refl }
+
+  -- An event of the line.
+  abbrev pub EventStands : State → Observed → Event → Answer → Type 0
+  EventStands x o what a =
+      let p = in_number (state_number x) o in let q = by_event c service tei what a p in let f = brought c service tei what in
+      When (is_up q.state) (Stood (is_up (state_number x)) (begins_by x f) (taken_by p f) (informs f) (asked_busy service tei what a p.own_busy) p q)
+
+  asked-stands : (x : State) (o : Observed) (r : Request) (t : LineTold) → EventStands x o (request r) (told t)
+  asked-stands x o (Establish of by) t = establish x o (is_own service tei of by)
+  asked-stands x o (Release of by) t = release x o (is_own service tei of by)
+  asked-stands x o (Deactivate of by) t = deactivate x o (is_own service tei of by)
+  asked-stands x o (SetBusy of by) t = comes-busy x o (is_own service tei of by)
+  asked-stands x o (ClearBusy of by) t = ends-busy x o (is_own service tei of by)
+  asked-stands x o (Data of by contents) t = rests x o
+  asked-stands x o (Request.Unit of by contents) t = rests x o
+  asked-stands x o (Assign by) t = rests x o
+  asked-stands x o (Remove by) t = rests x o
+  asked-stands x o (Check by) t = rests x o
+
+  sent-stands : (x : State) (o : Observed) (sent : Option Sent) → let p = in_number (state_number x) o in Quiet x o (option_map_or (sends p) sent p)
+  sent-stands x o None = rests x o
+  sent-stands TeiAssigned o (Some sent) = tt
+  sent-stands AwaitingEstablishment o (Some sent) = tt
+  sent-stands AwaitingRelease o (Some sent) = tt
+  sent-stands Established o (Some sent) = record { before = refl; count_is = refl; busy_is = refl; rejected_is = refl }
+  sent-stands TimerRecovery o (Some sent) = record { before = refl; count_is = refl; busy_is = refl; rejected_is = refl }
+
+  pub event-stands-so : (x : State) (o : Observed) (what : Event) (a : Answer) → EventStands x o what a
+  event-stands-so x o (hears e) a = heard-stands x o (is_some (malformed c service tei e)) (its_frame service tei (frame_of c e))
+  event-stands-so x o (expiry timer) a = timer-stands x o timer
+  event-stands-so x o (request r) (told t) = asked-stands x o r t
+  event-stands-so x o (request r) (refused why) = rests x o
+  event-stands-so x o (request r) (gave given) = rests x o
+  event-stands-so x o next (told t) = rests x o
+  event-stands-so x o next (refused why) = rests x o
+  event-stands-so x o next (gave None) = rests x o
+  event-stands-so x o next (gave (Some frame)) = sent-stands x o (sent_in service tei (reading c.side frame.octets))

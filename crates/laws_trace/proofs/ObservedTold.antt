@@ -1,0 +1,276 @@
+-- What an event of a line tells of data, by what an observer knows of the link; and when the numbers begin.
+use Rattle.std.proofs.Common.{◌≡◌, ℕ, ◌%◌, ◌==◌, ◌&&◌, ◌≤◌, ◌<◌, not, Bool, true, false, cond, List, length, Option, Some, None, refl, sym, ap, ◌∙◌, arith, true≢false, inl, inr, ltb-true, ltb-false}
+use Rattle.std.specs.Prelude.{nat_lt, nat_le, is_some}
+use Rattle.std.specs.List.{list_any}
+use Rattle.std.specs.Option.{option_map_or}
+use Rattle.std.proofs.lemmas.Bool.{leb-true, leb-false}
+use Rattle.std.proofs.lemmas.Option.{none-some}
+use Rattle.lapd_frame.specs.declared.controls.Control.{Control}
+use Rattle.lapd_frame.specs.declared.controls.Control.TheVariants.{Information, ReceiveReady, ReceiveNotReady, Reject, Sabme, Disc, Ui, Ua, Dm, Frmr, Xid}
+use Rattle.lapd_frame.specs.declared.services.Service.{Service}
+use Rattle.lapd_frame.specs.Grammar.{Parts}
+use Rattle.lapd_seq.specs.declared.numbers.Seq.{Seq}
+use Rattle.model_link.specs.declared.states.State.{State}
+use Rattle.model_link.specs.declared.states.State.TheVariants.{TeiAssigned, AwaitingEstablishment, AwaitingRelease, Established, TimerRecovery}
+use Rattle.model_link.specs.declared.terms.Terms.{Terms}
+use Rattle.model_link.specs.Deliveries.{restarts, eligible, eligible_of, information_of}
+use Rattle.model_link.specs.Events as link
+use Rattle.model_link.specs.Link.{Link, is_multiple_frame, state_number}
+use Rattle.model_link.specs.Machine as links
+use Rattle.laws_link.specs.Heard.{in_sequence}
+use Rattle.laws_link.specs.States.{as_heard, state_after, numbers_begin}
+use Rattle.laws_link.proofs.Follows.{event-follows}
+use Rattle.laws_link.proofs.Once.{data-is}
+use Rattle.laws_link.proofs.Restarts.{establishes}
+use Rattle.model_line.specs.declared.config.Config.{Config}
+use Rattle.model_line.specs.Event.{Event, hears, expiry, request, next, Answer}
+use Rattle.model_line.specs.Line.{Line, link_of, place_in, terms}
+use Rattle.model_line.specs.Machine as lines
+use Rattle.model_line.specs.Sound.{IsInRange, IsSound}
+use Rattle.laws_line.specs.Heard.{notes_of, is_data_of}
+use Rattle.laws_line.specs.Steady.{IsBy}
+use Rattle.laws_trace.specs.Counting as counting
+use Rattle.laws_trace.specs.Counting.{begins}
+use Rattle.laws_trace.specs.Deliveries.{brings_next, brought}
+use Rattle.laws_trace.specs.LinkFrames.{frame_of, its_frame, is_for}
+use Rattle.laws_trace.specs.Observer.{Observed}
+use Rattle.laws_trace.specs.Trace.{is_up}
+use Rattle.laws_trace.proofs.Begins.{in-state, unless}
+use Rattle.laws_trace.proofs.Deliveries.{frame_by, brings-frame, brings-none, one-begins}
+use Rattle.laws_trace.proofs.DeliveriesRun.{IsCount, event-aims, data-noted, no-data, ended-notes}
+use Rattle.laws_trace.proofs.DeliveriesWatched.{is_information, brings_information}
+use Rattle.laws_trace.proofs.ObservedStanding.{begun_by, begins_by, taken_by, informs}
+use Rattle.laws_trace.proofs.OneLink.{HasNone, Goes, event-goes}
+
+-- The numbers begin anew, by the state before.
+module _ (t : Terms) (f : Parts) where
+  abbrev Restarts : Control → Link → Type 0
+  Restarts control l = restarts t (link.received (link.frame (record f { control = control }))) l ≡ begun_by (state_number l.state) control
+
+  abbrev Numbers : Control → Link → Type 0
+  Numbers control l =
+      let e = link.received (link.frame (record f { control = control })) in numbers_begin e l.state (state_after t e l) ≡ begun_by (state_number l.state) control
+
+  by-sabme : (p : Bool) (here : State) (l : Link) → Numbers (Sabme p) (record l { state = here })
+  by-sabme p TeiAssigned l = refl
+  by-sabme p AwaitingEstablishment l = refl
+  by-sabme p AwaitingRelease l = refl
+  by-sabme p Established l = refl
+  by-sabme p TimerRecovery l = refl
+
+  by-ua : (here : State) (l : Link) → Numbers (Ua true) (record l { state = here })
+  by-ua TeiAssigned l = refl
+  by-ua AwaitingEstablishment l = refl
+  by-ua AwaitingRelease l = refl
+  by-ua Established l = refl
+  by-ua TimerRecovery l = refl
+
+  followed : (control : Control) (l : Link) → let e = link.received (link.frame (record f { control = control })) in as_heard t e ≡ e → Numbers control l → Restarts control l
+  followed control l heard is =
+      let e = link.received (link.frame (record f { control = control })) in
+      let x = event-follows t e l in
+      let state : (links.after t e l).state ≡ state_after t e l = x.leaves.state ∙ ap (λ e. state_after t e l) heard in
+      x.numbers ∙ ap (λ e. numbers_begin e l.state (links.after t (link.received (link.frame (record f { control = control }))) l).state) heard ∙ ap (numbers_begin e l.state) state ∙ is
+
+  by-control : (control : Control) (l : Link) → Restarts control l
+  by-control (Sabme p) l = followed (Sabme p) l refl (in-state (Numbers (Sabme p)) l (λ here. by-sabme p here l))
+  by-control (Ua true) l = followed (Ua true) l refl (in-state (Numbers (Ua true)) l (λ here. by-ua here l))
+  by-control (Ua false) l = sym (unless _ (λ is. (establishes t l (link.received (link.frame (record f { control = Ua false }))) is).by))
+  by-control (Information ns nr p) l = sym (unless _ (λ is. (establishes t l (link.received (link.frame (record f { control = Information ns nr p }))) is).by))
+  by-control (ReceiveReady nr p) l = sym (unless _ (λ is. (establishes t l (link.received (link.frame (record f { control = ReceiveReady nr p }))) is).by))
+  by-control (ReceiveNotReady nr p) l = sym (unless _ (λ is. (establishes t l (link.received (link.frame (record f { control = ReceiveNotReady nr p }))) is).by))
+  by-control (Reject nr p) l = sym (unless _ (λ is. (establishes t l (link.received (link.frame (record f { control = Reject nr p }))) is).by))
+  by-control (Disc p) l = sym (unless _ (λ is. (establishes t l (link.received (link.frame (record f { control = Disc p }))) is).by))
+  by-control (Ui p) l = sym (unless _ (λ is. (establishes t l (link.received (link.frame (record f { control = Ui p }))) is).by))
+  by-control (Dm p) l = sym (unless _ (λ is. (establishes t l (link.received (link.frame (record f { control = Dm p }))) is).by))
+  by-control (Frmr p) l = sym (unless _ (λ is. (establishes t l (link.received (link.frame (record f { control = Frmr p }))) is).by))
+  by-control (Xid p) l = sym (unless _ (λ is. (establishes t l (link.received (link.frame (record f { control = Xid p }))) is).by))
+
+  pub restarts-so : (l : Link) → restarts t (link.received (link.frame f)) l ≡ begun_by (state_number l.state) f.control
+  restarts-so l = by-control f.control l
+
+-- What is due to be delivered, by what an observer knows.
+size-fits : (n m : ℕ) → nat_le n m ≡ not (nat_lt m n)
+size-fits n m = go (nat_le n m) refl (nat_lt m n) refl
+  where
+    go : (b : Bool) → nat_le n m ≡ b → (d : Bool) → nat_lt m n ≡ d → b ≡ not d
+    go true le false lt = refl
+    go false le true lt = refl
+    go true le true lt = let a : n ≤ m = leb-true n m le in let b : m < n = ltb-true m n lt in absurd (omega (arith, a, b))
+    go false le false lt = let a : m < n = leb-false n m le in let b : n ≤ m = ltb-false m n lt in absurd (omega (arith, a, b))
+
+module _ (t : Terms) (own : Link) (p : Observed) (is : p.state ≡ state_number own.state) (count_is : is_multiple_frame own.state ≡ true → own.r ≡ p.count)
+    (busy_is : is_multiple_frame own.state ≡ true → own.own_busy ≡ p.own_busy) where
+  up-so : (x : State) → is_up (state_number x) ≡ is_multiple_frame x
+  up-so TeiAssigned = refl
+  up-so AwaitingEstablishment = refl
+  up-so AwaitingRelease = refl
+  up-so Established = refl
+  up-so TimerRecovery = refl
+
+  by-bits : (ns : Seq) (info : List ℕ) (n : ℕ) (fit up busy : Bool) → is_some (in_sequence n (cond (fit && up && not busy) (Some (record { ns = ns; contents = info })) None))
+      ≡ (up && (fit && (not busy && ns.value == n % 128)))
+  by-bits ns info n true true true = refl
+  by-bits ns info n true true false = go (ns.value == n % 128)
+    where
+      go : (b : Bool) → is_some (cond b (Some info) None) ≡ b
+      go true = refl
+      go false = refl
+  by-bits ns info n true false busy = refl
+  by-bits ns info n false true busy = refl
+  by-bits ns info n false false busy = refl
+
+  and-none : (a b : Bool) → (a && (b && false)) ≡ false
+  and-none true true = refl
+  and-none true false = refl
+  and-none false b = refl
+
+  abbrev Due : Control → List ℕ → Type 0
+  Due control info =
+      is_some (in_sequence own.r (eligible_of t own (information_of control info)))
+      ≡ (is_up p.state && (not (nat_lt t.n201 (length info)) && brings_next p control))
+
+  by-up : (up : Bool) → is_multiple_frame own.state ≡ up → (ns : Seq) (fit : Bool) → (up && (fit && (not own.own_busy && ns.value == own.r % 128))) ≡ (up && (fit && (not p.own_busy && ns.value == p.count % 128)))
+  by-up false down ns fit = refl
+  by-up true up ns fit = ap (λ b. fit && (not b && ns.value == own.r % 128)) (busy_is up) ∙ ap (λ n. fit && (not p.own_busy && ns.value == n % 128)) (count_is up)
+
+  due-so : (control : Control) (info : List ℕ) → Due control info
+  due-so (Information ns nr f) info =
+      by-bits ns info own.r (nat_le (length info) t.n201) (is_multiple_frame own.state) own.own_busy
+      ∙ by-up (is_multiple_frame own.state) refl ns (nat_le (length info) t.n201)
+      ∙ ap (λ b. is_multiple_frame own.state && (b && (not p.own_busy && ns.value == p.count % 128))) (size-fits (length info) t.n201)
+      ∙ ap (λ b. b && (not (nat_lt t.n201 (length info)) && (not p.own_busy && ns.value == p.count % 128))) (sym (up-so own.state) ∙ ap is_up (sym is))
+  due-so (ReceiveReady nr f) info = sym (and-none (is_up p.state) (not (nat_lt t.n201 (length info))))
+  due-so (ReceiveNotReady nr f) info = sym (and-none (is_up p.state) (not (nat_lt t.n201 (length info))))
+  due-so (Reject nr f) info = sym (and-none (is_up p.state) (not (nat_lt t.n201 (length info))))
+  due-so (Sabme f) info = sym (and-none (is_up p.state) (not (nat_lt t.n201 (length info))))
+  due-so (Disc f) info = sym (and-none (is_up p.state) (not (nat_lt t.n201 (length info))))
+  due-so (Ui f) info = sym (and-none (is_up p.state) (not (nat_lt t.n201 (length info))))
+  due-so (Ua f) info = sym (and-none (is_up p.state) (not (nat_lt t.n201 (length info))))
+  due-so (Dm f) info = sym (and-none (is_up p.state) (not (nat_lt t.n201 (length info))))
+  due-so (Frmr f) info = sym (and-none (is_up p.state) (not (nat_lt t.n201 (length info))))
+  due-so (Xid f) info = sym (and-none (is_up p.state) (not (nat_lt t.n201 (length info))))
+
+-- One event of a line, where the TEI is on it.
+module _ (c : Config) (ranged : IsInRange c) (l : Line) (s : IsSound c l) (e : Event) (service : Service) (tei place : ℕ) (on : place_in l tei ≡ Some place) where
+  abbrev a : Answer
+  a = lines.answer c e l
+
+  abbrev own : Link
+  own = link_of service tei l
+
+  abbrev t : Terms
+  t = terms c service tei
+
+  abbrev its : Option Parts
+  its = brought c service tei e
+
+  brought-is : (e : Event) (f : Parts) → frame_by c e ≡ Some f → is_for service tei f.address ≡ true → brought c service tei e ≡ Some f
+  brought-is (hears what) f is for = ap (its_frame service tei) is ∙ ap (λ b. cond b (Some f) None) for
+  brought-is (expiry timer) f is for = absurd (none-some f is)
+  brought-is (request r) f is for = absurd (none-some f is)
+  brought-is next f is for = absurd (none-some f is)
+
+  none-brought : (e : Event) → frame_by c e ≡ None → brought c service tei e ≡ None
+  none-brought (hears what) is = ap (its_frame service tei) is
+  none-brought (expiry timer) is = refl
+  none-brought (request r) is = refl
+  none-brought next is = refl
+
+  not-for : HasNone c service tei e l (lines.after c e l) a → (f : Parts) → frame_by c e ≡ Some f → (b : Bool) → is_for service tei f.address ≡ b → is_for service tei f.address ≡ false
+  not-for x f is false other = other
+  not-for x f is true for = absurd (true≢false (sym (event-aims c l service tei place on e f is for) ∙ x.aims))
+
+  none-of-it : HasNone c service tei e l (lines.after c e l) a → (o : Option Parts) → frame_by c e ≡ o → brought c service tei e ≡ None
+  none-of-it x None is = none-brought e is
+  none-of-it x (Some f) is = by-frame e is
+    where
+      by-frame : (e' : Event) → frame_by c e' ≡ Some f → brought c service tei e' ≡ None
+      by-frame (hears what) is' = ap (its_frame service tei) is' ∙ ap (λ b. cond b (Some f) None) (not-for x f is (is_for service tei f.address) refl)
+      by-frame (expiry timer) is' = refl
+      by-frame (request r) is' = refl
+      by-frame next is' = refl
+
+  -- when the numbers begin
+  abbrev Begins : Type 0
+  Begins = begins service tei (frame_by c e) (notes_of a) ≡ begins_by c service tei own.state its
+
+  none-begins : (x : HasNone c service tei e l (lines.after c e l) a) → (o : Option Parts) → frame_by c e ≡ o → begins service tei o (notes_of a) ≡ false
+  none-begins x None is = refl
+  none-begins x (Some f) is = ap (λ b. b && counting.begins_by f.control (notes_of a)) (not-for x f is (is_for service tei f.address) refl)
+
+  no-restart : (event : link.Event) → (restarts t event own ≡ true → ⊥) → frame_by c e ≡ None → restarts t event own ≡ begins_by c service tei own.state its
+  no-restart event never none = sym (unless (restarts t event own) never) ∙ sym (ap (begins_by c service tei own.state) (none-brought e none))
+
+  one-restarts : (event : link.Event) → IsBy c e a service tei event → restarts t event own ≡ begins_by c service tei own.state its
+  one-restarts (link.received (link.frame f)) by =
+      let x = brings-frame c e a service tei f by in
+      restarts-so t f own ∙ sym (ap (begins_by c service tei own.state) (brought-is e f x.0 x.1))
+  one-restarts (link.received link.undefined) by = no-restart (link.received link.undefined) (λ is. establishes t own (link.received link.undefined) is) (brings-none c e a service tei link.undefined by)
+  one-restarts (link.received link.wrong_size) by = no-restart (link.received link.wrong_size) (λ is. establishes t own (link.received link.wrong_size) is) (brings-none c e a service tei link.wrong_size by)
+  one-restarts (link.received link.overlong) by = no-restart (link.received link.overlong) (λ is. establishes t own (link.received link.overlong) is) (brings-none c e a service tei link.overlong by)
+  one-restarts (link.expired timer) by = no-restart (link.expired timer) (λ is. establishes t own (link.expired timer) is) (ap (frame_by c) by)
+  one-restarts (link.requested asked full) by = no-restart (link.requested asked full) (λ is. establishes t own (link.requested asked full) is) (ap (frame_by c) by.0)
+  one-restarts link.offer by = no-restart link.offer (λ is. establishes t own link.offer is) (ap (frame_by c) by)
+  one-restarts link.cleared by = absurd by
+
+  pub begins-so : Begins
+  begins-so = go (event-goes c e l service tei s)
+    where
+      go : Goes c service tei e l (lines.after c e l) a → Begins
+      go (inl x) = none-begins x (frame_by c e) refl ∙ sym (ap (begins_by c service tei own.state) (none-of-it x (frame_by c e) refl))
+      go (inr (inl x)) = ap (begins service tei (frame_by c e)) x.notes ∙ one-begins c e a service tei x.event x.by own ∙ one-restarts x.event x.by
+      go (inr (inr x)) = ap (λ e. begins service tei (frame_by c e) (notes_of a)) x.by.0 ∙ sym (ap (λ e. begins_by c service tei own.state (brought c service tei e)) x.by.0)
+
+  -- whether an I-frame comes
+  pub informs-so : brings_information service tei (frame_by c e) ≡ informs c service tei its
+  informs-so = by-event e
+    where
+      by-address : (f : Parts) (b : Bool) → (b && is_information f.control) ≡ option_map_or (λ (f : Parts). is_information f.control) (cond b (Some f) None) false
+      by-address f true = refl
+      by-address f false = refl
+
+      by-frame : (o : Option Parts) → brings_information service tei o ≡ option_map_or (λ (f : Parts). is_information f.control) (its_frame service tei o) false
+      by-frame None = refl
+      by-frame (Some f) = by-address f (is_for service tei f.address)
+
+      by-event : (e : Event) → brings_information service tei (frame_by c e) ≡ informs c service tei (brought c service tei e)
+      by-event (hears what) = by-frame (frame_of c what)
+      by-event (expiry timer) = refl
+      by-event (request r) = refl
+      by-event next = refl
+
+  -- what is told of data
+  module _ (p : Observed) (n : ℕ) (count : IsCount own n) (is : p.state ≡ state_number own.state) (count_is : is_multiple_frame own.state ≡ true → own.r ≡ p.count)
+      (busy_is : is_multiple_frame own.state ≡ true → own.own_busy ≡ p.own_busy) where
+    abbrev Told : Type 0
+    Told = list_any (is_data_of service tei) (notes_of a) ≡ taken_by c service tei p its
+
+    untold : HasNone c service tei e l (lines.after c e l) a → (b : Bool) → list_any (is_data_of service tei) (notes_of a) ≡ b → list_any (is_data_of service tei) (notes_of a) ≡ false
+    untold x false is = is
+    untold x true is = absurd (no-data c ranged l s e service tei n count x is)
+
+    no-due : (event : link.Event) → is_some (in_sequence own.r (eligible t event own)) ≡ false → frame_by c e ≡ None → is_some (in_sequence own.r (eligible t event own)) ≡ taken_by c service tei p its
+    no-due event never none = never ∙ sym (ap (taken_by c service tei p) (none-brought e none))
+
+    one-due : (event : link.Event) → IsBy c e a service tei event → is_some (in_sequence own.r (eligible t event own)) ≡ taken_by c service tei p its
+    one-due (link.received (link.frame f)) by =
+        let x = brings-frame c e a service tei f by in
+        due-so t own p is count_is busy_is f.control f.info ∙ sym (ap (taken_by c service tei p) (brought-is e f x.0 x.1))
+    one-due (link.received link.undefined) by = no-due (link.received link.undefined) refl (brings-none c e a service tei link.undefined by)
+    one-due (link.received link.wrong_size) by = no-due (link.received link.wrong_size) refl (brings-none c e a service tei link.wrong_size by)
+    one-due (link.received link.overlong) by = no-due (link.received link.overlong) refl (brings-none c e a service tei link.overlong by)
+    one-due (link.expired timer) by = no-due (link.expired timer) refl (ap (frame_by c) by)
+    one-due (link.requested asked full) by = no-due (link.requested asked full) refl (ap (frame_by c) by.0)
+    one-due link.offer by = no-due link.offer refl (ap (frame_by c) by)
+    one-due link.cleared by = absurd by
+
+    pub data-so : Told
+    data-so = go (event-goes c e l service tei s)
+      where
+        go : Goes c service tei e l (lines.after c e l) a → Told
+        go (inl x) = untold x (list_any (is_data_of service tei) (notes_of a)) refl ∙ sym (ap (taken_by c service tei p) (none-of-it x (frame_by c e) refl))
+        go (inr (inl x)) = data-noted c ranged l s e service tei n count x ∙ ap is_some (data-is t own x.event) ∙ one-due x.event x.by
+        go (inr (inr x)) =
+            ended-notes c ranged l s e service tei n count (is_data_of service tei) (λ s n. refl) (λ s n. refl) x
+            ∙ sym (ap (λ e. taken_by c service tei p (brought c service tei e)) x.by.0)

@@ -1,0 +1,152 @@
+-- Unit data is told of TEIs on the line, or of the group.
+use Rattle.std.proofs.Common.{◌≡◌, ℕ, ◌<◌, ◌==◌, ◌&&◌, ◌||◌, not, Bool, true, false, cond, length, List, ◌∷◌, ◌++◌, Option, Some, None, is_some, refl, sym, ap, ◌∙◌, subst, eqb-true, eq-eqb, true≢false, ◌⊎◌, inl, inr}
+use Rattle.std.specs.Prelude.{nat_le, Result, Ok, Err}
+use Rattle.std.specs.List.{list_any}
+use Rattle.std.specs.Option.{option_map_or}
+use Rattle.std.proofs.lemmas.Bool.{and_parts, leb-true}
+use Rattle.model_bits.specs.Stream as stream
+use Rattle.lapd_frame.specs.declared.addresses.Side.{Side}
+use Rattle.lapd_frame.specs.declared.addresses.Side.TheVariants.{User, Network}
+use Rattle.lapd_frame.specs.declared.faults.ReadFault.{ReadFault}
+use Rattle.lapd_frame.specs.declared.services.Service.{Service}
+use Rattle.lapd_frame.specs.Grammar.{Parts}
+use Rattle.lapd_frame.specs.Reading.{reading}
+use Rattle.lapd_frame.specs.Services.{same_service}
+use Rattle.model_line.specs.declared.config.Config.{Config}
+use Rattle.model_line.specs.Event as line_event
+use Rattle.model_line.specs.Event.{Answer, hears, expiry, request, next}
+use Rattle.model_line.specs.Heard.{group_tei, heard_side}
+use Rattle.model_line.specs.Line.{Line, has_tei, state_of}
+use Rattle.model_line.specs.Machine as lines
+use Rattle.model_line.specs.Sides.{has_management}
+use Rattle.model_line.specs.Sound.{IsInRange, IsSound}
+use Rattle.model_card.specs.Card.{fresh, line_at}
+use Rattle.model_card.specs.Event.{Event, at}
+use Rattle.model_card.specs.Machine.{answer}
+use Rattle.model_card.specs.Run.{after_all, AreAtLines}
+use Rattle.model_card.proofs.Steps.{has_lines, by_room, line_sound}
+use Rattle.laws_line.specs.Heard.{notes_of, is_unit_of}
+use Rattle.laws_trace.specs.Deliveries.{is_unit_for, brought}
+use Rattle.laws_trace.specs.LinkFrames.{frame_of, its_frame, is_for, parts_of}
+use Rattle.laws_trace.specs.Managing.{is_on}
+use Rattle.laws_trace.specs.Observer.{view_of}
+use Rattle.laws_trace.specs.Units.{is_ui}
+use Rattle.laws_trace.proofs.Deliveries.{unit-tells, unit-own, none-noted, group-notes}
+use Rattle.laws_trace.proofs.LinkLed.{on-line}
+use Rattle.laws_trace.proofs.OneLink.{Goes, event-goes}
+use Rattle.laws_trace.proofs.ObservedRun.{is-told}
+use Rattle.laws_trace.proofs.SeenAs.{tei-seen}
+use Rattle.laws_trace.proofs.TimersAreTimely.{config-now, sound-now, front-at}
+use Rattle.laws_trace.proofs.UnitsAreTold.{units-are-told}
+
+abbrev IsForOne : Config → ℕ → Line → Type 0
+IsForOne c tei l = (has_tei tei l ≡ true) ⊎ ((c.side ≡ User) × (tei ≡ 127))
+
+module _ (c : Config) (ranged : IsInRange c) (l : Line) (s : IsSound c l) (service : Service) (tei : ℕ) (e : line_event.Event) where
+  abbrev a : Answer
+  a = lines.answer c e l
+
+  pub of-unit : list_any (is_unit_of service tei) (notes_of a) ≡ true → IsForOne c tei l
+  of-unit some = go (event-goes c e l service tei s)
+    where
+      only : (b : Bool) → (b || false) ≡ true → b ≡ true
+      only true is = refl
+      only false is = is
+
+      go : Goes c service tei e l (lines.after c e l) a → IsForOne c tei l
+      go (inr (inl x)) = inl (on-line l tei x.place x.placed)
+      go (inr (inr x)) = inl (on-line l tei x.place x.placed)
+      go (inl x) =
+          let y = none-noted c ranged l s e service tei (is_unit_of service tei) (unit-tells service tei) (unit-own service tei) x.aims some in
+          let its : (same_service (y.2).service service && group_tei == tei) ≡ true =
+          only (same_service (y.2).service service && group_tei == tei) (sym (ap (list_any (is_unit_of service tei)) (group-notes c ranged l s e service tei y.0 y.2)) ∙ some) in
+          inr ((y.2).whose.side, sym (eqb-true group_tei tei (and_parts (same_service (y.2).service service) (group_tei == tei) its).1))
+
+-- The same at a card.
+abbrev IsThere : Config → Service → ℕ → ℕ → List Event → Type 0
+IsThere c service tei number before = (is_on tei (view_of c service tei number before).teis ≡ true) ⊎ ((c.side ≡ User) × (tei ≡ 127))
+
+pub unit-for : (c : Config) (before : List Event) (number : ℕ) → IsInRange c → AreAtLines (fresh c) before → number < c.lines → (service : Service) (tei : ℕ) (what : line_event.Event)
+    → list_any (is_unit_of service tei) (notes_of (answer (at number what) (after_all (fresh c) before))) ≡ true
+    → (is_on tei (view_of c service tei number before).teis ≡ true) ⊎ ((c.side ≡ User) × (tei ≡ 127))
+unit-for c before number ranged all within service tei what =
+    let card = after_all (fresh c) before in
+    let same : card.config ≡ c = config-now c before number ranged all within service tei in
+    let here : number < card.config.lines = subst (λ (d : Config). number < d.lines) (sym same) within in
+    let s = sound-now c before number ranged all within service tei in
+    by_room (λ ls a. list_any (is_unit_of service tei) (notes_of a) ≡ true → IsThere c service tei number before) (at number what) card
+    (λ full some. absurd (true≢false (sym some)))
+    (λ room some. there same (of-unit card.config s.config (line_at number card) (line_sound card number (has_lines card s) here) service tei what some))
+  where
+    there : (after_all (fresh c) before).config ≡ c → IsForOne (after_all (fresh c) before).config tei (line_at number (after_all (fresh c) before)) → IsThere c service tei number before
+    there same (inl on) = inl (tei-seen c before number ranged all within service tei ∙ on)
+    there same (inr y) = inr (subst (λ (d : Config). d.side ≡ User) same y.0, y.1)
+
+-- So it is of the frame that comes.
+abbrev IsHere : Config → Service → ℕ → ℕ → List Event → Bool
+IsHere c service tei number before = is_on tei (view_of c service tei number before).teis || (not (has_management c.side) && tei == 127)
+
+user-so : (side : Side) → not (has_management side) ≡ true → side ≡ User
+user-so User is = refl
+user-so Network is = absurd (true≢false (sym is))
+
+here-so : (c : Config) (service : Service) (tei number : ℕ) (before : List Event) → IsThere c service tei number before → IsHere c service tei number before ≡ true
+here-so c service tei number before (inl on) = ap (λ b. b || (not (has_management c.side) && tei == 127)) on
+here-so c service tei number before (inr y) =
+    ap (λ side. is_on tei (view_of c service tei number before).teis || (not (has_management side) && tei == 127)) y.0
+    ∙ ap (λ b. is_on tei (view_of c service tei number before).teis || b) (eq-eqb tei 127 y.1) ∙ either (is_on tei (view_of c service tei number before).teis)
+  where
+    either : (b : Bool) → (b || true) ≡ true
+    either true = refl
+    either false = refl
+
+pub unit-is : (c : Config) (before : List Event) (number : ℕ) → IsInRange c → AreAtLines (fresh c) before → number < c.lines → (service : Service) (tei : ℕ) (what : line_event.Event)
+    (frame : Option Parts) → (list_any (is_unit_of service tei) (notes_of (answer (at number what) (after_all (fresh c) before))) ≡ true → option_map_or (λ (f : Parts). is_ui f.control) frame false ≡ true)
+    → list_any (is_unit_of service tei) (notes_of (answer (at number what) (after_all (fresh c) before))) ≡ true
+    → option_map_or (is_unit_for c tei (view_of c service tei number before).teis) frame false ≡ true
+unit-is c before number ranged all within service tei what None ui some = ui some
+unit-is c before number ranged all within service tei what (Some f) ui some =
+    ap (λ b. b && IsHere c service tei number before) (ui some) ∙ here-so c service tei number before (unit-for c before number ranged all within service tei what some)
+
+-- And each of at most N201 octets is told.
+module _ (c : Config) (events : List Event) (number : ℕ) (ranged : IsInRange c) (all : AreAtLines (fresh c) events) (within : number < c.lines) (service : Service) (tei : ℕ) (before : List Event) where
+  abbrev Told : line_event.Event → Type 0
+  Told what = list_any (is_unit_of service tei) (notes_of (answer (at number what) (after_all (fresh c) before))) ≡ true
+
+  abbrev Comes : Option Parts → Type 0
+  Comes frame = option_map_or (λ (f : Parts). is_unit_for c tei (view_of c service tei number before).teis f && nat_le (length f.info) c.n201) frame false ≡ true
+
+  by-frame : (octets : List ℕ) (behind : List Event) → events ≡ before ++ at number (hears (stream.frame octets)) ∷ behind → (r : Result Parts ReadFault) → reading (heard_side c) octets ≡ r
+      → Comes (its_frame service tei (parts_of r)) → Told (hears (stream.frame octets))
+  by-frame octets behind split (Err fault) read some = absurd (true≢false (sym some))
+  by-frame octets behind split (Ok f) read some = on (is_for service tei f.address) refl some
+    where
+      first : AreAtLines (fresh c) before
+      first = front-at (fresh c) before (at number (hears (stream.frame octets))) behind (subst (AreAtLines (fresh c)) split all)
+
+      there : IsHere c service tei number before ≡ true → (is_some (state_of service tei (line_at number (after_all (fresh c) before))) ≡ true) ⊎ ((c.side ≡ User) × (tei ≡ 127))
+      there is = go (is_on tei (view_of c service tei number before).teis) refl is
+        where
+          go : (b : Bool) → is_on tei (view_of c service tei number before).teis ≡ b → (b || (not (has_management c.side) && tei == 127)) ≡ true
+              → (is_some (state_of service tei (line_at number (after_all (fresh c) before))) ≡ true) ⊎ ((c.side ≡ User) × (tei ≡ 127))
+          go true on e = inl (sym (is-told service tei (line_at number (after_all (fresh c) before))) ∙ sym (tei-seen c before number ranged first within service tei) ∙ on)
+          go false off e = let x = and_parts (not (has_management c.side)) (tei == 127) e in inr (user-so c.side x.0, eqb-true tei 127 x.1)
+
+      on : (b : Bool) → is_for service tei f.address ≡ b → Comes (cond b (Some f) None) → Told (hears (stream.frame octets))
+      on false other some = absurd (true≢false (sym some))
+      on true for some =
+          let x = and_parts (is_unit_for c tei (view_of c service tei number before).teis f) (nat_le (length f.info) c.n201) some in
+          let y = and_parts (is_ui f.control) (IsHere c service tei number before) x.0 in
+          (units-are-told c events number ranged all within service tei octets f before behind split
+          (record { read = read; whose = for; control = y.0; size = leb-true (length f.info) c.n201 x.1; there = there y.1 })).0
+
+  by-heard : (e : stream.Event) (behind : List Event) → events ≡ before ++ at number (hears e) ∷ behind → Comes (its_frame service tei (frame_of c e)) → Told (hears e)
+  by-heard (stream.frame octets) behind split some = by-frame octets behind split (reading (heard_side c) octets) refl some
+  by-heard (stream.overlong head) behind split some = absurd (true≢false (sym some))
+  by-heard (stream.dropped cause) behind split some = absurd (true≢false (sym some))
+
+  pub units-are : (what : line_event.Event) (behind : List Event) → events ≡ before ++ at number what ∷ behind → Comes (brought c service tei what) → Told what
+  units-are (hears e) behind split some = by-heard e behind split some
+  units-are (expiry timer) behind split some = absurd (true≢false (sym some))
+  units-are (request r) behind split some = absurd (true≢false (sym some))
+  units-are next behind split some = absurd (true≢false (sym some))

@@ -461,7 +461,14 @@ enum {
     LAPD_TOLD_ASSIGNED = 58, LAPD_TOLD_REMOVED = 59, LAPD_TOLD_DOUBLED = 60,
     /* control frames and messages that found no room to wait */
     LAPD_LOST = 61,
-    LAPD_COUNTERS = 62
+    /* messages of TEI management heard and begun (clause 5.3.1, table 8), by their type: of the UI frames above, those with
+     * SAPI 63 and TEI 127 whose information begins with the entity identifier 15, whether or not they are otherwise well formed
+     * and are served. The network's side begins those that assign, deny, check and remove, and hears the others */
+    LAPD_HEARD_REQUEST = 62, LAPD_HEARD_ASSIGNED = 63, LAPD_HEARD_DENIED = 64, LAPD_HEARD_CHECK_REQUEST = 65,
+    LAPD_HEARD_CHECK_RESPONSE = 66, LAPD_HEARD_REMOVE = 67, LAPD_HEARD_VERIFY = 68,
+    LAPD_BEGUN_REQUEST = 69, LAPD_BEGUN_ASSIGNED = 70, LAPD_BEGUN_DENIED = 71, LAPD_BEGUN_CHECK_REQUEST = 72,
+    LAPD_BEGUN_CHECK_RESPONSE = 73, LAPD_BEGUN_REMOVE = 74, LAPD_BEGUN_VERIFY = 75,
+    LAPD_COUNTERS = 76
 };
 
 /* As the call has the same name, it is `struct lapd_counters` also in C++. While the major version stays, it has these
@@ -558,7 +565,7 @@ LAPD_INLINE uint64_t lapd_card_octets_frames(const lapd_config *config) {
     uint64_t link = lapd_block_octets(8u * config->control) + lapd_block_octets(8u * config->queue);
     uint64_t line = lapd_block_octets(128 * links) + links * link + lapd_block_octets(16u * config->unit_queue)
                     + lapd_block_octets(64);
-    return lapd_block_octets(256) + lapd_block_octets(832 * lines) + lines * line + lapd_block_octets(2 * slots)
+    return lapd_block_octets(256) + lapd_block_octets(944 * lines) + lines * line + lapd_block_octets(2 * slots)
            + lapd_block_octets(slots * config->n201);
 }
 
@@ -767,6 +774,9 @@ LAPD_INLINE const char *lapd_counter_text(unsigned place) {
         "errors-h", "errors-i", "errors-j", "errors-k", "errors-l", "errors-n", "errors-o",
         "told-establish-indication", "told-establish-confirm", "told-release-indication", "told-release-confirm",
         "told-data", "told-unit", "told-xid", "told-assigned", "told-removed", "told-doubled", "lost",
+        "heard-request", "heard-assigned", "heard-denied", "heard-check-request", "heard-check-response", "heard-remove",
+        "heard-verify", "begun-request", "begun-assigned", "begun-denied", "begun-check-request", "begun-check-response",
+        "begun-remove", "begun-verify",
     };
     return place < LAPD_COUNTERS ? names[place] : "unknown counter";
 }

@@ -94,7 +94,7 @@ function ofStep(step, about) {
       rows.push(...step.heard.map((it) => ofHeard(step, OUT, it)));
     } else if (["rx", "in", "failed"].includes(word)) {
       rows.push(...ofTraffic(step), ...(step.heard.length ? [] : ofRest(step)));
-    } else if (word !== "counters") {
+    } else if (!["counters", "messages"].includes(word)) {
       rows.push(ofRequest(step));
     }
   }

@@ -159,7 +159,7 @@ class State(enum.IntEnum):
 
 GROUP_TEI = 127
 MOST_NOTES, MOST_ORDERS, MOST_OCTETS, MOST_FRAME = 4, 4, 260, 264
-COUNTERS = 62
+COUNTERS = 76
 
 # ---- Structs of lapd.h ---------------------------------------------------------------------------------------------------
 

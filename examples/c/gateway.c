@@ -3,6 +3,8 @@
 
 #include <stdbool.h>
 
+enum { FIRST_AUTOMATIC_TEI = 64 };
+
 uint32_t gateway_start(gateway *own, const lapd_config *config) {
     uint32_t status = lapd_card_start_frames(&own->card, config);
     if (status != LAPD_OK)
@@ -98,4 +100,20 @@ uint32_t gateway_take(gateway *own, uint64_t now, uint32_t line, uint8_t *frame,
         return LAPD_WRONG_TIME;
     uint32_t status = lapd_next_frame(&own->card, line, frame, room, length, &report);
     return finish(own, now, line, status, &report);
+}
+
+uint32_t gateway_audit(gateway *own, uint64_t now, uint32_t line, uint8_t *place) {
+    uint8_t behind = *place;
+    uint32_t status;
+    if (!is_moment(now))
+        return LAPD_WRONG_TIME;
+    lapd_link link; /* a TEI has one for each service */
+    while ((status = lapd_next_link(&own->card, line, &behind, &link)) == LAPD_OK)
+        if (link.service == LAPD_CALL && link.tei >= FIRST_AUTOMATIC_TEI) {
+            status = gateway_ask(own, now, line, LAPD_CHECK, LAPD_CALL, link.tei, NULL, 0);
+            if (status == LAPD_OK || status == LAPD_NO_PLACE)
+                *place = behind;
+            break;
+        }
+    return status;
 }

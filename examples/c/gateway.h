@@ -75,4 +75,10 @@ LAPD_STATUS gateway_next(gateway *own, uint64_t *moment);
  * waits. LAPD_WRONG_LENGTH: `room` is less than n201 and four; LAPD_MOST_FRAME is always enough. */
 LAPD_STATUS gateway_take(gateway *own, uint64_t now, uint32_t line, uint8_t *frame, size_t room, size_t *length);
 
+/* Management asks whether the next automatic TEI of a line, from *place on, is still in use: *place is 0 for the first,
+ * and each call leaves it behind the TEI that it asked for. So audit a line where LAPD_BEGUN_DENIED of lapd_counters has
+ * risen; a TEI that no terminal has leaves the line within two T201, which on_report hears of. LAPD_NO_MORE_LINKS: there
+ * is none from there on. LAPD_REFUSED_CHECK_RUNNING, LAPD_REFUSED_CONTROL_FULL: call again later, with the same place. */
+LAPD_STATUS gateway_audit(gateway *own, uint64_t now, uint32_t line, uint8_t *place);
+
 #endif

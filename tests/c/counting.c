@@ -28,10 +28,17 @@ void count_head(counting *to, bool is_begun, const uint8_t octets[4], size_t len
         to->values[is_begun ? LAPD_BEGUN_POLLS : LAPD_HEARD_POLLS]++;
 }
 
+void count_message(counting *to, bool is_begun, const uint8_t *octets, size_t length) {
+    bool is_of_entity = length > 6 && octets[0] / 4 == 63 && octets[1] == 0xFF && (octets[2] & ~0x10u) == 0x03 && octets[3] == 0x0F;
+    if (is_of_entity && octets[6] >= 1 && octets[6] <= 7)
+        to->values[(is_begun ? LAPD_BEGUN_REQUEST : LAPD_HEARD_REQUEST) + octets[6] - 1]++;
+}
+
 static void count_whole(counting *to, bool is_begun, const uint8_t *octets, size_t length) {
     uint8_t first[4] = {0};
     memcpy(first, octets, length < 4 ? length : 4);
     count_head(to, is_begun, first, length);
+    count_message(to, is_begun, octets, length);
 }
 
 void count_heard(counting *to, const uint8_t *octets, size_t length) {

@@ -1,5 +1,5 @@
 /*
- * counting.h: what a line counts, counted again by table 5 of the standard, and not by the library's code: from the
+ * counting.h: what a line counts, counted again by tables 5 and 8 of the standard, and not by the library's code: from the
  * frames that came and went, and from what reports tell. For counts.c and gateway_day.c.
  */
 #ifndef COUNTING_H
@@ -19,6 +19,9 @@ typedef struct {
 
 /* A frame that was heard or begun, by its first four octets, 0 where it has not so many, and its length. */
 void count_head(counting *to, bool is_begun, const uint8_t octets[4], size_t length);
+
+/* The message of TEI management that it has, if it has one. */
+void count_message(counting *to, bool is_begun, const uint8_t *octets, size_t length);
 
 /* A frame with a good check came; a frame was given whole. */
 void count_heard(counting *to, const uint8_t *octets, size_t length);

@@ -1,8 +1,8 @@
 /*
  * counts.c: what is counted of lines to which things happen at random: frames of every kind, whole, too long, too short,
  * and with a wrong check; timers, requests and pulls. Each counter is counted here again (counting.c), from what was sent to the
- * card, from what its reports tell, and from which frames began or were given. The card is one for octets, or for frames. For
- * tests alone.
+ * card, from what its reports tell, and from which frames began or were given. What began is pulled to its end, as the head of a
+ * frame has no message. The card is one for octets, or for frames. For tests alone.
  *
  *     counts SEED KIND [user]   status 1 where a counter is another, or where hardly any name has something; KIND is octets
  *                               or frames; user where the card is the user's side
@@ -15,13 +15,14 @@
 #include "hdlc.h"
 #include "lapd.h"
 
-enum { LINES = 3, N201 = 16, TURNS = 4000 };
+enum { LINES = 3, N201 = 16, TURNS = 4000, MOST_PULLS = 4000 };
 
 static lapd_config config = {LINES, 8, 7, 7, 8, 4, 2, 40, N201, 3, LAPD_NETWORK};
 static lapd_card card;
 static bool for_frames;
 static lapd_report report;
 static hdlc_sender senders[LINES];
+static hdlc_listener listeners[LINES];
 static counting counted[LINES];
 static uint32_t seed;
 
@@ -37,6 +38,8 @@ static void pull(uint32_t line) {
     count_told(&counted[line], &report);
     if (report.begun && lapd_begun(&card, line, &head) == LAPD_OK)
         count_head(&counted[line], true, head.octets, head.length);
+    if (hdlc_hear(&listeners[line], octet))
+        count_message(&counted[line], true, listeners[line].frame, listeners[line].length);
 }
 
 /* At a card for frames. */
@@ -73,7 +76,9 @@ static size_t likely_frame(uint8_t *octets) {
     static const uint8_t controls[] = {0x7F, 0x7F, 0x73, 0x73, 0x01, 0x01, 0x01, 0x01, 0x09, 0x05};
     unsigned what = below(16);
     if (what == 0) {
-        const uint8_t message[] = {0xFC, 0xFF, 0x03, 0x0F, (uint8_t)below(3), 0, (uint8_t)(below(3) ? 5 : 1), 0xFF};
+        const uint8_t message[] = {(uint8_t)(below(4) ? 0xFC : 0xFE), (uint8_t)(below(8) ? 0xFF : 0xFD), below(8) ? 0x03 : 0x13,
+                                   (uint8_t)(below(8) ? 0x0F : 0x0E), (uint8_t)below(3), (uint8_t)below(4),
+                                   (uint8_t)(below(3) ? 5 : below(2) ? 1 : below(10)), 0xFF};
         memcpy(octets, message, sizeof message);
         if (octets[6] == 5)
             octets[7] = (uint8_t)(2 * (64 + below(3)) + 1);
@@ -179,6 +184,7 @@ int main(int count, char **words) {
         return 1;
     for (uint32_t line = 0; line < LINES; line++) {
         hdlc_begin(&senders[line]);
+        hdlc_listen(&listeners[line]);
         counted[line].side = config.side;
         counted[line].n201 = config.n201;
         for (uint8_t tei = 64; tei < 67; tei++)
@@ -186,9 +192,11 @@ int main(int count, char **words) {
     }
     for (unsigned i = 0; i < TURNS; i++)
         happens(below(LINES));
+    for (unsigned i = 0; i < LINES * MOST_PULLS && !for_frames; i++)
+        pull(i % LINES);
     for (uint32_t line = 0; line < LINES; line++)
         failed |= !counts_the_same(&counted[line], &card, line, "counts");
     printf("counts: %u of %d names\n", names(), LAPD_COUNTERS);
     lapd_card_free(&card);
-    return failed || names() < (config.side == LAPD_USER ? 40 : 45);
+    return failed || names() < (config.side == LAPD_USER ? 46 : 52);
 }

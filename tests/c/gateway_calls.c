@@ -17,6 +17,12 @@ static const uint8_t sabme[] = {0x00, 0x81, 0x7F}, ua[] = {0x00, 0x81, 0x73}, po
 static const uint8_t data[] = {0x02, 0x81, 0x00, 0x00, 1, 2, 3}, acknowledged[] = {0x02, 0x81, 0x01, 0x02};
 static const uint8_t sabme_65[] = {0x00, 0x83, 0x7F}, ua_65[] = {0x00, 0x83, 0x73};
 static const uint8_t poll_65[] = {0x02, 0x83, 0x01, 0x01};
+/* of TEI management: a request and its denial, a check of TEI 64 and its response, and a check of TEI 65 */
+static const uint8_t identity_request[] = {0xFC, 0xFF, 0x03, 0x0F, 0x12, 0x34, 0x01, 0xFF};
+static const uint8_t identity_denied[] = {0xFE, 0xFF, 0x03, 0x0F, 0x12, 0x34, 0x03, 0xFF};
+static const uint8_t check_request[] = {0xFE, 0xFF, 0x03, 0x0F, 0x00, 0x00, 0x04, 0x81};
+static const uint8_t check_response[] = {0xFC, 0xFF, 0x03, 0x0F, 0x00, 0x00, 0x05, 0x81};
+static const uint8_t check_request_65[] = {0xFE, 0xFF, 0x03, 0x0F, 0x00, 0x00, 0x04, 0x83};
 
 static gateway own = GATEWAY_NONE;
 static unsigned notes[LAPD_XID_INDICATION + 1], drops, reports;
@@ -164,6 +170,38 @@ static void goes_down(void) {
     WANT(gateway_frame(&own, 42900, 0, sabme, sizeof sabme) == LAPD_OK && is_next(52900));
 }
 
+static uint64_t denials(void) {
+    struct lapd_counters counters;
+    WANT(lapd_counters(&own.card, 0, &counters) == LAPD_OK);
+    return counters.values[LAPD_BEGUN_DENIED];
+}
+
+/* A third terminal is denied a TEI, so the line is audited: the first answers both times, the second has gone. */
+static void is_audited(void) {
+    uint8_t place = 0, other_place = 0;
+    WANT(takes(42900, ua, sizeof ua) && denials() == 0);
+    WANT(gateway_frame(&own, 43000, 0, identity_request, sizeof identity_request) == LAPD_OK && denials() == 0);
+    WANT(takes(43000, identity_denied, sizeof identity_denied) && denials() == 1);
+    WANT(gateway_audit(&own, 43000, 0, &place) == LAPD_OK && place == 129);
+    WANT(gateway_audit(&own, 43000, 0, &place) == LAPD_REFUSED_CHECK_RUNNING && place == 129);
+    for (uint64_t now = 43000; now <= 44000; now += 1000) {
+        WANT(takes(now, check_request, sizeof check_request) && is_next(now + 1000));
+        WANT(gateway_frame(&own, now, 0, check_response, sizeof check_response) == LAPD_OK);
+        WANT(gateway_advance(&own, now + 1000) == LAPD_OK);
+    }
+    WANT(gateway_audit(&own, 45000, 0, &place) == LAPD_OK && place == 131);
+    for (uint64_t now = 45000; now <= 46000; now += 1000) {
+        WANT(notes[LAPD_REMOVED] == 0 && takes(now, check_request_65, sizeof check_request_65));
+        WANT(gateway_advance(&own, now + 1000) == LAPD_OK);
+    }
+    WANT(notes[LAPD_REMOVED] == 1 && gateway_audit(&own, 47000, 0, &place) == LAPD_NO_MORE_LINKS);
+    WANT(gateway_audit(&own, 47000, 1, &other_place) == LAPD_NO_MORE_LINKS);
+    WANT(gateway_audit(&own, 47000, config.lines, &place) == LAPD_WRONG_LINE);
+    WANT(gateway_audit(&own, LAPD_LATEST + 1, 0, &place) == LAPD_WRONG_TIME);
+    WANT(gateway_frame(&own, 47000, 0, identity_request, sizeof identity_request) == LAPD_OK);
+    WANT(notes[LAPD_ASSIGNED] == 1 && denials() == 1);
+}
+
 static void ends(void) {
     uint64_t moment;
     gateway_end(&own);
@@ -177,6 +215,7 @@ int main(void) {
     comes_up();
     time_passes();
     goes_down();
+    is_audited();
     ends();
     return 0;
 }

@@ -33,7 +33,7 @@ OCTETS(lapd_link, 3);
 AT(lapd_link, state, 2);
 OCTETS(lapd_head, 6);
 AT(lapd_head, octets, 2);
-OCTETS(struct lapd_counters, 496);
+OCTETS(struct lapd_counters, 608);
 OCTETS(struct lapd_room, 8);
 AT(struct lapd_room, queue, 4);
 AT(struct lapd_room, va, 5);

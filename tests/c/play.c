@@ -266,11 +266,12 @@ static void show_stored(station *b) {
     printf("stored %u limit %u\n", stored, limit);
 }
 
-static void show_counters(station *b, uint32_t line) {
+/* Those of the places from one to another. */
+static void show_counters(station *b, uint32_t line, unsigned from, unsigned to) {
     struct lapd_counters counters;
     bool any = false;
     want_ok(lapd_counters(&b->card, line, &counters), "counters");
-    for (unsigned place = 0; place < LAPD_COUNTERS; place++)
+    for (unsigned place = from; place < to; place++)
         if (counters.values[place] > 0) {
             printf("%u counter %s %llu\n", line, lapd_counter_text(place), (unsigned long long)counters.values[place]);
             any = true;
@@ -299,7 +300,9 @@ static fault obey_at(station *b, uint32_t line, const command *c) {
     else if (c->verb == REQUEST)
         ask(b, line, c);
     else if (c->verb == COUNTERS)
-        show_counters(b, line);
+        show_counters(b, line, 0, LAPD_HEARD_REQUEST);
+    else if (c->verb == MESSAGES)
+        show_counters(b, line, LAPD_HEARD_REQUEST, LAPD_COUNTERS);
     else
         for (size_t i = 0; i < c->length; i++)
             receive(b, line, c->octets[i]);

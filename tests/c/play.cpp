@@ -56,7 +56,7 @@ private:
     void ask(uint32_t line, const command &of);
     status asked(uint32_t line, const command &of);
     void show_stored();
-    void show_counters(uint32_t line);
+    void show_counters(uint32_t line, unsigned from, unsigned to);
     bool is_of_other_card(const command &of) const;
     lapd::any_card *any();
 
@@ -242,11 +242,11 @@ void station::show_stored() {
     std::printf("stored %u limit %u\n", stored, limit);
 }
 
-void station::show_counters(uint32_t line) {
+void station::show_counters(uint32_t line, unsigned from, unsigned to) {
     struct lapd_counters counters;
     bool is_any = false;
     want_ok(any()->counters(line, counters), "counters");
-    for (unsigned place = 0; place < LAPD_COUNTERS; place++)
+    for (unsigned place = from; place < to; place++)
         if (counters.values[place] > 0) {
             std::printf("%u counter %s %llu\n", line, lapd_counter_text(place),
                         static_cast<unsigned long long>(counters.values[place]));
@@ -272,7 +272,9 @@ fault station::obey_at(uint32_t line, const command &of) {
     else if (of.verb == REQUEST)
         ask(line, of);
     else if (of.verb == COUNTERS)
-        show_counters(line);
+        show_counters(line, 0, LAPD_HEARD_REQUEST);
+    else if (of.verb == MESSAGES)
+        show_counters(line, LAPD_HEARD_REQUEST, LAPD_COUNTERS);
     else
         for (uint8_t octet : octets)
             receive(line, octet);

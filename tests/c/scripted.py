@@ -11,6 +11,8 @@ from vithrynel.bits import Deframer, Frame, Terminal
 
 MOST_LINE, MOST_NUMBER, MOST_TEI, MOST_WAIT, MOST_PULLS = 4096, 65535, 255, 3_600_000, 4096
 LATEST = (1 << 63) - 1
+# From which place on counters are those of messages.
+MESSAGES = 62
 # What the numbers of a card line are, in order; the tenth may be left out.
 FIELDS = ("lines", "terminals", "k", "queue", "unit_queue", "control", "slots", "n201", "n200", "k16")
 OCTETS = re.compile(rb"-|(?:[0-9A-Fa-f]{2})*")
@@ -19,6 +21,7 @@ CAUSES = {b"abort": lapd.Cause.ABORT, b"ragged": lapd.Cause.RAGGED, b"short": la
 NUMBERS: Dict[bytes, Tuple[int, int, int]] = {
     b"rx": (1, 0, MOST_NUMBER), b"in": (1, 0, MOST_NUMBER), b"pull": (2, 1, MOST_PULLS), b"next": (1, 0, MOST_NUMBER),
     b"wait": (1, 0, MOST_WAIT), b"stored": (0, 0, 0), b"counters": (1, 0, MOST_NUMBER),
+    b"messages": (1, 0, MOST_NUMBER),
     **{it: (2, 0, MOST_TEI) for it in (b"assign", b"remove", b"check", b"establish", b"release", b"busy", b"ready",
                                        b"deactivate", b"data", b"unit", b"establish16", b"release16", b"busy16", b"ready16",
                                        b"deactivate16", b"data16", b"unit16")}}
@@ -157,8 +160,8 @@ class Station:
             yield from self.told(due.line, self.card.expire(due.line, due.timer))
         self.now = end
 
-    def counted(self, line: int) -> Iterator[str]:
-        found = {name: value for name, value in self.card.counters(line).items() if value}
+    def counted(self, line: int, is_shown: range) -> Iterator[str]:
+        found = {name: value for place, (name, value) in enumerate(self.card.counters(line).items()) if value and place in is_shown}
         yield from [f"{line} counter {name} {value}" for name, value in found.items()] or [f"{line} nothing"]
 
     def obey(self, line: Line) -> Iterator[str]:
@@ -198,7 +201,9 @@ class Station:
         elif line.word == "next":
             yield from self.next_frame(at)
         elif line.word == "counters":
-            yield from self.counted(at)
+            yield from self.counted(at, range(MESSAGES))
+        elif line.word == "messages":
+            yield from self.counted(at, range(MESSAGES, lapd.COUNTERS))
         else:
             yield from self.asked(line.word, at, line.numbers[1], line.octets)
 

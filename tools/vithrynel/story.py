@@ -102,7 +102,7 @@ def of_step(step: Step, about: int) -> Iterator[Row]:
             yield from of_traffic(step)
             rest = of_rest(step) if not step.heard else None
             yield from [rest] if rest else []
-        elif word != "counters":
+        elif word not in ("counters", "messages"):
             yield of_request(step.at, step.line)
     for said in step.answer:
         line, _, told = said.partition(" ")

@@ -1,5 +1,5 @@
 -- A counter is a number.
-use Rattle.lapd_count.proofs.Vocabulary.{◌≡◌, ℕ, ◌+◌, ◌≤◌, ◌<◌, ◌==◌, Bool, true, false, cond, [], ◌∷◌, length, length-set, get_or, set, min, refl, sym, ap, subst, ◌∙◌, arith, eqb-true, eqb-false, get_or-set_same, get_or-set_other, sum_by-cons, Cause, Abort, Ragged, Short, Fcs, Extension, Sapi, Tei, Unserved, ErrorCode, Counter, Frames, Octets, Polls, Overlong, Dropped, Errors, EstablishIndications, EstablishConfirms, ReleaseIndications, ReleaseConfirms, Data, Units, Xids, Assigned, Removed, Doubled, Lost, Heard, Begun, Counters, Kind, kind_place, count, most, place, cause_place, error_place, value_in, with_more, amount_of, amount_in, CountersAreNumbers}
+use Rattle.lapd_count.proofs.Vocabulary.{◌≡◌, ℕ, ◌+◌, ◌≤◌, ◌<◌, ◌==◌, Bool, true, false, cond, [], ◌∷◌, length, length-set, get_or, set, min, refl, sym, ap, subst, ◌∙◌, arith, eqb-true, eqb-false, get_or-set_same, get_or-set_other, sum_by-cons, Cause, Abort, Ragged, Short, Fcs, Extension, Sapi, Tei, Unserved, ErrorCode, Counter, Frames, Octets, Polls, Overlong, Dropped, Errors, EstablishIndications, EstablishConfirms, ReleaseIndications, ReleaseConfirms, Data, Units, Xids, Assigned, Removed, Doubled, Lost, Messages, Message, message_place, Heard, Begun, Counters, Kind, kind_place, count, most, place, cause_place, error_place, value_in, with_more, amount_of, amount_in, CountersAreNumbers}
 use Rattle.lapd_frame.specs.declared.notes.ErrorCode.TheVariants as code
 use Rattle.lapd_count.specs.declared.kinds.Kind.TheVariants as kind
 
@@ -12,9 +12,12 @@ cause_within c = grind arith
 error_within : (e : ErrorCode) → error_place e < 14
 error_within e = grind arith
 
+message_within : (m : Message) → message_place m < 7
+message_within m = grind arith
+
 -- each has a place
 pub place_within : (counter : Counter) → place counter < count
-place_within counter = grind (arith, kind_within, cause_within, error_within)
+place_within counter = grind (arith, kind_within, cause_within, error_within, message_within)
 
 -- so many more of one are so many more of it, and of no other
 one_more : (counters : Counters) (other counter : Counter) (amount : ℕ) → length counters.values ≡ count → value_in counters counter ≤ most

@@ -1,7 +1,8 @@
 -- No two counters stand at one place.
-use Rattle.lapd_count.proofs.Vocabulary.{◌≡◌, List, [], ◌∷◌, get_or, refl, sym, ap, ◌∙◌, Abort, Ragged, Short, Fcs, Extension, Sapi, Tei, Unserved, Counter, Frames, Octets, Polls, Overlong, Dropped, Errors, EstablishIndications, EstablishConfirms, ReleaseIndications, ReleaseConfirms, Data, Units, Xids, Assigned, Removed, Doubled, Lost, Heard, Begun, place, PlacesAreNames}
+use Rattle.lapd_count.proofs.Vocabulary.{◌≡◌, List, [], ◌∷◌, get_or, refl, sym, ap, ◌∙◌, Abort, Ragged, Short, Fcs, Extension, Sapi, Tei, Unserved, Counter, Frames, Octets, Polls, Overlong, Dropped, Errors, EstablishIndications, EstablishConfirms, ReleaseIndications, ReleaseConfirms, Data, Units, Xids, Assigned, Removed, Doubled, Lost, Messages, Heard, Begun, place, PlacesAreNames}
 use Rattle.lapd_frame.specs.declared.notes.ErrorCode.TheVariants as code
 use Rattle.lapd_count.specs.declared.kinds.Kind.TheVariants as kind
+use Rattle.lapd_count.specs.declared.messages.Message.TheVariants as message
 
 -- all of them, each at its place
 abbrev names : List Counter
@@ -21,7 +22,13 @@ names =
     Errors code.K ∷ Errors code.L ∷ Errors code.N ∷ Errors code.O ∷
     EstablishIndications ∷ EstablishConfirms ∷ ReleaseIndications ∷ ReleaseConfirms ∷
     Data ∷ Units ∷ Xids ∷ Assigned ∷
-    Removed ∷ Doubled ∷ Lost ∷ []
+    Removed ∷ Doubled ∷ Lost ∷
+    Messages Heard message.IdentityRequest ∷ Messages Heard message.IdentityAssigned ∷ Messages Heard message.IdentityDenied ∷
+    Messages Heard message.IdentityCheckRequest ∷ Messages Heard message.IdentityCheckResponse ∷ Messages Heard message.IdentityRemove ∷
+    Messages Heard message.IdentityVerify ∷
+    Messages Begun message.IdentityRequest ∷ Messages Begun message.IdentityAssigned ∷ Messages Begun message.IdentityDenied ∷
+    Messages Begun message.IdentityCheckRequest ∷ Messages Begun message.IdentityCheckResponse ∷ Messages Begun message.IdentityRemove ∷
+    Messages Begun message.IdentityVerify ∷ []
 
 named : (counter : Counter) → get_or names (place counter) Lost ≡ counter
 named (Frames Heard kind.Information) = refl
@@ -86,6 +93,20 @@ named Assigned = refl
 named Removed = refl
 named Doubled = refl
 named Lost = refl
+named (Messages Heard message.IdentityRequest) = refl
+named (Messages Heard message.IdentityAssigned) = refl
+named (Messages Heard message.IdentityDenied) = refl
+named (Messages Heard message.IdentityCheckRequest) = refl
+named (Messages Heard message.IdentityCheckResponse) = refl
+named (Messages Heard message.IdentityRemove) = refl
+named (Messages Heard message.IdentityVerify) = refl
+named (Messages Begun message.IdentityRequest) = refl
+named (Messages Begun message.IdentityAssigned) = refl
+named (Messages Begun message.IdentityDenied) = refl
+named (Messages Begun message.IdentityCheckRequest) = refl
+named (Messages Begun message.IdentityCheckResponse) = refl
+named (Messages Begun message.IdentityRemove) = refl
+named (Messages Begun message.IdentityVerify) = refl
 
 pub places_are_names : PlacesAreNames
 places_are_names one other same = sym (named one) ∙ ap (λ at. get_or names at Lost) same ∙ named other

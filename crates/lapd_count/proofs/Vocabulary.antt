@@ -8,14 +8,16 @@ pub use Rattle.std.specs.List.{range_with_len}
 pub use Rattle.lapd_count.specs.Counters.{amount_in, amount_of, cause_place, count, error_place, most, place, value_in, with_all, with_more}
 pub use Rattle.lapd_count.specs.Kinds.{kind_of, kind_place}
 pub use Rattle.lapd_count.specs.Laws.{CountersAreNumbers, PlacesAreNames}
+pub use Rattle.lapd_count.specs.Messages.{message_place}
 pub use Rattle.lapd_count.specs.Shown.{note_shown}
 pub use Rattle.lapd_count.specs.declared.counter.Counter.{Counter}
-pub use Rattle.lapd_count.specs.declared.counter.Counter.TheVariants.{Assigned, Data, Doubled, Dropped, Errors, EstablishConfirms, EstablishIndications, Frames, Lost, Octets, Overlong, Polls, ReleaseConfirms, ReleaseIndications, Removed, Units, Xids}
+pub use Rattle.lapd_count.specs.declared.counter.Counter.TheVariants.{Assigned, Data, Doubled, Dropped, Errors, EstablishConfirms, EstablishIndications, Frames, Lost, Messages, Octets, Overlong, Polls, ReleaseConfirms, ReleaseIndications, Removed, Units, Xids}
 pub use Rattle.lapd_count.specs.declared.counter.Way.TheVariants.{Begun, Heard}
 pub use Rattle.lapd_count.specs.declared.counters.Counters.{Counters}
 pub use Rattle.lapd_count.specs.declared.kinds.Kind.{Kind}
 pub use Rattle.lapd_count.specs.declared.kinds.Kind.TheVariants.{Information}
 pub use Rattle.lapd_count.specs.declared.kinds.TheConstants.{KINDS}
+pub use Rattle.lapd_count.specs.declared.messages.Message.{Message}
 pub use Rattle.lapd_frame.specs.declared.notes.ErrorCode.{ErrorCode}
 pub use Rattle.model_bits.specs.declared.heard.Cause.{Cause}
 pub use Rattle.model_bits.specs.declared.heard.Cause.TheVariants.{Abort, Extension, Fcs, Ragged, Sapi, Short, Tei, Unserved}

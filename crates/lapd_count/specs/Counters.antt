@@ -5,10 +5,11 @@ use Rattle.model_bits.specs.declared.heard.Cause.TheVariants.{Abort, Ragged, Sho
 use Rattle.lapd_frame.specs.declared.notes.ErrorCode.{ErrorCode}
 use Rattle.lapd_frame.specs.declared.notes.ErrorCode.TheVariants as code
 use Rattle.lapd_count.specs.declared.counter.Counter.{Counter}
-use Rattle.lapd_count.specs.declared.counter.Counter.TheVariants.{Frames, Octets, Polls, Overlong, Dropped, Errors, EstablishIndications, EstablishConfirms, ReleaseIndications, ReleaseConfirms, Data, Units, Xids, Assigned, Removed, Doubled, Lost}
+use Rattle.lapd_count.specs.declared.counter.Counter.TheVariants.{Frames, Octets, Polls, Overlong, Dropped, Errors, EstablishIndications, EstablishConfirms, ReleaseIndications, ReleaseConfirms, Data, Units, Xids, Assigned, Removed, Doubled, Lost, Messages}
 use Rattle.lapd_count.specs.declared.counter.Way.TheVariants.{Heard, Begun}
 use Rattle.lapd_count.specs.declared.counters.Counters.{Counters}
 use Rattle.lapd_count.specs.Kinds.{kind_place}
+use Rattle.lapd_count.specs.Messages.{message_place}
 
 abbrev pub cause_place : Cause → ℕ
 cause_place Abort = 0
@@ -58,9 +59,11 @@ place Assigned = 58
 place Removed = 59
 place Doubled = 60
 place Lost = 61
+place (Messages Heard message) = 62 + message_place message
+place (Messages Begun message) = 69 + message_place message
 
 abbrev pub count : ℕ
-count = 62
+count = 76
 
 -- The greatest value of a counter, at which it stays.
 abbrev pub most : ℕ

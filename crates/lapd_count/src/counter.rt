@@ -4,6 +4,7 @@ ghost use Rattle.std.specs.Prelude.{◌≡◌, ◌<◌};
 ghost use Rattle.lapd_count.specs.Counters.{place, cause_place, error_place};
 
 use crate::kinds::Kind;
+use crate::messages::Message;
 use lapd_frame::ErrorCode;
 use model_bits::Cause;
 
@@ -55,14 +56,16 @@ pub enum Counter {
     Doubled,
     /// Control frames and messages of TEI management that found no room to wait.
     Lost,
+    /// Messages of TEI management, of this name: good UI frames with SAPI 63 and TEI 127 that have one (Q.921 clause 5.3.1).
+    Messages(Way, Message),
 }
 
 impl Counter {
     /// Its place among the counters: those of frames heard and of frames begun by their kinds, then the others in the order
-    /// above. `include/lapd.h` has them by name.
+    /// above, the messages heard before those begun. `include/lapd.h` has them by name.
     pub fn place(self) -> usize
         ensures value { result ≡ place self }
-        ensures bound { result < 62 }
+        ensures bound { result < 76 }
     {
         match self {
             Counter::Frames(Way::Heard, kind) => kind.place(),
@@ -85,6 +88,8 @@ impl Counter {
             Counter::Removed => 59,
             Counter::Doubled => 60,
             Counter::Lost => 61,
+            Counter::Messages(Way::Heard, message) => 62 + message.place(),
+            Counter::Messages(Way::Begun, message) => 69 + message.place(),
         }
     }
 }

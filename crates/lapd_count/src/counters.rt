@@ -1,19 +1,21 @@
 //! The counters of a line.
 
 ghost use Rattle.std.specs.Option.{option_map_or};
-ghost use Rattle.std.specs.Prelude.{◌≡◌, [], get_or, map};
-ghost use Rattle.model_bits.specs.Heads.{head_of};
+ghost use Rattle.std.specs.Prelude.{◌≡◌, ◌++◌, [], get_or, map};
+ghost use Rattle.lapd_count.specs.declared.counter.Way.TheVariants.{Begun};
 ghost use Rattle.model_bits.specs.Heard.{heard_of};
 ghost use Rattle.lapd_count.specs.Counters.{value_in, with_more, with_all, none_counted};
-ghost use Rattle.lapd_count.specs.Shown.{frame_shown, is_poll, head_shown, heard_shown, counter_of, note_shown, told_shown, drop_shown, lost_shown};
+ghost use Rattle.lapd_count.specs.Messages.{has_message};
+ghost use Rattle.lapd_count.specs.Shown.{frame_shown, is_poll, head_shown, heard_shown, octets_shown, begun_shown, message_shown, type_shown, counter_of, note_shown, told_shown, drop_shown, lost_shown};
 
 use crate::counter::{Counter, Way};
 use crate::kinds::Kind;
+use crate::messages::Message;
 use lapd_frame::{Note, Side};
 use model_bits::{Cause, Head, Heard};
 
 /// How many counters there are.
-const COUNT: usize = 62;
+const COUNT: usize = 76;
 
 /// What was counted of a line: a number of 64 bits for each [`Counter`], which stays at its greatest value once it is there.
 #[derive(Clone, Copy, PartialEq, Eq, Debug)]
@@ -37,7 +39,7 @@ impl Counters {
     }
 
     /// All of them, each at its [`place`](Counter::place).
-    pub fn values(&self) -> [u64; 62]
+    pub fn values(&self) -> [u64; 76]
         ensures { result ≡ self.now.values }
     {
         self.values
@@ -66,26 +68,48 @@ impl Counters {
     }
 
     /// What is heard at a line of this side.
+    #[inline(always)]
     pub fn heard(&mut self, side: Side, heard: Heard<'_>)
         ensures { self.new ≡ with_all self.old (heard_shown side (heard_of heard.entry)) }
     {
         match heard {
             Heard::Nothing | Heard::Dropped(_) => {}
             Heard::Overlong(_) => self.add(Counter::Overlong, 1),
-            Heard::Frame(octets) => self.frame(
-                side,
-                Way::Heard,
-                octet_at(octets, 0),
-                octet_at(octets, 2),
-                octet_at(octets, 3),
-                octets.len(),
-            ),
+            Heard::Frame(octets) => self.octets(side, Way::Heard, octets),
         }
     }
 
-    /// A frame is begun.
-    pub fn begun(&mut self, side: Side, head: &Head)
-        ensures { self.new ≡ with_all self.old (head_shown side head.now) }
+    /// A frame whose octets are all there.
+    #[inline(always)]
+    fn octets(&mut self, side: Side, way: Way, octets: &[u8])
+        ensures { self.new ≡ with_all self.old (octets_shown side way octets.now) }
+    {
+        self.frame(
+            side,
+            way,
+            octet_at(octets, 0),
+            octet_at(octets, 2),
+            octet_at(octets, 3),
+            octets.len(),
+        );
+        if has_message(octets) {
+            self.message(way, octet_at(octets, 6));
+        }
+    }
+
+    /// A message of TEI management, by its type; nothing where no message has it. It stands apart, since few frames have one.
+    #[inline(never)]
+    fn message(&mut self, way: Way, kind: u8)
+        ensures { self.new ≡ with_all self.old (type_shown way kind) }
+    {
+        if let Some(message) = Message::of(kind) {
+            self.add(Counter::Messages(way, message), 1);
+        }
+    }
+
+    /// A frame is begun, of which the head is there, and if it is a message of TEI management, its type.
+    pub fn begun(&mut self, side: Side, head: &Head, message: Option<u8>)
+        ensures { self.new ≡ with_all self.old (head_shown side head.now ++ option_map_or (type_shown Begun) message []) }
     {
         let [first, _, control, second] = head.octets;
         self.frame(
@@ -96,23 +120,18 @@ impl Counters {
             second,
             usize::from(head.length),
         );
+        if let Some(kind) = message {
+            self.message(Way::Begun, kind);
+        }
     }
 
     /// A frame is given whole: from its address to its information.
     pub fn given(&mut self, side: Side, octets: &[u8])
-        ensures { self.new ≡ with_all self.old (option_map_or (head_shown side) (head_of octets.now) []) }
+        ensures { self.new ≡ with_all self.old (begun_shown side octets.now) }
     {
-        if octets.is_empty() {
-            return;
+        if !octets.is_empty() {
+            self.octets(side, Way::Begun, octets);
         }
-        self.frame(
-            side,
-            Way::Begun,
-            octet_at(octets, 0),
-            octet_at(octets, 2),
-            octet_at(octets, 3),
-            octets.len(),
-        );
     }
 
     /// What is told of an event.
@@ -182,6 +201,17 @@ fn is_poll(side: Side, way: Way, first: u8, kind: Kind, second: u8) -> bool
         Side::Network => 1,
     };
     first / 2 % 2 == bit && kind.asks() && second % 2 == 1
+}
+
+/// Whether a frame has a message of TEI management. Of most frames the first octet says that it has none.
+#[inline(always)]
+fn has_message(octets: &[u8]) -> bool
+    ensures { result ≡ has_message octets.now }
+{
+    octet_at(octets, 0) / 4 == 63
+        && octet_at(octets, 1) == 0xFF
+        && (octet_at(octets, 2) == 0x03 || octet_at(octets, 2) == 0x13)
+        && octet_at(octets, 3) == 15
 }
 
 /// The octet at a place; 0 where there is none.

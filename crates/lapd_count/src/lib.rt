@@ -6,7 +6,8 @@
 //! what it tells (`specs/Shown.antt`). So each counter is the number of what its name says, from the start of the line on
 //! (`counters_are_numbers`).
 //!
-//! - `kinds`: the kinds of frames, by their control fields; `counter`: the names of the counters; `counters`: their values.
+//! - `kinds`: the kinds of frames, by their control fields; `messages`: the messages of TEI management, by their types;
+//!   `counter`: the names of the counters; `counters`: their values.
 //! - `laws`: that a counter is a number, and that no two stand at one place.
 #![tactic(auto)]
 
@@ -14,8 +15,10 @@ mod counter;
 mod counters;
 mod kinds;
 mod laws;
+mod messages;
 
 pub use counter::{Counter, Way};
 pub use counters::Counters;
 pub use kinds::Kind;
 pub use laws::{controls_have_kinds, counters_are_numbers, places_are_names};
+pub use messages::Message;

@@ -16,6 +16,7 @@ pub mod PullTakes
 pub mod PullTakesUnits
 pub mod PullTakesLinks
 pub mod Stood
+pub mod MessageSteps
 pub mod NextSteps
 pub mod PortSteps
 pub mod OctetSteps

@@ -1,11 +1,13 @@
 -- What a call for the next frame does to a line.
-use Rattle.lapd_line.proofs.Vocabulary.{◌≡◌, ℕ, ◌+◌, ◌≤◌, Bool, true, false, not, List, [], ◌++◌, length, take, drop, take-append_seam, Option, Some, None, IfSome, is_some, option_map, refl, sym, ap, ◌∙◌, subst, arith, option_map_or, head_of, Counters, More, with_all, head_shown, listed, ShortList, Order, Owned, Store, Config, next, gave, after, answer, Taken, taken, next_of, line_of, TakesSoundly, taken_sound, given_shown, FrameLine, LinkLayer, IsNext, Loading, in_octets, Took, Takes, TakesNext, orders_taken, Leads, config_of, gave_in}
+use Rattle.lapd_line.proofs.Vocabulary.{◌≡◌, ℕ, ◌+◌, ◌≤◌, Bool, true, false, not, List, [], ◌++◌, length, take, drop, take-append_seam, Option, Some, None, IfSome, is_some, option_map, refl, sym, ap, ◌∙◌, subst, arith, option_map_or, Counters, More, with_all, begun_shown, message_shown, type_of, slice_get, listed, ShortList, Order, Owned, Store, Config, next, gave, after, answer, Taken, taken, next_of, line_of, TakesSoundly, taken_sound, given_shown, FrameLine, LinkLayer, IsNext, Loading, in_octets, Took, Takes, TakesNext, orders_taken, Leads, config_of, gave_in}
 use Rattle.std.proofs.Common.{length-append}
 use Rattle.std.proofs.lemmas.Slice.{drop-append-drop}
 use Rattle.model_line.specs.Event as line_event
 use Rattle.model_line.specs.Line as machine
 use Rattle.lapd_line.specs.Stands.{Stands}
 use Rattle.lapd_line.proofs.LineSteps.{recounted}
+use Rattle.lapd_line.proofs.MessageSteps.{message_is, type_counted}
+use Rattle.lapd_count.specs.declared.counter.Way.TheVariants.{Begun}
 
 -- where none was taken, there are no orders
 pub no_orders : (o : Option (ShortList Order)) (q : Bool) → is_some o ≡ not q → q ≡ true → orders_taken o ≡ None
@@ -94,6 +96,7 @@ pub record Gave (c : Config) (m : machine.Line) (orders : List Order) (f g : Loa
   pub is : answer c next m ≡ gave (Some frame)
   pub loaded : IsNext (Some frame) (Some orders) f g
   pub size : length frame.octets ≤ c.n201 + 4
+  pub message : message_shown Begun frame.octets ≡ type_counted (option_map type_of (slice_get m.management.waiting 0))
 
 pub gave_one : {old : FrameLine} {s : Store} {f : Loading} {mid : FrameLine} {t : Store} {g : Loading} {given : Option (List Order)} {orders : List Order} → TakesNext old s f mid t g given → given ≡ Some orders
     → (others : List Owned) (m : machine.Line) → Stands old s others m → Gave (config_of old) m orders f g
@@ -104,12 +107,12 @@ gave_one {old} {f = f} {g = g} {orders = orders} h some others m st =
     go : (o : Option Taken) → taken (config_of old) m ≡ o → IsNext (option_map next_of o) (Some orders) f g → IfSome o (TakesSoundly (config_of old) m)
         → Gave (config_of old) m orders f g
     go None is gone whole = absurd gone
-    go (Some k) is one whole = record { frame = next_of k; is = ap (λ o. gave (option_map next_of o)) is; loaded = one; size = whole.size }
+    go (Some k) is one whole = record { frame = next_of k; is = ap (λ o. gave (option_map next_of o)) is; loaded = one; size = whole.size; message = message_is (config_of old) m is }
 
 -- what is shown of it
 pub given_is : (c : Config) (m : machine.Line) (frame : line_event.NextFrame) (octets : List ℕ) → answer c next m ≡ gave (Some frame) → frame.octets ≡ octets
-    → given_shown c (answer c next m) ≡ option_map_or (head_shown c.side) (head_of octets) []
-given_is c m frame octets is same = ap (given_shown c) is ∙ ap (λ x. option_map_or (head_shown c.side) (head_of x) []) same
+    → given_shown c (answer c next m) ≡ begun_shown c.side octets
+given_is c m frame octets is same = ap (given_shown c) is ∙ ap (begun_shown c.side) same
 
 -- ---- into octets
 
@@ -135,7 +138,7 @@ module _ {old : FrameLine} {s : Store} {mid : FrameLine} {t : Store} {before oct
       written_in before octets one.frame.octets k one.loaded.1.0 one.loaded.1.1
 
   pub octets_shown : (others : List Owned) (m : machine.Line) → Stands old s others m
-      → given_shown (config_of old) (answer (config_of old) next m) ≡ option_map_or (head_shown (config_of old).side) (head_of (take k octets)) []
+      → given_shown (config_of old) (answer (config_of old) next m) ≡ begun_shown (config_of old).side (take k octets)
   octets_shown others m st =
       let one = gave_one h some others m st in
       given_is (config_of old) m one.frame (take k octets) one.is (sym (front one.frame.octets (drop k before) octets k (sym one.loaded.1.0) one.loaded.1.1))

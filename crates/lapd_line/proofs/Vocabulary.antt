@@ -18,7 +18,8 @@ pub use Rattle.std.specs.Prelude.{vec_capacity}
 pub use Rattle.circular_buffer.proofs.Places.{slice_get-set_other, slice_get-set_same}
 pub use Rattle.lapd_bits.specs.Ended.{without_octets}
 pub use Rattle.lapd_count.specs.Counters.{More, with_all}
-pub use Rattle.lapd_count.specs.Shown.{head_shown, heard_shown}
+pub use Rattle.lapd_count.specs.Messages.{has_message, message_type}
+pub use Rattle.lapd_count.specs.Shown.{begun_shown, head_shown, heard_shown, message_shown, type_shown}
 pub use Rattle.lapd_count.specs.declared.counters.Counters.{Counters}
 pub use Rattle.lapd_frame.specs.Grammar.{IsFrame, Parts, parts_of, spelling}
 pub use Rattle.lapd_frame.specs.Reading.{long_reading}
@@ -78,6 +79,7 @@ pub use Rattle.lapd_tei.proofs.LawLemmas.{changes_are_told}
 pub use Rattle.lapd_tei.proofs.Tables.{at-within, is_on-at, place_of-is}
 pub use Rattle.lapd_tei.specs.Laws.{HasJoined, HasLeft}
 pub use Rattle.lapd_tei.specs.Machine.{Management, empty}
+pub use Rattle.lapd_tei.specs.Messages.{type_of}
 pub use Rattle.lapd_tei.specs.Outcome.{told_of}
 pub use Rattle.lapd_tei.specs.Sound.{IsAt}
 pub use Rattle.lapd_tei.specs.Table.{Places, has, is_on, place_of}

@@ -127,9 +127,10 @@ impl FrameLine {
         ensures after { Leads line_event.next self.old (S.store shelf.old) self.new (S.store shelf.new) }
     {
         let side = self.layer.config.side;
+        let message = self.layer.teis.next_type();
         let orders = self.take(&mut port.framer, shelf)?;
         if let Some(head) = port.begun() {
-            self.counters.begun(side, &head);
+            self.counters.begun(side, &head, message);
         }
         Some(orders)
     }

@@ -1,6 +1,7 @@
 -- What a line of a script says.
 use Rattle.std.specs.Prelude.{ℕ, ◌≤◌, List, take, Result, Ok, Err}
 use Rattle.lapd_script.specs.declared.kind.FaultKind.{FaultKind}
+use Rattle.lapd_transcript.specs.declared.counters.CounterGroup.{CounterGroup}
 use Rattle.lapd_script.specs.declared.command.Asked.{Asked}
 use Rattle.lapd_script.specs.declared.command.CardKind.{CardKind}
 use Rattle.model_line.specs.declared.faults.Fault.{Fault}
@@ -29,8 +30,8 @@ pub data Meaning : Type 0 where
   timers : ℕ → ℕ → ℕ → Meaning
   -- what the card holds is shown
   stored : Meaning
-  -- what was counted of the line is shown
-  counters : ℕ → Meaning
+  -- what was counted of the line is shown, of these counters
+  counters : ℕ → CounterGroup → Meaning
   -- for a line and a TEI this is asked, with the octets that it carries
   ask : ℕ → ℕ → Asked → List ℕ → Meaning
 
@@ -46,7 +47,7 @@ meant buffer (Pull line count) = pull line count
 meant buffer (Wait milliseconds) = wait milliseconds
 meant buffer (Timers t200 t203 t201) = timers t200 t203 t201
 meant buffer Stored = stored
-meant buffer (Counters line) = counters line
+meant buffer (Counters line group) = counters line group
 meant buffer (Ask line tei what count) = ask line tei what (take count buffer)
 
 abbrev pub meant_by : List ℕ → Result Command FaultKind → Result Meaning FaultKind
@@ -66,5 +67,5 @@ IsCounted room (Pull line count) = count ≤ 4096
 IsCounted room (Wait milliseconds) = milliseconds ≤ 3600000
 IsCounted room (Timers t200 t203 t201) = Unit {0}
 IsCounted room Stored = Unit {0}
-IsCounted room (Counters line) = Unit {0}
+IsCounted room (Counters line group) = Unit {0}
 IsCounted room (Ask line tei what count) = count ≤ room

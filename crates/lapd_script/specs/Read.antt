@@ -121,10 +121,10 @@ read_as Timers words = do
 read_as Stored words = do
   none ← no_words words
   Ok stored
-read_as Counters words = do
+read_as (Counters group) words = do
   word ← one_word words
   line ← line_number word
-  Ok (counters line)
+  Ok (counters line group)
 read_as (Ask what) words = if carries_octets what
     then (do
       word ← three_words words

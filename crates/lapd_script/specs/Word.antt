@@ -4,6 +4,7 @@ use Rattle.lapd_frame.specs.declared.services.Service.TheVariants.{Call, Packet}
 use Rattle.lapd_script.specs.declared.command.Asked.{Asked}
 use Rattle.lapd_script.specs.declared.command.Asked.TheVariants.{Assign, Remove, Check, Establish, Release, SetBusy, ClearBusy, Deactivate, Data, Unit}
 use Rattle.lapd_script.specs.declared.command.CardKind.TheVariants.{Octets, Frames}
+use Rattle.lapd_transcript.specs.declared.counters.CounterGroup.TheVariants.{Line, Messages}
 use Rattle.lapd_script.specs.declared.word.Word.{Word}
 use Rattle.lapd_script.specs.declared.word.Word.TheVariants.{Card, Rx, In, Failed, Next, Pull, Wait, Timers, Stored, Counters, Ask}
 
@@ -41,7 +42,8 @@ word_named name =
     else if bytes_eq name (codes "wait") then Some Wait
     else if bytes_eq name (codes "timers") then Some Timers
     else if bytes_eq name (codes "stored") then Some Stored
-    else if bytes_eq name (codes "counters") then Some Counters
+    else if bytes_eq name (codes "counters") then Some (Counters Line)
+    else if bytes_eq name (codes "messages") then Some (Counters Messages)
     else option_map Ask (asked_named name)
 
 -- whether octets follow the TEI

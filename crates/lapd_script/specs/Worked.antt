@@ -9,6 +9,7 @@ use Rattle.lapd_script.specs.declared.kind.FaultKind.TheVariants.{UnknownWord, B
 use Rattle.lapd_script.specs.declared.command.Asked as asked
 use Rattle.lapd_script.specs.declared.command.CardKind.TheVariants.{Octets, Frames}
 use Rattle.model_line.specs.declared.faults.Fault.TheVariants.{Ragged}
+use Rattle.lapd_transcript.specs.declared.counters.CounterGroup.TheVariants as group
 use Rattle.lapd_script.specs.Meaning.{skip, card, rx, into, failed, next, pull, wait, timers, stored, counters, ask}
 use Rattle.lapd_script.specs.Read.{read}
 use Rattle.lapd_script.specs.Job.{job, run, frame, limits}
@@ -81,8 +82,11 @@ no_timer = refl
 shown : read (codes "stored") ≡ Ok stored
 shown = refl
 
-counted : read (codes "counters 63") ≡ Ok (counters 63)
+counted : read (codes "counters 63") ≡ Ok (counters 63 group.Line)
 counted = refl
+
+messages_counted : read (codes "messages 63") ≡ Ok (counters 63 group.Messages)
+messages_counted = refl
 
 not_counted : read (codes "counters") ≡ Err BadNumberOfWords
 not_counted = refl

@@ -1,6 +1,7 @@
 //! What a line of a script says.
 
 use lapd_frame::Service;
+use lapd_transcript::CounterGroup;
 use model_line::{Config, Fault};
 
 /// What layer 3 asks for, in a line that names a card's line and a TEI.
@@ -94,10 +95,12 @@ pub enum Command {
     },
     /// `stored`: shows what the card holds.
     Stored,
-    /// `counters LINE`: shows what was counted of the line.
+    /// `counters LINE`, `messages LINE`: shows what was counted of the line.
     Counters {
         /// The card's line.
         line: u16,
+        /// Which counters are shown.
+        group: CounterGroup,
     },
     /// A request of layer 3, and the octets that it carries: those of `data` and `unit`, else none.
     Ask {

@@ -90,9 +90,9 @@ fn read_as(word: Word, words: &[&[u8]], room: &mut [u8]) -> Result<Command, Faul
             none(words)?;
             Ok(Command::Stored)
         }
-        Word::Counters => {
+        Word::Counters(group) => {
             let line = short(one(words)?)?;
-            Ok(Command::Counters { line })
+            Ok(Command::Counters { line, group })
         }
         Word::Ask(what) => ask(what, words, room),
     }

@@ -5,6 +5,7 @@ ghost use Rattle.lapd_script.specs.Word.{word_named, asked_named, carries_octets
 
 use crate::command::{Asked, CardKind};
 use lapd_frame::Service;
+use lapd_transcript::CounterGroup;
 
 /// The first word of a line.
 #[derive(Clone, Copy)]
@@ -18,7 +19,7 @@ pub(crate) enum Word {
     Wait,
     Timers,
     Stored,
-    Counters,
+    Counters(CounterGroup),
     Ask(Asked),
 }
 
@@ -48,7 +49,9 @@ impl Word {
         } else if name == b"stored".as_slice() {
             Some(Word::Stored)
         } else if name == b"counters".as_slice() {
-            Some(Word::Counters)
+            Some(Word::Counters(CounterGroup::Line))
+        } else if name == b"messages".as_slice() {
+            Some(Word::Counters(CounterGroup::Messages))
         } else {
             Asked::named(name).map(Word::Ask)
         }

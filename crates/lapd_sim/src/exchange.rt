@@ -24,7 +24,7 @@ use lapd_clock::{Clock, Lengths};
 use lapd_frame::{Order, Timer};
 use lapd_script::{CardKind, FaultKind, LineFault};
 use lapd_transcript::{
-    Page, Target, WriteFailed, put_counters, put_refused, put_report, put_stored,
+    CounterGroup, Page, Target, WriteFailed, put_counters, put_refused, put_report, put_stored,
 };
 use std::alloc::Global;
 
@@ -314,14 +314,15 @@ impl Exchange {
     pub(crate) fn show_counters<T: Target>(
         &self,
         line: usize,
+        group: CounterGroup,
         target: &mut T,
         page: &mut Page,
     ) -> Result<(), WriteFailed>
         requires { line < self.now.plan.config.lines }
         ensures { (m : machine.Setup) → Holds self.now m
-            → Tells result (output (T.taken target.old) page.old.items) (output (T.taken target.new) page.new.items) (Holds self.now) (after_counters line (scene m)) }
+            → Tells result (output (T.taken target.old) page.old.items) (output (T.taken target.new) page.new.items) (Holds self.now) (after_counters group line (scene m)) }
     {
-        put_counters(target, page, line as u16, self.board.counters(line))
+        put_counters(target, page, line as u16, group, self.board.counters(line))
     }
 }
 

@@ -211,7 +211,7 @@ fn with_card<T: Target>(
         Command::Wait { milliseconds } => setup.wait(milliseconds, target, page),
         Command::Timers { t200, t203, t201 } => setup.set_timers(t200, t203, t201),
         Command::Stored => setup.show_stored(target, page),
-        Command::Counters { line } => setup.show_counters(line, target, page),
+        Command::Counters { line, group } => setup.show_counters(line, group, target, page),
         Command::Ask {
             line,
             tei,

@@ -15,7 +15,9 @@ use crate::traffic::{pull, receive, send, tell_next, written};
 use lapd_bits::Deframer;
 use lapd_card::Fault;
 use lapd_script::{Asked, CardKind, FaultKind, LineFault};
-use lapd_transcript::{LONGEST_FRAME, Page, SHORTEST_FRAME, Target, Terminal, WriteFailed, tell};
+use lapd_transcript::{
+    CounterGroup, LONGEST_FRAME, Page, SHORTEST_FRAME, Target, Terminal, WriteFailed, tell,
+};
 use std::alloc::Global;
 
 /// The card with its clock, and for each line the terminal that sends, and what listens to the octets that are pulled.
@@ -247,13 +249,14 @@ impl Setup {
     pub(crate) fn show_counters<T: Target>(
         &mut self,
         line: u16,
+        group: CounterGroup,
         target: &mut T,
         page: &mut Page,
     ) -> Result<(), LineFault>
         ensures { (m : machine.Setup) → Stands self.old m
-            → Obeys result (output (T.taken target.old) page.old.items) (output (T.taken target.new) page.new.items) (Stands self.new) (with_card (meaning.counters line) (scene m)) }
+            → Obeys result (output (T.taken target.old) page.old.items) (output (T.taken target.new) page.new.items) (Stands self.new) (with_card (meaning.counters line group) (scene m)) }
     {
         let line = self.line(line)?;
-        written(self.exchange.show_counters(line, target, page))
+        written(self.exchange.show_counters(line, group, target, page))
     }
 }

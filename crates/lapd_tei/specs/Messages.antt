@@ -22,6 +22,13 @@ information_of (IdentityDenied ri) = information ri 3 127
 information_of (IdentityCheckRequest tei) = information 0 4 tei
 information_of (IdentityRemove tei) = information 0 6 tei
 
+-- the type
+abbrev pub type_of : Message → ℕ
+type_of (IdentityAssigned ri tei) = 2
+type_of (IdentityDenied ri) = 3
+type_of (IdentityCheckRequest tei) = 4
+type_of (IdentityRemove tei) = 6
+
 -- the action indicator
 abbrev pub action_of : Message → ℕ
 action_of (IdentityAssigned ri tei) = tei

@@ -1,7 +1,7 @@
 //! The messages of the network.
 
 ghost use Rattle.std.specs.Prelude.{◌≡◌, ◌<◌};
-ghost use Rattle.lapd_tei.specs.Messages.{action_of, information_of, frame_of};
+ghost use Rattle.lapd_tei.specs.Messages.{action_of, information_of, frame_of, type_of};
 
 use crate::table::GROUP;
 use lapd_frame::{Address, Control, Frame, Side, write};
@@ -63,6 +63,18 @@ impl Message {
         let mut octets = [0; 8];
         let _ = write(side, &frame, &mut octets);
         octets
+    }
+
+    // Its message type (table 8).
+    pub(crate) fn kind(self) -> u8
+        ensures { result ≡ type_of self }
+    {
+        match self {
+            Message::IdentityAssigned { .. } => 2,
+            Message::IdentityDenied { .. } => 3,
+            Message::IdentityCheckRequest { .. } => 4,
+            Message::IdentityRemove { .. } => 6,
+        }
     }
 
     // Its information field: entity identifier, Ri with the high octet first, type, and Ai.

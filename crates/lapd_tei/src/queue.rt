@@ -63,6 +63,13 @@ impl Queue {
         }
     }
 
+    /// The message that has waited longest.
+    pub fn first(&self) -> Option<Message>
+        ensures { result ≡ slice_get self.now 0 }
+    {
+        self.messages.front().copied()
+    }
+
     /// Takes the message that has waited longest.
     pub fn take(&mut self) -> Option<Message>
         ensures oldest { result ≡ slice_get self.old 0 }

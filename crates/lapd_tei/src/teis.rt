@@ -1,6 +1,7 @@
 //! TEI management of one line.
 
-ghost use Rattle.std.specs.Prelude.{◌≡◌, ◌≤◌, ◌<◌, true, Some, None, length, option_map, false, IfOk, IfErr, IfSome, OnOk, OnErr};
+ghost use Rattle.std.specs.Prelude.{◌≡◌, ◌≤◌, ◌<◌, true, Some, None, length, option_map, slice_get, false, IfOk, IfErr, IfSome, OnOk, OnErr};
+ghost use Rattle.lapd_tei.specs.Messages.{type_of};
 ghost use Rattle.lapd_tei.specs.Machine.{empty, place, held, First, Second};
 ghost use Rattle.lapd_tei.specs.Table.{is_on};
 ghost use Rattle.lapd_tei.specs.Words.{begun, begin_check, leave, left};
@@ -185,6 +186,14 @@ impl Teis {
     {
         let message = self.queue.take()?;
         Some(message.frame(side))
+    }
+
+    /// The type of the message that [`Teis::offer`] takes next (Q.921 clause 5.3.1, table 8).
+    pub fn next_type(&self) -> Option<u8>
+        ensures { result ≡ option_map type_of (slice_get self.now.waiting 0) }
+    {
+        let message = self.queue.first()?;
+        Some(message.kind())
     }
 
     /// How many octets are held: eight for each message that waits, three for each assignment that

@@ -17,7 +17,7 @@ pub use Rattle.lapd_bits.specs.declared.deframer.Deframer.{Deframer}
 pub use Rattle.lapd_frame.specs.Grammar.{parts_of}
 pub use Rattle.lapd_frame.specs.declared.notes.Note.{Note}
 pub use Rattle.lapd_seq.specs.declared.numbers.Seq.{Seq}
-pub use Rattle.lapd_transcript.specs.Counted.{all_counters, counter_text, is_zero}
+pub use Rattle.lapd_transcript.specs.Counted.{counter_text, is_zero, names_of}
 pub use Rattle.lapd_transcript.specs.Listened.{Hears, found, frame_in}
 pub use Rattle.lapd_transcript.specs.OnLine.{HasPut, on_line}
 pub use Rattle.lapd_transcript.specs.Shown.{fields, number_text, shown_text}

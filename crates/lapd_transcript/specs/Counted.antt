@@ -5,18 +5,22 @@ use Rattle.model_bits.specs.declared.heard.Cause.TheVariants as cause
 use Rattle.lapd_frame.specs.declared.notes.ErrorCode.TheVariants as code
 use Rattle.lapd_frame.specs.Services.{letter_of}
 use Rattle.lapd_count.specs.declared.counter.Counter.{Counter}
-use Rattle.lapd_count.specs.declared.counter.Counter.TheVariants.{Frames, Octets, Polls, Overlong, Dropped, Errors, EstablishIndications, EstablishConfirms, ReleaseIndications, ReleaseConfirms, Data, Units, Xids, Assigned, Removed, Doubled, Lost}
+use Rattle.lapd_count.specs.declared.counter.Counter.TheVariants.{Frames, Octets, Polls, Overlong, Dropped, Errors, EstablishIndications, EstablishConfirms, ReleaseIndications, ReleaseConfirms, Data, Units, Xids, Assigned, Removed, Doubled, Lost, Messages}
 use Rattle.lapd_count.specs.declared.counter.Way.{Way}
 use Rattle.lapd_count.specs.declared.counter.Way.TheVariants.{Heard, Begun}
 use Rattle.lapd_count.specs.declared.counters.Counters.{Counters}
 use Rattle.lapd_count.specs.declared.kinds.Kind.{Kind}
 use Rattle.lapd_count.specs.declared.kinds.Kind.TheVariants as kind
+use Rattle.lapd_count.specs.declared.messages.Message.{Message}
+use Rattle.lapd_count.specs.declared.messages.Message.TheVariants as message
 use Rattle.lapd_count.specs.Counters.{value_in}
+use Rattle.lapd_transcript.specs.declared.counters.CounterGroup.{CounterGroup}
+use Rattle.lapd_transcript.specs.declared.counters.CounterGroup.TheVariants as group
 use Rattle.lapd_transcript.specs.Text.{line_text, nothing_text, cause_name}
 
--- The counters in the order of their places.
-abbrev pub all_counters : List Counter
-all_counters =
+-- The counters in the order of their places: those of a line, and those of messages.
+abbrev pub line_counters : List Counter
+line_counters =
     Frames Heard kind.Information ∷ Frames Heard kind.ReceiveReady ∷ Frames Heard kind.ReceiveNotReady ∷ Frames Heard kind.Reject ∷
     Frames Heard kind.Sabme ∷ Frames Heard kind.Disc ∷ Frames Heard kind.Ui ∷ Frames Heard kind.Ua ∷
     Frames Heard kind.Dm ∷ Frames Heard kind.Frmr ∷ Frames Heard kind.Xid ∷ Frames Heard kind.Undefined ∷
@@ -33,6 +37,19 @@ all_counters =
     Data ∷ Units ∷ Xids ∷ Assigned ∷
     Removed ∷ Doubled ∷ Lost ∷ []
 
+abbrev pub message_counters : List Counter
+message_counters =
+    Messages Heard message.IdentityRequest ∷ Messages Heard message.IdentityAssigned ∷ Messages Heard message.IdentityDenied ∷
+    Messages Heard message.IdentityCheckRequest ∷ Messages Heard message.IdentityCheckResponse ∷ Messages Heard message.IdentityRemove ∷
+    Messages Heard message.IdentityVerify ∷
+    Messages Begun message.IdentityRequest ∷ Messages Begun message.IdentityAssigned ∷ Messages Begun message.IdentityDenied ∷
+    Messages Begun message.IdentityCheckRequest ∷ Messages Begun message.IdentityCheckResponse ∷ Messages Begun message.IdentityRemove ∷
+    Messages Begun message.IdentityVerify ∷ []
+
+abbrev pub names_of : CounterGroup → List Counter
+names_of group.Line = line_counters
+names_of group.Messages = message_counters
+
 -- Each has a name in two parts.
 abbrev pub kind_name : Kind → List ℕ
 kind_name kind.Information = codes "i"
@@ -47,6 +64,15 @@ kind_name kind.Dm = codes "dm"
 kind_name kind.Frmr = codes "frmr"
 kind_name kind.Xid = codes "xid"
 kind_name kind.Undefined = codes "undefined"
+
+abbrev pub message_name : Message → List ℕ
+message_name message.IdentityRequest = codes "request"
+message_name message.IdentityAssigned = codes "assigned"
+message_name message.IdentityDenied = codes "denied"
+message_name message.IdentityCheckRequest = codes "check-request"
+message_name message.IdentityCheckResponse = codes "check-response"
+message_name message.IdentityRemove = codes "remove"
+message_name message.IdentityVerify = codes "verify"
 
 abbrev pub way_name : Way → List ℕ
 way_name Heard = codes "heard-"
@@ -70,6 +96,7 @@ group_name Assigned = codes "told-"
 group_name Removed = codes "told-"
 group_name Doubled = codes "told-"
 group_name Lost = []
+group_name (Messages way m) = way_name way
 
 abbrev pub own_name : Counter → List ℕ
 own_name (Frames way k) = kind_name k
@@ -89,8 +116,9 @@ own_name Assigned = codes "assigned"
 own_name Removed = codes "removed"
 own_name Doubled = codes "doubled"
 own_name Lost = codes "lost"
+own_name (Messages way m) = message_name m
 
--- A line for each that is not 0, with its value; or that nothing was counted.
+-- A line for each of a group that is not 0, with its value; or that none of them counted anything.
 abbrev pub counter_words : Counter → ℕ → List ℕ
 counter_words counter value = codes "counter " ++ group_name counter ++ own_name counter ++ codes " " ++ decimal value
 
@@ -98,9 +126,9 @@ abbrev pub counter_text : ℕ → Counters → Counter → List ℕ
 counter_text line counters counter =
     if value_in counters counter == 0 then [] else line_text line (counter_words counter (value_in counters counter))
 
-abbrev pub is_zero : ℕ → Bool
-is_zero value = value == 0
+abbrev pub is_zero : Counters → Counter → Bool
+is_zero counters counter = value_in counters counter == 0
 
-abbrev pub counters_text : ℕ → Counters → List ℕ
-counters_text line counters =
-    if list_all is_zero counters.values then nothing_text line else flat_map (counter_text line counters) all_counters
+abbrev pub counters_text : ℕ → CounterGroup → Counters → List ℕ
+counters_text line group counters =
+    if list_all (is_zero counters) (names_of group) then nothing_text line else flat_map (counter_text line counters) (names_of group)

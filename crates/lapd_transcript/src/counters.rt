@@ -4,17 +4,26 @@ ghost use Rattle.std.specs.Prelude.{◌≡◌, flat_map};
 ghost use Rattle.std.specs.List.{list_all};
 ghost use Rattle.lapd_count.specs.declared.counter.Counter.TheVariants.{Errors};
 ghost use Rattle.lapd_transcript.specs.Streams.{Puts, output};
-ghost use Rattle.lapd_transcript.specs.Counted.{is_zero, kind_name, way_name, group_name, own_name, counter_text, counters_text};
+ghost use Rattle.lapd_transcript.specs.Counted.{is_zero, names_of, kind_name, message_name, way_name, group_name, own_name, counter_text, counters_text};
 
 use crate::lines::put_nothing;
 use crate::names::cause_name;
 use crate::output::{Page, decimal, put_all};
 use crate::streams::{Target, WriteFailed};
-use lapd_count::{Counter, Counters, Kind, Way};
+use lapd_count::{Counter, Counters, Kind, Message, Way};
 use lapd_frame::ErrorCode;
 use model_bits::Cause;
 
-/// The counters, in the order of their places.
+/// Which counters of a line are shown.
+#[derive(Clone, Copy, PartialEq, Eq, Debug)]
+pub enum CounterGroup {
+    /// All but those of messages.
+    Line,
+    /// Those of messages of TEI management.
+    Messages,
+}
+
+/// The counters of a line, in the order of their places.
 static COUNTERS: [Counter; 62] = [
     Counter::Frames(Way::Heard, Kind::Information),
     Counter::Frames(Way::Heard, Kind::ReceiveReady),
@@ -80,7 +89,26 @@ static COUNTERS: [Counter; 62] = [
     Counter::Lost,
 ];
 
-/// What was counted of a line: each counter that is not 0, in the order of their places; or that nothing was counted.
+/// Those of messages.
+static MESSAGES: [Counter; 14] = [
+    Counter::Messages(Way::Heard, Message::IdentityRequest),
+    Counter::Messages(Way::Heard, Message::IdentityAssigned),
+    Counter::Messages(Way::Heard, Message::IdentityDenied),
+    Counter::Messages(Way::Heard, Message::IdentityCheckRequest),
+    Counter::Messages(Way::Heard, Message::IdentityCheckResponse),
+    Counter::Messages(Way::Heard, Message::IdentityRemove),
+    Counter::Messages(Way::Heard, Message::IdentityVerify),
+    Counter::Messages(Way::Begun, Message::IdentityRequest),
+    Counter::Messages(Way::Begun, Message::IdentityAssigned),
+    Counter::Messages(Way::Begun, Message::IdentityDenied),
+    Counter::Messages(Way::Begun, Message::IdentityCheckRequest),
+    Counter::Messages(Way::Begun, Message::IdentityCheckResponse),
+    Counter::Messages(Way::Begun, Message::IdentityRemove),
+    Counter::Messages(Way::Begun, Message::IdentityVerify),
+];
+
+/// What was counted of a line: each counter of a group that is not 0, in the order of their places; or that none of them
+/// counted anything.
 ///
 /// # Errors
 ///
@@ -89,21 +117,31 @@ pub fn put_counters<T: Target>(
     target: &mut T,
     page: &mut Page,
     line: u16,
+    group: CounterGroup,
     counters: &Counters,
 ) -> Result<(), WriteFailed>
-    ensures { Puts result (output (T.taken target.old) page.old.items) (output (T.taken target.new) page.new.items) (counters_text line counters.now) }
+    ensures { Puts result (output (T.taken target.old) page.old.items) (output (T.taken target.new) page.new.items) (counters_text line group counters.now) }
 {
-    let values = counters.values();
-    if are_zero(&values) {
+    let names = names_of(group);
+    if are_zero(counters, names) {
         return put_nothing(target, page, line);
     }
-    put_each(target, page, line, counters, &COUNTERS)
+    put_each(target, page, line, counters, names)
 }
 
-fn are_zero(values: &[u64]) -> bool
-    ensures { result ≡ list_all is_zero values.now }
+fn names_of(group: CounterGroup) -> &'static [Counter]
+    ensures { result.now ≡ names_of group }
 {
-    values.iter().all(|value| *value == 0)
+    match group {
+        CounterGroup::Line => &COUNTERS,
+        CounterGroup::Messages => &MESSAGES,
+    }
+}
+
+fn are_zero(counters: &Counters, names: &[Counter]) -> bool
+    ensures { result ≡ list_all (is_zero counters.now) names.now }
+{
+    names.iter().all(|name| counters.value(*name) == 0)
 }
 
 fn put_each<T: Target>(
@@ -178,6 +216,20 @@ fn kind_name(kind: Kind) -> &'static [u8]
     }
 }
 
+fn message_name(message: Message) -> &'static [u8]
+    ensures { result.now ≡ message_name message }
+{
+    match message {
+        Message::IdentityRequest => b"request",
+        Message::IdentityAssigned => b"assigned",
+        Message::IdentityDenied => b"denied",
+        Message::IdentityCheckRequest => b"check-request",
+        Message::IdentityCheckResponse => b"check-response",
+        Message::IdentityRemove => b"remove",
+        Message::IdentityVerify => b"verify",
+    }
+}
+
 fn error_name(code: ErrorCode) -> &'static [u8]
     ensures { result.now ≡ own_name (Errors code) }
 {
@@ -203,7 +255,10 @@ fn group_name(counter: Counter) -> &'static [u8]
     ensures { result.now ≡ group_name counter }
 {
     match counter {
-        Counter::Frames(way, _) | Counter::Octets(way) | Counter::Polls(way) => way_name(way),
+        Counter::Frames(way, _)
+        | Counter::Octets(way)
+        | Counter::Polls(way)
+        | Counter::Messages(way, _) => way_name(way),
         Counter::Overlong => b"heard-",
         Counter::Dropped(_) => b"dropped-",
         Counter::Errors(_) => b"errors-",
@@ -242,5 +297,6 @@ fn own_name(counter: Counter) -> &'static [u8]
         Counter::Removed => b"removed",
         Counter::Doubled => b"doubled",
         Counter::Lost => b"lost",
+        Counter::Messages(_, message) => message_name(message),
     }
 }

@@ -34,7 +34,7 @@ mod streams;
 mod terminal;
 mod write_to;
 
-pub use counters::put_counters;
+pub use counters::{CounterGroup, put_counters};
 pub use lines::{
     put_frame, put_nothing, put_refused, put_report, put_sent, put_stored, write_faulty,
 };

@@ -5,7 +5,7 @@ use Rattle.std.proofs.lemmas.Grind.{flat_map-append}
 use Rattle.std.proofs.lemmas.List.Sums.{sum_by-append}
 use Rattle.model_bits.specs.declared.heard.Cause.{Cause}
 use Rattle.lapd_count.specs.declared.counter.Counter.{Counter}
-use Rattle.lapd_count.specs.declared.counter.Counter.TheVariants.{Frames, Octets, Polls, Overlong, Dropped, Errors, EstablishIndications, EstablishConfirms, ReleaseIndications, ReleaseConfirms, Data, Units, Xids, Assigned, Removed, Doubled, Lost}
+use Rattle.lapd_count.specs.declared.counter.Counter.TheVariants.{Frames, Octets, Polls, Overlong, Dropped, Errors, EstablishIndications, EstablishConfirms, ReleaseIndications, ReleaseConfirms, Data, Units, Xids, Assigned, Removed, Doubled, Lost, Messages}
 use Rattle.lapd_count.specs.declared.counter.Way.TheVariants.{Heard, Begun}
 use Rattle.lapd_count.specs.declared.kinds.Kind.{Kind}
 use Rattle.lapd_count.specs.Counters.{More, place, cause_place, amount_of, amount_in}
@@ -52,6 +52,8 @@ outside Assigned other = inr (omega arith)
 outside Removed other = inr (omega arith)
 outside Doubled other = inr (omega arith)
 outside Lost other = inr (omega arith)
+outside (Messages Heard message) other = inr (omega arith)
+outside (Messages Begun message) other = inr (omega arith)
 
 module _ (counter : Counter) (other : is_drop counter ≡ false) where
   abbrev amount : List More → ℕ

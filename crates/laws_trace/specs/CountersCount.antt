@@ -1,11 +1,9 @@
 -- Counters count what is seen.
 use Rattle.std.specs.Prelude.{◌≡◌, ℕ, Bool, true, false, List, [], map, flat_map, Some}
-use Rattle.std.specs.Option.{option_map_or}
-use Rattle.model_bits.specs.Heads.{head_of}
 use Rattle.lapd_count.specs.declared.counter.Counter.{Counter}
 use Rattle.lapd_count.specs.declared.counter.Counter.TheVariants.{Dropped}
 use Rattle.lapd_count.specs.Counters.{More, amount_in}
-use Rattle.lapd_count.specs.Shown.{head_shown, heard_shown, note_shown, lost_shown}
+use Rattle.lapd_count.specs.Shown.{begun_shown, heard_shown, note_shown, lost_shown}
 use Rattle.lapd_frame.specs.declared.addresses.Side.{Side}
 use Rattle.model_line.specs.declared.config.Config.{Config}
 use Rattle.model_card.specs.Card.{fresh}
@@ -14,11 +12,11 @@ use Rattle.model_card.specs.Event.{Event}
 use Rattle.model_card.specs.Run.{moments}
 use Rattle.laws_trace.specs.Trace.{Seen, heard, begun, noted, granted, lost, trace_of}
 
--- The names of what is seen: of a frame that is heard or begins its kind, its octets, and whether it is a poll; of each note its
--- own; and how many frames were lost.
+-- The names of what is seen: of a frame that is heard or begins its kind, its octets, whether it is a poll, and which message of
+-- TEI management it has, if any; of each note its own; and how many frames were lost.
 abbrev pub names : Side → Seen → List More
 names side (heard e) = heard_shown side (Some e)
-names side (begun octets) = option_map_or (head_shown side) (head_of octets) []
+names side (begun octets) = begun_shown side octets
 names side (noted notes contents) = map note_shown notes
 names side (granted r) = []
 names side (lost n) = lost_shown n

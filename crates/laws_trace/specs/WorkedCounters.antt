@@ -1,18 +1,21 @@
 -- Worked values: what is counted of a trace, and counters that count nothing, which break the law.
-use Rattle.std.specs.Prelude.{◌≡◌, ℕ, [], ◌++◌, flat_map, refl}
+use Rattle.std.specs.Prelude.{◌≡◌, ℕ, [], ◌∷◌, ◌++◌, flat_map, refl}
 use Rattle.lapd_count.specs.declared.counter.Counter.{Counter}
-use Rattle.lapd_count.specs.declared.counter.Counter.TheVariants.{Frames, Octets, EstablishIndications}
+use Rattle.lapd_count.specs.declared.counter.Counter.TheVariants.{Frames, Octets, EstablishIndications, Messages}
 use Rattle.lapd_count.specs.declared.counter.Way.TheVariants.{Heard, Begun}
 use Rattle.lapd_count.specs.declared.kinds.Kind.TheVariants.{Sabme, Ua}
+use Rattle.lapd_count.specs.declared.messages.Message.TheVariants.{IdentityRequest, IdentityAssigned, IdentityDenied}
 use Rattle.lapd_count.specs.Counters.{amount_in}
 use Rattle.lapd_frame.specs.Reading.{reading, header_of, control_of, unnumbered_of}
 use Rattle.lapd_tei.specs.Events as teis
+use Rattle.model_line.specs.declared.config.Config.{Config}
 use Rattle.model_line.specs.Machine as lines
+use Rattle.model_card.specs.Event.{Event}
 use Rattle.model_card.specs.Run.{moments}
 use Rattle.laws_card.specs.Worked.{usual, up}
 use Rattle.laws_trace.specs.CountersCount.{names}
 use Rattle.laws_trace.specs.Trace.{trace_of}
-use Rattle.laws_trace.specs.WorkedUnits.{calls}
+use Rattle.laws_trace.specs.WorkedUnits.{calls, comes}
 
 -- SABME of TEI 64, and two calls for the next frame: its UA goes.
 abbrev seen_of : Counter → ℕ
@@ -33,6 +36,28 @@ its_octets = refl
 one_noted : seen_of EstablishIndications ≡ 1
 unfolding moments lines.after lines.answer lines.takes_slot teis.course teis.refusal reading header_of control_of unnumbered_of
 one_noted = refl
+
+-- On a line with room for one TEI a terminal asks for one, and gets it; another asks, and is denied one.
+abbrev small : Config
+small = record usual { terminals = 1 }
+
+abbrev asks : ℕ → Event
+asks ri = comes (0xFC ∷ 0xFF ∷ 0x03 ∷ 0x0F ∷ 0x12 ∷ ri ∷ 0x01 ∷ 0xFF ∷ [])
+
+abbrev managed : Counter → ℕ
+managed counter = amount_in counter (flat_map (names small.side) (trace_of small (asks 1 ∷ asks 2 ∷ calls 3) 0))
+
+two_requests : managed (Messages Heard IdentityRequest) ≡ 2
+unfolding moments lines.after lines.answer lines.takes_slot teis.course teis.refusal reading header_of control_of unnumbered_of
+two_requests = refl
+
+one_assigned : managed (Messages Begun IdentityAssigned) ≡ 1
+unfolding moments lines.after lines.answer lines.takes_slot teis.course teis.refusal reading header_of control_of unnumbered_of
+one_assigned = refl
+
+one_denied : managed (Messages Begun IdentityDenied) ≡ 1
+unfolding moments lines.after lines.answer lines.takes_slot teis.course teis.refusal reading header_of control_of unnumbered_of
+one_denied = refl
 
 -- Where the moments show nothing, the law is broken.
 none_shown : amount_in (Frames Heard Sabme) [] ≡ 1 → ⊥

@@ -1,10 +1,9 @@
 -- What is counted of a line: what its events and their answers show.
 use Rattle.std.specs.Prelude.{List, [], ◌++◌, Some}
 use Rattle.std.specs.Option.{option_map_or}
-use Rattle.model_bits.specs.Heads.{head_of}
 use Rattle.lapd_count.specs.declared.counters.Counters.{Counters}
 use Rattle.lapd_count.specs.Counters.{More, with_all}
-use Rattle.lapd_count.specs.Shown.{head_shown, heard_shown, told_shown}
+use Rattle.lapd_count.specs.Shown.{begun_shown, heard_shown, told_shown}
 use Rattle.model_line.specs.declared.config.Config.{Config}
 use Rattle.model_line.specs.Event.{Event, hears, expiry, request, next, LineTold, NextFrame, Answer, told, refused, gave}
 use Rattle.model_line.specs.Line as machine
@@ -22,7 +21,7 @@ told_in_answer (gave frame) = []
 
 -- The frame that is given.
 abbrev pub frame_given : Config → NextFrame → List More
-frame_given c frame = option_map_or (head_shown c.side) (head_of frame.octets) []
+frame_given c frame = begun_shown c.side frame.octets
 
 abbrev pub given_shown : Config → Answer → List More
 given_shown c (told t) = []

@@ -169,7 +169,7 @@ meaning_leads (line.wait milliseconds) s =
     if_good (nat_le end last_moment) s.setup (events_until end s) (Ok (after_wait milliseconds s)) TimeOver (λ _. wait_led milliseconds s)
 meaning_leads (line.timers t200 t203 t201) s = timers_led (record { t200 = t200; t203 = t203; t201 = t201 }) s
 meaning_leads line.stored s = nothing_led s.setup
-meaning_leads (line.counters number) s = if_good (nat_lt number s.setup.board.config.lines) s.setup [] (Ok (after_counters number s)) BadLine (λ within. nothing_led s.setup)
+meaning_leads (line.counters number group) s = if_good (nat_lt number s.setup.board.config.lines) s.setup [] (Ok (after_counters group number s)) BadLine (λ within. nothing_led s.setup)
 meaning_leads (line.ask number tei what octets) s =
     let e : Event = at number (request (request_for what tei octets)) in
     if_good (nat_lt number s.setup.board.config.lines) s.setup (e ∷ []) (Ok (with_event s e)) BadLine (λ good. event_led e s (ltb-true _ _ good))

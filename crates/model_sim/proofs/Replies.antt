@@ -126,7 +126,7 @@ meaning_says (line.wait milliseconds) b =
     (expiries_say (clocks.time_until end b.clock) end (scene_of b))
 meaning_says (line.timers t200 t203 t201) b = timers_say (record { t200 = t200; t203 = t203; t201 = t201 }) b
 meaning_says line.stored b = refl
-meaning_says (line.counters number) b = if_good (nat_lt number b.board.config.lines) _ (Ok (after_counters number (scene_of b))) BadLine refl
+meaning_says (line.counters number group) b = if_good (nat_lt number b.board.config.lines) _ (Ok (after_counters group number (scene_of b))) BadLine refl
 meaning_says (line.ask number tei what octets) b =
     if_good (nat_lt number b.board.config.lines) _ _ BadLine (events_say _ (scene_of b))
 

@@ -47,7 +47,7 @@ meant_events (line.pull number count) s = replicate count (at number pull)
 meant_events (line.wait milliseconds) s = events_until (s.setup.now + milliseconds) s
 meant_events (line.timers t200 t203 t201) s = []
 meant_events line.stored s = []
-meant_events (line.counters number) s = []
+meant_events (line.counters number group) s = []
 meant_events (line.ask number tei what octets) s = at number (request (request_for what tei octets)) ∷ []
 
 -- Before the card line, nothing.
@@ -85,7 +85,7 @@ board_meant (Ok (line.pull number count)) = None
 board_meant (Ok (line.wait milliseconds)) = None
 board_meant (Ok (line.timers t200 t203 t201)) = None
 board_meant (Ok line.stored) = None
-board_meant (Ok (line.counters number)) = None
+board_meant (Ok (line.counters number group)) = None
 board_meant (Ok (line.ask number tei what octets)) = None
 
 abbrev pub first_board : List (List ℕ) → Option Board

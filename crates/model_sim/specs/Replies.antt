@@ -25,7 +25,7 @@ abbrev pub octet_given : Moment → ℕ
 octet_given m = octet_in m.reply
 
 -- What a line says, where its events have these replies: of the octets that it pulls, all together; `stored` shows the card,
--- and `counters` what was counted.
+-- and `counters` and `messages` what was counted.
 abbrev pub said : line.Meaning → Setup → List Moment → List ℕ
 said line.skip b ms = []
 said (line.card kind config) b ms = []
@@ -37,7 +37,7 @@ said (line.pull number count) b ms = pulled_text number (taken_at number b) (map
 said (line.wait milliseconds) b ms = replies_text ms
 said (line.timers t200 t203 t201) b ms = []
 said line.stored b ms = stored_text (held b.board) (limit b.board.config)
-said (line.counters number) b ms = counters_text number (counters_at number b)
+said (line.counters number group) b ms = counters_text number group (counters_at number b)
 said (line.ask number tei what octets) b ms = replies_text ms
 
 -- The moments of a line, and what it says; before the card line, and from the first faulty line on, nothing.

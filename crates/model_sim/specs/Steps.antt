@@ -21,6 +21,7 @@ use Rattle.lapd_script.specs.declared.command.CardKind.{CardKind}
 use Rattle.lapd_script.specs.declared.command.CardKind.TheVariants.{Octets, Frames}
 use Rattle.lapd_script.specs.Meaning as line
 use Rattle.lapd_transcript.specs.Text.{report_text, refused_text, frame_text, nothing_text, stored_text}
+use Rattle.lapd_transcript.specs.declared.counters.CounterGroup.{CounterGroup}
 use Rattle.lapd_transcript.specs.Counted.{counters_text}
 use Rattle.model_sim.specs.Setup.{Setup, begun, happened, terminal_at, counters_at, taken_at, with_terminal, with_taken}
 use Rattle.lapd_transcript.specs.Terminal.{octets_sent, after_sending}
@@ -154,9 +155,9 @@ held b = held_in b.kind b.card
 abbrev pub after_stored : Scene → Scene
 after_stored s = record s { text = s.text ++ stored_text (held s.setup.board) (limit s.setup.board.config) }
 
--- `counters`: what was counted of the line.
-abbrev pub after_counters : ℕ → Scene → Scene
-after_counters line s = record s { text = s.text ++ counters_text line (counters_at line s.setup) }
+-- `counters`, `messages`: what was counted of the line.
+abbrev pub after_counters : CounterGroup → ℕ → Scene → Scene
+after_counters group line s = record s { text = s.text ++ counters_text line group (counters_at line s.setup) }
 
 -- What can be wrong with a line once there is a card: it is about octets, and the card for frames, or the other way
 -- round; the card's line is not there; the frame's length, where a terminal sends it; the time.
@@ -203,7 +204,7 @@ with_card (line.pull number count) s = for_octets s.setup.board.kind (at_line nu
 with_card (line.wait milliseconds) s = in_time milliseconds s
 with_card (line.timers t200 t203 t201) s = with_timers (record { t200 = t200; t203 = t203; t201 = t201 }) s
 with_card line.stored s = Ok (after_stored s)
-with_card (line.counters number) s = at_line number s (after_counters number s)
+with_card (line.counters number group) s = at_line number s (after_counters group number s)
 with_card (line.ask number tei what octets) s = at_line number s (after_request number tei what octets s)
 
 -- and where there is none.
@@ -221,5 +222,5 @@ without_card (line.pull number count) = Err NoCard
 without_card (line.wait milliseconds) = Err NoCard
 without_card (line.timers t200 t203 t201) = Err NoCard
 without_card line.stored = Err NoCard
-without_card (line.counters number) = Err NoCard
+without_card (line.counters number group) = Err NoCard
 without_card (line.ask number tei what octets) = Err NoCard

@@ -1,0 +1,58 @@
+//! The messages of TEI management.
+
+ghost use Rattle.std.specs.Prelude.{◌≡◌, ◌<◌};
+ghost use Rattle.lapd_count.specs.Messages.{message_of, message_place};
+
+/// A message of TEI management, as its type says (Q.921 clause 5.3.1, table 8). It is counted whether or not the message is
+/// otherwise well formed, and whether or not it is served.
+#[derive(Clone, Copy, PartialEq, Eq, Debug)]
+pub enum Message {
+    /// A terminal asks for a TEI (clause 5.3.2).
+    IdentityRequest,
+    /// The network gives one (clause 5.3.2).
+    IdentityAssigned,
+    /// The network gives none (clause 5.3.2).
+    IdentityDenied,
+    /// The network asks who has a TEI (clause 5.3.3).
+    IdentityCheckRequest,
+    /// A terminal has it (clause 5.3.3).
+    IdentityCheckResponse,
+    /// The network takes a TEI back (clause 5.3.4).
+    IdentityRemove,
+    /// A terminal asks that its TEI be checked (clause 5.3.5).
+    IdentityVerify,
+}
+
+impl Message {
+    /// The message of a type; none where no message has it.
+    pub(crate) fn of(kind: u8) -> Option<Message>
+        ensures { result ≡ message_of kind }
+    {
+        match kind {
+            1 => Some(Message::IdentityRequest),
+            2 => Some(Message::IdentityAssigned),
+            3 => Some(Message::IdentityDenied),
+            4 => Some(Message::IdentityCheckRequest),
+            5 => Some(Message::IdentityCheckResponse),
+            6 => Some(Message::IdentityRemove),
+            7 => Some(Message::IdentityVerify),
+            _ => None,
+        }
+    }
+
+    /// Its place among the messages.
+    pub(crate) fn place(self) -> usize
+        ensures value { result ≡ message_place self }
+        ensures bound { result < 7 }
+    {
+        match self {
+            Message::IdentityRequest => 0,
+            Message::IdentityAssigned => 1,
+            Message::IdentityDenied => 2,
+            Message::IdentityCheckRequest => 3,
+            Message::IdentityCheckResponse => 4,
+            Message::IdentityRemove => 5,
+            Message::IdentityVerify => 6,
+        }
+    }
+}

@@ -1,0 +1,91 @@
+-- Which message of TEI management a frame has that is taken.
+use Rattle.lapd_line.proofs.Vocabulary.{◌≡◌, ℕ, Bool, true, false, List, [], ◌∷◌, ◌++◌, Option, Some, None, option_map, option_map_or, option_or, slice_get, refl, sym, ap, ◌∙◌, subst, cond, head_of, head_shown, begun_shown, message_shown, type_shown, has_message, message_type, type_of, Side, Network, User, Service, Call, Packet, Control, Ui, unwrap_or, spelling, sapi_of, Config, Taken, taken}
+use Rattle.std.proofs.lemmas.Option.{none-some, same_Some}
+use Rattle.lapd_count.specs.Counters.{More}
+use Rattle.lapd_count.specs.declared.counter.Way.TheVariants.{Begun}
+use Rattle.model_bits.specs.declared.heads.Head.{Head}
+use Rattle.lapd_tei.specs.Messages.{frame_of}
+use Rattle.lapd_tei.specs.declared.messages.Message.{Message}
+use Rattle.lapd_tei.specs.declared.messages.Message.TheVariants.{IdentityAssigned, IdentityDenied, IdentityCheckRequest, IdentityRemove}
+use Rattle.model_line.specs.Line.{Line, UnitData, terms_at, link_at}
+use Rattle.model_line.specs.Taken.{message_taken, unit_taken, link_taken, first_taken, with_message, with_unit, with_given_frame, round}
+use Rattle.model_link.specs.declared.terms.Terms.{Terms}
+use Rattle.model_link.specs.Machine as links
+use Rattle.model_link.specs.Told.{Given}
+
+-- What a message shows, if there is one.
+abbrev pub type_counted : Option ℕ → List More
+type_counted type = option_map_or (type_shown Begun) type []
+
+-- a frame of TEI management has its message
+of_message : (side : Side) (message : Message) → message_shown Begun (frame_of side message) ≡ type_shown Begun (type_of message)
+of_message Network (IdentityAssigned ri tei) = refl
+of_message Network (IdentityDenied ri) = refl
+of_message Network (IdentityCheckRequest tei) = refl
+of_message Network (IdentityRemove tei) = refl
+of_message User (IdentityAssigned ri tei) = refl
+of_message User (IdentityDenied ri) = refl
+of_message User (IdentityCheckRequest tei) = refl
+of_message User (IdentityRemove tei) = refl
+
+-- one of a link has none, nor has unit data
+of_service : (side : Side) (service : Service) (command : Bool) (tei : ℕ) (control : Control) (info : List ℕ)
+    → has_message (spelling side (record { address = record { sapi = sapi_of service; command = command; tei = tei }; control = control; info = info })) ≡ false
+of_service Network Call true tei control info = refl
+of_service Network Call false tei control info = refl
+of_service Network Packet true tei control info = refl
+of_service Network Packet false tei control info = refl
+of_service User Call true tei control info = refl
+of_service User Call false tei control info = refl
+of_service User Packet true tei control info = refl
+of_service User Packet false tei control info = refl
+
+abbrev IsOfService : Taken → Type 0
+IsOfService k = has_message k.frame ≡ false
+
+abbrev none_shown : (octets : List ℕ) → has_message octets ≡ false → message_shown Begun octets ≡ []
+none_shown octets none = ap (λ b. cond b (type_shown Begun (message_type octets)) []) none
+
+of_unit : (c : Config) (m : Line) {k : Taken} → unit_taken c m ≡ Some k → IsOfService k
+of_unit c m {k} is = go (slice_get m.units 0) is
+  where
+    go : (o : Option UnitData) → option_map (with_unit c m) o ≡ Some k → IsOfService k
+    go None is = absurd (none-some _ is)
+    go (Some u) is = subst IsOfService (same_Some _ _ is) (of_service c.side u.service true u.tei (Ui false) u.contents)
+
+of_link : (c : Config) (m : Line) (number : ℕ) {k : Taken} → link_taken c m number ≡ Some k → IsOfService k
+of_link c m number {k} is = go (links.given (terms_at c number m) (link_at number m)) is
+  where
+    go : (o : Option Given) → option_map (with_given_frame c m number (terms_at c number m)) o ≡ Some k → IsOfService k
+    go None is = absurd (none-some _ is)
+    go (Some g) is = subst IsOfService (same_Some _ _ is) (of_service c.side (terms_at c number m).service g.frame.command (terms_at c number m).tei g.frame.control (unwrap_or g.contents []))
+
+of_links : (c : Config) (m : Line) (numbers : List ℕ) {k : Taken} → first_taken c m numbers ≡ Some k → IsOfService k
+of_links c m [] is = absurd (none-some _ is)
+of_links c m (number ∷ numbers) {k} is = go (of_links c m numbers) (link_taken c m number) refl is
+  where
+    go : (first_taken c m numbers ≡ Some k → IsOfService k) → (o : Option Taken) → link_taken c m number ≡ o → option_or o (first_taken c m numbers) ≡ Some k → IsOfService k
+    go others None none is = others is
+    go others (Some x) some is = of_link c m number (some ∙ is)
+
+-- so what is taken shows the message that waits first
+pub message_is : (c : Config) (m : Line) {k : Taken} → taken c m ≡ Some k
+    → message_shown Begun k.frame ≡ type_counted (option_map type_of (slice_get m.management.waiting 0))
+message_is c m {k} is = go (slice_get m.management.waiting 0) is
+  where
+    others : (o : Option Taken) → unit_taken c m ≡ o → option_or o (first_taken c m (round c m)) ≡ Some k → IsOfService k
+    others None none is = of_links c m (round c m) is
+    others (Some x) some is = of_unit c m (some ∙ is)
+
+    go : (o : Option Message) → option_or (option_map (with_message m) (option_map (frame_of c.side) o)) (option_or (unit_taken c m) (first_taken c m (round c m))) ≡ Some k
+        → message_shown Begun k.frame ≡ type_counted (option_map type_of o)
+    go None is = none_shown k.frame (others (unit_taken c m) refl is)
+    go (Some message) is = ap (λ (t : Taken). message_shown Begun t.frame) (sym (same_Some _ _ is)) ∙ of_message c.side message
+
+-- and a frame that begins shows its head and its message
+pub head_and_message : (side : Side) (octets : List ℕ) (head : Option Head) (type : Option ℕ) → head ≡ head_of octets → message_shown Begun octets ≡ type_counted type
+    → begun_shown side octets ≡ option_map_or (λ h. head_shown side h ++ type_counted type) head []
+head_and_message side [] head type is shown = ap (λ o. option_map_or (λ h. head_shown side h ++ type_counted type) o []) (sym is)
+head_and_message side (x ∷ xs) head type is shown =
+    ap (λ l. option_map_or (head_shown side) (head_of (x ∷ xs)) [] ++ l) shown
+    ∙ ap (λ o. option_map_or (λ h. head_shown side h ++ type_counted type) o []) (sym is)

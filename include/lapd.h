@@ -254,7 +254,7 @@ enum {
 
 /*
  * What an event led to: notes, then why something was dropped, then orders. Each call that succeeds tells all of one
- * event: the numbers of notes and orders, cause, lost, begun, delivered and length are always those of this event;
+ * event: the numbers of notes and orders, cause, lost, begun, delivered, length and more are always those of this event;
  * behind the numbers, and behind length, the arrays may hold what earlier events told.
  */
 typedef struct lapd_report {
@@ -268,6 +268,7 @@ typedef struct lapd_report {
     lapd_note notes[LAPD_MOST_NOTES];
     lapd_order orders[LAPD_MOST_ORDERS];
     uint8_t contents[LAPD_MOST_OCTETS];
+    uint8_t more;        /* of the next frame: 1 where another waits on its line, so that the next call gives one; else 0 */
 } lapd_report;
 
 /* ---- A card ----------------------------------------------------------------------------------------------------- */
@@ -333,7 +334,8 @@ LAPD_STATUS lapd_frame_failed(lapd_card *card, uint32_t line, uint8_t cause, lap
  * check, and *length is how many octets it has. The frame counts as sent then, so call it when the controller can take
  * one. LAPD_NO_FRAME: none waits, and nothing has changed. LAPD_WRONG_LENGTH: `room` is less than n201 and four, whatever
  * waits. Behind the frame nothing of `out` is written; `out` lies outside of *report. Carry out the report's orders as
- * those of each other call.
+ * those of each other call. Where report->more is 0, the next call would answer LAPD_NO_FRAME, unless something happens at
+ * the line before it.
  *
  *     uint8_t out[LAPD_MOST_FRAME];
  *     for (size_t length; lapd_next_frame(&card, line, out, sizeof out, &length, &report) == LAPD_OK;)
@@ -341,6 +343,16 @@ LAPD_STATUS lapd_frame_failed(lapd_card *card, uint32_t line, uint8_t cause, lap
  */
 LAPD_STATUS lapd_next_frame(lapd_card *card, uint32_t line, uint8_t *out, size_t room, size_t *length,
                             lapd_report *report);
+
+/*
+ * The first line on which a frame waits, from line `from` on: lapd_next_frame gives one there, and none on the lines that
+ * are passed over. LAPD_NO_FRAME: none waits from there on, and *line is as it was. It costs the same for 64 lines as for
+ * one. A frame of each line whose controller has room:
+ *
+ *     for (uint32_t line = 0; lapd_next_waiting(&card, line, &line) == LAPD_OK; line++)
+ *         ... if the controller of this line has room for one: lapd_next_frame ...
+ */
+LAPD_STATUS lapd_next_waiting(lapd_card *card, uint32_t from, uint32_t *line);
 
 /* ---- What happens at a card of either kind ---------------------------------------------------------------------- */
 

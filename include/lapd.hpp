@@ -222,6 +222,8 @@ public:
     bool begun() const { return raw_.begun != 0; }
     bool delivered() const { return raw_.delivered != 0; }
     octets contents() const { return {raw_.contents, raw_.length}; }
+    /// Of the next frame: whether another waits on its line.
+    bool more() const { return raw_.more != 0; }
     bool tells() const { return lapd_tells(&raw_); }
     lapd_report *raw() { return &raw_; }
     const lapd_report *raw() const { return &raw_; }
@@ -356,6 +358,8 @@ public:
             goes = {room.data(), length};
         return is;
     }
+    /// The first line on which a frame waits, from one on; status::no_frame where there is none.
+    status next_waiting(uint32_t from, uint32_t &line) { return of(lapd_next_waiting(&card_, from, &line)); }
 };
 
 // ---- A clock --------------------------------------------------------------------------------------------------------

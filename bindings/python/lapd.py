@@ -184,7 +184,7 @@ class _Order(ctypes.Structure):
 class _Report(ctypes.Structure):
     _fields_ = [*((name, ctypes.c_uint8) for name in ("note_count", "order_count", "cause", "lost", "begun", "delivered")),
                 ("length", ctypes.c_uint16), ("notes", _Note * MOST_NOTES), ("orders", _Order * MOST_ORDERS),
-                ("contents", ctypes.c_uint8 * MOST_OCTETS)]
+                ("contents", ctypes.c_uint8 * MOST_OCTETS), ("more", ctypes.c_uint8)]
 
 
 class _Handle(ctypes.Structure):
@@ -224,7 +224,8 @@ _TAKES: Dict[str, List[Any]] = {
     "lapd_octet": [_AT, _U32, _U8, _AT], "lapd_pull": [_AT, _U32, _AT, _AT],
     "lapd_exchange": [_AT, _U32, _AT, _SIZE, _AT, _SIZE, _AT, _AT],
     "lapd_frame": [_AT, _U32, _AT, _SIZE, _AT], "lapd_frame_failed": [_AT, _U32, _U8, _AT],
-    "lapd_next_frame": [_AT, _U32, _AT, _SIZE, _AT, _AT], "lapd_expire": [_AT, _U32, _AT, _AT],
+    "lapd_next_frame": [_AT, _U32, _AT, _SIZE, _AT, _AT], "lapd_next_waiting": [_AT, _U32, _AT],
+    "lapd_expire": [_AT, _U32, _AT, _AT],
     "lapd_request_with": [_AT, _U32, _U8, _U8, _U8, _AT, _SIZE, _AT], "lapd_line_down": [_AT, _U32, _AT, _AT],
     "lapd_state": [_AT, _U32, _U8, _U8, _AT], "lapd_next_link": [_AT, _U32, _AT, _AT],
     "lapd_room": [_AT, _U32, _U8, _U8, _AT], "lapd_begun": [_AT, _U32, _AT], "lapd_heard": [_AT, _U32, _AT],
@@ -369,6 +370,7 @@ class Report(NamedTuple):
     lost: int = 0
     begun: bool = False
     contents: Optional[bytes] = None  # of a data or a unit indication
+    more: bool = False  # of the next frame: whether another waits on its line
 
     def __bool__(self) -> bool:
         return self != Report()
@@ -416,7 +418,7 @@ def _report(of: _Report) -> Report:
     return Report(tuple(_note(it) for it in of.notes[: of.note_count]),
                   tuple(Order(OrderKind(it.order), _timer(it.timer)) for it in of.orders[: of.order_count]),
                   Cause(of.cause) if of.cause else None, of.lost, bool(of.begun),
-                  bytes(of.contents[: of.length]) if of.delivered else None)
+                  bytes(of.contents[: of.length]) if of.delivered else None, bool(of.more))
 
 
 def _octets(of: bytes) -> bytes:
@@ -612,6 +614,12 @@ class FrameCard(AnyCard):
         words = (self._at, line, self._room, MOST_FRAME, ctypes.byref(length), told)
         is_there = _unless(Status.NO_FRAME, "lapd_next_frame", *words)
         return (bytes(self._room[: length.value]), _report(self._told)) if is_there else None
+
+    def next_waiting(self, start: int = 0) -> Optional[int]:
+        """The first line on which a frame waits, from one on; None where there is none."""
+        line = ctypes.c_uint32()
+        is_there = _unless(Status.NO_FRAME, "lapd_next_waiting", self._at, start, ctypes.byref(line))
+        return line.value if is_there else None
 
 
 # ---- A clock -------------------------------------------------------------------------------------------------------------

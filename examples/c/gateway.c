@@ -94,6 +94,10 @@ uint32_t gateway_next(gateway *own, uint64_t *moment) {
     return lapd_clock_next(&own->timers, moment);
 }
 
+uint32_t gateway_waiting(gateway *own, uint32_t from, uint32_t *line) {
+    return lapd_next_waiting(&own->card, from, line);
+}
+
 uint32_t gateway_take(gateway *own, uint64_t now, uint32_t line, uint8_t *frame, size_t room, size_t *length) {
     lapd_report report;
     if (!is_moment(now))

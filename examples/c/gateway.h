@@ -5,8 +5,11 @@
  *     gateway own = GATEWAY_NONE;
  *     own.on_report = layer_3;
  *     uint32_t status = gateway_start(&own, &config);
- *     ... each frame that came: gateway_frame; then gateway_advance; then, as long as a controller has room for one
- *         more and a frame waits: gateway_take; and so on, at the moment of gateway_next at the latest ...
+ *     ... each frame that came: gateway_frame; then gateway_advance; then ...
+ *     for (uint32_t line = 0; gateway_waiting(&own, line, &line) == LAPD_OK; line++)
+ *         ... if the controller of this line has room for a frame: gateway_take ...
+ *     ... and so on, when a frame has come or a controller has room again, and at the moment of gateway_next at the
+ *         latest ...
  *     gateway_end(&own);
  *
  * Time is what the caller says it is, in milliseconds from any origin, and does not go back: each call takes the moment
@@ -70,9 +73,12 @@ LAPD_STATUS gateway_advance(gateway *own, uint64_t now);
 /* When the next timer falls due, so when to advance at the latest. LAPD_NO_TIMER: none runs. */
 LAPD_STATUS gateway_next(gateway *own, uint64_t *moment);
 
+/* The first line on which a frame waits, from line `from` on. Any other call may have left one at any line; it costs the
+ * same for many lines as for one. LAPD_NO_FRAME: none waits from there on. */
+LAPD_STATUS gateway_waiting(gateway *own, uint32_t from, uint32_t *line);
+
 /* Takes the next frame of a line to send, without a check. It counts as sent from now on, and T200 of an I-frame runs:
- * take one when the controller has room for it. Any other call may have left one at any line. LAPD_NO_FRAME: none
- * waits. LAPD_WRONG_LENGTH: `room` is less than n201 and four; LAPD_MOST_FRAME is always enough. */
+ * take one when the controller has room for it. LAPD_NO_FRAME: none waits. LAPD_WRONG_LENGTH: `room` is less than n201 and four; LAPD_MOST_FRAME is always enough. */
 LAPD_STATUS gateway_take(gateway *own, uint64_t now, uint32_t line, uint8_t *frame, size_t room, size_t *length);
 
 /* Management asks whether the next automatic TEI of a line, from *place on, is still in use: *place is 0 for the first,

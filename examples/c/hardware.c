@@ -68,11 +68,13 @@ static bool give(bool *is_full) {
     static lapd_report report;
     uint8_t datagram[LAPD_MOST_FRAME + 2] = {0};
     struct pollfd room = {.fd = STDIN_FILENO, .events = POLLOUT, .revents = 0};
-    while (!(*is_full = poll(&room, 1, 0) != 1 || (room.revents & POLLOUT) == 0)) {
-        size_t length;
-        uint32_t status = lapd_next_frame(&own.card, 0, datagram, LAPD_MOST_FRAME, &length, &report);
-        if (status == LAPD_NO_FRAME)
+    *is_full = false;
+    for (uint32_t line; lapd_next_waiting(&own.card, 0, &line) == LAPD_OK;) {
+        *is_full = poll(&room, 1, 0) != 1 || (room.revents & POLLOUT) == 0;
+        if (*is_full)
             return true;
+        size_t length;
+        uint32_t status = lapd_next_frame(&own.card, line, datagram, LAPD_MOST_FRAME, &length, &report);
         if (!linecard_is_ok(&own, status, "next frame") || !linecard_tell(&own, &report))
             return false;
         if (own.record != NULL)

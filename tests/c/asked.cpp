@@ -62,9 +62,14 @@ void asks_octets(lapd::card &card, lapd::report &report) {
 void asks_frames(lapd::frame_card &card, lapd::report &report) {
     uint8_t room[LAPD_MOST_FRAME];
     lapd::octets goes;
-    wants(card.frame(1, sabme, report) == status::ok && report.tells() && report.notes().size() == 1, "a frame");
+    uint32_t line = 777;
+    wants(card.next_waiting(0, line) == status::no_frame && line == 777, "no line on which a frame waits");
+    wants(card.frame(1, sabme, report) == status::ok && report.tells() && report.notes().size() == 1 && !report.more(), "a frame");
+    wants(card.next_waiting(0, line) == status::ok && line == 1, "the line on which a frame waits");
+    wants(card.next_waiting(2, line) == status::no_frame && line == 1, "no line from there on");
     wants(card.next_frame(1, {room, 3}, goes, report) == status::wrong_length && goes.empty(), "a small room");
     wants(card.next_frame(1, room, goes, report) == status::ok && goes.data() == room && goes.size() == 3 && goes[2] == 0x73, "UA");
+    wants(!report.more() && card.next_waiting(0, line) == status::no_frame, "another frame");
     wants(card.next_frame(1, room, goes, report) == status::no_frame && goes.size() == 3, "no frame");
 }
 

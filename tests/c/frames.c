@@ -69,6 +69,9 @@ static void of_no_card(void) {
     refused(lapd_frame(&none, 0, sabme, 3, &report), LAPD_NO_CARD, "a frame of no card");
     refused(lapd_frame_failed(&none, 0, LAPD_FCS, &report), LAPD_NO_CARD, "a fault of no card");
     refused(next(&none, 0), LAPD_NO_CARD, "the next frame of no card");
+    uint32_t line = 777;
+    refused(lapd_next_waiting(&none, 0, &line), LAPD_NO_CARD, "a line that waits of no card");
+    wants(line == 777, "a line of no card");
     bad.n201 = 7;
     wants(lapd_card_start_frames(&none, &bad) == LAPD_BAD_N201, "a bad field");
     bad.lines = 0;
@@ -89,6 +92,9 @@ static void of_other_kind(lapd_card *frames, lapd_card *octets) {
     refused(lapd_frame(octets, 9, sabme, 3, &report), LAPD_WRONG_CARD, "a frame at a card for octets");
     refused(lapd_frame_failed(octets, 9, 99, &report), LAPD_WRONG_CARD, "a fault at a card for octets");
     refused(next(octets, 9), LAPD_WRONG_CARD, "the next frame of a card for octets");
+    uint32_t line = 777;
+    refused(lapd_next_waiting(octets, 0, &line), LAPD_WRONG_CARD, "a line that waits of a card for octets");
+    wants(line == 777, "a line of a card for octets");
     wants(lapd_card_start(frames, &config) == LAPD_SECOND_START, "a second start, for octets");
     wants(lapd_card_start_frames(octets, &config) == LAPD_SECOND_START, "a second start, for frames");
 }
@@ -262,13 +268,31 @@ static uint32_t ask(lapd_card *card, uint32_t line, uint8_t what, uint8_t tei, s
     return lapd_request(card, line, what, what % 2 == 0 ? LAPD_CALL : LAPD_PACKET, tei, octets, has_contents ? count : 0, told);
 }
 
+/* Whether a frame waits on a line. From each line on, the first that is told is the first on which one waits. */
+static bool is_waiting(lapd_card *card, uint32_t line) {
+    uint32_t next = LINES;
+    bool waits[LINES] = {false};
+    for (uint32_t from = 2 * LINES; from-- > 0;) {
+        uint32_t found = 777;
+        bool is_told = lapd_next_waiting(card, from, &found) == LAPD_OK;
+        if (from < LINES && is_told && found == from) {
+            next = from;
+            waits[from] = true;
+        }
+        wants(found == (next < LINES ? next : 777) && is_told == (next < LINES), "not the first line that waits");
+    }
+    return waits[line];
+}
+
 /* The next frame of the one; the other is pulled up to the octet that begins one. */
 static void take_next(pair *both, uint32_t line) {
     static lapd_report pulled;
     lapd_head head;
     uint8_t octet;
     int pulls = 0;
+    bool waits = is_waiting(&both->frames, line);
     uint32_t status = next(&both->frames, line);
+    wants((status == LAPD_OK) == waits, "a line that waits gives no frame, or one that does not gives one");
     do
         lapd_pull(&both->octets, line, &octet, &pulled);
     while (!pulled.begun && ++pulls < 400);
@@ -279,6 +303,7 @@ static void take_next(pair *both, uint32_t line) {
     lapd_begun(&both->octets, line, &head);
     wants(is_same(&report, &pulled), "the next frame has other orders");
     wants(head.length == length && memcmp(head.octets, out, length < 4 ? length : 4) == 0, "another frame is next");
+    wants(report.more == is_waiting(&both->frames, line), "more is told that does not wait, or none where one does");
 }
 
 /* Something happens at both. */

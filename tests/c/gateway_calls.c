@@ -75,14 +75,18 @@ static void on_report(gateway *gate, uint32_t line, const lapd_report *report) {
 static bool takes(uint64_t now, const uint8_t *frame, size_t length) {
     uint8_t out[LAPD_MOST_FRAME];
     size_t octets;
-    return gateway_take(&own, now, 0, out, sizeof out, &octets) == LAPD_OK && octets == length
+    uint32_t line = 9;
+    return gateway_waiting(&own, 0, &line) == LAPD_OK && line == 0
+           && gateway_take(&own, now, 0, out, sizeof out, &octets) == LAPD_OK && octets == length
            && memcmp(out, frame, length) == 0;
 }
 
 static bool takes_none(uint64_t now) {
     uint8_t out[LAPD_MOST_FRAME];
     size_t octets;
-    return gateway_take(&own, now, 0, out, sizeof out, &octets) == LAPD_NO_FRAME;
+    uint32_t line = 9;
+    return gateway_waiting(&own, 0, &line) == LAPD_NO_FRAME && line == 9
+           && gateway_take(&own, now, 0, out, sizeof out, &octets) == LAPD_NO_FRAME;
 }
 
 static bool is_next(uint64_t wanted) {
@@ -101,11 +105,12 @@ static bool are_in(uint8_t wanted) {
 /* Each block of the card and of the clock is refused in turn; then both are there. */
 static void starts(void) {
     uint64_t moment;
-    uint32_t status;
+    uint32_t status, line;
     unsigned refused = 0;
     own.on_report = on_report;
     for (long block = 0; left = block, (status = gateway_start(&own, &config)) == LAPD_NO_MEMORY; block++) {
         WANT(taken == 0 && gateway_frame(&own, 0, 0, sabme, sizeof sabme) == LAPD_NO_CARD);
+        WANT(gateway_waiting(&own, 0, &line) == LAPD_NO_CARD);
         refused++;
     }
     left = -1;

@@ -201,13 +201,14 @@ static bool take(uint32_t line, uint8_t frame[LAPD_MOST_FRAME], size_t *length) 
     return true;
 }
 
-/* Sends the next frame of a line, if the line is up and has sent the one before. */
+/* Sends the next frame of a line, which waits, if the line is up and has sent the one before. */
 static void send_next(uint32_t line) {
     access_line *at = &lines[line];
     uint8_t frame[LAPD_MOST_FRAME];
     size_t length;
-    if (at->is_down || at->to_terminal.length != 0 || !take(line, frame, &length))
+    if (at->is_down || at->to_terminal.length != 0)
         return;
+    want(take(line, frame, &length), "a line that waits gives no frame");
     transmit(&at->to_terminal, now, frame, length);
     at->due_at = earlier(at->due_at, at->to_terminal.arrives_at);
 }
@@ -291,7 +292,7 @@ static void step(void) {
         if (lines[line].due_at <= now)
             serve(line);
     want_ok(gateway_advance(&own, now), "time");
-    for (uint32_t line = 0; line < LINES; line++)
+    for (uint32_t line = 0; gateway_waiting(&own, line, &line) == LAPD_OK; line++)
         send_next(line);
 }
 

@@ -153,11 +153,22 @@ static void take_frame(station *b, uint32_t line, const command *c) {
     tell(b, line, &report);
 }
 
+static bool is_waiting(station *b, uint32_t line) {
+    uint32_t first;
+    uint32_t status = lapd_next_waiting(&b->card, line, &first);
+    if (status != LAPD_NO_FRAME)
+        want_ok(status, "the next line that waits");
+    return status == LAPD_OK && first == line;
+}
+
 static void give_frame(station *b, uint32_t line) {
     static lapd_report report;
     uint8_t octets[LAPD_MOST_FRAME];
     size_t length;
+    bool waits = is_waiting(b, line);
     uint32_t status = lapd_next_frame(&b->card, line, octets, sizeof octets, &length, &report);
+    if ((status == LAPD_OK) != waits || (status == LAPD_OK && report.more != is_waiting(b, line)))
+        want_ok(LAPD_NO_FRAME, "what waits");
     if (status == LAPD_NO_FRAME) {
         printf("%u nothing\n", line);
         return;

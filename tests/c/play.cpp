@@ -53,6 +53,7 @@ private:
     void pull(uint32_t line, uint32_t count);
     void take_frame(uint32_t line, const command &of);
     void give_frame(uint32_t line);
+    bool is_waiting(uint32_t line);
     void ask(uint32_t line, const command &of);
     status asked(uint32_t line, const command &of);
     void show_stored();
@@ -172,10 +173,18 @@ void station::take_frame(uint32_t line, const command &of) {
     tell(line);
 }
 
+bool station::is_waiting(uint32_t line) {
+    uint32_t first = 0;
+    return frames_->next_waiting(line, first) == status::ok && first == line;
+}
+
 void station::give_frame(uint32_t line) {
     std::array<uint8_t, LAPD_MOST_FRAME> room;
     lapd::octets frame;
+    const bool waits = is_waiting(line);
     const status is = frames_->next_frame(line, room, frame, report_);
+    if ((is == status::ok) != waits || (is == status::ok && report_.more() != is_waiting(line)))
+        want_ok(status::no_frame, "what waits");
     if (is == status::no_frame) {
         std::printf("%u nothing\n", line);
         return;

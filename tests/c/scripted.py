@@ -133,7 +133,11 @@ class Station:
                 yield f"{line} frame {shown(heard.octets)}"
 
     def next_frame(self, line: int) -> Iterator[str]:
+        waits = self.card.next_waiting(line) == line
         found = self.card.next_frame(line)
+        more = self.card.next_waiting(line) == line
+        if waits != (found is not None) or more != (found is not None and found[1].more):
+            raise AssertionError(f"{line} waits {waits} more {more}")
         if found is None:
             yield f"{line} nothing"
             return

@@ -39,7 +39,7 @@ static lapd_link link;
 static struct lapd_room room;
 static lapd_head head;
 static struct lapd_counters counters;
-static uint32_t status;
+static uint32_t status, waiting;
 
 static void run(void) {
     called();
@@ -77,6 +77,7 @@ static void frames_start(void) { status = lapd_card_start_frames(&card, &config)
 static void take_frame(void) { status = lapd_frame(&card, 0, octets, length, &report); }
 static void fail_frame(void) { status = lapd_frame_failed(&card, 0, LAPD_FCS, &report); }
 static void give_frame(void) { status = lapd_next_frame(&card, 0, frame, sizeof frame, &length, &report); }
+static void find_waiting(void) { status = lapd_next_waiting(&card, 0, &waiting); }
 static void find_link(void) { status = lapd_next_link(&card, 0, &place, &link); }
 static void ask_room(void) { status = lapd_room(&card, 0, LAPD_CALL, 64, &room); }
 static void ask_begun(void) { status = lapd_begun(&card, 0, &head); }
@@ -128,6 +129,7 @@ static void frames(const uint8_t *const *come, const size_t *lengths, size_t cou
         gives = most(gives, give_frame);
     }
     most(0, ask_data);
+    show("lapd_next_waiting", most(0, find_waiting));
     show("lapd_frame", takes);
     show("lapd_next_frame", most(gives, give_frame));
     show("lapd_frame_failed", most(0, fail_frame));

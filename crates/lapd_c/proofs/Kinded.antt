@@ -1,6 +1,14 @@
 -- A card of either kind.
 use Rattle.lapd_c.proofs.Vocabulary.{◌≡◌, ℕ, Bool, true, false, cond, List, drop, Option, Result, Ok, Err, IfOk, IfErr, sym, ap, refl, subst, ◌∙◌, None, option_map, option_to_list, Config, IsInRange, Timer, Refusal, refusal, Request, Report, NextFrame, written, gave_in, next_in, Card, line_at, Event, at, moment_counted, moment_of, all_counted, Counters, Store, counters_in, AnyCard, Octets, Frames, OctetCard, Machine, with_ports, alone, card_in, AnyStands, AnyLeads, CardStands, FrameCardStands, line_count, shelf_of, comes, goes, next_at, report_told}
-use Rattle.std.proofs.Common.{Some}
+use Rattle.std.proofs.Common.{Some, IfSome, length, take, ◌≤◌}
+use Rattle.std.proofs.Math.Nat.{min-eq_left}
+use Rattle.std.proofs.lemmas.List.{length-take}
+use Rattle.lapd_frame.specs.ShortLists.{listed}
+use Rattle.lapd_card.specs.Waiting.{has_next}
+use Rattle.lapd_c.specs.declared.plain.reports.PlainReport.{PlainReport}
+use Rattle.lapd_c.specs.Frames.{IsGiven}
+use Rattle.lapd_c.specs.Reports.{ShowsPull}
+use Rattle.lapd_c.specs.Statuses.{ok}
 use Rattle.lapd_frame.specs.declared.refusals.Refusal.TheVariants.{PoolFull}
 use Rattle.model_line.specs.Came.{came}
 use Rattle.model_line.specs.Event as line
@@ -136,3 +144,27 @@ none_counted i m all none = none_counts m i all none
 -- and nothing is written
 pub unwritten : (given : Option NextFrame) (out out' : List ℕ) → given ≡ None → drop (written given) out' ≡ drop (written given) out → out' ≡ out
 unwritten given out out' none rest = subst (λ (n : Option NextFrame). drop (written n) out' ≡ drop (written n) out) none rest
+
+-- what is written is given, where it fits, and shown with whether another waits
+pub given_shown : (i : ℕ) (m : Card) (new : frames.Held Store) (out out' : List ℕ) (count status : ℕ) (r : PlainReport) (next : NextFrame) (more : Bool)
+    → next_at i m ≡ Some (next_in out' next) → status ≡ ok → FrameCardStands new (machine.after (goes i) m) → more ≡ has_next i (machine.after (goes i) m)
+    → count ≡ next.length → next.length ≤ length out' → drop next.length out' ≡ drop next.length out → ShowsPull r true more (listed next.orders)
+    → IfSome (next_at i m) (λ n. (status ≡ ok) × FrameCardStands new (machine.after (goes i) m) × IsGiven n out out' count × ShowsPull r true (has_next i (machine.after (goes i) m)) n.orders)
+given_shown i m new out out' count status r next more is fine stands waits same fits rest shows =
+    subst (λ o. IfSome o (λ n. (status ≡ ok) × FrameCardStands new (machine.after (goes i) m) × IsGiven n out out' count × ShowsPull r true (has_next i (machine.after (goes i) m)) n.orders)) (sym is)
+    (fine, stands, given, subst (λ b. ShowsPull r true b (listed next.orders)) waits shows)
+  where
+    whole : length (take next.length out') ≡ next.length
+    whole = length-take next.length out' ∙ min-eq_left fits
+
+    given : IsGiven (next_in out' next) out out' count
+    given = record {
+      whole = same ∙ sym whole;
+      octets = ap (λ n. take n out') same;
+      rest = ap (λ n. drop n out') same ∙ rest ∙ ap (λ n. drop n out) (sym same);
+    }
+
+-- where there is none, nothing is said
+pub none_said : {X : Type 0} (P : X → Type 0) (o : Option X) → o ≡ None → IfSome o P
+none_said P None is = tt
+none_said P (Some x) is = absurd (cc)

@@ -1,5 +1,5 @@
 -- What a report shows of a machine's answers.
-use Rattle.std.specs.Prelude.{ℕ}
+use Rattle.std.specs.Prelude.{ℕ, false}
 use Rattle.model_line.specs.Event as line
 use Rattle.model_ports.specs.Port as port
 use Rattle.lapd_c.specs.declared.plain.reports.PlainReport.{PlainReport}
@@ -15,7 +15,7 @@ ShowsAnswer r (line.gave next) = ⊥
 abbrev pub ShowsReply : PlainReport → port.Answer → Type 0
 ShowsReply r (port.told t) = Shows r t
 ShowsReply r (port.refused why) = ⊥
-ShowsReply r (port.pulled value begun orders) = ShowsPull r begun orders
+ShowsReply r (port.pulled value begun orders) = ShowsPull r begun false orders
 
 abbrev pub octet_of : port.Answer → ℕ
 octet_of (port.told t) = 0

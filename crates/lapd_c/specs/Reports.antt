@@ -40,9 +40,10 @@ pub record Shows (r : PlainReport) (t : LineTold) : Type 0 where
   pub cause : r.cause ≡ cause_number t.cause
   pub lost : r.lost ≡ t.lost
   pub begun : r.begun ≡ 0
+  pub more : r.more ≡ 0
 
--- It shows what a pull was answered with, beside the octet.
-pub record ShowsPull (r : PlainReport) (is_begun : Bool) (given : List Order) : Type 0 where
+-- It shows what a pull was answered with, beside the octet; or a call for the next frame, and whether another waits behind it.
+pub record ShowsPull (r : PlainReport) (is_begun has_more : Bool) (given : List Order) : Type 0 where
   pub note_count : r.note_count ≡ 0
   pub order_count : r.order_count ≡ length given
   pub delivered : r.delivered ≡ 0
@@ -52,6 +53,7 @@ pub record ShowsPull (r : PlainReport) (is_begun : Bool) (given : List Order) : 
   pub cause : r.cause ≡ 0
   pub lost : r.lost ≡ 0
   pub begun : r.begun ≡ (if is_begun then 1 else 0)
+  pub more : r.more ≡ (if has_more then 1 else 0)
 
 -- Nothing but the contents, and what is said of them, is another.
 pub record SameButContents (r r' : PlainReport) : Type 0 where
@@ -60,5 +62,6 @@ pub record SameButContents (r r' : PlainReport) : Type 0 where
   pub cause : r'.cause ≡ r.cause
   pub lost : r'.lost ≡ r.lost
   pub begun : r'.begun ≡ r.begun
+  pub more : r'.more ≡ r.more
   pub notes : r'.notes ≡ r.notes
   pub orders : r'.orders ≡ r.orders

@@ -3,6 +3,7 @@
 ghost use Rattle.std.specs.Prelude.{◌≡◌, ◌≢◌, ◌+◌, ◌≤◌, ◌<◌, true, length, Some, None, IfSome, IfOk, IfErr};
 ghost use Rattle.model_card.specs.Card as machine;
 ghost use Rattle.model_card.specs.Machine.{after, answer};
+ghost use Rattle.lapd_card.specs.Waiting.{has_next};
 ghost use Rattle.lapd_c.specs.Answers.{ShowsAnswer};
 ghost use Rattle.lapd_c.specs.Faults.{fault_in};
 ghost use Rattle.lapd_c.specs.Reports.{ShowsPull};
@@ -152,7 +153,7 @@ fn tell_fault(card: &mut FrameCard<RawShelf>, line: u32, cause: u8, report: &mut
 }
 
 /// Writes the next frame of a line to be sent in front of `out`, from its address to its information, without its check,
-/// and tells how long it is. There has to be room for the longest: N201 octets and four.
+/// and tells how long it is, and whether another waits behind it. There has to be room for the longest: N201 octets and four.
 #[unsafe(no_mangle)]
 pub extern "C" fn lapd_next_frame(
     alloc: Global,
@@ -184,7 +185,7 @@ pub extern "C" fn lapd_next_frame(
     ensures given { (m : machine.Card) → FramesStand handle.old m → line < m.config.lines
         → m.config.n201 + 4 ≤ length out.old → IfSome (next_at line m) (λ next.
         (result ≡ status.ok) × FramesStand handle.new (after (goes line) m)
-        × IsGiven next out.old out.new count.new × ShowsPull report.new true next.orders) }
+        × IsGiven next out.old out.new count.new × ShowsPull report.new true (has_next line (after (goes line) m)) next.orders) }
     ensures counted { (m : machine.Card) → FramesStand handle.old m → line < m.config.lines
         → m.config.n201 + 4 ≤ length out.old → Counts (goes line) m (counters_at handle.old) (counters_at handle.new) }
     ensures uncounted { (m : machine.Card) → FramesStand handle.old m → result ≢ status.ok → counters_at handle.new ≡ counters_at handle.old }
@@ -222,7 +223,7 @@ fn give_frame(
     ensures given { (m : machine.Card) → FrameCardStands card.old m → line < m.config.lines
         → m.config.n201 + 4 ≤ length out.old → IfSome (next_at line m) (λ next.
         (result ≡ status.ok) × FrameCardStands card.new (after (goes line) m)
-        × IsGiven next out.old out.new count.new × ShowsPull report.new true next.orders) }
+        × IsGiven next out.old out.new count.new × ShowsPull report.new true (has_next line (after (goes line) m)) next.orders) }
     ensures counted { (m : machine.Card) → FrameCardStands card.old m → line < m.config.lines
         → m.config.n201 + 4 ≤ length out.old → Counts (goes line) m (counters_in card.old.lines) (counters_in card.new.lines) }
     ensures uncounted { (m : machine.Card) → FrameCardStands card.old m → result ≢ status.ok → counters_in card.new.lines ≡ counters_in card.old.lines }
@@ -234,7 +235,7 @@ fn give_frame(
     match card.next_frame(line, out) {
         Ok(Some(next)) => {
             *count = next.length;
-            report.show_next(next.order_list());
+            report.show_next(card.has_next(line), next.order_list());
             OK
         }
         Ok(None) => NO_FRAME,

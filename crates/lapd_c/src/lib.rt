@@ -7,8 +7,9 @@
 //! - `card`: a card in C, how it begins and ends; `kinds`, what a card for octets and one for frames do alike;
 //!   `card_slot`, where it lies. `events`, what happens at one of either kind; for octets `octets`, one that comes and
 //!   one that goes, `exchange`, octets taken and given in turn, `begun` and `heard`, which frame a pull began and which was
-//!   heard last; for frames `frames`, which come and go. `questions`, what it answers about itself; `counters`, what was counted of a line;
-//!   `links`, which links it has, and `rooms`, how many contents more one takes.
+//!   heard last; for frames `frames`, which come and go, and `waiting`, on which lines one waits to go. `questions`, what it
+//!   answers about itself; `counters`, what was counted of a line; `links`, which links it has, and `rooms`, how many contents
+//!   more one takes.
 //! - `clock`: a clock in C, and its exports; `clock_reports`, the orders of a report; `clock_slot`, where it lies.
 //! - `laws`: what holds of the machine's answers, so that a report has room for each.
 //! - `plain`: the structs and numbers of C, and what they mean.
@@ -46,3 +47,4 @@ mod plain;
 mod questions;
 mod rooms;
 mod version;
+mod waiting;

@@ -1,6 +1,7 @@
 -- Lemmas: one line of a card in a call; one port of a card of octets; what drive has done and counted; rooms.
 pub mod Vocabulary
 pub mod Served
+pub mod Waiting
 pub mod OneLine
 pub mod OneEvent
 pub mod Begins

@@ -7,6 +7,8 @@ use Rattle.model_line.specs.Line as machine
 use Rattle.model_line.specs.Machine as lines
 use Rattle.model_card.specs.Machine.{answer}
 use Rattle.lapd_card.proofs.OneLine.{Called, one_holds, one_says, one_leads}
+use Rattle.lapd_line.specs.declared.marks.Marks.{Marks}
+use Rattle.lapd_card.proofs.Waiting.{Looked}
 use Rattle.lapd_card.proofs.Served.{TakesNoSlot, heard_takes, has_room, answer_served, accepted_has_room}
 
 module _ {S : Type 0} (store : S → Store) where
@@ -45,9 +47,9 @@ module _ {S : Type 0} (store : S → Store) where
 
   module _ {card self : Held S} {i : ℕ} {x : FrameLine} (call : Called store card self i x) where
     -- what the line does with an event that takes no slot, the card does,
-    pub event_leads : (e : line_event.Event) → TakesNoSlot e → {y : FrameLine} {t : S} → line.Leads e x (store card.shelf) y (store t)
-        → Leads store (at i e) self (record { config = card.config; lines = set card.lines i y; shelf = t })
-    event_leads e takes {y} {t} leads = one_leads store call e y t leads (λ m s. has_room i e takes m)
+    pub event_leads : (e : line_event.Event) → TakesNoSlot e → {y : FrameLine} {t : S} {w : Marks} → line.Leads e x (store card.shelf) y (store t) → Looked i card.waiting y w
+        → Leads store (at i e) self (record { config = card.config; lines = set card.lines i y; shelf = t; waiting = w })
+    event_leads e takes {y} {t} {w} leads looked = one_leads store call e y t w leads looked (λ m s. has_room i e takes m)
 
     -- and answers what its line answers
     pub answers : (e : line_event.Event) (P : line_event.Answer → Type 0) → ((others : List Owned) (l : machine.Line) → line.Stands x (store card.shelf) others l → P (lines.answer (config_of x) e l))
@@ -68,15 +70,15 @@ module _ {S : Type 0} (store : S → Store) where
     heard_told None says = tt
     heard_told (Some e) says = event_told (line_event.hears e) (heard_takes e) says
 
-    pub heard_leads : (o : Option stream.Event) (y : FrameLine) (t : S) → line.LeadsIfHeard o x (store card.shelf) y (store t)
-        → IfSome o (λ e. Leads store (at i (line_event.hears e)) self (record { config = card.config; lines = set card.lines i y; shelf = t }))
-    heard_leads None y t leads = tt
-    heard_leads (Some e) y t leads = event_leads (line_event.hears e) (heard_takes e) leads
+    pub heard_leads : (o : Option stream.Event) (y : FrameLine) (t : S) (w : Marks) → line.LeadsIfHeard o x (store card.shelf) y (store t) → Looked i card.waiting y w
+        → IfSome o (λ e. Leads store (at i (line_event.hears e)) self (record { config = card.config; lines = set card.lines i y; shelf = t; waiting = w }))
+    heard_leads None y t w leads looked = tt
+    heard_leads (Some e) y t w leads looked = event_leads (line_event.hears e) (heard_takes e) leads looked
 
-    pub heard_past : (o : Option stream.Event) (y : FrameLine) (t : S) → IsSome o → line.LeadsIfHeard o x (store card.shelf) y (store t)
-        → HasPast store (record { config = card.config; lines = set card.lines i y; shelf = t })
-    heard_past None y t some leads = absurd (cc)
-    heard_past (Some e) y t some leads = past_after call.same (event_leads (line_event.hears e) (heard_takes e) leads) call.past
+    pub heard_past : (o : Option stream.Event) (y : FrameLine) (t : S) (w : Marks) → IsSome o → line.LeadsIfHeard o x (store card.shelf) y (store t) → Looked i card.waiting y w
+        → HasPast store (record { config = card.config; lines = set card.lines i y; shelf = t; waiting = w })
+    heard_past None y t w some leads looked = absurd (cc)
+    heard_past (Some e) y t w some leads looked = past_after call.same (event_leads (line_event.hears e) (heard_takes e) leads looked) call.past
 
     -- the line refuses by what the card holds
     pub refusal_is : (r : Request) (slots : ℕ) (o : Option Refusal) → slots ≡ card.config.slots
@@ -112,40 +114,43 @@ refuses_so number service tei m (Ok x) is = refuses_by m number service tei x (s
 refuses_so number service tei m (Err why) is = tt
 
 -- A request, as a line answers it to a card: refused, where the table has a row for it, and else accepted.
-pub record Requested {S : Type 0} (store : S → Store) (r : Request) (card : Held S) (slots : ℕ) (x : FrameLine) (result : Result Report Refusal) (y : FrameLine) (t : S) : Type 0 where
+pub record Requested {S : Type 0} (store : S → Store) (r : Request) (card : Held S) (i slots : ℕ) (x : FrameLine) (result : Result Report Refusal) (y : FrameLine) (t : S) (w : Marks) : Type 0 where
   pub most : slots ≡ card.config.slots
   pub refused : IfErr result (λ why. (others : List Owned) (l : machine.Line) → line.Stands x (store card.shelf) others l → refusal (config_of x) (nat_le slots (used_slots (store card.shelf))) r l ≡ Some why)
   pub accepted : IfOk result (λ report. (others : List Owned) (l : machine.Line) → line.Stands x (store card.shelf) others l → refusal (config_of x) (nat_le slots (used_slots (store card.shelf))) r l ≡ None)
   pub unchanged : OnErr result (y ≡ x)
   pub kept : OnErr result (t ≡ card.shelf)
+  pub unmarked : OnErr result (w ≡ card.waiting)
   pub told : IfOk result (λ report. (others : List Owned) (l : machine.Line) → line.Stands x (store card.shelf) others l → line_event.told (report_told report) ≡ lines.answer (config_of x) (line_event.request r) l)
   pub leads : IfOk result (λ report. line.Leads (line_event.request r) x (store card.shelf) y (store t))
+  pub looked : IfOk result (λ report. Looked i card.waiting y w)
 
-module _ {S : Type 0} (store : S → Store) {r : Request} {card self : Held S} {i slots : ℕ} {x : FrameLine} (call : Called store card self i x) {y : FrameLine} {t : S} where
+module _ {S : Type 0} (store : S → Store) {r : Request} {card self : Held S} {i slots : ℕ} {x : FrameLine} (call : Called store card self i x) {y : FrameLine} {t : S} {w : Marks} where
   -- the card refuses and accepts with its line
-  pub request_refused : (result : Result Report Refusal) → Requested store r card slots x result y t → IfErr result (λ why. (m : Card) → Stands store self m → refusal m.config (is_full m) r (line_at i m) ≡ Some why)
+  pub request_refused : (result : Result Report Refusal) → Requested store r card i slots x result y t w → IfErr result (λ why. (m : Card) → Stands store self m → refusal m.config (is_full m) r (line_at i m) ≡ Some why)
   request_refused result asked = IfErr-weaker result _ _ (λ why. refusal_is store call r slots (Some why) asked.most) asked.refused
 
-  pub request_accepted : (result : Result Report Refusal) → Requested store r card slots x result y t → IfOk result (λ report. (m : Card) → Stands store self m → refusal m.config (is_full m) r (line_at i m) ≡ None)
+  pub request_accepted : (result : Result Report Refusal) → Requested store r card i slots x result y t w → IfOk result (λ report. (m : Card) → Stands store self m → refusal m.config (is_full m) r (line_at i m) ≡ None)
   request_accepted result asked = IfOk-weaker result _ _ (λ report. refusal_is store call r slots None asked.most) asked.accepted
 
-  pub request_told : (result : Result Report Refusal) → Requested store r card slots x result y t → (m : Card) → Stands store self m → answer_of_result result ≡ answer (at i (line_event.request r)) m
+  pub request_told : (result : Result Report Refusal) → Requested store r card i slots x result y t w → (m : Card) → Stands store self m → answer_of_result result ≡ answer (at i (line_event.request r)) m
   request_told (Err why) asked m s = sym ((refused_by_the_table.refused_exactly m i r why).1 (request_refused (Err why) asked m s))
   request_told (Ok report) asked m s =
       answers store call (line_event.request r) (λ a. line_event.told (report_told report) ≡ a) asked.told m s (accepted_has_room r i m (request_accepted (Ok report) asked m s))
 
   -- one that is refused leaves the card as it is
-  pub request_unchanged : (result : Result Report Refusal) → Requested store r card slots x result y t → OnErr result (record { config = card.config; lines = set card.lines i y; shelf = t } ≡ self)
+  pub request_unchanged : (result : Result Report Refusal) → Requested store r card i slots x result y t w → OnErr result (record { config = card.config; lines = set card.lines i y; shelf = t; waiting = w } ≡ self)
   request_unchanged (Ok report) asked = tt
   request_unchanged (Err why) asked =
-      ap (λ l. record { config = card.config; lines = set card.lines i l; shelf = t }) (asked.unchanged ∙ call.is)
-      ∙ ap (λ l. record { config = card.config; lines = l; shelf = t }) (set-get_or card.lines i x)
-      ∙ ap (λ h. record { config = card.config; lines = card.lines; shelf = h }) asked.kept
+      ap (λ l. record { config = card.config; lines = set card.lines i l; shelf = t; waiting = w }) (asked.unchanged ∙ call.is)
+      ∙ ap (λ l. record { config = card.config; lines = l; shelf = t; waiting = w }) (set-get_or card.lines i x)
+      ∙ ap (λ h. record { config = card.config; lines = card.lines; shelf = h; waiting = w }) asked.kept
+      ∙ ap (λ h. record { config = card.config; lines = card.lines; shelf = card.shelf; waiting = h }) asked.unmarked
       ∙ call.same
 
-  pub request_leads : (result : Result Report Refusal) → Requested store r card slots x result y t
-      → Leads store (at i (line_event.request r)) self (record { config = card.config; lines = set card.lines i y; shelf = t })
-  request_leads (Ok report) asked = one_leads store call (line_event.request r) y t asked.leads (λ m s. accepted_has_room r i m (request_accepted (Ok report) asked m s))
+  pub request_leads : (result : Result Report Refusal) → Requested store r card i slots x result y t w
+      → Leads store (at i (line_event.request r)) self (record { config = card.config; lines = set card.lines i y; shelf = t; waiting = w })
+  request_leads (Ok report) asked = one_leads store call (line_event.request r) y t w asked.leads asked.looked (λ m s. accepted_has_room r i m (request_accepted (Ok report) asked m s))
   request_leads (Err why) asked =
       let is = request_unchanged (Err why) asked in
       let refused = request_refused (Err why) asked in

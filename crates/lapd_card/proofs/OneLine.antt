@@ -5,7 +5,12 @@ use Rattle.model_line.specs.Counted.{shown}
 use Rattle.model_line.specs.Event as line_event
 use Rattle.model_line.specs.Line as machine
 use Rattle.model_line.specs.Machine as lines
+use Rattle.lapd_line.specs.Waiting.{has_next}
+use Rattle.lapd_card.specs.Waiting.{waits_on}
+use Rattle.lapd_line.specs.Marks.{AreMarked}
+use Rattle.lapd_line.specs.declared.marks.Marks.{Marks}
 use Rattle.lapd_card.proofs.Served.{after_served, answer_served}
+use Rattle.lapd_card.proofs.Waiting.{Looked, waiting_set}
 
 -- A call at a line of a card, as it finds them: the card has a past, and the line is there.
 pub record Called {S : Type 0} (store : S → Store) (card self : Held S) (i : ℕ) (x : FrameLine) : Type 0 where
@@ -54,6 +59,21 @@ module _ {S : Type 0} (store : S → Store) where
   pub line-there : (card self : Held S) (i n : ℕ) → HasPast store card → card ≡ self → i < line_count self → n ≡ length card.lines → i < n
   line-there card self i n past same within is = subst (λ n. i < n) (sym (is ∙ lines-all card past)) (subst (λ c. i < line_count c) (sym same) within)
 
+  -- so each has its mark
+  pub few_line : {card self : Held S} {i : ℕ} → HasPast store card → card ≡ self → i < line_count self → i < 64
+  few_line {card} {self} {i} (m, s) same within =
+      let few : m.config.lines ≤ 64 = (ranges_of m.config s.reached.config).lines.most in
+      let there : i < line_count card = subst (λ c. i < line_count c) (sym same) within in
+      omega (arith, few, there, ap (λ c. c.lines) s.config)
+
+  -- the lines that are marked, of few
+  pub few_card : {card self : Held S} → card ≡ self → (m : Card) → Stands store self m
+      → AreMarked card.waiting (waits_on m) × (line_count self ≡ m.config.lines) × (line_count self ≤ 64)
+  few_card {card} {self} same m s =
+      let most : m.config.lines ≤ 64 = (ranges_of m.config s.reached.config).lines.most in
+      let all : line_count self ≡ m.config.lines = ap (λ c. c.lines) (sym s.config) in
+      ((subst (λ c. Stands store c m) (sym same) s).waiting, all, omega (arith, most, all))
+
   pub few-lines : (card : Held S) → HasPast store card → length card.lines ≤ 64
   few-lines card (m, s) =
       let few : m.config.lines ≤ 64 = (ranges_of m.config s.reached.config).lines.most in
@@ -98,22 +118,31 @@ module _ {S : Type 0} (store : S → Store) where
         ∙ ap (λ c. get_or (map counters_of c.lines) i none_counted) call.same
 
     -- what a call on it does, it does among all, where it finds room
-    pub one_leads : (e : line_event.Event) (y : FrameLine) (t : S) → line.Leads e x (store card.shelf) y (store t)
+    pub one_leads : (e : line_event.Event) (y : FrameLine) (t : S) (w : Marks) → line.Leads e x (store card.shelf) y (store t) → Looked i card.waiting y w
         → ((m : Card) → Stands store self m → wants_room (at i e) m ≡ false)
-        → Leads store (at i e) self (record { config = card.config; lines = set card.lines i y; shelf = t })
-    one_leads e y t leads room = record {
+        → Leads store (at i e) self (record { config = card.config; lines = set card.lines i y; shelf = t; waiting = w })
+    one_leads e y t w leads looked room = record {
       config = ap (λ c. c.config) call.same;
       stands = λ m s.
           let focus = focused_at m s in
           let is = after_served i e m (room m s) in
           let own = subst (λ c. Stands store c m) (sym call.same) s in
+          let stands = leads.stands focus.rest (line_at i m) focus.stands in
+          let l = lines.after m.config e (line_at i m) in
+          let within : i < m.config.lines = subst (λ c. i < c.lines) (sym s.config) call.within in
+          let told : looked.told ≡ has_next m.config l =
+          looked.says (store t) focus.rest (lines.after (config_of x) e (line_at i m)) stands
+          ∙ ap (λ d. has_next d (lines.after (config_of x) e (line_at i m))) (leads.config ∙ focus.config)
+          ∙ ap (λ d. has_next m.config (lines.after d e (line_at i m))) focus.config in
           record {
             config = own.config;
             lines = subst (λ n. LinesStand card.config (set card.lines i y) (store t) n.lines) (sym is)
                 (subst (λ c. LinesStand c (set card.lines i y) (store t) (set m.lines i (lines.after m.config e (line_at i m)))) own.config
                 (focus.back (store t) y _ leads.limits leads.config
-                (subst (λ d. line.Stands y (store t) focus.rest (lines.after d e (line_at i m))) focus.config (leads.stands focus.rest (line_at i m) focus.stands))));
+                (subst (λ d. line.Stands y (store t) focus.rest (lines.after d e (line_at i m))) focus.config stands)));
             slots = subst (λ n. card.config.slots ≤ n) (sym leads.limits.slots) own.slots;
+            waiting = subst (λ n. AreMarked w (waits_on n)) (sym is)
+                (waiting_set i m l looked.told card.waiting w within (omega (arith, within, (reached-sound m s.reached).count)) told looked.sets own.waiting);
             reached = reached-after m (at i e) s.reached (subst (λ c. i < c.lines) (sym s.config) call.within);
           };
       counted = λ m s.

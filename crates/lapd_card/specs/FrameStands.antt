@@ -5,17 +5,21 @@ use Rattle.model_card.specs.Counted.{moment_counted, moment_of}
 use Rattle.model_card.specs.Event.{Event}
 use Rattle.model_card.specs.Machine.{after}
 use Rattle.model_card.specs.Reached.{IsReached}
+use Rattle.lapd_card.specs.Waiting.{waits_on}
 use Rattle.lapd_card.specs.Counted.{counters_in}
 use Rattle.lapd_card.specs.FrameCard.{Held}
 use Rattle.lapd_card.specs.Lines.{LinesStand}
+use Rattle.lapd_line.specs.Marks.{AreMarked}
 use Rattle.lapd_store.specs.Store.{Store}
 
 -- A card stands for a machine: it has its configuration, and its lines stand for the machine's over its shelf, which
--- has as many slots as the configuration says, or more; and the machine is one that a list of events reaches.
+-- has as many slots as the configuration says, or more; those lines are marked on which a frame waits; and the machine is one
+-- that a list of events reaches.
 pub record Stands {S : Type 0} (store : S → Store) (card : Held S) (m : machine.Card) : Type 0 where
   pub config : m.config ≡ card.config
   pub lines : LinesStand card.config card.lines (store card.shelf) m.lines
   pub slots : card.config.slots ≤ (store card.shelf).slots
+  pub waiting : AreMarked card.waiting (waits_on m)
   pub reached : IsReached m
 
 -- There is a machine for which it stands.

@@ -173,7 +173,7 @@ impl<S: Shelf> Card<S> {
         if !self.ports[line].is_due() {
             return self.ports[line].give(None);
         }
-        if self.frames.is_quiet(line) {
+        if !self.frames.has_next(line) {
             return self.ports[line].give(None);
         }
         self.pull_next(line)

@@ -1,6 +1,6 @@
 //! The card: one call an event.
 
-ghost use Rattle.std.specs.Prelude.{◌≡◌, ◌+◌, ◌≤◌, ◌<◌, ◌↔◌, length, drop, Some, None, IsSome, IsTrue, IfOk, IfErr, IfSome, IsErr, OnOk, OnErr, get_or};
+ghost use Rattle.std.specs.Prelude.{◌≡◌, ◌+◌, ◌≤◌, ◌<◌, ◌↔◌, length, drop, Some, None, IsSome, IfOk, IfErr, IfSome, IsErr, OnOk, OnErr, get_or};
 ghost use Rattle.std.specs.Option.{option_copied};
 ghost use Rattle.lapd_count.specs.Counters.{none_counted};
 ghost use Rattle.lapd_line.specs.Reports.{report_told, told_in, octets_of, gave_in, written, IsClear};
@@ -12,13 +12,13 @@ ghost use Rattle.model_card.specs.Event.{at};
 ghost use Rattle.model_card.specs.Machine.{answer};
 ghost use Rattle.model_card.specs.Room.{room, RefusesBy};
 ghost use Rattle.model_card.specs.Stored.{stored};
+ghost use Rattle.lapd_card.specs.Waiting.{has_next, next_waiting};
 ghost use Rattle.model_card.specs.Stored as frame_limits;
 ghost use Rattle.model_line.specs.Came.{came, cause_of};
 ghost use Rattle.model_line.specs.Event as line_event;
 ghost use Rattle.model_line.specs.Event.{told, hears, expiry, next};
 ghost use Rattle.model_line.specs.Refusal.{refusal};
 ghost use Rattle.model_line.specs.Request.{request_of};
-ghost use Rattle.model_line.specs.Taken.{taken};
 ghost use Rattle.model_link.specs.Told.{starts};
 ghost use Rattle.model_ports.specs.Stored.{limit};
 ghost use Rattle.lapd_line.specs.Ports.{IsLoaded};
@@ -27,7 +27,7 @@ ghost use Rattle.lapd_line.specs.Pulls.{orders_taken};
 use crate::stored::frame_limit;
 use lapd_count::Counters;
 use lapd_frame::{Order, Refusal, Service, ShortList, Timer};
-use lapd_line::{BareReport, Config, FrameLine, NextFrame, Port, Report, Request, Room};
+use lapd_line::{BareReport, Config, FrameLine, Marks, NextFrame, Port, Report, Request, Room};
 use lapd_store::Shelf;
 use model_bits::Heard;
 use model_line::Fault;
@@ -52,6 +52,8 @@ pub struct FrameCard<S: Shelf> {
     pub(crate) config: Config,
     pub(crate) lines: Vec<FrameLine>,
     pub(crate) shelf: S,
+    /// The lines on which a frame waits, by their numbers.
+    pub(crate) waiting: Marks,
 }
 
 impl<S: Shelf> Model for FrameCard<S> {
@@ -63,9 +65,9 @@ impl<S: Shelf> Model for FrameCard<S> {
 
     ghost use Rattle.lapd_card.specs.FrameStands.{HasPast};
 
-    ghost view = { λ a. record { config = a.config; lines = a.lines.items; shelf = a.shelf } };
+    ghost view = { λ a. record { config = a.config; lines = a.lines.items; shelf = a.shelf; waiting = a.waiting } };
 
-    ghost invariant = { λ a. HasPast S.store (record { config = a.config; lines = a.lines.items; shelf = a.shelf }) };
+    ghost invariant = { λ a. HasPast S.store (record { config = a.config; lines = a.lines.items; shelf = a.shelf; waiting = a.waiting }) };
 }
 
 impl<S: Shelf> FrameCard<S> {
@@ -115,7 +117,9 @@ impl<S: Shelf> FrameCard<S> {
             ≡ answer (at line (hears (came self.old.config.n201 octets.now))) m }
         ensures after { Leads S.store (at line (hears (came self.old.config.n201 octets.now))) self.old self.new }
     {
-        self.lines[line].frame(octets, report, &mut self.shelf);
+        let lane = &mut self.lines[line];
+        lane.frame(octets, report, &mut self.shelf);
+        self.waiting.set(line, lane.has_next());
     }
 
     /// The report of what a frame of these octets led to at a line, with the contents that it delivered.
@@ -143,7 +147,10 @@ impl<S: Shelf> FrameCard<S> {
             → told (report_told result) ≡ answer (at line (hears (stream.dropped (cause_of fault)))) m }
         ensures after { Leads S.store (at line (hears (stream.dropped (cause_of fault)))) self.old self.new }
     {
-        self.lines[line].failed(fault)
+        let lane = &mut self.lines[line];
+        let report = lane.failed(fault);
+        self.waiting.set(line, lane.has_next());
+        report
     }
 
     /// Takes what the port of a line has heard, and tells in the report what it led to.
@@ -157,7 +164,9 @@ impl<S: Shelf> FrameCard<S> {
             → told (told_in (octets_of (heard_of heard.entry)) report.new) ≡ answer (at line (hears e)) m) }
         ensures after { IfSome (heard_of heard.entry) (λ e. Leads S.store (at line (hears e)) self.old self.new) }
     {
-        self.lines[line].heard(heard, report, &mut self.shelf);
+        let lane = &mut self.lines[line];
+        lane.heard(heard, report, &mut self.shelf);
+        self.waiting.set(line, lane.has_next());
     }
 
     /// Writes the next frame to be sent on a line in front of `out`, from its address to its information, without its
@@ -204,7 +213,10 @@ impl<S: Shelf> FrameCard<S> {
         ensures length { length out.new ≡ length out.old }
         ensures after { Leads S.store (at line next) self.old self.new }
     {
-        self.lines[line].next_frame(out, &mut self.shelf)
+        let lane = &mut self.lines[line];
+        let given = lane.next_frame(out, &mut self.shelf);
+        self.waiting.set(line, lane.has_next());
+        given
     }
 
     /// Loads the next frame of a line into its port, and answers its orders for timers; none where no frame waits.
@@ -217,16 +229,31 @@ impl<S: Shelf> FrameCard<S> {
             → IsLoaded (answer (at line next) m) (orders_taken result) port.old port.new }
         ensures after { Leads S.store (at line next) self.old self.new }
     {
-        self.lines[line].load_next(port, &mut self.shelf)
+        let lane = &mut self.lines[line];
+        let orders = lane.load_next(port, &mut self.shelf);
+        self.waiting.set(line, lane.has_next());
+        orders
     }
 
-    /// Whether it is known that no frame of a line waits. Where it is not, there may be none, too.
+    /// Whether a frame waits on a line: whether a call for its next frame gives one.
     #[inline(always)]
-    pub(crate) fn is_quiet(&self, line: usize) -> bool
+    pub fn has_next(&self, line: usize) -> bool
         requires { line < line_count self.now }
-        ensures { (m : machine.Card) → Stands S.store self.now m → IsTrue result → taken m.config (machine.line_at line m) ≡ None }
+        ensures { (m : machine.Card) → Stands S.store self.now m → result ≡ has_next line m }
     {
-        self.lines[line].is_quiet()
+        self.lines[line].has_next()
+    }
+
+    /// The first line on which a frame waits, of those from one on; none where none waits on any of these. It looks at no
+    /// line, so that many quiet lines cost no more than one.
+    #[inline(always)]
+    pub fn next_waiting(&self, from: usize) -> Option<usize>
+        ensures next { (m : machine.Card) → Stands S.store self.now m → result ≡ next_waiting from m }
+        ensures within { IfSome result (λ line. line < line_count self.now) }
+        // No card has more lines.
+        ensures few { IfSome result (λ line. line < 64) }
+    {
+        self.waiting.first(from, self.lines())
     }
 
     /// A timer of a line expired. One that does not run has no effect, and nothing is reported.
@@ -240,7 +267,10 @@ impl<S: Shelf> FrameCard<S> {
         // What may be sent rises by k + 1 where the timer was running, else by nothing.
         ensures frames { (m : machine.Card) → Stands S.store self.old m → RisesByExpiry line timer m }
     {
-        self.lines[line].expire(timer, &mut self.shelf)
+        let lane = &mut self.lines[line];
+        let report = lane.expire(timer, &mut self.shelf);
+        self.waiting.set(line, lane.has_next());
+        report
     }
 
     /// Serves a request of layer 3 or management at a line. One that is refused changes nothing, on this line or any other.
@@ -262,7 +292,14 @@ impl<S: Shelf> FrameCard<S> {
         // What may be sent rises by one where it is accepted, else by nothing.
         ensures frames { (m : machine.Card) → Stands S.store self.old m → RisesByRequest line (request_of request.entry) m }
     {
-        self.lines[line].request(request, &mut self.shelf, u32::from(self.config.slots))
+        let lane = &mut self.lines[line];
+        match lane.request(request, &mut self.shelf, u32::from(self.config.slots)) {
+            Ok(report) => {
+                self.waiting.set(line, lane.has_next());
+                Ok(report)
+            }
+            Err(why) => Err(why),
+        }
     }
 
     /// The state of the link of a service with this TEI, by its number in Q.921: 4 to 8. None where the card has no such

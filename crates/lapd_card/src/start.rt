@@ -15,7 +15,7 @@ ghost use Rattle.lapd_card.specs.Start.{start_fault, is_too_small};
 use crate::card::Card;
 use crate::fault::CardFault;
 use crate::frame_card::FrameCard;
-use lapd_line::{Config, FrameLine, Port, StartFault};
+use lapd_line::{Config, FrameLine, Marks, Port, StartFault};
 use lapd_store::Shelf;
 use std::alloc::Global;
 
@@ -45,6 +45,7 @@ impl<S: Shelf> FrameCard<S> {
             config,
             lines,
             shelf,
+            waiting: Marks::none(),
         })
     }
 }

@@ -1,56 +1,78 @@
--- Which links are awake, as one wakes, falls asleep or begins anew.
-use Rattle.lapd_line.proofs.Vocabulary.{◌≡◌, ◌≢◌, ℕ, zero, suc, List, [], ◌∷◌, replicate, set, slice_get, Some, None, refl, ap, sym, subst, ◌∙◌, arith, ⊎_elim, cases_eq, get_or-set_other, Link, Terms, given, fresh_gives_nothing, Awake, IsAwake, IsAsleep, Wakes, FallsAsleep, NoneMissed, HasTerms, machine_at, terms_in}
+-- Which links are awake, as one is looked at, begins or is cleared.
+use Rattle.lapd_line.proofs.Vocabulary.{◌≡◌, ◌≢◌, ℕ, ◌<◌, zero, suc, Bool, true, false, List, [], ◌∷◌, replicate, set, slice_get, Option, Some, None, is_some, option_map_or, refl, ap, sym, subst, ◌∙◌, arith, ⊎_elim, cases_eq, get_or-set_other, get_or-set_same, Link, Terms, given, fresh_gives_nothing, Marks, IsMark, AreMarked, Sets, digit, AreAwake, gives, gives_at, HasTerms, machine_at, terms_in}
 use Rattle.model_link.specs.Link as machine
 
--- a link that is awake is not asleep
-awake_not_asleep : {A : Type 0} (a : Awake) (number : ℕ) → IsAwake a number → IsAsleep a number → A
-awake_not_asleep a number awake asleep = absurd (omega (arith, awake, asleep))
+-- a mark says which of both it is
+pub unmarked : (b : Bool) → digit false ≡ digit b → b ≡ false
+unmarked true e = absurd (omega (arith, e))
+unmarked false e = refl
 
--- where a link is awake, its machine may become any other one
-pub none_missed_at : (a : Awake) (old new : List Link) (ms : List machine.Link) (number : ℕ) (l : machine.Link) → IsAwake a number → terms_in new ≡ terms_in old
-    → NoneMissed a old ms → NoneMissed a new (set ms number l)
-none_missed_at a old new ms number l awake same h = λ other t few asleep has.
+pub marked : (b : Bool) → digit true ≡ digit b → b ≡ true
+marked true e = refl
+marked false e = absurd (omega (arith, e))
+
+-- the marks of a test are those of another that answers the same
+marked_as : (a : Marks) (p q : ℕ → Bool) → ((number : ℕ) → p number ≡ q number) → AreMarked a p → AreMarked a q
+marked_as a p q same h = λ number few. h number few ∙ ap digit (same number)
+
+-- one is set: the tests differ there alone
+pub marked_one : (number : ℕ) (w : Bool) (a b : Marks) (p q : ℕ → Bool) → Sets number w a b → q number ≡ w
+    → ((other : ℕ) → other ≢ number → q other ≡ p other) → AreMarked a p → AreMarked b q
+marked_one number w a b p q sets here apart h = λ other few.
     ⊎_elim
-    (λ this. awake_not_asleep a number awake (subst (IsAsleep a) this asleep))
-    (λ apart. ap (given t) (get_or-set_other ms number other l machine.fresh apart) ∙ h other t few asleep (subst (λ l. slice_get l other ≡ Some t) same has))
+    (λ this. subst (λ n. IsMark b n (q n)) (sym this) (sets.here ∙ ap digit (sym here)))
+    (λ away. sets.others other few away ∙ h other few ∙ ap digit (sym (apart other away)))
     (cases_eq other number)
 
--- one more is awake
-pub none_missed_more : (a b : Awake) (links : List Link) (ms : List machine.Link) (number : ℕ) → Wakes number a b → NoneMissed a links ms → NoneMissed b links ms
-none_missed_more a b links ms number (awake, stay) h = λ other t few asleep has.
-    ⊎_elim
-    (λ this. awake_not_asleep b number awake (subst (IsAsleep b) this asleep))
-    (λ apart. h other t few (sym (stay other few apart) ∙ asleep) has)
-    (cases_eq other number)
+-- a link with these parameters
+gives_has : (links : List Link) (ms : List machine.Link) (number : ℕ) (t : Terms) → HasTerms links number t → gives_at links ms number ≡ gives (machine_at ms number) t
+gives_has links ms number t has = ap (λ o. option_map_or (gives (machine_at ms number)) o false) has
 
--- so a link that wakes may have become anything
-pub none_missed_woken : (a b : Awake) (old new : List Link) (ms : List machine.Link) (number : ℕ) (l : machine.Link) → Wakes number a b → terms_in new ≡ terms_in old
-    → NoneMissed a old ms → NoneMissed b new (set ms number l)
-none_missed_woken a b old new ms number l wakes same h = none_missed_at b old new ms number l wakes.0 same (none_missed_more a b old ms number wakes h)
+-- one that begins gives nothing
+gives_fresh : (links : List Link) (ms : List machine.Link) (number : ℕ) → machine_at ms number ≡ machine.fresh → gives_at links ms number ≡ false
+gives_fresh links ms number fresh = go (slice_get (terms_in links) number)
+  where
+    go : (o : Option Terms) → option_map_or (gives (machine_at ms number)) o false ≡ false
+    go None = refl
+    go (Some t) = ap (λ m. gives m t) fresh ∙ ap is_some (fresh_gives_nothing t)
 
--- one that has nothing to give falls asleep
-pub none_missed_asleep : (a b : Awake) (old new : List Link) (ms : List machine.Link) (number : ℕ) → FallsAsleep number a b → terms_in new ≡ terms_in old
-    → ((t : Terms) → HasTerms old number t → given t (machine_at ms number) ≡ None) → NoneMissed a old ms → NoneMissed b new ms
-none_missed_asleep a b old new ms number (now, stay) same nothing h = λ other t few asleep has.
-    ⊎_elim
-    (λ this. subst (λ n. given t (machine_at ms n) ≡ None) (sym this) (nothing t (subst (λ n. HasTerms old n t) this (subst (λ l. slice_get l other ≡ Some t) same has))))
-    (λ apart. h other t few (sym (stay other few apart) ∙ asleep) (subst (λ l. slice_get l other ≡ Some t) same has))
-    (cases_eq other number)
+-- another link than the one that changes
+gives_other : (old new : List Link) (ms : List machine.Link) (number other : ℕ) (l : machine.Link) → other ≢ number → slice_get (terms_in new) other ≡ slice_get (terms_in old) other
+    → gives_at new (set ms number l) other ≡ gives_at old ms other
+gives_other old new ms number other l apart same =
+    ap (λ m. option_map_or (gives m) (slice_get (terms_in new) other) false) (get_or-set_other ms number other l machine.fresh apart)
+    ∙ ap (λ o. option_map_or (gives (machine_at ms other)) o false) same
 
--- one that begins has nothing to give
+-- a link has become another, and is awake if that gives something
+pub awake_set : (a b : Marks) (old new : List Link) (ms : List machine.Link) (number : ℕ) (l : machine.Link) (w : Bool) (t : Terms) → Sets number w a b → terms_in new ≡ terms_in old → HasTerms new number t
+    → w ≡ gives (machine_at (set ms number l) number) t → AreAwake a old ms → AreAwake b new (set ms number l)
+awake_set a b old new ms number l w t sets same has told h =
+    marked_one number w a b (gives_at old ms) (gives_at new (set ms number l)) sets (gives_has new (set ms number l) number t has ∙ sym told)
+    (λ other apart. gives_other old new ms number other l apart (ap (λ ts. slice_get ts other) same)) h
+
+-- one that has begun anew
 begins_at : (ms : List machine.Link) (number : ℕ) → machine_at (set ms number machine.fresh) number ≡ machine.fresh
 begins_at [] number = refl
 begins_at (m ∷ ms) zero = refl
 begins_at (m ∷ ms) (suc number) = begins_at ms number
 
-pub none_missed_fresh : (a : Awake) (old new : List Link) (ms : List machine.Link) (number : ℕ)
+pub awake_cleared : (a b : Marks) (old new : List Link) (ms : List machine.Link) (number : ℕ) → Sets number false a b → terms_in new ≡ terms_in old
+    → AreAwake a old ms → AreAwake b new (set ms number machine.fresh)
+awake_cleared a b old new ms number sets same h =
+    marked_one number false a b (gives_at old ms) (gives_at new (set ms number machine.fresh)) sets (gives_fresh new (set ms number machine.fresh) number (begins_at ms number))
+    (λ other apart. gives_other old new ms number other machine.fresh apart (ap (λ ts. slice_get ts other) same)) h
+
+-- one that begins with other parameters was asleep, and stays so
+pub awake_begun : (a : Marks) (old new : List Link) (ms : List machine.Link) (number : ℕ)
     → ((other : ℕ) → other ≢ number → slice_get (terms_in new) other ≡ slice_get (terms_in old) other)
-    → NoneMissed a old ms → NoneMissed a new (set ms number machine.fresh)
-none_missed_fresh a old new ms number same h = λ other t few asleep has.
+    → machine_at ms number ≡ machine.fresh → AreAwake a old ms → AreAwake a new (set ms number machine.fresh)
+awake_begun a old new ms number same fresh h =
+    marked_as a (gives_at old ms) (gives_at new (set ms number machine.fresh))
+    (λ other.
     ⊎_elim
-    (λ this. subst (λ n. given t (machine_at (set ms number machine.fresh) n) ≡ None) (sym this) (ap (given t) (begins_at ms number) ∙ fresh_gives_nothing t))
-    (λ apart. ap (given t) (get_or-set_other ms number other machine.fresh machine.fresh apart) ∙ h other t few asleep (sym (same other apart) ∙ has))
-    (cases_eq other number)
+    (λ this. ap (gives_at old ms) this ∙ gives_fresh old ms number fresh ∙ sym (gives_fresh new (set ms number machine.fresh) number (begins_at ms number)) ∙ ap (gives_at new (set ms number machine.fresh)) (sym this))
+    (λ apart. sym (gives_other old new ms number other machine.fresh apart (same other apart)))
+    (cases_eq other number)) h
 
 -- all begin
 all_fresh : (n number : ℕ) → machine_at (replicate n machine.fresh) number ≡ machine.fresh
@@ -58,5 +80,14 @@ all_fresh zero number = refl
 all_fresh (suc n) zero = refl
 all_fresh (suc n) (suc number) = all_fresh n number
 
-pub none_missed_first : (a : Awake) (links : List Link) (n : ℕ) → NoneMissed a links (replicate n machine.fresh)
-none_missed_first a links n = λ number t few asleep has. ap (given t) (all_fresh n number) ∙ fresh_gives_nothing t
+pub awake_first : (a : Marks) (links : List Link) (n : ℕ) → AreMarked a (λ number. false) → AreAwake a links (replicate n machine.fresh)
+awake_first a links n h = marked_as a (λ number. false) (gives_at links (replicate n machine.fresh)) (λ number. sym (gives_fresh links (replicate n machine.fresh) number (all_fresh n number))) h
+
+-- a link that is awake gives something, and one that is asleep gives nothing
+pub awake_gives : (a : Marks) (links : List Link) (ms : List machine.Link) (number : ℕ) (t : Terms) (b : Bool) → number < 64 → AreAwake a links ms → HasTerms links number t → IsMark a number b
+    → is_some (given t (machine_at ms number)) ≡ b
+awake_gives a links ms number t b few h has is = sym (same b (gives_at links ms number) (sym is ∙ h number few) ∙ gives_has links ms number t has)
+  where
+    same : (b g : Bool) → digit b ≡ digit g → b ≡ g
+    same true g e = sym (marked g e)
+    same false g e = sym (unmarked g e)

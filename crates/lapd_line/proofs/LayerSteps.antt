@@ -1,10 +1,10 @@
 -- What a call on the links does to the entities of a line.
-use Rattle.lapd_line.proofs.Vocabulary.{◌≡◌, ℕ, ◌<◌, ◌≤◌, List, ◌++◌, length, slice_get, Option, Some, refl, sym, ap, subst, ◌∙◌, arith, append_assoc, get_or, None, Owned, Holds, Store, SameLimits, Service, Link, Answer, told_with, state_number, IsAt, place_of, at-within, place_of-is, Line, link_number, link_count, service_at, place_at, tei_at, terms, state_in, state_of, at_link, told_of_link, IsSound, place_at-number, service_at-number, number_within, aim_sound, ranges_of, LinkLayer, BareReport, told_in, unit_pairs, UnitRing, AreFor, Awake, Wakes, NoneMissed, LinksStand, HasTerms, links_pairs, terms_in, machine_at, LinkFits, Stands, Standing, Serves, always, Config, Management, All, zip}
+use Rattle.lapd_line.proofs.Vocabulary.{◌≡◌, ℕ, ◌<◌, ◌≤◌, List, ◌++◌, length, slice_get, Option, Some, refl, sym, ap, subst, ◌∙◌, arith, append_assoc, get_or, None, Owned, Holds, Store, SameLimits, Service, Link, Answer, told_with, state_number, IsAt, place_of, at-within, place_of-is, Line, link_number, link_count, service_at, place_at, tei_at, terms, state_in, state_of, at_link, told_of_link, IsSound, place_at-number, service_at-number, number_within, aim_sound, ranges_of, LinkLayer, BareReport, told_in, unit_pairs, UnitRing, AreFor, Marks, Sets, AreAwake, TellsOf, gives, Bool, LinksStand, HasTerms, links_pairs, terms_in, machine_at, LinkFits, Stands, Standing, Serves, always, Config, Management, All, zip}
 use Rattle.std.specs.Option.{option_map}
 use Rattle.model_link.specs.Events as event
 use Rattle.model_link.specs.Link as machine
 use Rattle.lapd_line.specs.Links as links
-use Rattle.lapd_line.proofs.AwakeSteps.{none_missed_woken}
+use Rattle.lapd_line.proofs.AwakeSteps.{awake_set}
 use Rattle.lapd_line.proofs.LinkSteps.{same_many}
 
 -- The entities stand again where the links are as they were, and what else differs is said anew.
@@ -23,7 +23,7 @@ stands_as {e} st teis units t rest l same wide sound management addressed held =
   addressed = addressed;
   capacity = same.3 ∙ st.capacity;
   turn = same.1 ∙ st.turn;
-  asleep = subst (NoneMissed e.awake e.links) (sym same.0) st.asleep;
+  awake = subst (AreAwake e.awake e.links) (sym same.0) st.awake;
   held = held;
 }
 
@@ -40,12 +40,12 @@ links_part e s others m st = record {
 }
 
 -- the way back: where the links and their machines have changed, and the turn, and nothing else
-pub links_turned : (e : LinkLayer) (s t : Store) (others : List Owned) (m : Line) (new : List Link) (ms : List machine.Link) (awake : Awake) (turn turn' : ℕ)
+pub links_turned : (e : LinkLayer) (s t : Store) (others : List Owned) (m : Line) (new : List Link) (ms : List machine.Link) (awake : Marks) (turn turn' : ℕ)
     → Stands e s others m → terms_in new ≡ terms_in e.links → SameLimits s t
     → IsSound e.config (record m { links = ms; turn = turn })
-    → LinksStand e.config new t (beside_links e m others) ms → NoneMissed awake new ms → turn ≡ turn'
+    → LinksStand e.config new t (beside_links e m others) ms → AreAwake awake new ms → turn ≡ turn'
     → Stands (record e { links = new; awake = awake; turn = turn' }) t others (record m { links = ms; turn = turn })
-links_turned e s t others m new ms awake turn turn' st same limits sound stand asleep turns = record {
+links_turned e s t others m new ms awake turn turn' st same limits sound stand are_awake turns = record {
   range = st.range;
   wide = stand.wide;
   sound = sound;
@@ -56,16 +56,16 @@ links_turned e s t others m new ms awake turn turn' st same limits sound stand a
   addressed = st.addressed;
   capacity = st.capacity;
   turn = turns;
-  asleep = asleep;
+  awake = are_awake;
   held = subst (Holds t) (sym (append_assoc (links_pairs new ms) (unit_pairs e.units.waiting m.units) others)) stand.held;
 }
 
-pub links_back : (e : LinkLayer) (s t : Store) (others : List Owned) (m : Line) (new : List Link) (ms : List machine.Link) (awake : Awake)
+pub links_back : (e : LinkLayer) (s t : Store) (others : List Owned) (m : Line) (new : List Link) (ms : List machine.Link) (awake : Marks)
     → Stands e s others m → terms_in new ≡ terms_in e.links → SameLimits s t
     → IsSound e.config (record m { links = ms })
-    → LinksStand e.config new t (beside_links e m others) ms → NoneMissed awake new ms
+    → LinksStand e.config new t (beside_links e m others) ms → AreAwake awake new ms
     → Stands (record e { links = new; awake = awake }) t others (record m { links = ms })
-links_back e s t others m new ms awake st same limits sound stand asleep = links_turned e s t others m new ms awake m.turn e.turn st same limits sound stand asleep st.turn
+links_back e s t others m new ms awake st same limits sound stand are_awake = links_turned e s t others m new ms awake m.turn e.turn st same limits sound stand are_awake st.turn
 
 -- the link of a service with the TEI at a place: where it is, and its parameters
 pub record Named (e : LinkLayer) (service : Service) (tei place : ℕ) : Type 0 where
@@ -102,12 +102,21 @@ pub number_there : {e : LinkLayer} {s : Store} (service : Service) {tei place nu
 number_there {e} {s} service {tei} {place} (others, m, st) at exact =
     subst (λ n. n < length e.links) (sym (numbered e s tei place (others, m, st) at exact)) (named e s others m service tei place st at).within
 
+-- it is so after a call that keeps the parameters, and has its mark
+pub number_still : {e : LinkLayer} {s : Store} (new : List Link) (service : Service) {tei place number : ℕ} → Standing e s → IsAt e.teis.places place tei → (place ≤ 8 → number ≡ link_number place service)
+    → terms_in new ≡ terms_in e.links → number < length new
+number_still {e} new service standing at exact same = omega (arith, number_there service standing at exact, same_many new e.links same)
+
+pub number_low : {e : LinkLayer} {s : Store} (service : Service) {tei place number : ℕ} → Standing e s → IsAt e.teis.places place tei → (place ≤ 8 → number ≡ link_number place service) → number < 64
+number_low {e} {s} service (others, m, st) at exact =
+    omega (arith, number_there service (others, m, st) at exact, st.count, (ranges_of e.config st.range).terminals.most)
+
 -- an event of a link
-pub at_link_serves : {e : LinkLayer} {s t : Store} {new : List Link} {awake : Awake} {service : Service} {tei place number : ℕ} {what : event.Event} {info octets : List ℕ} {answer : Answer} {outcome : BareReport}
-    → Standing e s → IsAt e.teis.places place tei → (place ≤ 8 → number ≡ link_number place service) → Wakes number e.awake awake
+pub at_link_serves : {e : LinkLayer} {s t : Store} {new : List Link} {awake : Marks} {service : Service} {tei place number : ℕ} {what : event.Event} {info octets : List ℕ} {answer : Answer} {outcome : BareReport} {looked : Bool}
+    → Standing e s → IsAt e.teis.places place tei → (place ≤ 8 → number ≡ link_number place service) → TellsOf number new looked → Sets number looked e.awake awake
     → links.Serves number what info e.links s new t answer → told_in octets outcome ≡ told_of_link (told_with info answer)
     → Serves (always (at_link service tei place what)) octets e s (record e { links = new; awake = awake }) t outcome
-at_link_serves {e} {s} {t} {new} {awake} {service} {tei} {place} {number} {what} {info} {answer = answer} standing at exact wakes serves is_told =
+at_link_serves {e} {s} {t} {new} {awake} {service} {tei} {place} {number} {what} {info} {answer = answer} {looked = looked} standing at exact looks sets serves is_told =
     let same = numbered e s tei place standing at exact in
     let served = subst (λ n. links.Serves n what info e.links s new t answer) same serves in
     record {
@@ -116,9 +125,11 @@ at_link_serves {e} {s} {t} {new} {awake} {service} {tei} {place} {number} {what}
       stands = λ others m st.
           let n = named e s others m service tei place st at in
           let sound = aim_sound e.config st.range m (at_link service tei place what) st.sound (subst (λ x. IsAt x.places place tei) (sym st.management) at) in
-          links_back e s t others m new _ awake st served.terms served.limits sound
-          (served.goes_on e.config (terms e.config service tei) (beside_links e m others) m.links n.has_terms (links_part e s others m st))
-          (none_missed_woken e.awake awake e.links new m.links (link_number place service) _ (subst (λ n. Wakes n e.awake awake) same wakes) served.terms st.asleep);
+          let stand = served.goes_on e.config (terms e.config service tei) (beside_links e m others) m.links n.has_terms (links_part e s others m st) in
+          let has : HasTerms new (link_number place service) (terms e.config service tei) = subst (λ l. slice_get l (link_number place service) ≡ Some (terms e.config service tei)) (sym served.terms) n.has_terms in
+          let told = subst (λ n. TellsOf n new looked) same looks e.config (terms e.config service tei) t (beside_links e m others) _ has stand in
+          links_back e s t others m new _ awake st served.terms served.limits sound stand
+          (awake_set e.awake awake e.links new m.links (link_number place service) _ looked (terms e.config service tei) (subst (λ n. Sets n looked e.awake awake) same sets) served.terms has told st.awake);
       told = λ others m st.
           let n = named e s others m service tei place st at in
           is_told ∙ ap told_of_link (served.told e.config (terms e.config service tei) (beside_links e m others) m.links n.has_terms (links_part e s others m st));

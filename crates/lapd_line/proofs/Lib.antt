@@ -1,7 +1,7 @@
 -- Lemmas: steps of a line, of its links and of its TEI management; what is next; ports; rooms.
 pub mod Vocabulary
 pub mod LinkSteps
-pub mod AwakeBits
+pub mod MarkBits
 pub mod AwakeSteps
 pub mod LayerSteps
 pub mod AddressSteps
@@ -15,6 +15,7 @@ pub mod UnitSteps
 pub mod PullTakes
 pub mod PullTakesUnits
 pub mod PullTakesLinks
+pub mod NextLooks
 pub mod Stood
 pub mod MessageSteps
 pub mod NextSteps

@@ -1,5 +1,5 @@
 -- What a call on the entities of a line does to the line.
-use Rattle.lapd_line.proofs.Vocabulary.{◌≡◌, ℕ, false, List, [], ◌++◌, Option, Some, None, refl, sym, ap, ◌∙◌, subst, false≢true, Cause, Timer, Owned, Store, SameLimits, Config, Event, LineTold, told, dropped, hears, expiry, aim_of_expiry, after, answer, IsSome, Counters, More, with_all, heard_shown, shown, told_in_answer, told_in_report, FrameLine, LinkLayer, BareReport, Report, Serves, aim_of_event, report_told, told_in, Leads, LeadsIfHeard, answer_if_heard, config_of, with_counted, bare_shown}
+use Rattle.lapd_line.proofs.Vocabulary.{◌≡◌, ℕ, List, [], ◌++◌, Option, Some, None, refl, sym, ap, ◌∙◌, subst, false≢true, Cause, Timer, Owned, Store, SameLimits, Config, Event, LineTold, told, dropped, hears, expiry, aim_of_expiry, after, answer, IsSome, Counters, More, with_all, heard_shown, shown, told_in_answer, told_in_report, FrameLine, LinkLayer, BareReport, Report, Serves, aim_of_event, report_told, told_in, Leads, LeadsIfHeard, answer_if_heard, config_of, with_counted, bare_shown}
 use Rattle.model_bits.specs.Stream as stream
 use Rattle.model_line.specs.Line as machine
 use Rattle.lapd_line.specs.LinkLayer as layer
@@ -8,11 +8,11 @@ use Rattle.lapd_line.specs.Stands.{Stands}
 
 -- what was counted is no matter for what a line stands for
 pub recounted : (l : FrameLine) (k : Counters) (s : Store) (others : List Owned) (m : machine.Line) → Stands l s others m → Stands (record l { counters = k }) s others m
-recounted l k s others m st = record { layer = st.layer; quiet = st.quiet }
+recounted l k s others m st = record { layer = st.layer }
 
 -- The entities have gone on with an event of which this is shown, and it was counted.
 abbrev pub gone_on : FrameLine → LinkLayer → List More → FrameLine
-gone_on old e all = record { layer = e; quiet = false; counters = with_all old.counters all }
+gone_on old e all = record { layer = e; counters = with_all old.counters all }
 
 -- So it leads the line on.
 pub leads_on : {event : Event} {old new : FrameLine} {s t : Store} {e : LinkLayer} (all : List More) → e.config ≡ config_of old → SameLimits s t
@@ -23,7 +23,7 @@ leads_on {event} {old} {t = t} all config limits goes are is = record {
   config = ap config_of is ∙ config;
   limits = limits;
   stands = λ others m st.
-      subst (λ l. Stands l t others (after (config_of old) event m)) (sym is) (record { layer = goes others m st; quiet = λ on. absurd (false≢true on) });
+      subst (λ l. Stands l t others (after (config_of old) event m)) (sym is) (record { layer = goes others m st });
   counted = λ others m st. ap (λ l. l.counters) is ∙ ap (with_all old.counters) (sym (are others m st));
 }
 

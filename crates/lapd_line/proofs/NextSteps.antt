@@ -1,40 +1,34 @@
 -- What a call for the next frame does to a line.
-use Rattle.lapd_line.proofs.Vocabulary.{◌≡◌, ℕ, ◌+◌, ◌≤◌, Bool, true, false, not, List, [], ◌++◌, length, take, drop, take-append_seam, Option, Some, None, IfSome, is_some, option_map, refl, sym, ap, ◌∙◌, subst, arith, option_map_or, Counters, More, with_all, begun_shown, message_shown, type_of, slice_get, listed, ShortList, Order, Owned, Store, Config, next, gave, after, answer, Taken, taken, next_of, line_of, TakesSoundly, taken_sound, given_shown, FrameLine, LinkLayer, IsNext, Loading, in_octets, Took, Takes, TakesNext, orders_taken, Leads, config_of, gave_in}
+use Rattle.lapd_line.proofs.Vocabulary.{◌≡◌, ℕ, ◌+◌, ◌≤◌, Bool, true, false, not, List, [], ◌++◌, length, take, drop, take-append_seam, Option, Some, None, IfSome, is_some, option_map, refl, sym, ap, ◌∙◌, subst, arith, option_map_or, Counters, More, with_all, begun_shown, message_shown, type_of, slice_get, listed, ShortList, Order, Owned, Store, Config, next, gave, after, answer, Taken, taken, next_of, line_of, TakesSoundly, taken_sound, given_shown, FrameLine, LinkLayer, IsNext, Loading, in_octets, Took, Takes, TakesNext, orders_taken, Leads, config_of, gave_in, false≢true, head_of, head_shown}
 use Rattle.std.proofs.Common.{length-append}
 use Rattle.std.proofs.lemmas.Slice.{drop-append-drop}
 use Rattle.model_line.specs.Event as line_event
 use Rattle.model_line.specs.Line as machine
+use Rattle.lapd_line.specs.Waiting.{has_next}
 use Rattle.lapd_line.specs.Stands.{Stands}
 use Rattle.lapd_line.proofs.LineSteps.{recounted}
 use Rattle.lapd_line.proofs.MessageSteps.{message_is, type_counted}
 use Rattle.lapd_count.specs.declared.counter.Way.TheVariants.{Begun}
 
--- where none was taken, there are no orders
-pub no_orders : (o : Option (ShortList Order)) (q : Bool) → is_some o ≡ not q → q ≡ true → orders_taken o ≡ None
-no_orders None q e on = refl
-no_orders (Some l) true e on = absurd (cc)
-no_orders (Some l) false e on = absurd (cc)
-
--- the entities have taken it, and where there is none, the line is quiet
-pub next_taken : {old : FrameLine} {s : Store} {e : LinkLayer} {t : Store} {f g : Loading} {orders : Option (List Order)} (q : Bool) → (q ≡ true → orders ≡ None)
-    → Takes taken old.layer s f e t g orders → TakesNext old s f (record old { layer = e; quiet = q }) t g orders
+-- the entities have taken it
+pub next_taken : {old : FrameLine} {s : Store} {e : LinkLayer} {t : Store} {f g : Loading} {orders : Option (List Order)}
+    → Takes taken old.layer s f e t g orders → TakesNext old s f (record old { layer = e }) t g orders
 unfolding after
-next_taken {old} {s} {e} {t} {f} {g} {orders} q none h = record {
+next_taken {old} {s} {e} {t} {f} {g} {orders} h = record {
   config = h.config;
   limits = h.limits;
   room = h.room;
   reference = h.reference;
-  stands = λ others m st. stands others m (taken (config_of old) m) refl orders none (h.took others m st.layer);
+  stands = λ others m st. stands others m (taken (config_of old) m) orders (h.took others m st.layer);
   next = λ others m st. given others m (taken (config_of old) m) orders (h.took others m st.layer);
   uncounted = refl;
 }
   where
-    stands : (others : List Owned) (m : machine.Line) (o : Option Taken) → taken (config_of old) m ≡ o → (os : Option (List Order)) → (q ≡ true → os ≡ None)
-        → Took o os m e t others f g → Stands (record old { layer = e; quiet = q }) t others (option_map_or line_of o m)
-    stands others m None is None none (there, same) = record { layer = there; quiet = λ on. ap (λ k. taken k m) h.config ∙ is }
-    stands others m (Some k) is (Some os) none has = record { layer = has.stands; quiet = λ on. let is_none : Some os ≡ None = none on in absurd (cc) }
-    stands others m None is (Some os) none has = absurd has
-    stands others m (Some k) is None none has = absurd has
+    stands : (others : List Owned) (m : machine.Line) (o : Option Taken) (os : Option (List Order)) → Took o os m e t others f g → Stands (record old { layer = e }) t others (option_map_or line_of o m)
+    stands others m None None (there, same) = record { layer = there }
+    stands others m (Some k) (Some os) has = record { layer = has.stands }
+    stands others m None (Some os) has = absurd has
+    stands others m (Some k) None has = absurd has
 
     given : (others : List Owned) (m : machine.Line) (o : Option Taken) (os : Option (List Order)) → Took o os m e t others f g → IsNext (option_map next_of o) os f g
     given others m None None has = has.1
@@ -42,30 +36,23 @@ next_taken {old} {s} {e} {t} {f} {g} {orders} q none h = record {
     given others m None (Some os) has = absurd has
     given others m (Some k) None has = absurd has
 
--- where it is quiet, there is none
+-- where there is none, the line stays
 pub none_next : (c : Config) (m : machine.Line) → taken c m ≡ None → after c next m ≡ m
 unfolding after
 none_next c m none = ap (λ o. option_map_or line_of o m) none
-
-pub quiet_next : (old : FrameLine) (s : Store) (f : Loading) → old.quiet ≡ true → TakesNext old s f old s f None
-quiet_next old s f on = record {
-  config = refl;
-  limits = record { slots = refl; width = refl };
-  room = refl;
-  reference = refl;
-  stands = λ others m st. subst (Stands old s others) (sym (none_next (config_of old) m (st.quiet on))) st;
-  next = λ others m st. subst (λ o. IsNext (option_map next_of o) None f f) (sym (st.quiet on)) refl;
-  uncounted = refl;
-}
 
 -- so the machine gives none,
 pub none_given : (c : Config) (m : machine.Line) → option_map next_of (taken c m) ≡ None → answer c next m ≡ gave None
 unfolding answer
 none_given c m none = ap gave none
 
-pub none_waits : (c : Config) (m : machine.Line) → taken c m ≡ None → answer c next m ≡ gave None
-unfolding answer
-none_waits c m none = ap (λ o. gave (option_map next_of o)) none
+-- none waits, where the line says so
+pub nothing_waits : (c : Config) (m : machine.Line) → false ≡ has_next c m → taken c m ≡ None
+nothing_waits c m none = go (taken c m) none
+  where
+    go : (o : Option Taken) → false ≡ is_some o → o ≡ None
+    go None e = refl
+    go (Some k) e = absurd (false≢true e)
 
 module _ {old : FrameLine} {s : Store} {f : Loading} {mid : FrameLine} {t : Store} {g : Loading} {given : Option (List Order)} (h : TakesNext old s f mid t g given) where
   -- and the line goes on, where what this shows is counted

@@ -1,53 +1,21 @@
 -- What a pull takes of the links.
-use Rattle.lapd_line.proofs.Vocabulary.{◌≡◌, ◌⊎◌, inl, inr, Bool, true, false, cond, ℕ, zero, suc, ◌+◌, ◌-◌, ◌≤◌, ◌<◌, List, [], ◌∷◌, ◌++◌, length, take, drop, get_or, set, slice_get, Option, Some, None, option_map, IfSome, refl, ap, sym, ◌∙◌, subst, arith, set-get_or, none-some, slice_get_cases, slice_get-map, range_with_len, option_or, unwrap_or, Address, Order, IsFrame, spelling, listed, Owned, Store, IsUsed, Link, Offer, contents_in, HasMessage, terms_of, ControlFrame, Terms, address_at, given, given_of, course, offer, Given, may_send_information, offer_among, send_information, send_acknowledgement, give_information, with_one_sent, next_information, first_unsent, is_awaiting_acknowledgement, Course, Sent, ◌then◌, changed, pending_is, start, T200, Config, Line, link_at, link_count, place_at, service_at, tei_at, terms, terms_at, Taken, with_given_frame, link_taken, first_taken, round, IsSoundAt, fresh_gives_nothing, TakesSoundly, link_sound, ranges_of, Awake, LinkLayer, Stands, Standing, IsAwake, IsAsleep, FallsAsleep, LinksStand, HasTerms, IsGiven, Offers, terms_in, Loading, Loads, room_in, reference_in, IsFree, HasTaken, Took, Takes}
+use Rattle.lapd_line.proofs.Vocabulary.{◌≡◌, ◌⊎◌, inl, inr, Bool, true, false, cond, ℕ, zero, suc, ◌+◌, ◌-◌, ◌≤◌, ◌<◌, List, [], ◌∷◌, ◌++◌, length, take, drop, get_or, set, slice_get, Option, Some, None, option_map, IfSome, refl, ap, sym, ◌∙◌, subst, arith, set-get_or, none-some, slice_get_cases, slice_get-map, range_with_len, option_or, unwrap_or, Address, Order, IsFrame, spelling, listed, Owned, Store, IsUsed, Link, Offer, contents_in, HasMessage, terms_of, ControlFrame, Terms, address_at, given, given_of, course, offer, Given, may_send_information, offer_among, send_information, send_acknowledgement, give_information, with_one_sent, next_information, first_unsent, is_awaiting_acknowledgement, Course, Sent, ◌then◌, changed, pending_is, start, T200, Config, Line, link_at, link_count, place_at, service_at, tei_at, terms, terms_at, Taken, with_given_frame, link_taken, first_taken, round, IsSoundAt, fresh_gives_nothing, TakesSoundly, link_sound, ranges_of, is_some, true≢false, false≢true, ShortList, orders_taken, Marks, IsMark, Sets, TellsOf, given_by, LinkLayer, Stands, Standing, LinksStand, HasTerms, IsGiven, Offers, terms_in, Loading, Loads, room_in, reference_in, IsFree, HasTaken, Took, Takes}
 use Rattle.model_link.specs.Link as machine
 use Rattle.model_link.specs.Machine.{after}
 use Rattle.model_link.specs.Steps.{begun}
-use Rattle.lapd_line.proofs.AwakeSteps.{none_missed_at, none_missed_asleep}
-use Rattle.lapd_line.proofs.LayerSteps.{beside_links, links_part, links_back, links_turned}
+use Rattle.lapd_line.proofs.AwakeSteps.{awake_set, awake_gives}
+use Rattle.lapd_line.proofs.LayerSteps.{beside_links, links_part, links_turned}
 use Rattle.lapd_line.proofs.PullTakes.{takes_or, takes_first, takes_as}
-
--- an I-frame that may be sent is given
-abbrev before_timer : machine.Link → Course
-before_timer l = (give_information then changed with_one_sent then pending_is false) (begun l)
-
-sends_something : (l : machine.Link) (b : Bool) → is_awaiting_acknowledgement l ≡ b
-    → (send_information (begun l)).sent ≡ Some (record { frame = next_information l; contents = first_unsent l })
-sends_something l true e = ap (λ b. (cond {A = Course} b (before_timer l) (start T200 (before_timer l))).sent) e
-sends_something l false e = ap (λ b. (cond {A = Course} b (before_timer l) (start T200 (before_timer l))).sent) e
-
--- a link that has nothing to give is as it was
-nothing_sent : (t : Terms) (l : machine.Link) (c : Course) (o : Option Sent) → given_of t l c o ≡ None → o ≡ None
-nothing_sent t l c None h = refl
-nothing_sent t l c (Some x) h = absurd (none-some _ (sym h))
-
-pub nothing_given : (t : Terms) (l : machine.Link) → given t l ≡ None → after t offer l ≡ l
-nothing_given t l none = go l.waiting refl (may_send_information t l) refl l.pending refl (nothing_sent t l (course t offer l) (course t offer l).sent none)
-  where
-    go : (ws : List ControlFrame) → l.waiting ≡ ws → (may : Bool) → may_send_information t l ≡ may → (owed : Bool) → l.pending ≡ owed → (course t offer l).sent ≡ None → after t offer l ≡ l
-    go (f ∷ fs) w may m owed p h = absurd (none-some _ (sym h ∙ ap (λ ws. (offer_among t ws (begun l)).sent) w))
-    go [] w true m owed p h =
-        absurd (none-some _ (sym h ∙ ap (λ ws. (offer_among t ws (begun l)).sent) w
-        ∙ ap (λ b. (cond {A = Course} b (send_information (begun l)) (cond {A = Course} l.pending (send_acknowledgement (begun l)) (begun l))).sent) m
-        ∙ sends_something l (is_awaiting_acknowledgement l) refl))
-    go [] w false m true p h =
-        absurd (none-some _ (sym h ∙ ap (λ ws. (offer_among t ws (begun l)).sent) w
-        ∙ ap (λ b. (cond {A = Course} b (send_information (begun l)) (cond {A = Course} l.pending (send_acknowledgement (begun l)) (begun l))).sent) m
-        ∙ ap (λ b. (cond {A = Course} b (send_acknowledgement (begun l)) (begun l)).sent) p))
-    go [] w false m false p h =
-        ap (λ ws. (offer_among t ws (begun l)).link) w
-        ∙ ap (λ b. (cond {A = Course} b (send_information (begun l)) (cond {A = Course} l.pending (send_acknowledgement (begun l)) (begun l))).link) m
-        ∙ ap (λ b. (cond {A = Course} b (send_acknowledgement (begun l)) (begun l)).link) p
 
 -- The parameters of a link as it is. Where no TEI is at its place it gives nothing, whatever they are; else they are
 -- those of its TEI.
-record Known (e : LinkLayer) (m : Line) (number : ℕ) : Type 0 where
+pub record Known (e : LinkLayer) (m : Line) (number : ℕ) : Type 0 where
   pub t : Terms
   pub has : HasTerms e.links number t
   pub none : given t (link_at number m) ≡ None → given (terms_at e.config number m) (link_at number m) ≡ None
   pub some : (g : Given) → given t (link_at number m) ≡ Some g → HasTerms e.links number (terms_at e.config number m)
 
-known : (e : LinkLayer) (s : Store) (others : List Owned) (m : Line) (number : ℕ) → number < link_count e.config → Stands e s others m → Known e m number
+pub known : (e : LinkLayer) (s : Store) (others : List Owned) (m : Line) (number : ℕ) → number < link_count e.config → Stands e s others m → Known e m number
 known e s others m number few st = go (tei_at (place_at number) m) refl (st.sound.links number few) (slice_get_cases e.links number).1
   where
     go : (o : Option ℕ) → tei_at (place_at number) m ≡ o → IsSoundAt e.config number (link_at number m) o
@@ -68,28 +36,26 @@ known e s others m number few st = go (tei_at (place_at number) m) refl (st.soun
     }
     go None at fresh (inr (past, none)) = absurd (omega (arith, past, few, st.count))
 
--- a link that has nothing to give is passed over
-pub no_link : (e : LinkLayer) (s : Store) (f : Loading) (number : ℕ) (new : List Link) (awake : Awake) → number < link_count e.config → Offers number e.links new None
-    → FallsAsleep number e.awake awake → Takes (λ c m. link_taken c m number) e s f (record e { links = new; awake = awake }) s f None
-no_link e s f number new awake few o falls = record {
-  config = refl;
-  limits = record { slots = refl; width = refl };
-  room = refl;
-  reference = refl;
-  took = λ others m st.
-      let k = known e s others m number few st in
-      let part = links_part e s others m st in
-      let none : given k.t (link_at number m) ≡ None = sym (o.given e.config k.t s (beside_links e m others) m.links k.has part).given in
-      let same : link_taken e.config m number ≡ None = ap (λ g. option_map (with_given_frame e.config m number (terms_at e.config number m)) g) (k.none none) in
-      let stay : set m.links number (after k.t offer (link_at number m)) ≡ m.links =
-      ap (λ l. set m.links number l) (nothing_given k.t (link_at number m) none) ∙ set-get_or m.links number machine.fresh in
-      let stand : LinksStand e.config new s (beside_links e m others) m.links =
-      subst (LinksStand e.config new s (beside_links e m others)) stay (o.goes_on s e.config k.t (beside_links e m others) m.links k.has part) in
-      let asleep = none_missed_asleep e.awake awake e.links new m.links number falls o.terms (λ t has. sym (o.given e.config t s (beside_links e m others) m.links has part).given) st.asleep in
-      let stays : Stands (record e { links = new; awake = awake }) s others m =
-      links_back e s s others m new m.links awake st o.terms (record { slots = refl; width = refl }) st.sound stand asleep in
-      subst (λ g. Took g None m (record e { links = new; awake = awake }) s others f f) (sym same) (stays, refl);
-}
+-- every link has its mark
+pub low_link : (e : LinkLayer) (s : Store) (number : ℕ) → Standing e s → number < link_count e.config → number < 64
+low_link e s number (others, m, st) few = omega (arith, few, (ranges_of e.config st.range).terminals.most)
+
+-- a link that is awake gives something
+none_given : (store : Store) (o : Option Offer) → o ≡ None → given_by store o ≡ None
+none_given store o is = ap (given_by store) is
+
+pub awake_offers : (e : LinkLayer) (s : Store) (number : ℕ) (new : List Link) (o : Option Offer) → number < link_count e.config → Standing e s → IsMark e.awake number true → Offers number e.links new o
+    → is_some o ≡ true
+awake_offers e s number new o few (others, m, st) awake offers = go o refl
+  where
+    k : Known e m number
+    k = known e s others m number few st
+
+    go : (x : Option Offer) → o ≡ x → is_some x ≡ true
+    go (Some x) is = refl
+    go None is =
+        let given_none : None ≡ given k.t (link_at number m) = sym (none_given s o is) ∙ (offers.given e.config k.t s (beside_links e m others) m.links k.has (links_part e s others m st)).given in
+        ap is_some given_none ∙ awake_gives e.awake e.links m.links number k.t true (low_link e s number (others, m, st) few) st.awake k.has awake
 
 -- what a link gives, for a line that the entities stand for
 record Gives (e : LinkLayer) (s : Store) (m : Line) (number : ℕ) (o : Offer) : Type 0 where
@@ -135,13 +101,13 @@ loads e s number new o address info few (others, m, st) offers named is =
     }
 
 -- what a link gives is loaded
-pub link_loaded : (e : LinkLayer) (s : Store) (f g : Loading) (number : ℕ) (new : List Link) (o : Offer) (address : Address) (info : List ℕ) → number < link_count e.config
-    → IsAwake e.awake number → Offers number e.links new (Some o)
+pub link_loaded : (e : LinkLayer) (s : Store) (f g : Loading) (number : ℕ) (new : List Link) (o : Offer) (address : Address) (info : List ℕ) (awake : Marks) (looked : Bool) → number < link_count e.config
+    → TellsOf number new looked → Sets number looked e.awake awake → Offers number e.links new (Some o)
     → ((t : Terms) → HasTerms new number t → address ≡ address_at t o.frame.command)
     → info ≡ unwrap_or (contents_in s o.contents) [] → room_in g ≡ room_in f → reference_in g ≡ reference_in f
     → Loads (spelling e.config.side (record { address = address; control = o.frame.control; info = info })) f g
-    → Takes (λ c m. link_taken c m number) e s f (record e { links = new; turn = number + 1 }) s g (Some (listed o.orders))
-link_loaded e s f g number new o address info few awake offers named is room reference loaded = record {
+    → Takes (λ c m. link_taken c m number) e s f (record e { links = new; awake = awake; turn = number + 1 }) s g (Some (listed o.orders))
+link_loaded e s f g number new o address info awake looked few looks sets offers named is room reference loaded = record {
   config = refl;
   limits = record { slots = refl; width = refl };
   room = room;
@@ -154,14 +120,16 @@ link_loaded e s f g number new o address info few awake offers named is room ref
       let sound : TakesSoundly e.config m (with_given_frame e.config m number t what) =
       subst (λ x. IfSome x (TakesSoundly e.config m)) same (link_sound e.config st.range m st.sound number few) in
       let stand = offers.goes_on s e.config t (beside_links e m others) m.links gave.has (links_part e s others m st) in
-      let has : HasTaken (with_given_frame e.config m number t what) (listed o.orders) (record e { links = new; turn = number + 1 }) s others f g = record {
+      let has_t = still e number new t offers.terms gave.has in
+      let are_awake = awake_set e.awake awake e.links new m.links number _ looked t sets offers.terms has_t (looks e.config t s (beside_links e m others) _ has_t stand) st.awake in
+      let has : HasTaken (with_given_frame e.config m number t what) (listed o.orders) (record e { links = new; awake = awake; turn = number + 1 }) s others f g = record {
         orders = refl;
-        stands = links_turned e s s others m new _ e.awake (number + 1) (number + 1) st offers.terms (record { slots = refl; width = refl }) sound.line stand (none_missed_at e.awake e.links new m.links number _ awake offers.terms st.asleep) refl;
+        stands = links_turned e s s others m new _ awake (number + 1) (number + 1) st offers.terms (record { slots = refl; width = refl }) sound.line stand are_awake refl;
         loaded =
             subst (λ a. Loads (spelling e.config.side (record { address = a; control = o.frame.control; info = unwrap_or (contents_in s o.contents) [] })) f g) (named t (still e number new t offers.terms gave.has))
             (subst (λ x. Loads (spelling e.config.side (record { address = address; control = o.frame.control; info = x })) f g) is loaded);
       } in
-      subst (λ x. Took x (Some (listed o.orders)) m (record e { links = new; turn = number + 1 }) s others f g) (sym same) has;
+      subst (λ x. Took x (Some (listed o.orders)) m (record e { links = new; awake = awake; turn = number + 1 }) s others f g) (sym same) has;
 }
 
 -- more links, one after another
@@ -195,19 +163,6 @@ among from n c m = first_taken c m (range_with_len from n)
 among_append : (c : Config) (m : Line) (a n k : ℕ) → option_or (among a n c m) (among (a + n) k c m) ≡ among a (n + k) c m
 among_append c m a n k = sym (ap (first_taken c m) (range_append a n k) ∙ first_append c m (range_with_len a n) (range_with_len (a + n) k))
 
--- one link more that has nothing to give
-pub one_more : (from number : ℕ) {a b c : LinkLayer} {s t u : Store} {f g h : Loading} → from ≤ number
-    → Takes (among from (number - from)) a s f b t g None → Takes (λ c m. link_taken c m number) b t g c u h None
-    → Takes (among from (number + 1 - from)) a s f c u h None
-one_more from number {a} {b} {c} {s} {t} {u} {f} {g} {h} order before now =
-    takes_as {first = λ config m. option_or (among from (number - from) config m) (link_taken config m number)} {second = among from (number + 1 - from)}
-    (λ others m st.
-    ap (λ x. option_or (among from (number - from) a.config m) x) (sym (either_none (link_taken a.config m number)))
-    ∙ ap (λ x. option_or (among from (number - from) a.config m) (among x 1 a.config m)) (omega (arith, order))
-    ∙ among_append a.config m from (number - from) 1
-    ∙ ap (λ n. among from n a.config m) (omega (arith, order)))
-    (takes_or {first = among from (number - from)} {second = λ c m. link_taken c m number} before now)
-
 -- the first that has something to give
 pub found : (from number to : ℕ) {a b c : LinkLayer} {s t u : Store} {f g h : Loading} {orders : List Order} → from ≤ number → number < to
     → Takes (among from (number - from)) a s f b t g None → Takes (λ c m. link_taken c m number) b t g c u h (Some orders)
@@ -221,44 +176,53 @@ found from number to {a} {b} {c} {s} {t} {u} {f} {g} {h} {orders} order within b
     (takes_or {first = among from (number - from)} {second = λ config m. option_or (link_taken config m number) (among (number + 1) (to - (number + 1)) config m)} before
     (takes_first (among (number + 1) (to - (number + 1))) {first = λ c m. link_taken c m number} now))
 
--- every link has its bit among those that are awake
-pub low_link : (e : LinkLayer) (s : Store) (number : ℕ) → Standing e s → number < link_count e.config → number < 32
-low_link e s number (others, m, st) few = omega (arith, few, (ranges_of e.config st.range).terminals.most)
+no_value : {A : Type 0} (o : Option A) → is_some o ≡ false → o ≡ None
+no_value None none = refl
+no_value (Some x) none = absurd (true≢false none)
 
 -- links that are asleep have nothing to give
-asleep_gives_nothing : (e : LinkLayer) (s : Store) (others : List Owned) (m : Line) (number : ℕ) → number < link_count e.config → Stands e s others m → IsAsleep e.awake number → link_taken e.config m number ≡ None
+pub asleep_gives_nothing : (e : LinkLayer) (s : Store) (others : List Owned) (m : Line) (number : ℕ) → number < link_count e.config → Stands e s others m → IsMark e.awake number false → link_taken e.config m number ≡ None
 asleep_gives_nothing e s others m number few st asleep =
     let k = known e s others m number few st in
     let low = low_link e s number (others, m, st) few in
-    ap (λ g. option_map (with_given_frame e.config m number (terms_at e.config number m)) g) (k.none (st.asleep number k.t low asleep k.has))
+    ap (λ g. option_map (with_given_frame e.config m number (terms_at e.config number m)) g)
+    (k.none (no_value (given k.t (link_at number m)) (awake_gives e.awake e.links m.links number k.t false low st.awake k.has asleep)))
 
-none_of : (c : Config) (m : Line) (from n : ℕ) → ((number : ℕ) → from ≤ number → number < from + n → link_taken c m number ≡ None) → among from n c m ≡ None
+pub none_of : (c : Config) (m : Line) (from n : ℕ) → ((number : ℕ) → from ≤ number → number < from + n → link_taken c m number ≡ None) → among from n c m ≡ None
 none_of c m from zero none = refl
 none_of c m from (suc n) none =
     ap (λ o. option_or o (among (from + 1) n c m)) (none from (omega arith) (omega arith))
     ∙ none_of c m (from + 1) n (λ number low high. none number (omega (arith, low)) (omega (arith, high)))
 
 -- so they are passed over
-pub passed : (from next number : ℕ) {a b : LinkLayer} {s t : Store} {f g : Loading} → from ≤ next → next ≤ number → number ≤ link_count a.config
-    → ((n : ℕ) → next ≤ n → n < number → IsAsleep b.awake n)
-    → Takes (among from (next - from)) a s f b t g None → Takes (among from (number - from)) a s f b t g None
-passed from next number {a} {b} {s} {t} {f} {g} order more within asleep h =
-    let few : number ≤ link_count b.config = subst (λ c. number ≤ link_count c) (sym h.config) within in
-    let over : Takes (among next (number - next)) b t g b t g None = record {
-      config = refl;
-      limits = record { slots = refl; width = refl };
-      room = refl;
-      reference = refl;
-      took = λ others m st.
-          let none = none_of b.config m next (number - next) (λ n low high. asleep_gives_nothing b t others m n (omega (arith, high, more, few)) st (asleep n low (omega (arith, high, more)))) in
-          subst (λ o. Took o None m b t others g g) (sym none) (st, refl);
-    } in
-    takes_as {first = λ config m. option_or (among from (next - from) config m) (among next (number - next) config m)} {second = among from (number - from)}
-    (λ others m st.
-    ap (λ x. option_or (among from (next - from) a.config m) (among x (number - next) a.config m)) (omega (arith, order))
-    ∙ among_append a.config m from (next - from) (number - next)
-    ∙ ap (λ n. among from n a.config m) (omega (arith, order, more)))
-    (takes_or {first = among from (next - from)} {second = among next (number - next)} h over)
+pub passed : (from number : ℕ) {a : LinkLayer} {s : Store} {f : Loading} → number ≤ link_count a.config → ((n : ℕ) → from ≤ n → n < number → IsMark a.awake n false)
+    → from ≤ number → Takes (among from (number - from)) a s f a s f None
+passed from number {a} {s} {f} within asleep order = record {
+  config = refl;
+  limits = record { slots = refl; width = refl };
+  room = refl;
+  reference = refl;
+  took = λ others m st.
+      let none = none_of a.config m from (number - from) (λ n low high. asleep_gives_nothing a s others m n (omega (arith, high, order, within)) st (asleep n low (omega (arith, high, order)))) in
+      subst (λ o. Took o None m a s others f f) (sym none) (st, refl);
+}
+
+-- where one gives something, that is taken
+taken_some : (o : Option (ShortList Order)) → is_some o ≡ true → is_some (orders_taken o) ≡ true
+taken_some None some = some
+taken_some (Some orders) some = refl
+
+found_some : (from number to : ℕ) {a b c : LinkLayer} {s t u : Store} {f g h : Loading} (orders : Option (List Order)) → is_some orders ≡ true → from ≤ number → number < to
+    → Takes (among from (number - from)) a s f b t g None → Takes (λ c m. link_taken c m number) b t g c u h orders
+    → Takes (among from (to - from)) a s f c u h orders
+found_some from number to (Some orders) some order within before now = found from number to order within before now
+found_some from number to None some order within before now = absurd (false≢true some)
+
+pub found_first : (from number to : ℕ) {a c : LinkLayer} {s u : Store} {f h : Loading} (orders : Option (ShortList Order)) → is_some orders ≡ true → from ≤ number → number < to → to ≤ link_count a.config
+    → ((n : ℕ) → from ≤ n → n < number → IsMark a.awake n false) → Takes (λ c m. link_taken c m number) a s f c u h (orders_taken orders)
+    → Takes (among from (to - from)) a s f c u h (orders_taken orders)
+found_first from number to orders some order within few asleep now =
+    found_some from number to (orders_taken orders) (taken_some orders some) order within (passed from number (omega (arith, within, few)) asleep order) now
 
 -- where nothing was taken, a past stands still, and what a frame is loaded into is as it was
 pub none_stands : {source : Config → Line → Option Taken} {a b : LinkLayer} {s t : Store} {f g : Loading} → Takes source a s f b t g None → Standing a s → Standing b t × (g ≡ f)
@@ -288,7 +252,7 @@ pub turn_within : {e : LinkLayer} {s : Store} → Standing e s → (e.turn ≤ l
 turn_within (others, m, st) = (omega (arith, st.turn, st.sound.turn), st.count)
 
 -- the whole round: from the turn on, and then up to it
-drop_range : (a n t : ℕ) → t ≤ n → drop t (range_with_len a n) ≡ range_with_len (a + t) (n - t)
+pub drop_range : (a n t : ℕ) → t ≤ n → drop t (range_with_len a n) ≡ range_with_len (a + t) (n - t)
 drop_range a n zero h =
     let first : a ≡ a + 0 = omega arith in
     let count : n ≡ n - 0 = omega arith in
@@ -299,7 +263,7 @@ drop_range a (suc n) (suc t) h =
     let count : n - t ≡ suc n - suc t = omega arith in
     drop_range (a + 1) n t (omega (arith, h)) ∙ ap (λ b. range_with_len b (n - t)) first ∙ ap (λ k. range_with_len (a + suc t) k) count
 
-take_range : (a n t : ℕ) → t ≤ n → take t (range_with_len a n) ≡ range_with_len a t
+pub take_range : (a n t : ℕ) → t ≤ n → take t (range_with_len a n) ≡ range_with_len a t
 take_range a n zero h = refl
 take_range a zero (suc t) h = absurd (omega (arith, h))
 take_range a (suc n) (suc t) h = ap (λ l. a ∷ l) (take_range (a + 1) n t (omega (arith, h)))

@@ -1,8 +1,8 @@
 -- A line begins: what its parts are, and that they stand for an empty past.
-use Rattle.lapd_line.proofs.Vocabulary.{◌≡◌, ℕ, ◌≤◌, List, [], ◌∷◌, ◌++◌, length, replicate, Some, None, refl, sym, ap, subst, ◌∙◌, arith, get_or-replicate, All-nil, All-cons, All-head, All-tail, All, zip, Owned, Holds, pairs_of, Store, empty_store, Holds-empty, Management, empty, Link, terms_of, fresh, queue_of, Config, place_at, link_count, fresh_line, IsInRange, fresh_sound, place_within, ranges_of, Awake, Stands, LinkFits, links_pairs, IsBegun, AreBegun, UnitRing, AreFor, empty_ring, unit_pairs}
+use Rattle.lapd_line.proofs.Vocabulary.{◌≡◌, ℕ, ◌≤◌, List, [], ◌∷◌, ◌++◌, length, replicate, Some, None, refl, sym, ap, subst, ◌∙◌, arith, get_or-replicate, All-nil, All-cons, All-head, All-tail, All, zip, Owned, Holds, pairs_of, Store, empty_store, Holds-empty, Management, empty, Link, terms_of, fresh, queue_of, Config, place_at, link_count, fresh_line, IsInRange, fresh_sound, place_within, ranges_of, Marks, AreMarked, false, Stands, LinkFits, links_pairs, IsBegun, AreBegun, UnitRing, AreFor, empty_ring, unit_pairs}
 use Rattle.lapd_link.specs.Stands as link
 use Rattle.lapd_link.specs.Stands.{slots_of}
-use Rattle.lapd_line.proofs.AwakeSteps.{none_missed_first}
+use Rattle.lapd_line.proofs.AwakeSteps.{awake_first}
 
 -- a link that was just started
 pub begun : (c : Config) (x : Link) → IsInRange c
@@ -33,10 +33,10 @@ absurd_none : {A : Type 0} {x : ℕ} → None ≡ Some x → A
 absurd_none h = cc
 
 -- the entities, of parts that were just started
-pub layer_fresh : (c : Config) (teis : Management) (links : List Link) (units : UnitRing) (awake : Awake) → IsInRange c → teis ≡ empty c.terminals → AreBegun c links → units ≡ empty_ring c.unit_queue
+pub layer_fresh : (c : Config) (teis : Management) (links : List Link) (units : UnitRing) (awake : Marks) → IsInRange c → teis ≡ empty c.terminals → AreBegun c links → units ≡ empty_ring c.unit_queue → AreMarked awake (λ number. false)
     → (store : Store) (others : List Owned) → c.n201 ≤ store.width → Holds store others
     → Stands (record { config = c; teis = teis; links = links; units = units; turn = 0; awake = awake }) store others (fresh_line c)
-layer_fresh c teis links units awake ranged is_teis b is_units store others wide held = record {
+layer_fresh c teis links units awake ranged is_teis b is_units none store others wide held = record {
   range = ranged;
   wide = wide;
   sound = fresh_sound c ranged;
@@ -44,12 +44,12 @@ layer_fresh c teis links units awake ranged is_teis b is_units store others wide
   count = b.count;
   links = subst (λ n. All (LinkFits c) (zip links (replicate n fresh))) b.count (links_fit c links b.begun);
   terms = λ number tei within at.
-      let none = get_or-replicate c.terminals (place_at number) None None (place_within number c.terminals within) in
-      absurd_none (sym none ∙ at);
+      let free = get_or-replicate c.terminals (place_at number) None None (place_within number c.terminals within) in
+      absurd_none (sym free ∙ at);
   addressed = subst (λ u. AreFor u.waiting []) (sym is_units) tt;
   capacity = ap (λ u. u.capacity) is_units;
   turn = refl;
-  asleep = none_missed_first awake links (link_count c);
+  awake = awake_first awake links (link_count c) none;
   held = subst (λ ps. Holds store ((ps ++ unit_pairs units.waiting []) ++ others)) (sym (subst (λ n. links_pairs links (replicate n fresh) ≡ []) b.count (no_pairs c links b.begun)))
       (subst (λ u. Holds store (unit_pairs u.waiting [] ++ others)) (sym is_units) held);
 }

@@ -23,7 +23,7 @@ on_shelf {e} {t = t} {rest = rest} {m} st wide held = stands_as st e.teis e.unit
 -- and so does the line
 pub stands_on : (x : FrameLine) (s : Store) (others : List Owned) (m : machine_line.Line) → Stands x s others m → (t : Store) (rest : List Owned) → (config_of x).n201 ≤ t.width → Holds t (line_pairs x m ++ rest)
     → Stands x t rest m
-stands_on x s others m st t rest wide held = record { layer = on_shelf st.layer wide held; quiet = st.quiet }
+stands_on x s others m st t rest wide held = record { layer = on_shelf st.layer wide held }
 
 -- a sum over the places of a list is the sum over its elements
 sum_taken : {X : Type 0} (f : X → ℕ) (xs : List X) (d : X) (n : ℕ) → n ≤ length xs → sum_by (λ i. f (get_or xs i d)) (range_with_len 0 n) ≡ sum_by f (take n xs)

@@ -1,5 +1,5 @@
 -- Changes of the table, and the links that follow them.
-use Rattle.lapd_line.proofs.Vocabulary.{◌≡◌, ◌≢◌, ℕ, ◌<◌, ◌≤◌, List, [], ◌++◌, length, get_or, set, slice_get, Some, None, refl, sym, ap, subst, ◌∙◌, arith, append_assoc, ⊎_elim, cases_eq, length-map, length-set, get_or-set_same, get_or-set_other, none-some, same_Some, slice_get-set_same, slice_get-set_other, Owned, Holds, Store, Service, Call, Packet, Link, Answer, told_with, terms_of, Gained, Left, TeiOutcome, HasJoined, HasLeft, Management, told_of, changes_are_told, Line, link_number, link_count, service_at, place_at, tei_at, terms, link_at, at_management, of_change, of_management, told_of_link, told_of_management, with_cleared, with_opened, IsSound, IsSoundAt, IsInRange, management_event_sound, place_at-number, service_at-number, number_within, other_place, LinkLayer, told_in, unit_pairs, NoneMissed, LinksStand, HasTerms, links_pairs, terms_in, machine_at, Stands, Serves, always, IsAnswerTo, with_management, Config, Terms, listed, cleared-tells, cleared-orders, LinkTold, Changing}
+use Rattle.lapd_line.proofs.Vocabulary.{◌≡◌, ◌≢◌, ℕ, ◌<◌, ◌≤◌, List, [], ◌++◌, length, get_or, set, slice_get, Some, None, refl, sym, ap, subst, ◌∙◌, arith, append_assoc, ⊎_elim, cases_eq, length-map, length-set, get_or-set_same, get_or-set_other, none-some, same_Some, slice_get-set_same, slice_get-set_other, Owned, Holds, Store, Service, Call, Packet, Link, Answer, told_with, terms_of, Gained, Left, TeiOutcome, HasJoined, HasLeft, Management, told_of, changes_are_told, Line, link_number, link_count, service_at, place_at, tei_at, terms, link_at, at_management, of_change, of_management, told_of_link, told_of_management, with_cleared, with_opened, IsSound, IsSoundAt, IsInRange, management_event_sound, place_at-number, service_at-number, number_within, ranges_of, other_place, LinkLayer, told_in, unit_pairs, Marks, Sets, AreAwake, false, LinksStand, HasTerms, links_pairs, terms_in, machine_at, Stands, Serves, always, IsAnswerTo, with_management, Config, Terms, listed, cleared-tells, cleared-orders, LinkTold, Changing}
 use Rattle.model_link.specs.Events as event
 use Rattle.model_link.specs.Link as machine
 use Rattle.model_link.specs.Machine as answers
@@ -8,7 +8,7 @@ use Rattle.lapd_tei.specs.Laws.{Moves}
 use Rattle.model_line.proofs.Numbers.{at_place}
 use Rattle.lapd_line.specs.declared.reports.BareReport as reports
 use Rattle.lapd_line.specs.Links as links
-use Rattle.lapd_line.proofs.AwakeSteps.{none_missed_fresh}
+use Rattle.lapd_line.proofs.AwakeSteps.{awake_begun, awake_cleared}
 use Rattle.lapd_line.proofs.LayerSteps.{links_part, named, few_places}
 use Rattle.lapd_line.proofs.LinkSteps.{same_many}
 
@@ -22,6 +22,16 @@ both_cleared {c} {second = second} t1 t2 others ms has_one has_two one two stand
     let after_one = one.goes_on c t1 others ms has_one stand in
     let has = subst (λ l. slice_get l second ≡ Some t2) (sym one.terms) has_two in
     (one.told c t1 others ms has_one stand, two.goes_on c t2 others _ has after_one, two.told c t2 others _ has after_one)
+
+-- the link of a free place is as it begins
+free_link : {e : LinkLayer} {s : Store} {others : List Owned} {m : Line} (service : Service) (place : ℕ) → Stands e s others m → place < length e.teis.places → get_or e.teis.places place None ≡ None
+    → machine_at m.links (link_number place service) ≡ machine.fresh
+free_link {e} {m = m} service place st within free =
+    let number = link_number place service in
+    let low : place < e.config.terminals = omega (arith, within, st.sound.places, ap (λ t. length t.places) st.management) in
+    let there : tei_at (place_at number) m ≡ None =
+    ap (λ p. tei_at p m) (place_at-number place service) ∙ ap (λ t. get_or t.places place None) st.management ∙ free in
+    subst (IsSoundAt e.config number (link_at number m)) there (st.sound.links number (number_within place e.config.terminals service low))
 
 -- The entities after an event of TEI management: the table is another one, and so may the links be.
 module _ (e : LinkLayer) (before : Management) (what : teis.Event) (outcome : TeiOutcome) (is : IsAnswerTo what before e.teis outcome) where
@@ -42,15 +52,15 @@ module _ (e : LinkLayer) (before : Management) (what : teis.Event) (outcome : Te
       ∙ ap (λ n. of_change e.config outcome.change (told_of_management (told_of outcome)) (record m { management = n })) (sym is.after)
 
   -- so they stand again, where the links do
-  pub rebuilt : (s t : Store) (others : List Owned) (m : Line) (new : List Link) (ms : List machine.Link)
+  pub rebuilt : (s t : Store) (others : List Owned) (m : Line) (new : List Link) (ms : List machine.Link) (awake : Marks)
       → Stands (with_management before e) s others m
       → LinksStand e.config new t (unit_pairs e.units.waiting m.units ++ others) ms
       → length new ≡ length e.links
       → ((number tei : ℕ) → number < link_count e.config → get_or e.teis.places (place_at number) None ≡ Some tei → HasTerms new number (terms e.config (service_at number) tei))
-      → NoneMissed e.awake new ms
+      → AreAwake awake new ms
       → (of_management e.config what m).line ≡ record m { management = e.teis; links = ms }
-      → Stands (record e { links = new }) t others (record m { management = e.teis; links = ms })
-  rebuilt s t others m new ms st stand count has_terms asleep line = record {
+      → Stands (record e { links = new; awake = awake }) t others (record m { management = e.teis; links = ms })
+  rebuilt s t others m new ms awake st stand count has_terms are_awake line = record {
     range = st.range;
     wide = stand.wide;
     sound = subst (IsSound e.config) line (management_event_sound e.config st.range m what st.sound is.range);
@@ -61,7 +71,7 @@ module _ (e : LinkLayer) (before : Management) (what : teis.Event) (outcome : Te
     addressed = st.addressed;
     capacity = st.capacity;
     turn = st.turn;
-    asleep = asleep;
+    awake = are_awake;
     held = subst (Holds t) (sym (append_assoc (links_pairs new ms) (unit_pairs e.units.waiting m.units) others)) stand.held;
   }
 
@@ -76,9 +86,9 @@ module _ (e : LinkLayer) (before : Management) (what : teis.Event) (outcome : Te
         let all : of_management e.config what m ≡ record { line = record m { management = e.teis }; told = told_of_management (told_of outcome) } =
         followed s others m st ∙ ap (λ c. of_change e.config c (told_of_management (told_of outcome)) (record m { management = e.teis })) none in
         subst (λ l. Stands e s others l) (sym (ap (λ x. x.line) all))
-        (rebuilt s s others m e.links m.links st (links_part (with_management before e) s others m st) refl
+        (rebuilt s s others m e.links m.links e.awake st (links_part (with_management before e) s others m st) refl
         (λ number tei few at. st.terms number tei few (ap (λ b. get_or b.places (place_at number) None) st.management ∙ ap (λ p. get_or p (place_at number) None) (sym same) ∙ at))
-        st.asleep (ap (λ x. x.line) all));
+        st.awake (ap (λ x. x.line) all));
     told = λ others m st. told ∙ ap (λ x. x.told) (sym (followed s others m st ∙ ap (λ c. of_change e.config c (told_of_management (told_of outcome)) (record m { management = e.teis })) none));
   }
 
@@ -98,7 +108,7 @@ module _ (e : LinkLayer) (before : Management) (what : teis.Event) (outcome : Te
         let all : of_management e.config what m ≡ record { line = with_opened place (record m { management = e.teis }); told = told_of_management (told_of outcome) } =
         followed s others m st ∙ ap (λ c. of_change e.config c (told_of_management (told_of outcome)) (record m { management = e.teis })) gained in
         subst (λ l. Stands (record e { links = two }) s others l) (sym (ap (λ x. x.line) all))
-        (rebuilt s s others m two _ st (second _ _ (first _ _ (links_part (with_management before e) s others m st))) count (has_terms s others m st there) (asleep m st.asleep) (ap (λ x. x.line) all));
+        (rebuilt s s others m two _ e.awake st (second _ _ (first _ _ (links_part (with_management before e) s others m st))) count (has_terms s others m st there) (are_awake s others m st there) (ap (λ x. x.line) all));
     told = λ others m st. told ∙ ap (λ x. x.told) (sym (followed s others m st ∙ ap (λ c. of_change e.config c (told_of_management (told_of outcome)) (record m { management = e.teis })) gained));
   }
     where
@@ -114,11 +124,13 @@ module _ (e : LinkLayer) (before : Management) (what : teis.Event) (outcome : Te
       count : length two ≡ length e.links
       count = sym (length-map two terms_of) ∙ ap (λ l. length l) all_terms ∙ length-set _ packet _ ∙ length-set _ call _ ∙ length-map e.links terms_of
 
-      -- they begin, and have nothing to give
-      asleep : (m : Line) → NoneMissed e.awake e.links m.links → NoneMissed e.awake two (set (set m.links call machine.fresh) packet machine.fresh)
-      asleep m h =
-          none_missed_fresh e.awake one two (set m.links call machine.fresh) packet (λ other apart. ap (λ l. slice_get l other) second_terms ∙ slice_get-set_other (terms_in one) packet other _ apart)
-          (none_missed_fresh e.awake e.links one m.links call (λ other apart. ap (λ l. slice_get l other) first_terms ∙ slice_get-set_other (terms_in e.links) call other _ apart) h)
+      -- they were asleep, as the place was free, and begin with nothing to give
+      are_awake : (s' : Store) (others : List Owned) (m : Line) → Stands (with_management before e) s' others m → HasJoined before.places e.teis.places tei place
+          → AreAwake e.awake two (set (set m.links call machine.fresh) packet machine.fresh)
+      are_awake s' others m st there =
+          awake_begun e.awake one two (set m.links call machine.fresh) packet (λ other apart. ap (λ l. slice_get l other) second_terms ∙ slice_get-set_other (terms_in one) packet other _ apart)
+          (get_or-set_other m.links call packet machine.fresh machine.fresh (λ q. omega (arith, q)) ∙ free_link {e = with_management before e} Packet place st there.within there.was_free)
+          (awake_begun e.awake e.links one m.links call (λ other apart. ap (λ l. slice_get l other) first_terms ∙ slice_get-set_other (terms_in e.links) call other _ apart) (free_link {e = with_management before e} Call place st there.within there.was_free) st.awake)
 
       has_terms : (s' : Store) (others : List Owned) (m : Line) → Stands (with_management before e) s' others m → HasJoined before.places e.teis.places tei place
           → (number tei' : ℕ) → number < link_count e.config → get_or e.teis.places (place_at number) None ≡ Some tei' → HasTerms two number (terms e.config (service_at number) tei')
@@ -155,18 +167,19 @@ module _ (e : LinkLayer) (before : Management) (what : teis.Event) (outcome : Te
               ∙ st.terms number tei' few (ap (λ b. get_or b.places (place_at number) None) st.management ∙ sym (get_or-set_other before.places place (place_at number) (Some tei) None other) ∙ places_are)
 
   -- A TEI has left the line.
-  pub left : (s u t : Store) (octets : List ℕ) (o : reports.BareReport) (tei place : ℕ) (one two : List Link) (call packet : Answer) → outcome.change ≡ Some (Left tei place)
+  pub left : (s u t : Store) (octets : List ℕ) (o : reports.BareReport) (tei place : ℕ) (one two : List Link) (call packet : Answer) (mid awake : Marks) → outcome.change ≡ Some (Left tei place)
+      → Sets (link_number place Call) false e.awake mid → Sets (link_number place Packet) false mid awake
       → links.Serves (link_number place Call) event.cleared [] e.links s one u call
       → links.Serves (link_number place Packet) event.cleared [] one u two t packet
       → told_in octets o ≡ with_cleared (told_of_link (told_with [] call)) (told_of_link (told_with [] packet)) (told_of_management (told_of outcome))
-      → Serves (always (at_management what)) octets (with_management before e) s (record e { links = two }) t o
-  left s u t octets o tei place one two call packet gone first second told = record {
+      → Serves (always (at_management what)) octets (with_management before e) s (record e { links = two; awake = awake }) t o
+  left s u t octets o tei place one two call packet mid awake gone sleeps sleeps_too first second told = record {
     config = refl;
     limits = record { slots = second.limits.slots ∙ first.limits.slots; width = second.limits.width ∙ first.limits.width };
     stands = λ others m st.
         let all = followed s others m st ∙ ap (λ c. of_change e.config c (told_of_management (told_of outcome)) (record m { management = e.teis })) gone in
-        subst (λ l. Stands (record e { links = two }) t others l) (sym (ap (λ x. x.line) all))
-        (rebuilt s t others m two _ st (both s others m st).1 (same_many two e.links same_terms) (has_terms s others m st) (asleep m st.asleep) (ap (λ x. x.line) all));
+        subst (λ l. Stands (record e { links = two; awake = awake }) t others l) (sym (ap (λ x. x.line) all))
+        (rebuilt s t others m two _ awake st (both s others m st).1 (same_many two e.links same_terms) (has_terms s others m st) (are_awake m st.awake) (ap (λ x. x.line) all));
     told = λ others m st.
         let all = followed s others m st ∙ ap (λ c. of_change e.config c (told_of_management (told_of outcome)) (record m { management = e.teis })) gone in
         told
@@ -194,11 +207,11 @@ module _ (e : LinkLayer) (before : Management) (what : teis.Event) (outcome : Te
       same_terms = second.terms ∙ first.terms
 
       -- they begin anew, and have nothing to give
-      asleep : (m : Line) → NoneMissed e.awake e.links m.links
-          → NoneMissed e.awake two (set (one_of m.links) (link_number place Packet) (answers.after (terms e.config Packet tei) event.cleared (machine_at (one_of m.links) (link_number place Packet))))
-      asleep m h =
-          none_missed_fresh e.awake one two (one_of m.links) (link_number place Packet) (λ other apart. ap (λ l. slice_get l other) second.terms)
-          (none_missed_fresh e.awake e.links one m.links (link_number place Call) (λ other apart. ap (λ l. slice_get l other) first.terms) h)
+      are_awake : (m : Line) → AreAwake e.awake e.links m.links
+          → AreAwake awake two (set (one_of m.links) (link_number place Packet) (answers.after (terms e.config Packet tei) event.cleared (machine_at (one_of m.links) (link_number place Packet))))
+      are_awake m h =
+          awake_cleared mid awake one two (one_of m.links) (link_number place Packet) sleeps_too second.terms
+          (awake_cleared e.awake mid e.links one m.links (link_number place Call) sleeps first.terms h)
 
       has_terms : (s' : Store) (others : List Owned) (m : Line) → Stands (with_management before e) s' others m
           → (number tei' : ℕ) → number < link_count e.config → get_or e.teis.places (place_at number) None ≡ Some tei' → HasTerms two number (terms e.config (service_at number) tei')
@@ -229,6 +242,7 @@ module _ (e : LinkLayer) (s : Store) (tei place : ℕ) where
     pub stand : LinksStand e.config e.links s others ms
     pub exact : {number result : ℕ} → (place ≤ 8 → result ≡ number) → result ≡ number
     pub within : (service : Service) {number : ℕ} → (place ≤ 8 → number ≡ link_number place service) → number < length e.links
+    pub low : (service : Service) {number : ℕ} → (place ≤ 8 → number ≡ link_number place service) → number < 64
     pub has : (service : Service) {number : ℕ} → (place ≤ 8 → number ≡ link_number place service) → HasTerms e.links number (terms e.config service tei)
 
 -- there are such links, whose numbers are exact
@@ -236,16 +250,6 @@ link_within : {e : LinkLayer} {s : Store} {others : List Owned} {m : Line} (serv
 link_within {e} service place st within is =
     let low : place < e.config.terminals = omega (arith, within, st.sound.places, ap (λ t. length t.places) st.management) in
     omega (arith, is, st.count, number_within place e.config.terminals service low)
-
--- the link of a free place is as it begins
-free_link : {e : LinkLayer} {s : Store} {others : List Owned} {m : Line} (service : Service) (place : ℕ) → Stands e s others m → place < length e.teis.places → get_or e.teis.places place None ≡ None
-    → machine_at m.links (link_number place service) ≡ machine.fresh
-free_link {e} {m = m} service place st within free =
-    let number = link_number place service in
-    let low : place < e.config.terminals = omega (arith, within, st.sound.places, ap (λ t. length t.places) st.management) in
-    let there : tei_at (place_at number) m ≡ None =
-    ap (λ p. tei_at p m) (place_at-number place service) ∙ ap (λ t. get_or t.places place None) st.management ∙ free in
-    subst (IsSoundAt e.config number (link_at number m)) there (st.sound.links number (number_within place e.config.terminals service low))
 
 pub coming : {e : LinkLayer} {s : Store} {outcome : TeiOutcome} {tei place : ℕ} → Changing e s outcome → outcome.change ≡ Some (Gained tei place) → Coming e s tei place
 coming {e} {s} {outcome} {tei} {place} (what, before, is, (others, m, st)) gained =
@@ -272,6 +276,7 @@ going {e} {s} {outcome} {tei} {place} (what, before, is, (others, m, st)) gone =
       stand = links_part (with_management before e) s others m st;
       exact = λ h. h (omega (arith, there.within, few));
       within = λ service h. link_within service place st there.within (h (omega (arith, there.within, few)));
+      low = λ service h. omega (arith, link_within service place st there.within (h (omega (arith, there.within, few))), st.count, (ranges_of e.config st.range).terminals.most);
       has = λ service h.
           subst (λ n. HasTerms e.links n (terms e.config service tei)) (sym (h (omega (arith, there.within, few)))) (named (with_management before e) s others m service tei place st there.was_there).has_terms;
     }

@@ -1,5 +1,5 @@
 -- The words with which the proofs of this crate speak, from where they are defined.
-pub use Rattle.std.proofs.Common.{Bool, Err, IfErr, IfOk, IfSome, IsSome, List, None, Ok, OnOk, Option, Result, Some, [], ap, append_assoc, arith, cond, drop, eqb-true, false, fold, get_or, inl, inr, is_some, length, length-append, length-drop, nat_le, nat_lt, not, option_map, option_to_list, refl, replicate, reverse, set, slice_get, subst, suc, sym, take, true, vec_len, w32, zero, ℕ, ⊎_elim, ◌%◌, ◌&&◌, ◌*◌, ◌++◌, ◌+◌, ◌-◌, ◌/◌, ◌<◌, ◌==◌, ◌^◌, ◌||◌, ◌∙◌, ◌∷◌, ◌≡◌, ◌≢◌, ◌≤◌, ◌⊎◌}
+pub use Rattle.std.proofs.Common.{Bool, Err, IfErr, IfOk, IfSome, IsSome, List, None, Ok, OnOk, Option, Result, Some, [], ap, append_assoc, arith, cond, drop, eqb-true, false, get_or, inl, inr, is_some, length, length-append, length-drop, nat_le, nat_lt, not, option_map, option_to_list, refl, replicate, reverse, set, slice_get, subst, suc, sym, take, true, vec_len, w64, zero, ℕ, ⊎_elim, ◌%◌, ◌&&◌, ◌*◌, ◌++◌, ◌+◌, ◌-◌, ◌/◌, ◌<◌, ◌==◌, ◌^◌, ◌||◌, ◌∙◌, ◌∷◌, ◌≡◌, ◌≢◌, ◌≤◌, ◌⊎◌, true≢false, fold}
 pub use Rattle.std.proofs.Math.ListN.{drop_of_length-le}
 pub use Rattle.std.proofs.Math.Nat.{div-le_self}
 pub use Rattle.std.proofs.Math.Seq.{map-set_same, take-append_seam}
@@ -9,7 +9,7 @@ pub use Rattle.std.proofs.lemmas.List.Elements.{All-append, All-cons, All-drop, 
 pub use Rattle.std.proofs.lemmas.List.Folds.{fold-map}
 pub use Rattle.std.proofs.lemmas.List.Sums.{fold-append, sum_by-cons, sum_by_more}
 pub use Rattle.std.proofs.lemmas.Nat.{shr-shr}
-pub use Rattle.std.proofs.lemmas.Nat.Bits.{bit_at-trailing_zeros, bit_at-zero, bit_at_clear_other, bit_at_clear_same, bit_at_set_other, bit_at_set_same}
+pub use Rattle.std.proofs.lemmas.Nat.Bits.{bit_at-trailing_zeros, bit_at-zero, bit_at_above, bit_at_clear_other, bit_at_clear_same, bit_at_set_other, bit_at_set_same}
 pub use Rattle.std.proofs.lemmas.Option.{none-some, same_Some, slice_get-get_or, slice_get-map, slice_get_cases}
 pub use Rattle.std.specs.Int.{bit_at, trailing_zeros}
 pub use Rattle.std.specs.List.{All, list_any, prefix_len, range_with_len, sum_by, zip}
@@ -41,11 +41,12 @@ pub use Rattle.lapd_frame.specs.declared.short_lists.ShortList.{ShortList}
 pub use Rattle.lapd_frame.specs.declared.timers.Order.{Order}
 pub use Rattle.lapd_frame.specs.declared.timers.Timer.{Timer}
 pub use Rattle.lapd_line.specs.Addressing.{addressee, aim_at, group_service, is_ui, message_at, of_service}
-pub use Rattle.lapd_line.specs.Awake.{FallsAsleep, IsAsleep, IsAwake, IsLowestFrom, NoneFrom, NoneMissed, Wakes}
+pub use Rattle.lapd_line.specs.Awake.{AreAwake, TellsOf, gives, gives_at}
 pub use Rattle.lapd_line.specs.Counted.{bare_shown, with_counted}
 pub use Rattle.lapd_line.specs.LinkLayer.{Serves, Standing, Stands, aim_of_event, always}
 pub use Rattle.lapd_line.specs.Links.{GoesOn, HasTerms, IsGiven, LinkFits, LinksStand, Offers, Refuses, link_pairs, links_pairs, machine_at, terms_in}
 pub use Rattle.lapd_line.specs.Loading.{IsFree, IsNext, Loading, Loads, in_bits, in_octets, room_in, reference_in}
+pub use Rattle.lapd_line.specs.Marks.{AreMarked, IsLowestFrom, IsMark, IsMarkedAmong, NoneFrom, Sets, digit}
 pub use Rattle.lapd_line.specs.Octets.{OctetsLead, OctetsStand, octets_config}
 pub use Rattle.lapd_line.specs.Ports.{IsLoaded, IsSaid, PortStands, Pulls, latest_frame, or_latest, with_frame}
 pub use Rattle.lapd_line.specs.Pulls.{HasTaken, Takes, TakesNext, Took, orders_taken}
@@ -56,15 +57,15 @@ pub use Rattle.lapd_line.specs.Starts.{AreBegun, IsBegun}
 pub use Rattle.lapd_line.specs.TeiChanges.{Changing, IsAnswerTo, with_management}
 pub use Rattle.lapd_line.specs.Units.{AreFor, UnitRing, empty_ring, messages_of, slot_of, unit_pairs, with_newest, without_oldest}
 pub use Rattle.lapd_line.specs.declared.addressing.Addressee.{Addressee}
-pub use Rattle.lapd_line.specs.declared.awake.Awake.{Awake}
 pub use Rattle.lapd_line.specs.declared.frame_line.FrameLine.{FrameLine}
 pub use Rattle.lapd_line.specs.declared.link_layer.LinkLayer.{LinkLayer}
+pub use Rattle.lapd_line.specs.declared.marks.Marks.{Marks}
 pub use Rattle.lapd_line.specs.declared.reports.BareReport.{BareReport}
 pub use Rattle.lapd_line.specs.declared.reports.Report.{Report}
 pub use Rattle.lapd_line.specs.declared.requests.TeiRequest.{TeiRequest}
 pub use Rattle.lapd_line.specs.declared.units.QueuedUnit.{QueuedUnit}
 pub use Rattle.lapd_link.specs.Events.{received_of}
-pub use Rattle.lapd_link.specs.Outcome.{HasMessage, contents_in, told_with}
+pub use Rattle.lapd_link.specs.Outcome.{HasMessage, contents_in, given_by, told_with}
 pub use Rattle.lapd_link.specs.Stands.{Fits, terms_of}
 pub use Rattle.lapd_link.specs.declared.link.Link.{Link}
 pub use Rattle.lapd_link.specs.declared.offers.Offer.{Offer}
@@ -115,7 +116,7 @@ pub use Rattle.model_line.specs.Line.{Line, UnitData, fresh_line, has_tei, link_
 pub use Rattle.model_line.specs.Machine.{unless_refused, unless_refused_told}
 unfoldable pub use Rattle.model_line.specs.Machine.{after, answer}
 pub use Rattle.model_line.specs.Heard.{addressed, aim_of_long, aim_of_reading, at_place, drop_for, group_tei, management_sapi, message_of, to_service, unless_at_link}
-pub use Rattle.model_line.specs.Taken.{Taken, first_taken, line_of, link_taken, message_taken, next_of, round, taken, unit_taken, with_given_frame, with_unit}
+pub use Rattle.model_line.specs.Taken.{Taken, first_taken, line_of, link_taken, message_taken, next_of, round, taken, unit_taken, with_given_frame, with_message, with_unit}
 pub use Rattle.model_line.specs.Refusal.{Row, bad_tei, bad_tei_or_group, first_that_holds, no_link, no_link_nor_group, pool_full, queue_full, refusal, too_long, unit_queue_full, wrong_state}
 pub use Rattle.model_line.specs.Request.{Assign, Check, ClearBusy, Data, Deactivate, Establish, Release, Remove, Request, SetBusy, Unit, request_of}
 pub use Rattle.model_line.specs.Requested.{aim_of_request, at_deactivated, at_requested}

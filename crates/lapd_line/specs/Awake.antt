@@ -1,43 +1,30 @@
--- Which links may have something to give.
-use Rattle.std.specs.Prelude.{◌≡◌, ◌≢◌, ℕ, ◌≤◌, ◌<◌, List, None}
-use Rattle.std.specs.Int.{bit_at}
+-- Which links have something to give.
+use Rattle.std.specs.Prelude.{◌≡◌, ℕ, Bool, false, is_some, List, slice_get}
+use Rattle.std.specs.Option.{option_map_or}
+use Rattle.lapd_store.specs.Ownership.{Owned}
+use Rattle.lapd_store.specs.Store.{Store}
 use Rattle.lapd_link.specs.declared.link.Link.{Link}
+use Rattle.model_line.specs.declared.config.Config.{Config}
 use Rattle.model_link.specs.declared.terms.Terms.{Terms}
 use Rattle.model_link.specs.Link as machine
 use Rattle.model_link.specs.Machine.{given}
-use Rattle.lapd_line.specs.declared.awake.Awake.{Awake}
-use Rattle.lapd_line.specs.Links.{HasTerms, machine_at}
+use Rattle.lapd_line.specs.declared.marks.Marks.{Marks}
+use Rattle.lapd_line.specs.Links.{HasTerms, LinksStand, machine_at, terms_in}
+use Rattle.lapd_line.specs.Marks.{AreMarked}
 
--- A link is awake or asleep, by its number.
-abbrev pub IsAwake : Awake → ℕ → Type 0
-IsAwake a number = bit_at a.links number ≡ 1
+-- A link gives something under its parameters; the link at a place does, where there is one.
+abbrev pub gives : machine.Link → Terms → Bool
+gives m terms = is_some (given terms m)
 
-abbrev pub IsAsleep : Awake → ℕ → Type 0
-IsAsleep a number = bit_at a.links number ≡ 0
+abbrev pub gives_at : List Link → List machine.Link → ℕ → Bool
+gives_at links ms number = option_map_or (gives (machine_at ms number)) (slice_get (terms_in links) number) false
 
--- The lowest bit of a number that is 1, from one on; and that there is none.
-abbrev pub IsLowestFrom : ℕ → ℕ → ℕ → Type 0
-IsLowestFrom bits from place = (from ≤ place) × (bit_at bits place ≡ 1) × ((other : ℕ) → from ≤ other → other < place → bit_at bits other ≡ 0)
+-- Those are awake that have something to give, and no others.
+abbrev pub AreAwake : Marks → List Link → List machine.Link → Type 0
+AreAwake marks links ms = AreMarked marks (gives_at links ms)
 
-abbrev pub NoneFrom : ℕ → ℕ → Type 0
-NoneFrom bits from = (other : ℕ) → from ≤ other → bit_at bits other ≡ 0
-
--- It is one of those from a number on and below another, and is awake.
-abbrev pub IsAwakeAmong : Awake → ℕ → ℕ → ℕ → Type 0
-IsAwakeAmong a from to number = (from ≤ number) × (number < to) × IsAwake a number
-
--- All links but one stay as they were; no line has as many as 32.
-abbrev pub OthersStay : ℕ → Awake → Awake → Type 0
-OthersStay number old new = (other : ℕ) → other < 32 → other ≢ number → bit_at new.links other ≡ bit_at old.links other
-
--- One wakes,
-abbrev pub Wakes : ℕ → Awake → Awake → Type 0
-Wakes number old new = IsAwake new number × OthersStay number old new
-
--- or falls asleep.
-abbrev pub FallsAsleep : ℕ → Awake → Awake → Type 0
-FallsAsleep number old new = IsAsleep new number × OthersStay number old new
-
--- No link that has something to give is asleep.
-abbrev pub NoneMissed : Awake → List Link → List machine.Link → Type 0
-NoneMissed a links ms = (number : ℕ) (t : Terms) → number < 32 → IsAsleep a number → HasTerms links number t → given t (machine_at ms number) ≡ None
+-- It is told of the link at a place whether it has something to give.
+abbrev pub TellsOf : ℕ → List Link → Bool → Type 0
+TellsOf number links told =
+    (c : Config) (terms : Terms) (store : Store) (others : List Owned) (ms : List machine.Link) → HasTerms links number terms
+    → LinksStand c links store others ms → told ≡ gives (machine_at ms number) terms

@@ -1,11 +1,13 @@
 -- What a line answers and stands for.
 --
--- Read after those of `model_line` and `model_ports`, in this order: Reports; Units and Links, what waits and in which slots;
--- Awake; LinkLayer; Counted; Stands, of a line; Ports, of its port; Octets, of a line with a port. The other files are named by
--- private functions alone.
+-- Read after those of `model_line` and `model_ports`, in this order: Waiting; Reports; Units and Links, what waits and in
+-- which slots; Marks and Awake, which links have something to give; LinkLayer; Counted; Stands, of a line; Ports, of its port;
+-- Octets, of a line with a port. The other files are named by private functions alone.
+pub mod Waiting
 pub mod Reports
 pub mod Units
 pub mod Links
+pub mod Marks
 pub mod Awake
 pub mod Starts
 pub mod LinkLayer

@@ -13,7 +13,7 @@ use Rattle.model_line.specs.Effect.{Aim, at_none, of_aim}
 use Rattle.model_line.specs.Sound.{IsInRange, IsSound}
 use Rattle.lapd_line.specs.declared.link_layer.LinkLayer.{LinkLayer}
 use Rattle.lapd_line.specs.declared.reports.BareReport.{BareReport}
-use Rattle.lapd_line.specs.Awake.{NoneMissed}
+use Rattle.lapd_line.specs.Awake.{AreAwake}
 use Rattle.lapd_line.specs.Links.{LinkFits, HasTerms, links_pairs}
 use Rattle.lapd_line.specs.Units.{AreFor, unit_pairs}
 use Rattle.lapd_line.specs.Reports.{told_in}
@@ -32,8 +32,8 @@ pub record Stands (e : LinkLayer) (store : Store) (others : List Owned) (m : Lin
   pub addressed : AreFor e.units.waiting m.units
   pub capacity : e.units.capacity ≡ e.config.unit_queue
   pub turn : m.turn ≡ e.turn
-  -- no link that has something to give is taken to be asleep
-  pub asleep : NoneMissed e.awake e.links m.links
+  -- those links are awake that have something to give
+  pub awake : AreAwake e.awake e.links m.links
   pub held : Holds store ((links_pairs e.links m.links ++ unit_pairs e.units.waiting m.units) ++ others)
 
 -- There is a past that they stand for.

@@ -6,7 +6,7 @@
 -- and the two links of that place begin or are cleared, that of call control first. A call for the next frame: the first that
 -- has one gives it: TEI management, the unit data, then the links in turn. It is copied before its slot can be freed, so no
 -- later acknowledgement changes a frame that is on its way.
-use Rattle.std.specs.Prelude.{◌≡◌, List, ◌++◌, true, Option, Some, None}
+use Rattle.std.specs.Prelude.{◌≡◌, List, ◌++◌, Option, Some, None}
 use Rattle.model_bits.specs.Stream as stream
 use Rattle.lapd_store.specs.Ownership.{Owned}
 use Rattle.lapd_store.specs.Store.{Store, SameLimits}
@@ -15,7 +15,6 @@ use Rattle.model_line.specs.Counted.{counted}
 use Rattle.model_line.specs.Event.{Event, Answer, hears, told, nothing}
 use Rattle.model_line.specs.Line as machine
 use Rattle.model_line.specs.Machine.{after, answer}
-use Rattle.model_line.specs.Taken.{taken}
 use Rattle.lapd_line.specs.declared.frame_line.FrameLine.{FrameLine}
 use Rattle.lapd_line.specs.LinkLayer as layer
 use Rattle.lapd_line.specs.Links.{links_pairs}
@@ -32,8 +31,6 @@ pairs_of line m = links_pairs line.layer.links m.links ++ unit_pairs line.layer.
 -- others own.
 pub record Stands (line : FrameLine) (store : Store) (others : List Owned) (m : machine.Line) : Type 0 where
   pub layer : layer.Stands line.layer store others m
-  -- where the line is quiet, there is no frame that could be taken
-  pub quiet : line.quiet ≡ true → taken (config_of line) m ≡ None
 
 -- An event leads a line and its shelf from one value to another: for every past, and every list of what others own, for
 -- which they stood, they stand for that past with the event, and for the same others; and its counters count what the event

@@ -38,9 +38,6 @@ use std::alloc::Global;
 #[derive(Debug, Drop)]
 pub struct FrameLine {
     pub(crate) layer: LinkLayer,
-    /// A call for the next frame found none, and since then nothing has happened but such calls and drops. So the next
-    /// need not look for messages, unit data and links that are awake again.
-    pub(crate) quiet: bool,
     /// What was counted since the start.
     pub(crate) counters: Counters,
 }
@@ -67,7 +64,6 @@ impl FrameLine {
         let layer = LinkLayer::start(alloc, config)?;
         Ok(FrameLine {
             layer,
-            quiet: false,
             counters: Counters::new(),
         })
     }
@@ -107,14 +103,12 @@ impl FrameLine {
         requires stands { Standing self.old.layer (S.store shelf.old) }
         ensures line { self.new ≡ record {
           layer = self.new.layer;
-          quiet = false;
           counters = with_all self.old.counters (heard_shown self.old.layer.config.side (heard_of heard.entry) ++ bare_shown report.new);
         } }
         ensures served { Serves (aim_of_event self.old.layer.config (heard_of heard.entry)) (octets_of (heard_of heard.entry))
             self.old.layer (S.store shelf.old) self.new.layer (S.store shelf.new) report.new }
     {
         let side = self.layer.config.side;
-        self.quiet = false;
         self.counters.heard(side, heard);
         self.layer.serve(heard, report, shelf);
         self.count(report);
@@ -187,7 +181,6 @@ impl FrameLine {
         ensures starts { starts (report_told result).orders ≤ 1 }
         ensures after { Leads (line_event.expiry timer) self.old (S.store shelf.old) self.new (S.store shelf.new) }
     {
-        self.quiet = false;
         let mut bare = BareReport::nothing();
         self.layer.expire(timer, &mut bare, shelf);
         self.count(&bare);
@@ -223,7 +216,6 @@ impl FrameLine {
         let mut bare = BareReport::nothing();
         match self.layer.request(request, &mut bare, shelf, slots) {
             Ok(()) => {
-                self.quiet = false;
                 self.count(&bare);
                 Ok(bare.report(&[]))
             }

@@ -15,8 +15,8 @@
 //!   heard; `expiries`, timers; `tei_changes`, links that open and are cleared; `requests`, what is requested of a link, of TEI
 //!   management and as unit data; `pulls`, which frame is next; `held`, what they store; `rooms`, how much more contents they
 //!   take.
-//! - `links`, `units`: the links of all places of the TEI table, and the unit data that waits; `awake`, which links may
-//!   have something to give.
+//! - `links`, `units`: the links of all places of the TEI table, and the unit data that waits; `marks`, which links have
+//!   something to give.
 //! - `reports`, `pulled`: the answers; `counting`: what they tell is counted; `fault`: why a line can't be started.
 //!
 //! # Only tested
@@ -25,7 +25,6 @@
 #![tactic(auto)]
 
 mod addressing;
-mod awake;
 mod came;
 mod counting;
 mod expiries;
@@ -36,6 +35,7 @@ mod line;
 mod link_layer;
 mod links;
 mod looks;
+mod marks;
 mod next_frame;
 mod outlet;
 mod port;
@@ -52,6 +52,7 @@ pub use fault::StartFault;
 pub use frame_line::FrameLine;
 pub use lapd_link::Room;
 pub use line::Line;
+pub use marks::Marks;
 pub use model_line::{Config, Field, Request};
 pub use next_frame::NextFrame;
 pub use port::Port;

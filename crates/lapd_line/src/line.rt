@@ -154,7 +154,7 @@ impl Line {
         if !self.port.is_due() {
             return self.port.give(None);
         }
-        if self.frames.is_quiet() {
+        if !self.frames.has_next() {
             return self.port.give(None);
         }
         self.pull_next(shelf)

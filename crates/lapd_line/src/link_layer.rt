@@ -7,8 +7,8 @@ ghost use Rattle.model_link.specs.Events as event;
 ghost use Rattle.model_line.specs.Line as machine;
 ghost use Rattle.model_line.specs.Effect.{at_link};
 
-use crate::awake::Awake;
 use crate::links::Links;
+use crate::marks::Marks;
 use crate::reports::BareReport;
 use crate::units::Units;
 use lapd_frame::Service;
@@ -26,8 +26,8 @@ pub(crate) struct LinkLayer {
     pub(crate) units: Units,
     /// The link at which the next round begins.
     pub(crate) turn: usize,
-    /// The links that may have something to give. No other has.
-    pub(crate) awake: Awake,
+    /// The links that have something to give, by their numbers.
+    pub(crate) awake: Marks,
 }
 
 /// A link by its number: two links a place, that of call control first. No table has more than eight places.
@@ -67,10 +67,10 @@ impl LinkLayer {
             → Serves (always (at_link service tei place (event.received (received_of received.entry)))) octets self.old (S.store shelf.old) self.new (S.store shelf.new) report.new }
     {
         let number = link_number(place, service);
-        self.awake.wake(number);
         report.start = start;
         self.links
             .receive(number, received, &mut report.answer, shelf);
+        self.awake.set(number, self.links.has_frame(number));
     }
 
     /// A timer of a link of the TEI at a place expires.
@@ -89,8 +89,8 @@ impl LinkLayer {
         ensures { Serves (always (at_link service tei place (event.expired timer))) [] self.old (S.store shelf.old) self.new (S.store shelf.new) report.new }
     {
         let number = link_number(place, service);
-        self.awake.wake(number);
         self.links.expire(number, timer, &mut report.answer, shelf);
+        self.awake.set(number, self.links.has_frame(number));
     }
 
     /// A link of the TEI at a place is left as one that begins, while the TEI stays.
@@ -108,8 +108,8 @@ impl LinkLayer {
         ensures { Serves (always (at_link service tei place event.cleared)) [] self.old (S.store shelf.old) self.new (S.store shelf.new) report.new }
     {
         let number = link_number(place, service);
-        self.awake.wake(number);
         self.links.clear(number, &mut report.answer, shelf);
+        self.awake.set(number, self.links.has_frame(number));
     }
 
     /// The state of the link of a service with this TEI; none where the TEI is not on the line.

@@ -39,6 +39,7 @@ impl Model for Links {
 impl Links {
     ghost use Rattle.lapd_link.specs.Events.{received_of, request_of, info_of};
     ghost use Rattle.lapd_link.specs.Outcome.{IsClear};
+    ghost use Rattle.lapd_line.specs.Awake.{TellsOf};
     ghost use Rattle.lapd_line.specs.Links.{LinksStand, Offers, Serves, Refuses, HasTerms, machine_at, terms_in};
     ghost use Rattle.lapd_line.specs.Starts.{AreBegun};
 
@@ -139,6 +140,15 @@ impl Links {
         ensures { Offers number self.old self.new result }
     {
         self.all[number].offer()
+    }
+
+    /// Whether a link has something to give.
+    #[inline(always)]
+    pub(crate) fn has_frame(&self, number: usize) -> bool
+        requires { number < length self.now }
+        ensures { TellsOf number self.now result }
+    {
+        self.all[number].has_frame()
     }
 
     /// The address of the frames that a link sends.

@@ -1,12 +1,12 @@
 //! What a line tells of itself: looks at it, which change nothing.
 
-ghost use Rattle.std.specs.Prelude.{◌≡◌, ◌≤◌, ◌-◌, List, IsTrue, None};
+ghost use Rattle.std.specs.Prelude.{◌≡◌, ◌≤◌, ◌-◌, List};
 ghost use Rattle.lapd_store.specs.Ownership.{Owned};
 ghost use Rattle.lapd_store.specs.Store.{Store, used_slots};
 ghost use Rattle.model_line.specs.Line as machine;
 ghost use Rattle.model_line.specs.Room.{room_in};
 ghost use Rattle.model_line.specs.Stored.{held_in};
-ghost use Rattle.model_line.specs.Taken.{taken};
+ghost use Rattle.lapd_line.specs.Waiting.{has_next};
 
 use crate::frame_line::FrameLine;
 use lapd_count::Counters;
@@ -17,14 +17,13 @@ use lapd_store::Shelf;
 impl FrameLine {
     ghost use Rattle.lapd_line.specs.Stands.{Stands, config_of};
 
-    /// Whether it is known that no frame waits, as nothing has happened since one was called for in vain. Where it is not,
-    /// there may be none, too.
+    /// Whether a frame waits: whether a call for the next frame gives one.
     #[inline(always)]
-    pub fn is_quiet(&self) -> bool
+    pub fn has_next(&self) -> bool
         ensures { (store : Store) (others : List Owned) (m : machine.Line) → Stands self.now store others m
-            → IsTrue result → taken (config_of self.now) m ≡ None }
+            → result ≡ has_next (config_of self.now) m }
     {
-        self.quiet
+        self.layer.has_next()
     }
 
     /// The state of the link of a service with this TEI, by its number in Q.921 (annex B): 4 to 8. None where the TEI is

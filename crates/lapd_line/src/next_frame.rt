@@ -143,11 +143,6 @@ impl FrameLine {
         requires room { (config_of self.old).n201 ≤ room_in (O.loading out.old) }
         ensures { TakesNext self.old (S.store shelf.old) (O.loading out.old) self.new (S.store shelf.new) (O.loading out.new) (orders_taken result) }
     {
-        if self.quiet {
-            return None;
-        }
-        let taken = self.layer.take(out, shelf);
-        self.quiet = taken.is_none();
-        taken
+        self.layer.take(out, shelf)
     }
 }

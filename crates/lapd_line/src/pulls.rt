@@ -1,6 +1,6 @@
 //! What a call for the next frame takes: a message of TEI management, unit data, or a frame of a link.
 
-ghost use Rattle.std.specs.Prelude.{◌≡◌, ◌-◌, ◌<◌, ◌≤◌, [], length, IfSome};
+ghost use Rattle.std.specs.Prelude.{◌≡◌, ◌-◌, ◌<◌, ◌≤◌, true, List, [], length, IfSome, IsSome};
 ghost use Rattle.std.specs.List.{range_with_len};
 ghost use Rattle.std.specs.Option.{unwrap_or};
 ghost use Rattle.lapd_frame.specs.Grammar.{IsFrame, spelling};
@@ -8,7 +8,10 @@ ghost use Rattle.lapd_store.specs.Store.{Store, IsUsed};
 ghost use Rattle.lapd_link.specs.Outcome.{contents_in};
 ghost use Rattle.model_line.specs.Line.{link_count};
 ghost use Rattle.model_line.specs.Taken.{message_taken, unit_taken, link_taken, first_taken, taken};
-ghost use Rattle.lapd_line.specs.Awake.{IsAwake};
+ghost use Rattle.model_line.specs.Line as machine;
+ghost use Rattle.lapd_store.specs.Ownership.{Owned};
+ghost use Rattle.lapd_line.specs.Waiting.{has_next};
+ghost use Rattle.lapd_line.specs.Marks.{IsMark};
 ghost use Rattle.lapd_line.specs.Loading.{IsFree, Loads, room_in, reference_in};
 ghost use Rattle.lapd_line.specs.Pulls.{Takes, orders_taken};
 
@@ -49,7 +52,7 @@ fn contents<S: Shelf>(shelf: &S, slot: Option<Slot>) -> &[u8]
 }
 
 impl LinkLayer {
-    ghost use Rattle.lapd_line.specs.LinkLayer.{Standing};
+    ghost use Rattle.lapd_line.specs.LinkLayer.{Standing, Stands};
 
     /// Takes the frame that is next, if there is one, and loads it: the oldest message of TEI management, else the
     /// oldest unit data, else what the first of the links has to give, going round from the one after that which was
@@ -77,7 +80,22 @@ impl LinkLayer {
         self.take_first(0, turn, out, shelf)
     }
 
-    /// What the first of these links has to give. Only those that are awake are asked. Where none is, that costs no call.
+    /// Whether a frame waits: a message of TEI management, unit data, or what a link has to give.
+    #[inline(always)]
+    pub(crate) fn has_next(&self) -> bool
+        ensures { (store : Store) (others : List Owned) (m : machine.Line) → Stands self.now store others m
+            → result ≡ has_next self.now.config m }
+    {
+        if self.teis.has_message() {
+            return true;
+        }
+        if self.units.oldest().is_some() {
+            return true;
+        }
+        self.awake.any()
+    }
+
+    /// What the first of these links has to give. It is the first that is awake; where none is, that costs no call.
     #[inline(always)]
     fn take_first<O: Outlet, S: Shelf>(
         &mut self,
@@ -93,17 +111,11 @@ impl LinkLayer {
         requires within { to ≤ link_count self.old.config }
         ensures { Takes (λ c m. first_taken c m (range_with_len from (to - from))) self.old (S.store shelf.now) (O.loading out.old) self.new (S.store shelf.now) (O.loading out.new) (orders_taken result) }
     {
-        let mut next = from;
-        while let Some(number) = self.awake.first(next, to) {
-            if let Some(orders) = self.take_link(number, out, shelf) {
-                return Some(orders);
-            }
-            next = number + 1;
-        }
-        None
+        let number = self.awake.first(from, to)?;
+        self.take_link(number, out, shelf)
     }
 
-    /// What a link that is awake has to give. It falls asleep where it has nothing.
+    /// What a link that is awake has to give.
     // It is compiled into the rounds, so that what it answers is not copied on its way.
     #[inline(always)]
     fn take_link<O: Outlet, S: Shelf>(
@@ -116,13 +128,12 @@ impl LinkLayer {
         requires free { IsFree (O.loading out.old) }
         requires room { self.old.config.n201 ≤ room_in (O.loading out.old) }
         requires within { number < link_count self.old.config }
-        requires awake { IsAwake self.old.awake number }
-        ensures { Takes (λ c m. link_taken c m number) self.old (S.store shelf.now) (O.loading out.old) self.new (S.store shelf.now) (O.loading out.new) (orders_taken result) }
+        requires awake { IsMark self.old.awake number true }
+        ensures given { IsSome result }
+        ensures taken { Takes (λ c m. link_taken c m number) self.old (S.store shelf.now) (O.loading out.old) self.new (S.store shelf.now) (O.loading out.new) (orders_taken result) }
     {
-        let Some(offer) = self.links.offer(number) else {
-            self.awake.sleep(number);
-            return None;
-        };
+        let offer = self.links.offer(number)?;
+        self.awake.set(number, self.links.has_frame(number));
         let address = self.links.address(number, offer.frame.command);
         load(
             out,

@@ -159,7 +159,7 @@ impl LinkLayer {
             .request(number, request, &mut report.answer, shelf, slots)
         {
             Ok(()) => {
-                self.awake.wake(number);
+                self.awake.set(number, self.links.has_frame(number));
                 Ok(())
             }
             Err(why) => Err(why),

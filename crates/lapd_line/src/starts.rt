@@ -6,10 +6,10 @@ ghost use Rattle.lapd_store.specs.Store.{Store};
 ghost use Rattle.model_line.specs.Line as machine;
 ghost use Rattle.model_line.specs.Sound.{IsInRange};
 
-use crate::awake::Awake;
 use crate::fault::StartFault;
 use crate::link_layer::LinkLayer;
 use crate::links::Links;
+use crate::marks::Marks;
 use crate::units::Units;
 use lapd_tei::Teis;
 use model_line::Config;
@@ -34,7 +34,7 @@ impl LinkLayer {
             links,
             units,
             turn: 0,
-            awake: Awake::none(),
+            awake: Marks::none(),
         })
     }
 }

@@ -127,12 +127,16 @@ impl LinkLayer {
         ensures { (e : teis.Event) (before : Management) (octets : List ℕ) → IsAnswerTo e before self.old.teis told
             → Serves (always (at_management e)) octets (with_management before self.old) (S.store shelf.old) self.new (S.store shelf.new) report.new }
     {
+        let (first, second) = (
+            link_number(place, Service::Call),
+            link_number(place, Service::Packet),
+        );
         let mut call = Answer::nothing();
         let mut packet = Answer::nothing();
-        self.links
-            .clear(link_number(place, Service::Call), &mut call, shelf);
-        self.links
-            .clear(link_number(place, Service::Packet), &mut packet, shelf);
+        self.links.clear(first, &mut call, shelf);
+        self.awake.set(first, false);
+        self.links.clear(second, &mut packet, shelf);
+        self.awake.set(second, false);
         report.tell_management(told);
         report.tell_cleared(&call, &packet);
     }

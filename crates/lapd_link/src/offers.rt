@@ -1,6 +1,6 @@
 //! The next frame that is sent.
 
-ghost use Rattle.std.specs.Prelude.{◌≡◌, ◌+◌, ◌*◌, ◌≤◌, List, None, slice_get, IfSome, MatchOption};
+ghost use Rattle.std.specs.Prelude.{◌≡◌, ◌+◌, ◌*◌, ◌≤◌, List, None, is_some, slice_get, IfSome, MatchOption};
 ghost use Rattle.lapd_store.specs.Store.{Store, IsUsed};
 ghost use Rattle.lapd_store.specs.Ownership.{Owned};
 ghost use Rattle.lapd_frame.specs.Grammar.{IsFrame};
@@ -66,6 +66,15 @@ impl Link {
                 orders: orders(&self.terms, before, told.started, self.entity.running()),
             }),
         }
+    }
+
+    /// Whether it has a frame to give.
+    #[inline(always)]
+    pub fn has_frame(&self) -> bool
+        ensures { (store : Store) (others : List Owned) (m : machine.Link) → Stands self.now store others m →
+            result ≡ is_some (given (terms_of self.now) m) }
+    {
+        self.entity.has_frame(&self.terms, self.queue.len())
     }
 
     // The slot at a place of the queue.

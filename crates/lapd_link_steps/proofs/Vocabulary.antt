@@ -1,8 +1,8 @@
 -- The words with which the proofs of this crate speak, from where they are defined.
-pub use Rattle.std.proofs.Common.{Bool, IsTrue, List, MatchOption, None, Option, Some, [], ap, arith, cond, drop, eqb, false, get_or, inl, inr, length, min, not, refl, subst, suc, sym, take, true, true≢false, zero, zero-add, ℕ, ◌*◌, ◌+◌, ◌<◌, ◌∙◌, ◌∷◌, ◌≡◌, ◌≤◌}
+pub use Rattle.std.proofs.Common.{Bool, IsTrue, List, MatchOption, None, Option, Some, [], ap, arith, cond, drop, eqb, false, get_or, inl, inr, length, min, not, refl, subst, suc, sym, take, true, true≢false, zero, zero-add, ℕ, ◌*◌, ◌+◌, ◌<◌, ◌∙◌, ◌∷◌, ◌≡◌, ◌≤◌, ◌||◌, is_some}
 pub use Rattle.std.proofs.Math.Nat.{min-eq_left, min-eq_right}
 pub use Rattle.std.proofs.Math.Seq.{take-length}
-pub use Rattle.std.proofs.lemmas.Bool.{cases_lt, eq-eqb, le-ltb, lt-ltb}
+pub use Rattle.std.proofs.lemmas.Bool.{cases_lt, eqb-false, eqb-true, eq-eqb, le-ltb, lt-ltb}
 pub use Rattle.std.proofs.lemmas.Bool.Decides.{eqb_tells}
 pub use Rattle.std.proofs.lemmas.List.{drop-drop, drop_all, length-take}
 pub use Rattle.std.proofs.lemmas.List.Sums.{sum_by-cons, sum_by_more}
@@ -30,9 +30,9 @@ pub use Rattle.lapd_seq.specs.Windows.{Stands}
 pub use Rattle.lapd_seq.specs.declared.numbers.Seq.{Seq}
 pub use Rattle.model_link.specs.Established.{unsolicited}
 pub use Rattle.model_link.specs.Link.{Link, frame_of, has_outstanding, is_asked, is_own_busy, is_peer_busy, is_rejecting, may_repeat, queue_of}
-pub use Rattle.model_link.specs.Machine.{expired_in, frame_in, is_running, malformed_in, told_of_clearing}
+pub use Rattle.model_link.specs.Machine.{expired_in, frame_in, given, given_of, is_running, malformed_in, told_of_clearing}
 pub use Rattle.model_link.specs.MultipleFrame.{failed}
-pub use Rattle.model_link.specs.Offers.{is_awaiting_acknowledgement, is_pending, may_send_information, offer_among, offer_step, send_acknowledgement}
+pub use Rattle.model_link.specs.Offers.{give_information, is_awaiting_acknowledgement, is_pending, may_send_information, offer_among, offer_step, send_acknowledgement, send_information, with_one_sent}
 pub use Rattle.model_link.specs.Requests.{release_in}
 pub use Rattle.model_link.specs.Steps.{Course, Sent, Step, begun, by_bit, changed, depending_on, nothing, ◌then◌}
 pub use Rattle.model_link.specs.Words.{acknowledge, begin_anew, by_number, command, deliver_unit, error, leave_unserved, pending_is, start}

@@ -1,8 +1,10 @@
 //! The next frame that is sent.
 
-ghost use Rattle.std.specs.Prelude.{◌≡◌, [], ℕ, ◌<◌, ◌≤◌, List, length, Some, IsTrue};
+ghost use Rattle.std.specs.Prelude.{◌≡◌, [], ℕ, ◌<◌, ◌≤◌, List, length, Some, IsTrue, is_some};
 ghost use Rattle.lapd_seq.specs.Windows.{outstanding_of};
 ghost use Rattle.model_link.specs.declared.terms.Terms.{Terms};
+ghost use Rattle.model_link.specs.Link.{Link, queue_of};
+ghost use Rattle.model_link.specs.Machine.{given};
 ghost use Rattle.model_link.specs.Offers as offers;
 ghost use Rattle.lapd_link_steps.specs.declared.told.Told.{Told};
 ghost use Rattle.model_link.specs.Steps.{changed};
@@ -25,7 +27,7 @@ pub struct Given {
 }
 
 impl Entity {
-    ghost use Rattle.lapd_link_steps.specs.Done.{Gives, given_of};
+    ghost use Rattle.lapd_link_steps.specs.Done.{Gives, Rests, given_of};
 
     /// The next frame, if there is one, while so many contents are queued: the control frame that has waited longest; else
     /// an I-frame; else the acknowledgement that is owed.
@@ -38,6 +40,17 @@ impl Entity {
             Some(frame) => Some(Given { frame, place: None }),
             None => self.offer_numbered(terms, told, queued),
         }
+    }
+
+    /// Whether there is a frame to give, while so many contents are queued.
+    #[inline(always)]
+    pub fn has_frame(&self, terms: &Terms, queued: usize) -> bool
+        ensures { (m : Link) → Rests terms.now self.now m → length (queue_of m) ≡ queued → queued ≤ 127 → result ≡ is_some (given terms.now m) }
+    {
+        if !self.waiting.is_empty() {
+            return true;
+        }
+        self.may_send_information(terms, queued) || self.pending
     }
 
     // The next frame while no control frame waits.

@@ -1,6 +1,7 @@
 //! TEI management of one line.
 
-ghost use Rattle.std.specs.Prelude.{◌≡◌, ◌≤◌, ◌<◌, true, Some, None, length, option_map, slice_get, false, IfOk, IfErr, IfSome, OnOk, OnErr};
+ghost use Rattle.std.specs.Prelude.{◌≡◌, ◌≤◌, ◌<◌, true, Some, None, length, option_map, slice_get, is_some, false, IfOk, IfErr, IfSome, OnOk, OnErr};
+ghost use Rattle.lapd_frame.specs.declared.addresses.Side.{Side as Spelt};
 ghost use Rattle.lapd_tei.specs.Messages.{type_of};
 ghost use Rattle.lapd_tei.specs.Machine.{empty, place, held, First, Second};
 ghost use Rattle.lapd_tei.specs.Table.{is_on};
@@ -186,6 +187,13 @@ impl Teis {
     {
         let message = self.queue.take()?;
         Some(message.frame(side))
+    }
+
+    /// Whether a message waits to be sent.
+    pub fn has_message(&self) -> bool
+        ensures { (side : Spelt) → result ≡ is_some (offered side self.now) }
+    {
+        self.queue.len() > 0
     }
 
     /// The type of the message that [`Teis::offer`] takes next (Q.921 clause 5.3.1, table 8).

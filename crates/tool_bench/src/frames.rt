@@ -53,6 +53,18 @@ pub fn serve(alloc: Global, whole: Whole, lines: u16, rounds: u32) -> Result<Don
     Ok(frames.done)
 }
 
+/// Asks in so many rounds, 128 times in each, on which of so many lines a frame waits, while none does.
+pub fn ask(alloc: Global, lines: u16, rounds: u32) -> Result<Done, Fault> {
+    let mut frames = started(alloc, lines)?;
+    for _ in 0..rounds {
+        for from in 0..128 {
+            let is_quiet = frames.card.next_waiting(from).is_none();
+            frames.done.count(0, u64::from(is_quiet), 0);
+        }
+    }
+    Ok(frames.done)
+}
+
 /// A card with so many lines, with a terminal on each and its link established.
 fn started(alloc: Global, lines: u16) -> Result<Frames, Fault> {
     let config = config(lines);

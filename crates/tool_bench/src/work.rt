@@ -6,7 +6,7 @@ use crate::busy::busy;
 use crate::clocks::{Timed, tick};
 use crate::done::Done;
 use crate::fault::Fault;
-use crate::frames::{Whole, serve};
+use crate::frames::{Whole, ask, serve};
 use crate::line::{ROUND, framed, in_no_order, information, repeated};
 use crate::lines::{Traffic, exchange};
 use crate::sender::{N201, Sender};
@@ -47,6 +47,8 @@ pub enum Work {
     Card(Traffic, u16),
     /// A card for frames, with so many lines.
     Frames(Whole, u16),
+    /// A card for frames, on which no frame waits on any of so many lines.
+    Waiting(u16),
     /// A card with 64 busy lines.
     Busy,
     /// A clock of so many lines.
@@ -60,7 +62,7 @@ pub fn works() -> &'static [(&'static str, Work)] {
     &WORKS
 }
 
-const WORKS: [(&str, Work); 41] = [
+const WORKS: [(&str, Work); 43] = [
     ("check", Work::Check),
     ("hear-short", Work::HearShort),
     ("hear-long", Work::HearLong),
@@ -91,6 +93,8 @@ const WORKS: [(&str, Work); 41] = [
     ("frames-came-64", Work::Frames(Whole::Came, 64)),
     ("frames-gone-1", Work::Frames(Whole::Gone, 1)),
     ("frames-gone-64", Work::Frames(Whole::Gone, 64)),
+    ("waiting-1", Work::Waiting(1)),
+    ("waiting-64", Work::Waiting(64)),
     ("busy-64", Work::Busy),
     ("clock-idle-1", Work::Clock(Timed::Idle, 1)),
     ("clock-idle-64", Work::Clock(Timed::Idle, 64)),
@@ -118,6 +122,7 @@ impl Work {
             Work::SendLong => send(alloc, LONG, rounds),
             Work::Card(traffic, lines) => exchange(alloc, traffic, lines, rounds),
             Work::Frames(kind, lines) => serve(alloc, kind, lines, rounds),
+            Work::Waiting(lines) => ask(alloc, lines, rounds),
             Work::Busy => busy(alloc, rounds),
             Work::Clock(timed, lines) => tick(alloc, timed, lines, rounds),
             Work::Keep(shelves, size) => keep(alloc, shelves, size, rounds),

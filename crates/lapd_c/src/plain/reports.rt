@@ -41,13 +41,15 @@ pub struct PlainReport {
     pub orders: [PlainOrder; 4],
     /// The contents.
     pub contents: [u8; 260],
+    /// Of the next frame: 1 where another frame waits on its line; else 0.
+    pub more: u8,
 }
 
 impl PlainReport {
     /// Shows that nothing was told: of an octet, of an expiry, of a request, or of a pull that began no frame.
     pub fn show_nothing(&mut self)
         ensures told { Shows self.new nothing }
-        ensures pulled { ShowsPull self.new false [] }
+        ensures pulled { ShowsPull self.new false false [] }
     {
         self.note_count = 0;
         self.order_count = 0;
@@ -56,6 +58,7 @@ impl PlainReport {
         self.begun = 0;
         self.delivered = 0;
         self.length = 0;
+        self.more = 0;
     }
 
     /// Shows what an octet, an expiry or a request was answered with: at most four notes and four orders. Contents
@@ -90,10 +93,10 @@ impl PlainReport {
         self.lost = told.lost();
     }
 
-    /// Shows that a call gave a frame, with these orders.
+    /// Shows that a call gave a frame, with these orders, and whether another waits on its line.
     #[inline(always)]
-    pub fn show_next(&mut self, orders: ShortList<Order>)
-        ensures { ShowsPull self.new true (listed orders) }
+    pub fn show_next(&mut self, more: bool, orders: ShortList<Order>)
+        ensures { ShowsPull self.new true more (listed orders) }
     {
         self.note_count = 0;
         self.order_count = write_order_list(&mut self.orders, &orders);
@@ -102,6 +105,7 @@ impl PlainReport {
         self.begun = 1;
         self.delivered = 0;
         self.length = 0;
+        self.more = u8::from(more);
     }
 
     /// Shows what a pull was answered with: whether it began a frame, and at most four orders.
@@ -110,7 +114,7 @@ impl PlainReport {
     #[inline(never)]
     pub fn show_pull(&mut self, begun: bool, orders: &[Order])
         requires { length orders.now ≤ 4 }
-        ensures { ShowsPull self.new begun orders.now }
+        ensures { ShowsPull self.new begun false orders.now }
     {
         self.note_count = 0;
         self.order_count = write_orders(&mut self.orders, orders);
@@ -119,6 +123,7 @@ impl PlainReport {
         self.begun = u8::from(begun);
         self.delivered = 0;
         self.length = 0;
+        self.more = 0;
     }
 
     /// The orders that it shows.

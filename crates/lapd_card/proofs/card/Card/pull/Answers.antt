@@ -5,6 +5,7 @@ use Rattle.model_ports.specs.Port as port
 use Rattle.lapd_card.specs.Card.{line_count}
 use Rattle.lapd_card.proofs.OnePort.{port-there, port-in, to_place, port_holds, seen, stood, past_after}
 use Rattle.lapd_card.proofs.OneOctet.{priced, not_due, quiet, none_told, none_leads}
+use Rattle.lapd_card.proofs.Waiting.{nothing_waits_at}
 use Rattle.lapd_card.proofs.card.Card.pull.Goals as goal
 
 pub index-requires : goal.index-requires
@@ -13,8 +14,8 @@ index-requires g c = port-there g.S.Shelf.store _ c.args.self.now c.args.line _ 
 pub index_mut-requires : goal.index_mut-requires
 index_mut-requires g c = port-there g.S.Shelf.store _ c.args.self.now c.args.line _ c.self.invariant c.self.view_is c.requires c.self.inside.ports.ok.0
 
-pub index_mut-requires-then-is_quiet : goal.index_mut-requires-then-is_quiet
-index_mut-requires-then-is_quiet g c = port-there g.S.Shelf.store _ c.args.self.now c.args.line _ c.self.invariant c.self.view_is c.requires c.self.inside.ports.ok.0
+pub index_mut-requires-then-not-has_next : goal.index_mut-requires-then-not-has_next
+index_mut-requires-then-not-has_next g c = port-there g.S.Shelf.store _ c.args.self.now c.args.line _ c.self.invariant c.self.view_is c.requires c.self.inside.ports.ok.0
 
 pub returns-then-not-is_due-clause-told : goal.returns-then-not-is_due-clause-told
 returns-then-not-is_due-clause-told g c = λ m s. none_told g.S.Shelf.store (record { past = c.self.invariant; within = (subst (λ d. c.args.line < line_count d) (sym c.self.view_is) c.requires); is = c.index_mut.ensures.value }) c.give.ensures (λ m s. not_due m c.args.line (sym (c.if-not-is_due.ensures.due m.card.config.n201 (port_at c.args.line m) (port_holds g.S.Shelf.store (record { past = c.self.invariant; within = (subst (λ d. c.args.line < line_count d) (sym c.self.view_is) c.requires); is = c.index.ensures }) m s)))) m (stood g.S.Shelf.store c.self.view_is m s)
@@ -25,14 +26,14 @@ returns-then-not-is_due-clause-after g c = seen g.S.Shelf.store c.self.view_is (
 pub invariant_of-self : goal.invariant_of-self
 invariant_of-self g c = past_after g.S.Shelf.store (none_leads g.S.Shelf.store (record { past = c.self.invariant; within = (subst (λ d. c.args.line < line_count d) (sym c.self.view_is) c.requires); is = c.index_mut.ensures.value }) c.give.ensures (λ m s. not_due m c.args.line (sym (c.if-not-is_due.ensures.due m.card.config.n201 (port_at c.args.line m) (port_holds g.S.Shelf.store (record { past = c.self.invariant; within = (subst (λ d. c.args.line < line_count d) (sym c.self.view_is) c.requires); is = c.index.ensures }) m s))))) c.self.invariant
 
-pub returns-then-is_quiet-clause-told : goal.returns-then-is_quiet-clause-told
-returns-then-is_quiet-clause-told g c = λ m s. none_told g.S.Shelf.store (record { past = c.self.invariant; within = (subst (λ d. c.args.line < line_count d) (sym c.self.view_is) c.requires); is = c.index_mut-then-is_quiet.ensures.value }) c.give-then-is_quiet.ensures (λ m s. quiet m c.args.line (c.is_quiet.ensures m.card s.frames c.if-is_quiet.true)) m (stood g.S.Shelf.store c.self.view_is m s)
+pub returns-then-not-has_next-clause-told : goal.returns-then-not-has_next-clause-told
+returns-then-not-has_next-clause-told g c = λ m s. none_told g.S.Shelf.store (record { past = c.self.invariant; within = (subst (λ d. c.args.line < line_count d) (sym c.self.view_is) c.requires); is = c.index_mut-then-not-has_next.ensures.value }) c.give-then-not-has_next.ensures (λ m s. quiet m c.args.line (nothing_waits_at c.args.line m.card (subst (λ d. c.args.line < d.lines) (sym s.frames.config) (subst (λ d. c.args.line < line_count d) (sym c.self.view_is) c.requires)) (c.if-not-has_next.ensures m.card s.frames))) m (stood g.S.Shelf.store c.self.view_is m s)
 
-pub returns-then-is_quiet-clause-after : goal.returns-then-is_quiet-clause-after
-returns-then-is_quiet-clause-after g c = seen g.S.Shelf.store c.self.view_is (none_leads g.S.Shelf.store (record { past = c.self.invariant; within = (subst (λ d. c.args.line < line_count d) (sym c.self.view_is) c.requires); is = c.index_mut-then-is_quiet.ensures.value }) c.give-then-is_quiet.ensures (λ m s. quiet m c.args.line (c.is_quiet.ensures m.card s.frames c.if-is_quiet.true)))
+pub returns-then-not-has_next-clause-after : goal.returns-then-not-has_next-clause-after
+returns-then-not-has_next-clause-after g c = seen g.S.Shelf.store c.self.view_is (none_leads g.S.Shelf.store (record { past = c.self.invariant; within = (subst (λ d. c.args.line < line_count d) (sym c.self.view_is) c.requires); is = c.index_mut-then-not-has_next.ensures.value }) c.give-then-not-has_next.ensures (λ m s. quiet m c.args.line (nothing_waits_at c.args.line m.card (subst (λ d. c.args.line < d.lines) (sym s.frames.config) (subst (λ d. c.args.line < line_count d) (sym c.self.view_is) c.requires)) (c.if-not-has_next.ensures m.card s.frames))))
 
-pub invariant_of-self-then-is_quiet : goal.invariant_of-self-then-is_quiet
-invariant_of-self-then-is_quiet g c = past_after g.S.Shelf.store (none_leads g.S.Shelf.store (record { past = c.self.invariant; within = (subst (λ d. c.args.line < line_count d) (sym c.self.view_is) c.requires); is = c.index_mut-then-is_quiet.ensures.value }) c.give-then-is_quiet.ensures (λ m s. quiet m c.args.line (c.is_quiet.ensures m.card s.frames c.if-is_quiet.true))) c.self.invariant
+pub invariant_of-self-then-not-has_next : goal.invariant_of-self-then-not-has_next
+invariant_of-self-then-not-has_next g c = past_after g.S.Shelf.store (none_leads g.S.Shelf.store (record { past = c.self.invariant; within = (subst (λ d. c.args.line < line_count d) (sym c.self.view_is) c.requires); is = c.index_mut-then-not-has_next.ensures.value }) c.give-then-not-has_next.ensures (λ m s. quiet m c.args.line (nothing_waits_at c.args.line m.card (subst (λ d. c.args.line < d.lines) (sym s.frames.config) (subst (λ d. c.args.line < line_count d) (sym c.self.view_is) c.requires)) (c.if-not-has_next.ensures m.card s.frames)))) c.self.invariant
 
 pub pull_next-requires-clause-few : goal.pull_next-requires-clause-few
 pull_next-requires-clause-few g c =
@@ -42,8 +43,8 @@ pull_next-requires-clause-few g c =
 pub returns-then-not-is_due-clause-frames : goal.returns-then-not-is_due-clause-frames
 returns-then-not-is_due-clause-frames g c = λ m s. priced m (at c.args.line port.pull) s.reached (subst (λ d. c.args.line < d.lines) (sym s.frames.config) c.requires)
 
-pub returns-then-is_quiet-clause-frames : goal.returns-then-is_quiet-clause-frames
-returns-then-is_quiet-clause-frames g c = λ m s. priced m (at c.args.line port.pull) s.reached (subst (λ d. c.args.line < d.lines) (sym s.frames.config) c.requires)
+pub returns-then-not-has_next-clause-frames : goal.returns-then-not-has_next-clause-frames
+returns-then-not-has_next-clause-frames g c = λ m s. priced m (at c.args.line port.pull) s.reached (subst (λ d. c.args.line < d.lines) (sym s.frames.config) c.requires)
 
 pub returns-clause-frames : goal.returns-clause-frames
 returns-clause-frames g c = λ m s. priced m (at c.args.line port.pull) s.reached (subst (λ d. c.args.line < d.lines) (sym s.frames.config) c.requires)

@@ -1,26 +1,29 @@
 -- Hand-written answers for `FrameCard::expire`.
 use Rattle.lapd_card.proofs.Vocabulary.{frames_by_event}
 use Rattle.model_line.specs.Event as line_event
-use Rattle.lapd_card.proofs.OneLine.{line-there, one_serves}
+use Rattle.lapd_card.proofs.OneLine.{few_line, line-there, one_serves}
 use Rattle.lapd_card.proofs.OneEvent.{past_after, event_leads, event_told}
 use Rattle.lapd_card.proofs.Served.{expiry_takes}
 use Rattle.lapd_card.proofs.Headline.{at_line}
 use Rattle.lapd_card.proofs.frame_card.FrameCard.expire.Goals as goal
 
-pub index_mut-requires : goal.index_mut-requires
-index_mut-requires g c = line-there g.S.Shelf.store _ c.args.self.now c.args.line _ c.self.invariant c.self.view_is c.requires c.self.inside.lines.ok.0
+pub index_mut-lane-requires : goal.index_mut-lane-requires
+index_mut-lane-requires g c = line-there g.S.Shelf.store _ c.args.self.now c.args.line _ c.self.invariant c.self.view_is c.requires c.self.inside.lines.ok.0
 
-pub expire-requires : goal.expire-requires
-expire-requires g c = one_serves g.S.Shelf.store (record { past = c.self.invariant; same = c.self.view_is; within = c.requires; is = c.index_mut.ensures.value })
+pub expire-report-requires : goal.expire-report-requires
+expire-report-requires g c = one_serves g.S.Shelf.store (record { past = c.self.invariant; same = c.self.view_is; within = c.requires; is = c.index_mut-lane.ensures.value })
 
 pub invariant_of-self : goal.invariant_of-self
-invariant_of-self g c = past_after g.S.Shelf.store c.self.view_is (event_leads g.S.Shelf.store (record { past = c.self.invariant; same = c.self.view_is; within = c.requires; is = c.index_mut.ensures.value }) (line_event.expiry c.args.timer) (expiry_takes c.args.timer) c.expire.ensures.after) c.self.invariant
+invariant_of-self g c = past_after g.S.Shelf.store c.self.view_is (event_leads g.S.Shelf.store (record { past = c.self.invariant; same = c.self.view_is; within = c.requires; is = c.index_mut-lane.ensures.value }) (line_event.expiry c.args.timer) (expiry_takes c.args.timer) c.expire-report.ensures.after (record { told = c.has_next.result; says = c.has_next.ensures; sets = c.set.ensures })) c.self.invariant
 
 pub returns-clause-told : goal.returns-clause-told
-returns-clause-told g c = event_told g.S.Shelf.store (record { past = c.self.invariant; same = c.self.view_is; within = c.requires; is = c.index_mut.ensures.value }) (line_event.expiry c.args.timer) (expiry_takes c.args.timer) c.expire.ensures.told
+returns-clause-told g c = event_told g.S.Shelf.store (record { past = c.self.invariant; same = c.self.view_is; within = c.requires; is = c.index_mut-lane.ensures.value }) (line_event.expiry c.args.timer) (expiry_takes c.args.timer) c.expire-report.ensures.told
 
 pub returns-clause-after : goal.returns-clause-after
-returns-clause-after g c = event_leads g.S.Shelf.store (record { past = c.self.invariant; same = c.self.view_is; within = c.requires; is = c.index_mut.ensures.value }) (line_event.expiry c.args.timer) (expiry_takes c.args.timer) c.expire.ensures.after
+returns-clause-after g c = event_leads g.S.Shelf.store (record { past = c.self.invariant; same = c.self.view_is; within = c.requires; is = c.index_mut-lane.ensures.value }) (line_event.expiry c.args.timer) (expiry_takes c.args.timer) c.expire-report.ensures.after (record { told = c.has_next.result; says = c.has_next.ensures; sets = c.set.ensures })
 
 pub returns-clause-frames : goal.returns-clause-frames
 returns-clause-frames g c = at_line g.S.Shelf.store c.requires (λ m s w. frames_by_event.expiries m c.args.line c.args.timer s w)
+
+pub set-requires : goal.set-requires
+set-requires g c = few_line g.S.Shelf.store c.self.invariant c.self.view_is c.requires

@@ -1,20 +1,23 @@
 -- Hand-written answers for `FrameCard::heard`.
 use Rattle.model_bits.specs.Heard.{heard_of}
-use Rattle.lapd_card.proofs.OneLine.{line-there, one_serves}
+use Rattle.lapd_card.proofs.OneLine.{few_line, line-there, one_serves}
 use Rattle.lapd_card.proofs.OneEvent.{heard_past, heard_told, heard_leads}
 use Rattle.lapd_card.proofs.frame_card.FrameCard.heard.Goals as goal
 
-pub index_mut-requires : goal.index_mut-requires
-index_mut-requires g c = line-there g.S.Shelf.store _ c.args.self.now c.args.line _ c.self.invariant c.self.view_is c.requires.within c.self.inside.lines.ok.0
+pub index_mut-lane-requires : goal.index_mut-lane-requires
+index_mut-lane-requires g c = line-there g.S.Shelf.store _ c.args.self.now c.args.line _ c.self.invariant c.self.view_is c.requires.within c.self.inside.lines.ok.0
 
 pub heard-requires : goal.heard-requires
-heard-requires g c = record { clear = c.requires.clear; stands = one_serves g.S.Shelf.store (record { past = c.self.invariant; same = c.self.view_is; within = c.requires.within; is = c.index_mut.ensures.value }) }
+heard-requires g c = record { clear = c.requires.clear; stands = one_serves g.S.Shelf.store (record { past = c.self.invariant; same = c.self.view_is; within = c.requires.within; is = c.index_mut-lane.ensures.value }) }
 
 pub invariant_of-self : goal.invariant_of-self
-invariant_of-self g c = heard_past g.S.Shelf.store (record { past = c.self.invariant; same = c.self.view_is; within = c.requires.within; is = c.index_mut.ensures.value }) (heard_of c.args.heard) _ _ c.requires.something c.heard.ensures.after
+invariant_of-self g c = heard_past g.S.Shelf.store (record { past = c.self.invariant; same = c.self.view_is; within = c.requires.within; is = c.index_mut-lane.ensures.value }) (heard_of c.args.heard) _ _ _ c.requires.something c.heard.ensures.after (record { told = c.has_next.result; says = c.has_next.ensures; sets = c.set.ensures })
 
 pub returns-clause-told : goal.returns-clause-told
-returns-clause-told g c = heard_told g.S.Shelf.store (record { past = c.self.invariant; same = c.self.view_is; within = c.requires.within; is = c.index_mut.ensures.value }) (heard_of c.args.heard) c.heard.ensures.told
+returns-clause-told g c = heard_told g.S.Shelf.store (record { past = c.self.invariant; same = c.self.view_is; within = c.requires.within; is = c.index_mut-lane.ensures.value }) (heard_of c.args.heard) c.heard.ensures.told
 
 pub returns-clause-after : goal.returns-clause-after
-returns-clause-after g c = heard_leads g.S.Shelf.store (record { past = c.self.invariant; same = c.self.view_is; within = c.requires.within; is = c.index_mut.ensures.value }) (heard_of c.args.heard) _ _ c.heard.ensures.after
+returns-clause-after g c = heard_leads g.S.Shelf.store (record { past = c.self.invariant; same = c.self.view_is; within = c.requires.within; is = c.index_mut-lane.ensures.value }) (heard_of c.args.heard) _ _ _ c.heard.ensures.after (record { told = c.has_next.result; says = c.has_next.ensures; sets = c.set.ensures })
+
+pub set-requires : goal.set-requires
+set-requires g c = few_line g.S.Shelf.store c.self.invariant c.self.view_is c.requires.within

@@ -1,6 +1,5 @@
 -- Hand-written answers for `FrameLine::start`.
-use Rattle.lapd_line.proofs.Vocabulary.{false≢true}
 use Rattle.lapd_line.proofs.frame_line.FrameLine.start.Goals as goal
 
 pub returns-clause-fresh : goal.returns-clause-fresh
-returns-clause-fresh c = λ store others wide held. record { layer = c.in_ok-layer.ensures.fresh store others wide held; quiet = λ is. absurd (false≢true is) }
+returns-clause-fresh c = λ store others wide held. record { layer = c.in_ok-layer.ensures.fresh store others wide held }

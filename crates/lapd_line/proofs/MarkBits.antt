@@ -1,0 +1,41 @@
+-- The bits of marks.
+use Rattle.lapd_line.proofs.Vocabulary.{◌≡◌, ◌≢◌, ℕ, ◌+◌, ◌-◌, ◌/◌, ◌%◌, ◌^◌, ◌≤◌, ◌<◌, ap, sym, ◌∙◌, arith, shr-shr, div-le_self, bit_at-zero, bit_at-trailing_zeros, bit_at, trailing_zeros, NoneFrom, IsLowestFrom, Bool, true, false, true≢false, eqb-true, not, ◌==◌, zero, suc, refl}
+use Rattle.std.specs.Int.{w64}
+
+-- a bit of what is left from one bit on
+shifted_bit : (n from number : ℕ) → from ≤ number → bit_at n number ≡ bit_at (n / 2 ^ from) (number - from)
+shifted_bit n from number low =
+    let there : number ≡ from + (number - from) = omega (arith, low) in
+    ap (bit_at n) there ∙ sym (ap (λ x. x % 2) (shr-shr n from (number - from)))
+
+-- where nothing is left, there is none
+pub none_from : (n from : ℕ) → n / 2 ^ from ≡ 0 → NoneFrom n from
+none_from n from none = λ number low. shifted_bit n from number low ∙ ap (λ x. bit_at x (number - from)) none ∙ bit_at-zero (number - from)
+
+-- else the lowest bit of what is left is the lowest
+pub lowest_from : (n from : ℕ) → n / 2 ^ from ≢ 0 → n < 2 ^ 64 → IsLowestFrom n from (from + trailing_zeros w64 (n / 2 ^ from))
+lowest_from n from some fits =
+    let rest = n / 2 ^ from in
+    let lowest = bit_at-trailing_zeros w64 rest (omega (arith, some)) (omega (arith, fits, div-le_self n (2 ^ from))) in
+    let back : from + trailing_zeros w64 rest - from ≡ trailing_zeros w64 rest = omega arith in (
+      omega arith,
+      shifted_bit n from (from + trailing_zeros w64 rest) (omega arith) ∙ ap (bit_at rest) back ∙ lowest.1,
+      λ other low below. shifted_bit n from other low ∙ lowest.2 (other - from) (omega (arith, low, below)),
+    )
+
+-- whether a number has a bit that is 1
+pub none_marked : (n : ℕ) → not (n == 0) ≡ false → (number : ℕ) → number < 64 → bit_at n number ≡ 0
+none_marked n none number few = ap (λ x. bit_at x number) (eqb-true n 0 (is_true (n == 0) none)) ∙ bit_at-zero number
+  where
+    is_true : (b : Bool) → not b ≡ false → b ≡ true
+    is_true true h = refl
+    is_true false h = absurd (true≢false h)
+
+pub some_marked : (n : ℕ) → n < 2 ^ 64 → not (n == 0) ≡ true → (number : ℕ) × (number < 64) × (bit_at n number ≡ 1)
+some_marked n fits some =
+    let lowest = bit_at-trailing_zeros w64 n (over n some) fits in
+    (trailing_zeros w64 n, lowest.0, lowest.1)
+  where
+    over : (n : ℕ) → not (n == 0) ≡ true → 0 < n
+    over zero h = absurd (cc)
+    over (suc n) h = omega arith

@@ -67,8 +67,7 @@ impl Teis {
         })
     }
 
-    /// Serves a message of a terminal: the information of a UI command with SAPI 63 and the group
-    /// TEI.
+    /// Serves a message of a terminal: the information of a UI command with SAPI 63 and the group TEI.
     pub fn message(&mut self, information: &[u8]) -> TeiOutcome
         ensures told { told_of result ≡ told (message information.now) self.old }
         ensures after { self.new ≡ after (message information.now) self.old }
@@ -204,8 +203,7 @@ impl Teis {
         Some(message.kind())
     }
 
-    /// How many octets are held: eight for each message that waits, three for each assignment that
-    /// is remembered.
+    /// How many octets are held: eight for each message that waits, three for each assignment that is remembered.
     pub fn held(&self) -> u32
         ensures { result ≡ held self.now }
     {

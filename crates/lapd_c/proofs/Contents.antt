@@ -16,10 +16,10 @@ use Rattle.model_line.specs.Event.{Event}
 use Rattle.model_line.specs.Machine.{answer}
 use Rattle.model_card.specs.Event as frames
 use Rattle.model_card.specs.Machine.{answer as frames_answer}
-use Rattle.model_ports.specs.Card.{answer_to, meant, port_at, said}
-unfoldable use Rattle.model_ports.specs.Card.{answer as octets_answer}
-use Rattle.model_ports.specs.Event as octets
-use Rattle.model_ports.specs.Port as port
+use Rattle.model_card.specs.ports.Card.{answer_to, meant, port_at, said}
+unfoldable use Rattle.model_card.specs.ports.Card.{answer as octets_answer}
+use Rattle.model_card.specs.ports.Event as octets
+use Rattle.model_card.specs.ports.Port as port
 
 abbrev IsSmall : ℕ → Option (List ℕ) → Type 0
 IsSmall most o = length (contents_of o) ≤ most

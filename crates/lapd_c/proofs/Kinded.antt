@@ -15,11 +15,11 @@ use Rattle.model_line.specs.Event as line
 use Rattle.model_line.specs.Machine.{of_request, unless_refused_told}
 unfoldable use Rattle.model_line.specs.Machine.{answer as line_answer, takes_slot}
 use Rattle.model_card.specs.Machine as machine
-use Rattle.model_ports.specs.Card as octet_card
-use Rattle.model_ports.specs.Codec.{frame_moment}
-use Rattle.model_ports.specs.Event as octet_event
-use Rattle.model_ports.specs.Port as port
-use Rattle.model_ports.specs.Port.{answer_of}
+use Rattle.model_card.specs.ports.Card as octet_card
+use Rattle.model_card.specs.ports.Codec.{frame_moment}
+use Rattle.model_card.specs.ports.Event as octet_event
+use Rattle.model_card.specs.ports.Port as port
+use Rattle.model_card.specs.ports.Port.{answer_of}
 use Rattle.lapd_card.specs.Card as octets
 use Rattle.lapd_card.specs.FrameCard as frames
 use Rattle.lapd_card.specs.FrameReply as frame_reply

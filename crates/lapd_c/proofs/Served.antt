@@ -1,9 +1,9 @@
 -- What a report shows is what the machine answers.
 use Rattle.lapd_c.proofs.Vocabulary.{◌≡◌, ◌≤◌, length, Option, IfSome, Result, Ok, IfOk, sym, subst, arith, Report, report_told, LineTold, told, IsInRange, ranges_of, Card, Event, answer, OctetCard, PlainReport, Shows, contents_of, ShowsAnswer, ShowsReply, contents_in}
 use Rattle.std.proofs.Common.{Some}
-use Rattle.model_ports.specs.Card as octet_card
-use Rattle.model_ports.specs.Event as octets
-use Rattle.model_ports.specs.Port as port
+use Rattle.model_card.specs.ports.Card as octet_card
+use Rattle.model_card.specs.ports.Event as octets
+use Rattle.model_card.specs.ports.Port as port
 use Rattle.lapd_c.proofs.Contents.{contents_fit, contents_told, replies_fit}
 
 -- a result that is known

@@ -83,5 +83,5 @@ pub use Rattle.model_link.specs.declared.states.State.{State}
 pub use Rattle.model_link.specs.declared.states.State.TheVariants.{AwaitingEstablishment, AwaitingRelease, Established, TeiAssigned, TimerRecovery}
 pub use Rattle.model_link.specs.declared.terms.Terms.{Terms}
 pub use Rattle.model_link.specs.declared.timers.LinkTimer.{LinkTimer}
-pub use Rattle.model_ports.specs.Card.{OctetCard}
-unfoldable pub use Rattle.model_ports.specs.Run.{meant_all}
+pub use Rattle.model_card.specs.ports.Card.{OctetCard}
+unfoldable pub use Rattle.model_card.specs.ports.Run.{meant_all}

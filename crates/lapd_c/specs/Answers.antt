@@ -1,7 +1,7 @@
 -- What a report shows of a machine's answers.
 use Rattle.std.specs.Prelude.{ℕ, false}
 use Rattle.model_line.specs.Event as line
-use Rattle.model_ports.specs.Port as port
+use Rattle.model_card.specs.ports.Port as port
 use Rattle.lapd_c.specs.declared.plain.reports.PlainReport.{PlainReport}
 use Rattle.lapd_c.specs.Reports.{Shows, ShowsPull}
 

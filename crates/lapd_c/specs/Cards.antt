@@ -1,7 +1,7 @@
 -- A card as C holds it.
 use Rattle.std.specs.Prelude.{◌≡◌, is_some, Option, None, Some, option_map}
 use Rattle.model_card.specs.Card.{Card}
-use Rattle.model_ports.specs.Card.{OctetCard}
+use Rattle.model_card.specs.ports.Card.{OctetCard}
 use Rattle.lapd_c.specs.declared.card.CardHandle.{CardHandle}
 use Rattle.lapd_c.specs.CardSlots.{HeldCard}
 use Rattle.lapd_c.specs.Kinds.{Kind, kind_of, Machine, with_ports, alone, AnyStands}

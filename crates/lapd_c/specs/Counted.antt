@@ -4,8 +4,8 @@ use Rattle.lapd_count.specs.declared.counters.Counters.{Counters}
 use Rattle.model_card.specs.Card.{Card}
 use Rattle.model_card.specs.Counted.{moment_counted, moment_of}
 use Rattle.model_card.specs.Event.{Event}
-use Rattle.model_ports.specs.Card.{OctetCard}
-use Rattle.model_ports.specs.Event as octets
+use Rattle.model_card.specs.ports.Card.{OctetCard}
+use Rattle.model_card.specs.ports.Event as octets
 use Rattle.lapd_card.specs.Stands.{meaning_counted}
 use Rattle.lapd_c.specs.declared.card.CardHandle.{CardHandle}
 use Rattle.lapd_c.specs.CardSlots.{HeldCard}

@@ -1,10 +1,10 @@
 -- Octets taken and given in turn.
 use Rattle.std.specs.Prelude.{◌≡◌, ◌⊎◌, ℕ, zero, suc, ◌+◌, ◌*◌, ◌/◌, ◌%◌, ◌==◌, nat_le, Bool, true, false, not, ◌&&◌, List, [], ◌∷◌, ◌++◌, length, get_or, set, is_none, None, Some, if◌then◌else◌}
 use Rattle.model_line.specs.Event.{nothing}
-use Rattle.model_ports.specs.Card.{OctetCard, answer}
-use Rattle.model_ports.specs.Event.{Event, at}
-use Rattle.model_ports.specs.Port.{Answer, octet, pull, told, refused, pulled}
-use Rattle.model_ports.specs.Run.{run}
+use Rattle.model_card.specs.ports.Card.{OctetCard, answer}
+use Rattle.model_card.specs.ports.Event.{Event, at}
+use Rattle.model_card.specs.ports.Port.{Answer, octet, pull, told, refused, pulled}
+use Rattle.model_card.specs.ports.Run.{run}
 use Rattle.lapd_store.specs.Store.{Store}
 use Rattle.lapd_card.specs.Card.{Held}
 use Rattle.lapd_c.specs.declared.plain.reports.PlainReport.{PlainReport}

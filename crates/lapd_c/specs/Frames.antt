@@ -7,7 +7,7 @@ use Rattle.model_line.specs.Event.{NextFrame, hears, next}
 use Rattle.model_card.specs.Card.{Card}
 use Rattle.model_card.specs.Event.{Event, at}
 use Rattle.model_card.specs.Machine.{answer}
-use Rattle.model_ports.specs.Port.{given_in}
+use Rattle.model_card.specs.ports.Port.{given_in}
 
 -- At a line of a card a frame comes; a fault is told in place of one; the next frame is called for.
 abbrev pub comes : ℕ → List ℕ → Card → Event

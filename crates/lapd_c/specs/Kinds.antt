@@ -7,8 +7,8 @@ use Rattle.model_card.specs.Event.{Event}
 use Rattle.model_card.specs.Machine as machine
 use Rattle.model_card.specs.Stored as of_frames
 use Rattle.model_line.specs.Event.{Answer}
-use Rattle.model_ports.specs.Card.{OctetCard}
-use Rattle.model_ports.specs.Stored as of_octets
+use Rattle.model_card.specs.ports.Card.{OctetCard}
+use Rattle.model_card.specs.ports.Stored as of_octets
 use Rattle.lapd_store.specs.Store.{Store}
 use Rattle.lapd_card.specs.Card as octets
 use Rattle.lapd_card.specs.Counted.{counters_in}

@@ -1,8 +1,8 @@
 //! Which frame a pull began.
 
 ghost use Rattle.std.specs.Prelude.{◌≡◌, ◌≤◌, ◌<◌, Some, None};
-ghost use Rattle.model_ports.specs.Begun.{head_begun_at};
-ghost use Rattle.model_ports.specs.Card as machine;
+ghost use Rattle.model_card.specs.ports.Begun.{head_begun_at};
+ghost use Rattle.model_card.specs.ports.Card as machine;
 ghost use Rattle.lapd_c.specs.Heads.{plain_head};
 ghost use Rattle.lapd_c.specs.Statuses as status;
 ghost use Rattle.lapd_c.specs.Cards.{card_of, kind_in, IsHandle, OctetsStand};

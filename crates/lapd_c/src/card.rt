@@ -3,7 +3,7 @@
 ghost use Rattle.std.specs.Prelude.{◌≡◌, ◌⊎◌, Some, None, Ok, Err, IfOk, IfSome, IfNone, option_map, replicate};
 ghost use Rattle.model_card.specs.Card as frames;
 ghost use Rattle.model_line.specs.Config.{first_fault};
-ghost use Rattle.model_ports.specs.Card as octets;
+ghost use Rattle.model_card.specs.ports.Card as octets;
 ghost use Rattle.lapd_c.specs.Config.{config_in, config_fault};
 ghost use Rattle.lapd_c.specs.Statuses as status;
 ghost use Rattle.lapd_count.specs.Counters.{none_counted};

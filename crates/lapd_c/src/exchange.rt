@@ -1,11 +1,11 @@
 //! Octets taken and given in turn.
 
 ghost use Rattle.std.specs.Prelude.{◌≡◌, ◌≢◌, ◌≤◌, ◌<◌, ◌*◌, ◌-◌, true, false, not, length, Some, None};
-ghost use Rattle.model_ports.specs.Card as machine;
-ghost use Rattle.model_ports.specs.Card.{answer};
-ghost use Rattle.model_ports.specs.Event.{at};
-ghost use Rattle.model_ports.specs.Port as port;
-ghost use Rattle.model_ports.specs.Run.{meant_all};
+ghost use Rattle.model_card.specs.ports.Card as machine;
+ghost use Rattle.model_card.specs.ports.Card.{answer};
+ghost use Rattle.model_card.specs.ports.Event.{at};
+ghost use Rattle.model_card.specs.ports.Port as port;
+ghost use Rattle.model_card.specs.ports.Run.{meant_all};
 ghost use Rattle.lapd_card.specs.Card.{line_count};
 ghost use Rattle.lapd_card.specs.Ports.{told_at};
 ghost use Rattle.lapd_card.specs.Stands.{Leads};

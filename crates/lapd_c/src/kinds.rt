@@ -8,7 +8,7 @@ ghost use Rattle.model_line.specs.Event as line_event;
 ghost use Rattle.model_line.specs.Event.{told};
 ghost use Rattle.model_line.specs.Refusal.{refusal};
 ghost use Rattle.model_line.specs.Request.{request_of};
-ghost use Rattle.model_ports.specs.Stored.{limit};
+ghost use Rattle.model_card.specs.ports.Stored.{limit};
 ghost use Rattle.lapd_count.specs.Counters.{none_counted};
 ghost use Rattle.lapd_card.specs.FrameReply.{answer_of_result};
 ghost use Rattle.lapd_line.specs.Reports.{report_told};

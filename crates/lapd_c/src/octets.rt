@@ -1,10 +1,10 @@
 //! What happens at a card for octets: one that comes, and one that goes.
 
 ghost use Rattle.std.specs.Prelude.{◌≡◌, ◌≢◌, ◌≤◌, ◌<◌, Some, None};
-ghost use Rattle.model_ports.specs.Card as machine;
-ghost use Rattle.model_ports.specs.Card.{after, answer};
-ghost use Rattle.model_ports.specs.Event.{at};
-ghost use Rattle.model_ports.specs.Port as port;
+ghost use Rattle.model_card.specs.ports.Card as machine;
+ghost use Rattle.model_card.specs.ports.Card.{after, answer};
+ghost use Rattle.model_card.specs.ports.Event.{at};
+ghost use Rattle.model_card.specs.ports.Port as port;
 ghost use Rattle.lapd_c.specs.Answers.{ShowsReply, octet_of};
 ghost use Rattle.lapd_c.specs.Statuses as status;
 ghost use Rattle.lapd_c.specs.Cards.{card_of, kind_in, IsHandle, OctetsStand};

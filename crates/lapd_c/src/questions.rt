@@ -3,7 +3,7 @@
 ghost use Rattle.std.specs.Prelude.{◌≡◌, ◌≤◌, ◌<◌, None, IfOk, IfErr};
 ghost use Rattle.std.specs.Option.{unwrap_or};
 ghost use Rattle.model_card.specs.Card as machine;
-ghost use Rattle.model_ports.specs.Stored.{limit};
+ghost use Rattle.model_card.specs.ports.Stored.{limit};
 ghost use Rattle.lapd_c.specs.Statuses as status;
 ghost use Rattle.lapd_c.specs.Timers.{link_in};
 ghost use Rattle.lapd_c.specs.Cards.{card_of, IsHandle, Stands};

@@ -1,8 +1,8 @@
 -- How many octets a card of octets stores, port by port.
 use Rattle.lapd_card.proofs.Vocabulary.{◌≡◌, ℕ, ◌+◌, ◌*◌, ◌≤◌, ◌<◌, List, length, take, get_or, ap, subst, ◌∙◌, arith, Fits, w32, sum_by_more, sum_by, take_all, ranges_of, limit, Store, Port, OctetCard}
-use Rattle.model_ports.specs.Port as port
-use Rattle.model_ports.specs.Port.{fresh_port}
-use Rattle.model_ports.specs.Stored.{held_at}
+use Rattle.model_card.specs.ports.Port as port
+use Rattle.model_card.specs.ports.Port.{fresh_port}
+use Rattle.model_card.specs.ports.Stored.{held_at}
 use Rattle.lapd_card.specs.Card.{Held}
 use Rattle.lapd_card.specs.Stands.{Stands, HasPast}
 use Rattle.lapd_card.proofs.Amounts.{limit_small}

@@ -6,25 +6,25 @@ use Rattle.model_card.specs.Card as cards
 use Rattle.model_card.specs.Event as frames
 use Rattle.model_card.specs.Machine as machine
 use Rattle.model_card.specs.Run as runs
-use Rattle.model_ports.specs.declared.events.Event as rust
-use Rattle.model_ports.specs.Card.{fresh}
-use Rattle.model_ports.specs.Codec.{Refines}
-use Rattle.model_ports.specs.Drops.{AreDropsWithoutCost, AreDropsWithoutEffect}
-use Rattle.model_ports.specs.Event.{Event, event_of}
-use Rattle.model_ports.specs.Port as port
-use Rattle.model_ports.specs.Port.{answer_of}
-use Rattle.model_ports.specs.Promises.{IsWithinLimit, HasSixOctetsAFrame, HasSevenOctetsAReject, IsLinear, IsIsolated}
-use Rattle.model_ports.specs.Run.{IsAtLine, AreAtLines}
-unfoldable use Rattle.model_ports.specs.Run.{after_all, meant_all}
-use Rattle.model_ports.specs.Sound as octets
-use Rattle.model_ports.proofs.Codec.{refines, run_goes_on}
-use Rattle.model_ports.proofs.Drops.{drops_are_without_effect}
-use Rattle.model_ports.proofs.Isolated.{lines_isolated}
-use Rattle.model_ports.proofs.Linear.{frames_linear}
-use Rattle.model_ports.proofs.Reaching.{reached_sound}
-use Rattle.model_ports.proofs.Sound.{always_sound, port_sound}
-use Rattle.model_ports.proofs.Steps.{config_stays}
-use Rattle.model_ports.proofs.Stored.{stored_within_limit}
+use Rattle.model_card.specs.declared.ports.events.Event as rust
+use Rattle.model_card.specs.ports.Card.{fresh}
+use Rattle.model_card.specs.ports.Codec.{Refines}
+use Rattle.model_card.specs.ports.Drops.{AreDropsWithoutCost, AreDropsWithoutEffect}
+use Rattle.model_card.specs.ports.Event.{Event, event_of}
+use Rattle.model_card.specs.ports.Port as port
+use Rattle.model_card.specs.ports.Port.{answer_of}
+use Rattle.model_card.specs.ports.Promises.{IsWithinLimit, HasSixOctetsAFrame, HasSevenOctetsAReject, IsLinear, IsIsolated}
+use Rattle.model_card.specs.ports.Run.{IsAtLine, AreAtLines}
+unfoldable use Rattle.model_card.specs.ports.Run.{after_all, meant_all}
+use Rattle.model_card.specs.ports.Sound as octets
+use Rattle.model_card.proofs.OfPorts.Codec.{refines, run_goes_on}
+use Rattle.model_card.proofs.OfPorts.Drops.{drops_are_without_effect}
+use Rattle.model_card.proofs.OfPorts.Isolated.{lines_isolated}
+use Rattle.model_card.proofs.OfPorts.Linear.{frames_linear}
+use Rattle.model_card.proofs.OfPorts.Reaching.{reached_sound}
+use Rattle.model_card.proofs.OfPorts.Sound.{always_sound, port_sound}
+use Rattle.model_card.proofs.OfPorts.Steps.{config_stays}
+use Rattle.model_card.proofs.OfPorts.Stored.{stored_within_limit}
 use Rattle.lapd_card.specs.Card.{Held, line_count}
 use Rattle.lapd_card.specs.Drive.{line_of, events_of, RefusedByTheTable, IsTextual}
 use Rattle.lapd_card.specs.Stands.{Stands}

@@ -1,10 +1,10 @@
 -- A card of octets as it begins.
 use Rattle.lapd_card.proofs.Vocabulary.{◌≡◌, ℕ, zero, suc, ◌<◌, List, [], ◌∷◌, length, replicate, get_or, refl, sym, subst, ◌∙◌, arith, length-replicate, AllByRecursion, All-nil, Config, Store, Port, PortStands, PortsStand}
-use Rattle.model_ports.specs.Card.{fresh}
-use Rattle.model_ports.specs.Port.{fresh_port}
-use Rattle.model_ports.specs.Reached.{IsReached}
-use Rattle.model_ports.specs.Run.{IsAtLine}
-unfoldable use Rattle.model_ports.specs.Run.{after_all}
+use Rattle.model_card.specs.ports.Card.{fresh}
+use Rattle.model_card.specs.ports.Port.{fresh_port}
+use Rattle.model_card.specs.ports.Reached.{IsReached}
+use Rattle.model_card.specs.ports.Run.{IsAtLine}
+unfoldable use Rattle.model_card.specs.ports.Run.{after_all}
 use Rattle.model_line.specs.Sound.{IsInRange}
 use Rattle.model_card.specs.Card as cards
 use Rattle.lapd_card.specs.FrameCard as frame_card

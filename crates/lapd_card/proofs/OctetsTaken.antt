@@ -1,13 +1,13 @@
 -- A list of events at a card of octets, one by one, and what is counted of it.
 use Rattle.lapd_card.proofs.Vocabulary.{◌≡◌, List, [], ◌∷◌, ◌++◌, sym, ap, ◌∙◌, refl, flat_map, flat_map-append, append-nil, fold-append, Counters, moment_counted, all_counted, OctetCard}
 use Rattle.model_card.specs.Run as runs
-use Rattle.model_ports.specs.Card.{after, answer}
-use Rattle.model_ports.specs.Codec.{meant_in}
-use Rattle.model_ports.specs.Event.{Event}
-use Rattle.model_ports.specs.Run.{Moment, run, one_more}
-unfoldable use Rattle.model_ports.specs.Run.{after_all, moments, meant_all}
-use Rattle.model_ports.proofs.Codec.{refines}
-use Rattle.model_ports.proofs.Fold.{run_is_moments}
+use Rattle.model_card.specs.ports.Card.{after, answer}
+use Rattle.model_card.specs.ports.Codec.{meant_in}
+use Rattle.model_card.specs.ports.Event.{Event}
+use Rattle.model_card.specs.ports.Run.{Moment, run, one_more}
+unfoldable use Rattle.model_card.specs.ports.Run.{after_all, moments, meant_all}
+use Rattle.model_card.proofs.OfPorts.Codec.{refines}
+use Rattle.model_card.proofs.OfPorts.Fold.{run_is_moments}
 use Rattle.lapd_card.specs.Stands.{meaning_counted}
 
 pub octets-more : (m : OctetCard) (es : List Event) (e : Event) → run m (es ++ e ∷ []) ≡ one_more (run m es) e

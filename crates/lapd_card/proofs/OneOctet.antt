@@ -12,17 +12,17 @@ use Rattle.model_card.specs.ByEvent as by_event
 use Rattle.model_card.specs.Event as frames
 use Rattle.model_card.specs.Machine as machine
 unfoldable use Rattle.model_card.specs.Run.{moments as frame_moments}
-use Rattle.model_ports.specs.Card.{after, answer, meant, said, answer_to, card_after}
-use Rattle.model_ports.specs.Codec.{frame_moment}
-use Rattle.model_ports.specs.Drops as drops
-use Rattle.model_ports.specs.Event.{Event, at}
-use Rattle.model_ports.specs.Port as port
-use Rattle.model_ports.specs.Port.{gained, is_due, frame_begun, given_in, answer_of}
-use Rattle.model_ports.specs.Reached.{IsReached}
-unfoldable use Rattle.model_ports.specs.Run.{meant_all, moments}
-use Rattle.model_ports.proofs.Codec.{refines}
-use Rattle.model_ports.proofs.Drops.{drops_are_without_effect}
-use Rattle.model_ports.proofs.Reaching.{frames_reached, reached_sound}
+use Rattle.model_card.specs.ports.Card.{after, answer, meant, said, answer_to, card_after}
+use Rattle.model_card.specs.ports.Codec.{frame_moment}
+use Rattle.model_card.specs.ports.Drops as drops
+use Rattle.model_card.specs.ports.Event.{Event, at}
+use Rattle.model_card.specs.ports.Port as port
+use Rattle.model_card.specs.ports.Port.{gained, is_due, frame_begun, given_in, answer_of}
+use Rattle.model_card.specs.ports.Reached.{IsReached}
+unfoldable use Rattle.model_card.specs.ports.Run.{meant_all, moments}
+use Rattle.model_card.proofs.OfPorts.Codec.{refines}
+use Rattle.model_card.proofs.OfPorts.Drops.{drops_are_without_effect}
+use Rattle.model_card.proofs.OfPorts.Reaching.{frames_reached, reached_sound}
 use Rattle.lapd_line.specs.Reports.{octets_of, pulled_of}
 use Rattle.lapd_line.specs.declared.pulled.Pulled.{Pulled}
 use Rattle.lapd_line.proofs.PortSteps.{due_is, port_text}

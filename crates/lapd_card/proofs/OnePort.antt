@@ -1,14 +1,14 @@
 -- One port of a card of octets, taken out of its ports and put back; and what leads such a card on.
 use Rattle.lapd_card.proofs.Vocabulary.{◌≡◌, ◌≢◌, ℕ, ◌<◌, ◌==◌, Bool, true, false, List, [], ◌∷◌, ◌++◌, length, refl, sym, ap, subst, ◌∙◌, arith, true≢false, eqb-true, eq-eqb, get_or, set, length-set, get_or-set_same, get_or-set_other, set-set, slice_get, slice_get-get_or, Some, IfSome, All, All-push, Config, Store, BareReport, Card, Port, PortStands, latest_frame, told_if, OctetCard, port_at, PortsStand, told_at, told_of, told_if_at, option_map_or, nothing, None, Option}
-use Rattle.model_ports.specs.Card.{after, said, fresh}
-use Rattle.model_ports.specs.Event.{Event, at}
-use Rattle.model_ports.specs.Port as port
-use Rattle.model_ports.specs.Port.{fresh_port}
-use Rattle.model_ports.specs.Reached.{IsReached}
-use Rattle.model_ports.specs.Run.{IsAtLine}
-unfoldable use Rattle.model_ports.specs.Run.{after_all}
-use Rattle.model_ports.proofs.Reaching.{reached_sound}
-use Rattle.model_ports.proofs.Steps.{config_after}
+use Rattle.model_card.specs.ports.Card.{after, said, fresh}
+use Rattle.model_card.specs.ports.Event.{Event, at}
+use Rattle.model_card.specs.ports.Port as port
+use Rattle.model_card.specs.ports.Port.{fresh_port}
+use Rattle.model_card.specs.ports.Reached.{IsReached}
+use Rattle.model_card.specs.ports.Run.{IsAtLine}
+unfoldable use Rattle.model_card.specs.ports.Run.{after_all}
+use Rattle.model_card.proofs.OfPorts.Reaching.{reached_sound}
+use Rattle.model_card.proofs.OfPorts.Steps.{config_after}
 use Rattle.model_line.specs.Sound.{IsInRange}
 use Rattle.lapd_card.specs.Card.{Held, line_count}
 use Rattle.lapd_card.specs.FrameCard as frame_card

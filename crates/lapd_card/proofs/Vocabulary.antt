@@ -82,4 +82,4 @@ pub use Rattle.model_line.specs.Stored.{held_in, octets_of, slots_of, stored_in}
 pub use Rattle.model_line.specs.declared.config.Config.{Config}
 pub use Rattle.model_line.specs.declared.config.Field.{Field}
 pub use Rattle.model_link.specs.declared.rooms.Room.{Room}
-pub use Rattle.model_ports.specs.Card.{OctetCard, port_at}
+pub use Rattle.model_card.specs.ports.Card.{OctetCard, port_at}

@@ -1,5 +1,5 @@
 -- Whole lists of events at a card of octets, and what a sink takes of them. What is promised of frames is said of what the
--- events mean to the card of frames inside (`Codec` of `model_ports`); here are the words of what is left.
+-- events mean to the card of frames inside (`Codec` of `model_card::ports`); here are the words of what is left.
 use Rattle.std.specs.Prelude.{◌≡◌, ◌↔◌, ℕ, ◌<◌, List, map, take, slice_get, Option, Some, None, IsSome}
 use Rattle.lapd_frame.specs.declared.refusals.Refusal.{Refusal}
 use Rattle.model_card.specs.Card as frames
@@ -9,12 +9,12 @@ use Rattle.model_card.specs.Counts.{may_send}
 use Rattle.model_card.specs.Event as frame_event
 use Rattle.model_line.specs.Refusal.{refusal}
 use Rattle.model_line.specs.Request.{Request}
-use Rattle.model_ports.specs.declared.events.Event as rust
-use Rattle.model_ports.specs.Card.{OctetCard, port_at, meant, after, answer}
-use Rattle.model_ports.specs.Codec.{IsTextOf, PortGoesOn}
-use Rattle.model_ports.specs.Event.{Event, at, event_of}
-use Rattle.model_ports.specs.Port.{Answer, request, refused}
-use Rattle.model_ports.specs.Run.{run, after_all}
+use Rattle.model_card.specs.declared.ports.events.Event as rust
+use Rattle.model_card.specs.ports.Card.{OctetCard, port_at, meant, after, answer}
+use Rattle.model_card.specs.ports.Codec.{IsTextOf, PortGoesOn}
+use Rattle.model_card.specs.ports.Event.{Event, at, event_of}
+use Rattle.model_card.specs.ports.Port.{Answer, request, refused}
+use Rattle.model_card.specs.ports.Run.{run, after_all}
 use Rattle.lapd_card.specs.Sink.{Taken}
 
 abbrev pub line_of : rust.Event → ℕ

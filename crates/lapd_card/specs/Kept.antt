@@ -1,10 +1,10 @@
 -- What a sink has kept, and which replies it keeps.
 --
 -- It keeps a reply exactly where it has room for one more and the answer is short, as every answer of a card is.
--- `keep_replies` of `test_card` hands it to `drive` and concludes from the contracts alone: after `Ok` it keeps the
+-- `keep_replies` of `test_product` hands it to `drive` and concludes from the contracts alone: after `Ok` it keeps the
 -- answers of all moments of the run, in order, and after a fault exactly those before the one that it missed.
 use Rattle.std.specs.Prelude.{◌≡◌, ℕ, ◌<◌, ◌≤◌, List, [], ◌∷◌, ◌++◌, length, map, Option, option_map, IfSome, vec_capacity, ⊤}
-use Rattle.model_ports.specs.Port.{Answer, told, refused, pulled}
+use Rattle.model_card.specs.ports.Port.{Answer, told, refused, pulled}
 use Rattle.lapd_card.specs.declared.kept.Kept.{Kept}
 use Rattle.lapd_card.specs.declared.kept.KeptReply.{KeptReply}
 use Rattle.lapd_card.specs.Reply.{answer_of}

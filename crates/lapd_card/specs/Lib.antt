@@ -3,7 +3,7 @@
 -- Read after those of `model_card`, in this order: Waiting, which lines have a frame to give; Start; FrameReply; Sink and
 -- FrameDrive, what a sink has taken; and for a card in the middle of its life FrameCard, Counted, Lines and FrameStands.
 -- Reply, Drive, Kept (the sink of this crate), Card, Ports and Stands say the same of a card of octets, after those of
--- `model_ports`.
+-- `model_card::ports`.
 pub mod Waiting
 pub mod WorkedWaiting
 pub mod Sink

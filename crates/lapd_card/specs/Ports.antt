@@ -6,8 +6,8 @@ use Rattle.lapd_line.specs.declared.reports.BareReport.{BareReport}
 use Rattle.lapd_line.specs.Ports.{PortStands, latest_frame}
 use Rattle.lapd_line.specs.Reports.{told_in}
 use Rattle.model_line.specs.Event.{LineTold, nothing}
-use Rattle.model_ports.specs.Port as machine
-use Rattle.model_ports.specs.Port.{fresh_port}
+use Rattle.model_card.specs.ports.Port as machine
+use Rattle.model_card.specs.ports.Port.{fresh_port}
 
 -- Each port stands for that of the machine at its place.
 pub record PortsStand (n201 : ℕ) (ports : List Port) (ps : List machine.Port) : Type 0 where

@@ -3,7 +3,7 @@ use Rattle.std.specs.Prelude.{Result, Ok, Err}
 use Rattle.lapd_frame.specs.declared.refusals.Refusal.{Refusal}
 use Rattle.lapd_line.specs.declared.reports.Report.{Report}
 use Rattle.lapd_line.specs.Reports.{report_told, pulled_of}
-use Rattle.model_ports.specs.Port.{Answer, told, refused}
+use Rattle.model_card.specs.ports.Port.{Answer, told, refused}
 use Rattle.lapd_card.specs.declared.replies.Reply as reply
 
 abbrev pub answer_of : reply.Reply → Answer

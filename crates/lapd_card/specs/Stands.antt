@@ -2,11 +2,11 @@
 use Rattle.std.specs.Prelude.{◌≡◌, List}
 use Rattle.lapd_count.specs.declared.counters.Counters.{Counters}
 use Rattle.model_card.specs.Counted.{all_counted}
-use Rattle.model_ports.specs.Card as machine
-use Rattle.model_ports.specs.Card.{after, answer}
-use Rattle.model_ports.specs.Codec.{meant_in}
-use Rattle.model_ports.specs.Event.{Event}
-use Rattle.model_ports.specs.Reached.{IsReached}
+use Rattle.model_card.specs.ports.Card as machine
+use Rattle.model_card.specs.ports.Card.{after, answer}
+use Rattle.model_card.specs.ports.Codec.{meant_in}
+use Rattle.model_card.specs.ports.Event.{Event}
+use Rattle.model_card.specs.ports.Reached.{IsReached}
 use Rattle.lapd_card.specs.Card.{Held}
 use Rattle.lapd_card.specs.Counted.{counters_in}
 use Rattle.lapd_card.specs.FrameStands as frame

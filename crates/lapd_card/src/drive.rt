@@ -6,15 +6,15 @@ ghost use Rattle.model_card.specs.Counted.{all_counted, CountersAreNumbers};
 ghost use Rattle.model_card.specs.Promises.{IsAmortised, IsAmortisedFromZero, IsNeverFull, IsNumbered, IsNumberedFromZero};
 ghost use Rattle.model_card.specs.Run.{moments};
 ghost use Rattle.model_line.specs.Request.{request_of};
-ghost use Rattle.model_ports.specs.Card as machine;
-ghost use Rattle.model_ports.specs.Card.{answer};
-ghost use Rattle.model_ports.specs.Codec.{Refines};
-ghost use Rattle.model_ports.specs.Drops.{AreDropsWithoutCost, AreDropsWithoutEffect};
-ghost use Rattle.model_ports.specs.Event.{at, event_of};
-ghost use Rattle.model_ports.specs.Laws.{RunIsMoments};
-ghost use Rattle.model_ports.specs.Port as port;
-ghost use Rattle.model_ports.specs.Promises.{IsWithinLimit, HasSixOctetsAFrame, HasSevenOctetsAReject, IsLinear, IsIsolated};
-ghost use Rattle.model_ports.specs.Run.{run, meant_all};
+ghost use Rattle.model_card.specs.ports.Card as machine;
+ghost use Rattle.model_card.specs.ports.Card.{answer};
+ghost use Rattle.model_card.specs.ports.Codec.{Refines};
+ghost use Rattle.model_card.specs.ports.Drops.{AreDropsWithoutCost, AreDropsWithoutEffect};
+ghost use Rattle.model_card.specs.ports.Event.{at, event_of};
+ghost use Rattle.model_card.specs.ports.Laws.{RunIsMoments};
+ghost use Rattle.model_card.specs.ports.Port as port;
+ghost use Rattle.model_card.specs.ports.Promises.{IsWithinLimit, HasSixOctetsAFrame, HasSevenOctetsAReject, IsLinear, IsIsolated};
+ghost use Rattle.model_card.specs.ports.Run.{run, meant_all};
 ghost use Rattle.lapd_card.specs.Card.{line_count};
 ghost use Rattle.lapd_card.specs.Counted.{counters_in};
 ghost use Rattle.lapd_card.specs.Drive.{line_of, events_of, MissesAt, RefusedByTheTable, IsTextual};
@@ -26,7 +26,7 @@ use crate::replies::Reply;
 use crate::sink::{Sink, SinkFailed, SinkFault};
 use lapd_line::Request;
 use lapd_store::Shelf;
-use model_ports::Event;
+use model_card::ports::Event;
 
 impl<S: Shelf> Card<S> {
     /// Runs a list of events, and hands each reply to the sink, in order. Answers how many events there were. A sink that

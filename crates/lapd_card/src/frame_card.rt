@@ -20,7 +20,7 @@ ghost use Rattle.model_line.specs.Event.{told, hears, expiry, next};
 ghost use Rattle.model_line.specs.Refusal.{refusal};
 ghost use Rattle.model_line.specs.Request.{request_of};
 ghost use Rattle.model_link.specs.Told.{starts};
-ghost use Rattle.model_ports.specs.Stored.{limit};
+ghost use Rattle.model_card.specs.ports.Stored.{limit};
 ghost use Rattle.lapd_line.specs.Ports.{IsLoaded};
 ghost use Rattle.lapd_line.specs.Pulls.{orders_taken};
 

@@ -4,7 +4,7 @@ ghost use Rattle.std.specs.Prelude.{◌≡◌, ◌≤◌, ◌↔◌, [], length,
 ghost use Rattle.lapd_card.specs.Kept.{kept_of, IsShort};
 ghost use Rattle.lapd_card.specs.Reply.{answer_of};
 ghost use Rattle.lapd_line.specs.Reports.{report_told};
-ghost use Rattle.model_ports.specs.Port.{told};
+ghost use Rattle.model_card.specs.ports.Port.{told};
 
 use crate::replies::Reply;
 use crate::sink::{Sink, SinkFailed};

@@ -6,7 +6,7 @@
 //!
 //! A caller starts a card, and then hands it what happens. Each answer says what to tell layer 3 (`notes`, `delivered`)
 //! and which timers to start and to stop (`orders`); the caller keeps them, with `lapd_clock` or with timers of its own,
-//! and hands back each one that expires. `example` of `test_card` is this in code that is run:
+//! and hands back each one that expires. `example` of `test_product` is this in code that is run:
 //!
 //! ```text
 //! let mut card = Card::start(alloc, config, SlabShelf::start(alloc, slots, n201)?)?;
@@ -35,13 +35,13 @@
 //!
 //! What the card does is defined below: a row of a link's tables (by state, in `specs/`) and its notes in
 //! `model_link`, those of TEI management in `lapd_tei`, the refusals of a line in `model_line`
-//! (`specs/Refusal`) and of a link in `model_link` (`specs/Requests`), the port in `model_ports`. The types of notes and
+//! (`specs/Refusal`) and of a link in `model_link` (`specs/Requests`), the port in `model_card::ports`. The types of notes and
 //! refusals stand in `lapd_frame`, the words of a script in `lapd_script`.
 //!
 //! # Only tested
 //!
 //! Starts, with each fault; an answer that is kept has its contents; long runs; of a card of frames, one list of
-//! events, and a room that is too small (`test_card`); frames of each length, and such a card beside one of octets to
+//! events, and a room that is too small (`test_product`); frames of each length, and such a card beside one of octets to
 //! which the same happens, through C (`tests/c/run`).
 #![tactic(auto)]
 
@@ -70,7 +70,7 @@ pub use lapd_line::{BareReport, Config, Field, NextFrame, Pulled, Report, Reques
 pub use model_bits::Head;
 pub use model_card::FrameEvent;
 pub use model_line::Fault;
-pub use model_ports::Event;
+pub use model_card::ports::Event;
 pub use replies::Reply;
 pub use sink::{Sink, SinkFailed, SinkFault};
 pub use stored::{frame_limit, limit};

@@ -1,7 +1,7 @@
 //! Where the answers of a whole list of events at a card of octets go.
 
 ghost use Rattle.std.specs.Prelude.{◌≡◌, ℕ, OnOk, OnErr};
-ghost use Rattle.model_ports.specs.Port.{Answer};
+ghost use Rattle.model_card.specs.ports.Port.{Answer};
 ghost use Rattle.lapd_card.specs.Reply.{answer_of};
 ghost use Rattle.lapd_card.specs.Sink.{one_failure_more};
 

@@ -3,8 +3,8 @@
 ghost use Rattle.std.specs.Prelude.{◌≡◌, ◌≤◌, replicate, IfOk, IfSome, IfNone, Err, IsOkUnless};
 ghost use Rattle.model_card.specs.Card as machine;
 ghost use Rattle.model_line.specs.Sound.{IsInRange};
-ghost use Rattle.model_ports.specs.Card as octets;
-ghost use Rattle.model_ports.specs.Port.{fresh_port};
+ghost use Rattle.model_card.specs.ports.Card as octets;
+ghost use Rattle.model_card.specs.ports.Port.{fresh_port};
 ghost use Rattle.lapd_count.specs.Counters.{none_counted};
 ghost use Rattle.lapd_card.specs.declared.fault.CardFault.TheVariants.{OutOfMemory};
 ghost use Rattle.lapd_card.specs.Counted.{counters_in};

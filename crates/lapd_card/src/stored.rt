@@ -2,8 +2,8 @@
 
 ghost use Rattle.std.specs.Prelude.{◌≡◌};
 ghost use Rattle.model_card.specs.Stored as frames;
-ghost use Rattle.model_ports.specs.Card as machine;
-ghost use Rattle.model_ports.specs.Stored.{stored, limit};
+ghost use Rattle.model_card.specs.ports.Card as machine;
+ghost use Rattle.model_card.specs.ports.Stored.{stored, limit};
 ghost use Rattle.model_line.specs.Sound.{IsInRange};
 ghost use Rattle.lapd_card.specs.Stands.{Stands};
 

@@ -4,9 +4,9 @@ use Rattle.model_bits.specs.Stream as stream
 use Rattle.model_line.specs.Event as line
 use Rattle.model_line.specs.Line as lines
 unfoldable use Rattle.model_line.specs.Machine.{after as line_after, answer as line_answer}
-use Rattle.model_ports.specs.Line.{OctetLine, said, after, answer}
-use Rattle.model_ports.specs.Port as port
-use Rattle.model_ports.specs.Port.{gained, is_due, frame_begun, pull}
+use Rattle.model_card.specs.ports.Line.{OctetLine, said, after, answer}
+use Rattle.model_card.specs.ports.Port as port
+use Rattle.model_card.specs.ports.Port.{gained, is_due, frame_begun, pull}
 use Rattle.lapd_line.specs.Reports.{pulled_of}
 use Rattle.lapd_line.specs.Stands.{Stands}
 use Rattle.lapd_line.specs.declared.line.Line.{Line}

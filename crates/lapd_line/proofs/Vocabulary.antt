@@ -125,9 +125,9 @@ pub use Rattle.model_line.specs.Sides.{at_side, group_told, has_management, last
 pub use Rattle.model_line.specs.Sound.{IsInRange, IsSound, IsSoundAt, IsUnitData}
 pub use Rattle.model_line.specs.Stored.{contents_of, held_by_link, octets_by_link, octets_of, slots_by_link, slots_of, sum_of_links, total_length, unit_length}
 pub use Rattle.model_line.specs.declared.config.Config.{Config}
-pub use Rattle.model_ports.proofs.TextGoesOn.{left_is, one_item, text_of}
-pub use Rattle.model_ports.specs.HeadHeard.{or_heard}
-pub use Rattle.model_ports.specs.Port.{fresh_port}
+pub use Rattle.model_card.proofs.OfPorts.TextGoesOn.{left_is, one_item, text_of}
+pub use Rattle.model_card.specs.ports.HeadHeard.{or_heard}
+pub use Rattle.model_card.specs.ports.Port.{fresh_port}
 pub use Rattle.model_link.proofs.TellRows.{cleared-orders, cleared-tells}
 pub use Rattle.model_link.specs.Events.{offer}
 pub use Rattle.model_link.specs.Link.{address_at, frame_of, fresh, queue_of, state_number}

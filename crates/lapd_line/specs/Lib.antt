@@ -1,6 +1,6 @@
 -- What a line answers and stands for.
 --
--- Read after those of `model_line` and `model_ports`, in this order: Waiting; Reports; Units and Links, what waits and in
+-- Read after those of `model_line` and `model_card::ports`, in this order: Waiting; Reports; Units and Links, what waits and in
 -- which slots; Marks and Awake, which links have something to give; LinkLayer; Counted; Stands, of a line; Ports, of its port;
 -- Octets, of a line with a port. The other files are named by private functions alone.
 pub mod Waiting

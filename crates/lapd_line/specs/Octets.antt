@@ -1,4 +1,4 @@
--- What a line of octets holds of its past: a line, and its port (`OctetLine` of `model_ports`).
+-- What a line of octets holds of its past: a line, and its port (`OctetLine` of `model_card::ports`).
 use Rattle.std.specs.Prelude.{◌≡◌, List}
 use Rattle.std.specs.Option.{option_map_or}
 use Rattle.lapd_count.specs.declared.counters.Counters.{Counters}
@@ -6,8 +6,8 @@ use Rattle.lapd_store.specs.Ownership.{Owned}
 use Rattle.lapd_store.specs.Store.{Store, SameLimits}
 use Rattle.model_line.specs.declared.config.Config.{Config}
 use Rattle.model_line.specs.Counted.{counted}
-use Rattle.model_ports.specs.Line.{OctetLine, after}
-use Rattle.model_ports.specs.Port.{Event, meant}
+use Rattle.model_card.specs.ports.Line.{OctetLine, after}
+use Rattle.model_card.specs.ports.Port.{Event, meant}
 use Rattle.lapd_line.specs.declared.line.Line.{Line}
 use Rattle.lapd_line.specs.Ports.{PortStands}
 use Rattle.lapd_line.specs.Stands.{Stands, config_of}

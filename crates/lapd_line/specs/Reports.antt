@@ -11,7 +11,7 @@ use Rattle.lapd_frame.specs.ShortLists.{listed}
 use Rattle.model_line.specs.Effect.{unserved_cause}
 use Rattle.model_line.specs.Event.{LineTold, Answer, gave, nothing}
 use Rattle.model_line.specs.Event as line
-use Rattle.model_ports.specs.Port as port
+use Rattle.model_card.specs.ports.Port as port
 use Rattle.lapd_link.specs.Outcome as link
 use Rattle.lapd_line.specs.declared.next_frame.NextFrame.{NextFrame}
 use Rattle.lapd_line.specs.declared.reports.BareReport.{BareReport}

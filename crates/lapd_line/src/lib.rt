@@ -5,7 +5,7 @@
 //! past (`specs/Stands.antt` says what a line stands for). Contents that wait lie on a shelf that other lines use too. After
 //! the start no call takes memory. A controller of flags, stuffed 0s and checks brings it frames and takes them
 //! ([`FrameLine::frame`], [`FrameLine::next_frame`]); or a [`Port`] does, of octets ([`FrameLine::heard`],
-//! [`FrameLine::load_next`]). A [`Line`] is both together, and answers as `OctetLine` of `model_ports` does.
+//! [`FrameLine::load_next`]). A [`Line`] is both together, and answers as `OctetLine` of `model_card::ports` does.
 //!
 //! - `frame_line`: the calls: what is heard, a timer that expires, a request; `came`, what a controller's frames and faults are
 //!   heard as; `next_frame`, what goes out, and `outlet`, where to; `looks`: the state of a link, how much room it has, and how

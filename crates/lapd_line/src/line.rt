@@ -11,10 +11,10 @@ ghost use Rattle.model_line.specs.Request.{request_of};
 ghost use Rattle.model_line.specs.Sound.{IsInRange};
 ghost use Rattle.model_line.specs.Stored.{held_in};
 ghost use Rattle.model_link.specs.Told.{starts};
-ghost use Rattle.model_ports.specs.Line.{OctetLine, fresh_octet_line, after, answer};
-ghost use Rattle.model_ports.specs.Port as port;
-ghost use Rattle.model_ports.specs.Port.{told};
-ghost use Rattle.model_ports.specs.Stored.{held_at};
+ghost use Rattle.model_card.specs.ports.Line.{OctetLine, fresh_octet_line, after, answer};
+ghost use Rattle.model_card.specs.ports.Port as port;
+ghost use Rattle.model_card.specs.ports.Port.{told};
+ghost use Rattle.model_card.specs.ports.Stored.{held_at};
 
 use crate::fault::StartFault;
 use crate::frame_line::FrameLine;

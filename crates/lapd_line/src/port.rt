@@ -5,11 +5,11 @@ ghost use Rattle.lapd_bits.specs.Ended.{without_octets};
 ghost use Rattle.model_bits.specs.Heads.{head_of};
 ghost use Rattle.model_bits.specs.Heard.{heard_of};
 ghost use Rattle.model_line.specs.Event.{Answer};
-ghost use Rattle.model_ports.specs.Begun.{head_begun};
-ghost use Rattle.model_ports.specs.HeadHeard.{head_heard};
-ghost use Rattle.model_ports.specs.Port as machine;
-ghost use Rattle.model_ports.specs.Port.{gained, is_due, fresh_port};
-ghost use Rattle.model_ports.specs.Stored.{held_at};
+ghost use Rattle.model_card.specs.ports.Begun.{head_begun};
+ghost use Rattle.model_card.specs.ports.HeadHeard.{head_heard};
+ghost use Rattle.model_card.specs.ports.Port as machine;
+ghost use Rattle.model_card.specs.ports.Port.{gained, is_due, fresh_port};
+ghost use Rattle.model_card.specs.ports.Stored.{held_at};
 ghost use Rattle.lapd_line.specs.Pulls.{orders_taken};
 ghost use Rattle.lapd_line.specs.Reports.{report_told, told_in};
 

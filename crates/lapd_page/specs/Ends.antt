@@ -1,6 +1,6 @@
 -- How a script ended that a page played: as `lapdsim run` ends, which writes the transcript and the fault line.
 use Rattle.std.specs.Prelude.{◌≡◌, ℕ, List, [], length, Some, None}
-use Rattle.model_sim.specs.Script.{transcript, first_fault}
+use Rattle.lapd_sim.specs.machine.Script.{transcript, first_fault}
 use Rattle.lapd_script.specs.FaultLines.{play_line}
 use Rattle.lapd_script.specs.declared.kind.FaultKind.{FaultKind}
 use Rattle.lapd_script.specs.declared.faults.PlayFault.TheVariants.{Script}

@@ -12,11 +12,11 @@ use Rattle.model_card.specs.Counted as counts
 use Rattle.model_card.specs.Event as frame_event
 use Rattle.model_card.specs.Machine as frame_machine
 use Rattle.model_line.specs.Event as line_event
-use Rattle.model_ports.specs.Card as ports
-use Rattle.model_ports.specs.Event as octet_event
-use Rattle.model_ports.specs.Port as port
-use Rattle.model_sim.specs.Board as machine
-unfoldable use Rattle.model_sim.specs.Board.{counted}
+use Rattle.model_card.specs.ports.Card as ports
+use Rattle.model_card.specs.ports.Event as octet_event
+use Rattle.model_card.specs.ports.Port as port
+use Rattle.lapd_sim.specs.machine.Board as machine
+unfoldable use Rattle.lapd_sim.specs.machine.Board.{counted}
 
 -- ---- what is said on a card of its kind
 

@@ -12,3 +12,4 @@ pub mod Boards
 pub mod Waits
 pub mod Octets
 pub mod Pulls
+pub mod OfMachine

@@ -1,6 +1,6 @@
 -- How far a script has been played.
 use Rattle.lapd_sim.proofs.Vocabulary.{◌≡◌, ℕ, ◌+◌, ◌^◌, ◌<◌, ◌≤◌, ◌++◌, List, [], ◌∷◌, length, fold, true, false, cond, Bool, Option, None, Some, Result, Ok, Err, refl, sym, ap, ◌∙◌, subst, append_assoc, nat_lt, inr, ◌||◌, lt-ltb, le-ltb, ltb-false, true≢false, none-some, append-nil, fold-append, FaultKind, TooLong, Meaning, read, Output, IsPut, IsStuck, puts_then, stuck_more, puts_nothing, pieces_of, line_in, Played, Fault, played, one_more, not_begun, counted, faulty, is_too_long, after_reading, after_meaning, after_bench, after_scene, after_piece, unless_faulty, transcript, first_fault, Scene, with_card, without_card, LineFault, Faulty, PlayFault, Read, Write, Script, OutOfMemory, ScriptLines, fault_at, PutsSome, AreLeft, IsTooLong, Advances, held, Said, Does, Obeys, StartsBy, said, said_by, said_of, said_with, said_without, scene, PlaysOn, AreAnswered, Has, Stands}
-use Rattle.model_sim.specs.Setup as machine
+use Rattle.lapd_sim.specs.machine.Setup as machine
 use Rattle.lapd_sim.specs.declared.setup.Setup.{Setup}
 use Rattle.lapd_script.specs.declared.faults.LineFault.TheVariants as line
 use Rattle.lapd_script.specs.ScriptLines.{IsNext}

@@ -5,7 +5,7 @@ use Rattle.lapd_transcript.specs.Terminal.{Terminal}
 use Rattle.lapd_transcript.specs.declared.terminal.Terminal as rust
 use Rattle.lapd_transcript.proofs.Sending.{octets_of-few, octets_since, whole_where, rest_where}
 use Rattle.lapd_sim.proofs.OneByOne.{tells_then, broken_then, tells_none}
-use Rattle.model_sim.specs.Board as events
+use Rattle.lapd_sim.specs.machine.Board as events
 
 -- ---- what is given
 

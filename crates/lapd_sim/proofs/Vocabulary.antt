@@ -59,9 +59,9 @@ pub use Rattle.model_line.proofs.Ranges.{ranges_of}
 pub use Rattle.model_line.specs.Came.{came, cause_of}
 pub use Rattle.model_line.specs.Request.{request_of}
 pub use Rattle.model_line.specs.declared.config.Config.{Config}
-pub use Rattle.model_sim.proofs.Expiries.{expiry_lowers, text_grows, until-expired, until-over}
-pub use Rattle.model_sim.specs.Board.{Event, Reply, What, after, at, card_after, expiry, hears, meant_by, next, octet, of_frames, of_octets, orders_in, pull, refused, reply_in, reply_of_frames, reply_of_octets, request, told}
-unfoldable pub use Rattle.model_sim.specs.Board.{reply}
-pub use Rattle.model_sim.specs.Script.{Fault, Played, after_bench, after_meaning, after_piece, after_reading, after_scene, counted, faulty, first_fault, is_too_long, not_begun, one_more, played, transcript, unless_faulty}
-pub use Rattle.model_sim.specs.Setup.{Setup, happened, ordered, taken_at, terminal_at, with_terminal}
-pub use Rattle.model_sim.specs.Steps.{Pulls, Scene, after_coming, after_counters, after_next, after_pull, after_rx, after_timers, after_wait, reply_text, at_expiry, at_line, can_come, expired, expiries, for_frames, for_octets, last_moment, octet_in, octets_at, one_pull, pulls, until, with_card, with_event, with_events, without_card}
+pub use Rattle.lapd_sim.proofs.OfMachine.Expiries.{expiry_lowers, text_grows, until-expired, until-over}
+pub use Rattle.lapd_sim.specs.machine.Board.{Event, Reply, What, after, at, card_after, expiry, hears, meant_by, next, octet, of_frames, of_octets, orders_in, pull, refused, reply_in, reply_of_frames, reply_of_octets, request, told}
+unfoldable pub use Rattle.lapd_sim.specs.machine.Board.{reply}
+pub use Rattle.lapd_sim.specs.machine.Script.{Fault, Played, after_bench, after_meaning, after_piece, after_reading, after_scene, counted, faulty, first_fault, is_too_long, not_begun, one_more, played, transcript, unless_faulty}
+pub use Rattle.lapd_sim.specs.machine.Setup.{Setup, happened, ordered, taken_at, terminal_at, with_terminal}
+pub use Rattle.lapd_sim.specs.machine.Steps.{Pulls, Scene, after_coming, after_counters, after_next, after_pull, after_rx, after_timers, after_wait, reply_text, at_expiry, at_line, can_come, expired, expiries, for_frames, for_octets, last_moment, octet_in, octets_at, one_pull, pulls, until, with_card, with_event, with_events, without_card}

@@ -11,8 +11,8 @@ use Rattle.lapd_script.specs.declared.command.CardKind.{CardKind}
 use Rattle.lapd_script.specs.declared.command.CardKind.TheVariants as kind
 use Rattle.lapd_store.specs.Store.{Store}
 use Rattle.model_line.specs.declared.config.Config.{Config}
-use Rattle.model_sim.specs.Board as machine
-use Rattle.model_sim.specs.Board.{Event, Reply, told, refused, after, counted}
+use Rattle.lapd_sim.specs.machine.Board as machine
+use Rattle.lapd_sim.specs.machine.Board.{Event, Reply, told, refused, after, counted}
 use Rattle.lapd_sim.specs.declared.board.Board.{Board}
 use Rattle.lapd_sim.specs.declared.board.Board.TheVariants.{Octets, Frames}
 

@@ -5,8 +5,8 @@ use Rattle.model_bits.specs.Sent.{Item}
 use Rattle.model_bits.specs.StuffingLaws.{AreOctets}
 use Rattle.lapd_transcript.specs.declared.streams.WriteFailed.{WriteFailed}
 use Rattle.lapd_transcript.specs.Streams.{Output}
-use Rattle.model_sim.specs.Setup.{Setup}
-use Rattle.model_sim.specs.Steps.{after_rx}
+use Rattle.lapd_sim.specs.machine.Setup.{Setup}
+use Rattle.lapd_sim.specs.machine.Steps.{after_rx}
 use Rattle.lapd_sim.specs.Obeyed.{scene, Tells}
 
 -- Where a write failed, the last of the octets may not have been told.

@@ -8,8 +8,8 @@ use Rattle.model_line.specs.declared.config.Config.{Config}
 use Rattle.model_line.specs.Config.{first_fault}
 use Rattle.lapd_transcript.specs.declared.streams.WriteFailed.{WriteFailed}
 use Rattle.lapd_transcript.specs.Streams.{Output, IsPut, IsStuck}
-use Rattle.model_sim.specs.Setup.{Setup, begun}
-use Rattle.model_sim.specs.Steps.{Scene, begun_with, with_card, without_card}
+use Rattle.lapd_sim.specs.machine.Setup.{Setup, begun}
+use Rattle.lapd_sim.specs.machine.Steps.{Scene, begun_with, with_card, without_card}
 use Rattle.lapd_sim.specs.declared.setup.Setup as rust
 use Rattle.lapd_script.specs.declared.faults.LineFault.{LineFault}
 use Rattle.lapd_script.specs.declared.faults.LineFault.TheVariants.{Faulty, Write, OutOfMemory}

@@ -1,5 +1,5 @@
 -- What the card of an exchange holds of its past.
-use Rattle.model_sim.specs.Board as machine
+use Rattle.lapd_sim.specs.machine.Board as machine
 use Rattle.lapd_sim.specs.declared.board.Board.{Board}
 use Rattle.lapd_sim.specs.Boards.{OnBoard}
 

@@ -6,9 +6,9 @@
 use Rattle.std.specs.Prelude.{◌≡◌, ℕ, ◌<◌, ◌==◌, ◌⊎◌, List, [], ◌∷◌, ◌++◌, length, take, filter, Bool, Option, None, Some, Result, Ok, Err}
 use Rattle.std.specs.List.{list_any}
 use Rattle.lapd_transcript.specs.Streams.{Taken, IsWritten, IsBroken, Output, IsPut, IsStuck}
-use Rattle.model_sim.specs.Setup.{Setup}
+use Rattle.lapd_sim.specs.machine.Setup.{Setup}
 use Rattle.lapd_script.specs.Pieces.{pieces_of}
-use Rattle.model_sim.specs.Script.{played, transcript, first_fault}
+use Rattle.lapd_sim.specs.machine.Script.{played, transcript, first_fault}
 use Rattle.lapd_script.specs.declared.faults.PlayFault.{PlayFault}
 use Rattle.lapd_script.specs.declared.faults.PlayFault.TheVariants.{Read, Write, Script, OutOfMemory}
 

@@ -5,7 +5,7 @@
 use Rattle.std.specs.Prelude.{◌≡◌, List, [], ◌∷◌, Option, None, Some}
 use Rattle.lapd_transcript.specs.Listened.{Hears}
 use Rattle.lapd_transcript.specs.Terminal.{Sends}
-use Rattle.model_sim.specs.Setup as machine
+use Rattle.lapd_sim.specs.machine.Setup as machine
 use Rattle.lapd_sim.specs.Boards.{OnBoard, counters_on}
 use Rattle.lapd_sim.specs.declared.setup.Setup.{Setup}
 use Rattle.lapd_sim.specs.declared.exchange.Exchange.{Exchange}

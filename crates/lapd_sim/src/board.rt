@@ -2,9 +2,9 @@
 
 ghost use Rattle.std.specs.Prelude.{◌≡◌, ◌<◌, get_or, IfOk};
 ghost use Rattle.model_line.specs.Request.{request_of};
-ghost use Rattle.model_sim.specs.Board as machine;
-ghost use Rattle.model_sim.specs.Board.{at, told, expiry, reply};
-ghost use Rattle.model_sim.specs.Steps.{held};
+ghost use Rattle.lapd_sim.specs.machine.Board as machine;
+ghost use Rattle.lapd_sim.specs.machine.Board.{at, told, expiry, reply};
+ghost use Rattle.lapd_sim.specs.machine.Steps.{held};
 ghost use Rattle.lapd_count.specs.Counters.{none_counted};
 ghost use Rattle.lapd_line.specs.Reports.{report_told};
 

@@ -11,10 +11,10 @@ ghost use Rattle.model_line.specs.Sound.{IsInRange};
 ghost use Rattle.lapd_script.specs.declared.command.CardKind.TheVariants.{Octets, Frames};
 ghost use Rattle.lapd_sim.specs.Boards.{kind_of, config_of};
 ghost use Rattle.lapd_sim.specs.Past.{HasPast};
-ghost use Rattle.model_sim.specs.Board as event;
-ghost use Rattle.model_sim.specs.Board.{at, told, pull, hears, next, expiry, reply, reply_of_frames, orders_in};
-ghost use Rattle.model_sim.specs.Setup as machine;
-ghost use Rattle.model_sim.specs.Steps.{reply_text, with_event, octet_in, at_expiry, until, in_time, with_timers, after_stored, after_counters};
+ghost use Rattle.lapd_sim.specs.machine.Board as event;
+ghost use Rattle.lapd_sim.specs.machine.Board.{at, told, pull, hears, next, expiry, reply, reply_of_frames, orders_in};
+ghost use Rattle.lapd_sim.specs.machine.Setup as machine;
+ghost use Rattle.lapd_sim.specs.machine.Steps.{reply_text, with_event, octet_in, at_expiry, until, in_time, with_timers, after_stored, after_counters};
 ghost use Rattle.lapd_transcript.specs.Streams.{Output, Puts, output};
 
 use crate::board::{Board, Plan};

@@ -19,6 +19,7 @@
 
 mod board;
 mod exchange;
+mod machine;
 mod memory;
 mod parts;
 mod player;
@@ -31,3 +32,4 @@ pub use lapd_transcript::{ReadFailed, ReadFrom, Source, Target, WriteFailed, Wri
 pub use memory::play_octets;
 pub use player::play;
 pub use program::serve;
+pub use machine::{frames_are_heard, limits_are_of_cards, runs_on_boards, scripts_are_runs, scripts_stay_within, transcripts_are_replies, waits_leave_nothing_due};

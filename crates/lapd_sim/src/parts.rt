@@ -2,7 +2,7 @@
 
 ghost use Rattle.std.specs.Prelude.{◌≡◌, [], vec_len, replicate, IfOk};
 ghost use Rattle.model_line.specs.Request as asking;
-ghost use Rattle.model_sim.specs.Steps.{request_for};
+ghost use Rattle.lapd_sim.specs.machine.Steps.{request_for};
 ghost use Rattle.lapd_sim.specs.Stands.{Each};
 ghost use Rattle.lapd_transcript.specs.Listened.{Hears};
 ghost use Rattle.lapd_transcript.specs.Terminal.{Sends};

@@ -2,8 +2,8 @@
 
 ghost use Rattle.std.specs.Prelude.{◌≡◌, ◌≤◌, ◌<◌, ℕ, List, [], Some, None, Option, length, vec_len, IfOk, IsTrue};
 ghost use Rattle.lapd_script.specs.Meaning.{meant, IsCounted};
-ghost use Rattle.model_sim.specs.Setup as machine;
-ghost use Rattle.model_sim.specs.Steps.{with_card, without_card};
+ghost use Rattle.lapd_sim.specs.machine.Setup as machine;
+ghost use Rattle.lapd_sim.specs.machine.Steps.{with_card, without_card};
 ghost use Rattle.lapd_script.specs.Faults.{reads_failed_by, writes_failed_by};
 ghost use Rattle.lapd_sim.specs.Obeyed.{Does, Obeys, StartsBy, said, scene};
 ghost use Rattle.lapd_sim.specs.Pages.{PutsNone, PutsSome, Reaches, is_cut};

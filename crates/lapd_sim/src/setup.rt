@@ -4,8 +4,8 @@ ghost use Rattle.std.specs.Prelude.{◌≡◌, ◌≢◌, ◌<◌, ◌≤◌, le
 ghost use Rattle.lapd_script.specs.Meaning as meaning;
 ghost use Rattle.lapd_script.specs.declared.command.CardKind.TheVariants.{Octets, Frames};
 ghost use Rattle.lapd_script.specs.declared.kind.FaultKind.TheVariants.{BadLine, WrongCard};
-ghost use Rattle.model_sim.specs.Setup as machine;
-ghost use Rattle.model_sim.specs.Steps.{with_card};
+ghost use Rattle.lapd_sim.specs.machine.Setup as machine;
+ghost use Rattle.lapd_sim.specs.machine.Steps.{with_card};
 ghost use Rattle.lapd_transcript.specs.Streams.{Output, output};
 
 use crate::board::Plan;

@@ -15,7 +15,7 @@
 //!
 //! # Only tested
 //!
-//! Starts; worked rows through the code (`test_parts`).
+//! Starts; worked rows through the code (`test_product`).
 #![tactic(auto)]
 
 mod check;

@@ -5,7 +5,7 @@ use Rattle.std.specs.Option.{option_map_or, option_or, unwrap_or}
 use Rattle.std.proofs.lemmas.List.Elements.{All-head, All-tail}
 use Rattle.model_link.specs.Link.{Link}
 use Rattle.model_link.specs.Machine as links
-use Rattle.laws_two_links.proofs.Waiting.{nothing-to_send}
+use Rattle.laws_link.proofs.OfTwo.Waiting.{nothing-to_send}
 use Rattle.lapd_tei.specs.Messages.{frame_of}
 use Rattle.model_line.specs.declared.config.Config.{Config}
 use Rattle.model_line.specs.Event.{next}

@@ -7,7 +7,7 @@ use Rattle.std.proofs.lemmas.List.Sums.{sum_by-cons}
 use Rattle.model_link.specs.declared.terms.Terms.{Terms}
 use Rattle.model_link.specs.Link.{Link, outstanding}
 use Rattle.model_link.specs.Offers.{is_established}
-use Rattle.laws_two_links.specs.Waits.{HasNothingToSend}
+use Rattle.laws_link.specs.two.Waits.{HasNothingToSend}
 use Rattle.model_line.specs.declared.config.Config.{Config}
 use Rattle.model_line.specs.Line.{Line, link_count, service_at, place_at, tei_at, terms, link_at}
 use Rattle.model_line.specs.Sound.{IsSoundAt, IsSound}

@@ -11,8 +11,8 @@ use Rattle.model_link.specs.Machine as links
 use Rattle.model_link.specs.Offers
 use Rattle.model_link.specs.Steps.{begun as course_begun}
 use Rattle.model_link.specs.Told.{Given}
-use Rattle.laws_two_links.specs.Waits.{HasNothingToSend}
-use Rattle.laws_two_links.proofs.Waiting.{nothing-to_send}
+use Rattle.laws_link.specs.two.Waits.{HasNothingToSend}
+use Rattle.laws_link.proofs.OfTwo.Waiting.{nothing-to_send}
 use Rattle.lapd_tei.specs.Messages.{frame_of}
 use Rattle.lapd_tei.specs.declared.messages.Message.{Message}
 use Rattle.model_line.specs.declared.config.Config.{Config}

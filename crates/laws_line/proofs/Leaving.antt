@@ -13,8 +13,8 @@ use Rattle.model_link.specs.Machine as links
 use Rattle.model_link.specs.Offers
 use Rattle.model_link.specs.Steps.{begun as course_begun}
 use Rattle.model_link.specs.Told.{Given}
-use Rattle.laws_two_links.specs.Waits.{Goes, GoesWhole, after_offers}
-use Rattle.laws_two_links.proofs.Waiting.{in-turn}
+use Rattle.laws_link.specs.two.Waits.{Goes, GoesWhole, after_offers}
+use Rattle.laws_link.proofs.OfTwo.Waiting.{in-turn}
 use Rattle.lapd_tei.specs.Messages as messages
 use Rattle.model_line.specs.declared.config.Config.{Config}
 use Rattle.model_line.specs.Event.{next}

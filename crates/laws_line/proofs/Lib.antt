@@ -48,3 +48,4 @@ pub mod Premises
 pub mod AmongMet
 pub mod Short
 pub mod InTurn
+pub mod OfCard

@@ -9,7 +9,7 @@ use Rattle.model_link.specs.Events as link
 use Rattle.model_link.specs.Link.{Link, fresh}
 use Rattle.model_link.specs.Machine as links
 use Rattle.model_link.specs.Told.{Given}
-use Rattle.laws_two_links.specs.Waits.{GoesWhole}
+use Rattle.laws_link.specs.two.Waits.{GoesWhole}
 use Rattle.lapd_tei.specs.declared.messages.Message.{Message}
 use Rattle.lapd_tei.specs.Messages as messages
 use Rattle.model_line.specs.declared.config.Config.{Config}

@@ -9,8 +9,8 @@ use Rattle.model_link.specs.declared.frames.ControlFrame.{ControlFrame}
 use Rattle.model_link.specs.Events as link
 use Rattle.model_link.specs.Link.{Link, fresh}
 use Rattle.model_link.specs.Machine as links
-use Rattle.laws_two_links.specs.Polls.{IsPollWhileUp, Answered, AnsweredBy, asked_of, SaysReceived}
-use Rattle.laws_two_links.proofs.Answering.{poll-answered, unnumbered-answered}
+use Rattle.laws_link.specs.two.Polls.{IsPollWhileUp, Answered, AnsweredBy, asked_of, SaysReceived}
+use Rattle.laws_link.proofs.OfTwo.Answering.{poll-answered, unnumbered-answered}
 use Rattle.lapd_tei.proofs.Tables.{place_of-is}
 use Rattle.model_line.specs.declared.config.Config.{Config}
 use Rattle.model_line.specs.Event.{hears}

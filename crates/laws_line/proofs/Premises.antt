@@ -6,7 +6,7 @@ use Rattle.lapd_frame.specs.declared.services.Service.TheVariants.{Call}
 use Rattle.lapd_frame.specs.Grammar.{Spells}
 use Rattle.lapd_seq.specs.Numbers.{seq}
 use Rattle.model_link.specs.Words.{response}
-use Rattle.laws_two_links.specs.Polls.{IsPollWhileUp}
+use Rattle.laws_link.specs.two.Polls.{IsPollWhileUp}
 use Rattle.model_line.specs.Event.{hears, request}
 use Rattle.model_line.specs.Line.{fresh_line, terms}
 use Rattle.model_line.specs.Machine.{after}

@@ -28,7 +28,7 @@ use Rattle.laws_link.specs.InOrder.{IsInOrder}
 use Rattle.laws_link.specs.Offered.{IsOffered, one}
 use Rattle.laws_link.proofs.InOrder.{given-in-order}
 use Rattle.laws_link.proofs.Offering.{given-is-offered, carried-is, offer-counts}
-use Rattle.laws_two_links.proofs.Waiting.{nothing-given}
+use Rattle.laws_link.proofs.OfTwo.Waiting.{nothing-given}
 use Rattle.lapd_tei.specs.declared.messages.Message.{Message}
 use Rattle.lapd_tei.specs.Messages.{frame_of}
 use Rattle.model_line.specs.declared.config.Config.{Config}

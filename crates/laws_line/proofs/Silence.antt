@@ -3,7 +3,7 @@ use Rattle.model_link.specs.declared.terms.Terms.{Terms}
 use Rattle.model_link.specs.Link.{Link}
 use Rattle.model_link.specs.Sound.{IsSound}
 use Rattle.laws_link.proofs.MayGo.{none-goes, goes-not}
-use Rattle.laws_two_links.specs.Waits.{HasNothingToSend}
+use Rattle.laws_link.specs.two.Waits.{HasNothingToSend}
 use Rattle.laws_line.specs.Served.{IsSilent}
 
 module _ (t : Terms) (l : Link) (s : IsSound t l) where

@@ -19,8 +19,8 @@ use Rattle.model_link.specs.Steps.{Sent}
 use Rattle.laws_link.specs.Timed.{is_same, obeyed, IsTimed}
 use Rattle.model_link.specs.Told.{Given, runs, timer_at}
 use Rattle.model_link.specs.declared.terms.Terms.{Terms}
-use Rattle.laws_two_links.specs.Needed.{HasItsTimer}
-use Rattle.laws_two_links.proofs.Needing.{is-timed, timely-after, timely-fresh}
+use Rattle.laws_link.specs.two.Needed.{HasItsTimer}
+use Rattle.laws_link.proofs.OfTwo.Needing.{is-timed, timely-after, timely-fresh}
 use Rattle.model_link.proofs.SoundEvents.{sound-after}
 use Rattle.lapd_tei.specs.Events as teis
 use Rattle.lapd_tei.specs.Laws as tei_laws

@@ -6,7 +6,7 @@ use Rattle.model_link.specs.declared.frames.ControlFrame.{ControlFrame}
 use Rattle.model_link.specs.declared.terms.Terms.{Terms}
 use Rattle.model_link.specs.Link.{Link, frame_of, outstanding, unsent}
 use Rattle.model_link.specs.Offers.{is_established}
-use Rattle.laws_two_links.specs.Polls.{SaysReceived}
+use Rattle.laws_link.specs.two.Polls.{SaysReceived}
 use Rattle.model_line.specs.declared.config.Config.{Config}
 use Rattle.model_line.specs.Event.{next}
 use Rattle.model_line.specs.Line.{Line, link_number, link_count, service_at, link_at, link_in, terms, terms_at}

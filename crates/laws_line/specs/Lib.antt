@@ -35,3 +35,4 @@ pub mod WorkedSabme
 pub mod WorkedAmong
 pub mod Turns
 pub mod Short
+pub mod card

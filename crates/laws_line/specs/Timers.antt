@@ -11,7 +11,7 @@ use Rattle.model_link.specs.declared.timers.LinkTimer.TheVariants as link_timer
 use Rattle.laws_link.specs.Timed.{is_same, obeyed}
 use Rattle.model_link.specs.Told.{runs}
 use Rattle.laws_link.specs.Starting.{StartsT200}
-use Rattle.laws_two_links.specs.Needed.{needed, HasItsTimer}
+use Rattle.laws_link.specs.two.Needed.{needed, HasItsTimer}
 use Rattle.model_line.specs.declared.config.Config.{Config}
 use Rattle.model_line.specs.Event.{Event, hears, expiry, request, next, Answer}
 use Rattle.model_line.specs.Laws.{orders_in}

@@ -7,7 +7,7 @@ use Rattle.lapd_frame.specs.Reading.{reading, header_of, control_of, unnumbered_
 use Rattle.lapd_seq.specs.Numbers.{seq}
 use Rattle.lapd_seq.specs.Circle.{distance_of, named}
 use Rattle.lapd_tei.specs.Events as teis
-use Rattle.laws_two_links.specs.Polls.{asked_of}
+use Rattle.laws_link.specs.two.Polls.{asked_of}
 use Rattle.model_line.specs.Event.{hears, request}
 use Rattle.model_line.specs.Line.{Line, fresh_line, place_in}
 use Rattle.model_line.specs.Machine.{after}

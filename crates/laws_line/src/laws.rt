@@ -10,7 +10,7 @@ pub fn nothing_is_lost()
     ensures { NothingIsLost }
 {}
 
-/// A call for the next frame takes what waits, as `takes_serve` of `laws_card` has it; and no other event changes what waits of unit data, but by granted
+/// A call for the next frame takes what waits, as `takes_serve` of `laws_line::card` has it; and no other event changes what waits of unit data, but by granted
 /// requests, or whose turn it is.
 pub fn takes_serve()
     ensures { TakesServe }
@@ -25,7 +25,7 @@ pub fn heard_is_delivered()
     ensures { HeardIsDelivered }
 {}
 
-/// One part of a line has one event, and all else of it is as it was, as the law of this name of `laws_card` has it.
+/// One part of a line has one event, and all else of it is as it was, as the law of this name of `laws_line::card` has it.
 pub fn one_event()
     ensures { OneEvent }
 {}

@@ -12,7 +12,7 @@
 //! worked values of the laws and of the machine (`Worked*`). `Drains` and `Among` say what a line comes to with calls
 //! for the next frame, or with other events between them; their bounds are numbers of calls, and speak of no time. Each
 //! law is the contract of a call that does nothing; `laws`, `timers` and `notes` name what says the same of a card, in
-//! words: laws of `laws_card`, or fields of `Promises` (crate `laws_promises`).
+//! words: laws of `laws_line::card`, or fields of `Promises` (crate `laws_promises`).
 //!
 //! - `machine`, `laws`, `timers`, `notes`, `management`, `progress`, `turns`: the laws.
 //!
@@ -22,6 +22,7 @@
 //! between calls for its next frame.
 #![tactic(auto)]
 
+pub mod card;
 mod laws;
 mod machine;
 mod management;

@@ -3,7 +3,7 @@
 ghost use Rattle.laws_line.specs.Laws.{NotesTell, NothingElseIsNoted};
 
 /// By notes layer 3 knows which links are up, and management which TEIs are on the line, as the law
-/// of this name of `laws_card` has it.
+/// of this name of `laws_line::card` has it.
 pub fn notes_tell()
     ensures { NotesTell }
 {}

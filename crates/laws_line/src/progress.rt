@@ -6,7 +6,7 @@ ghost use Rattle.lapd_frame.specs.declared.controls.Control.{Control};
 ghost use Rattle.lapd_frame.specs.declared.services.Service.{Service};
 ghost use Rattle.lapd_frame.specs.Grammar.{Parts};
 ghost use Rattle.model_link.specs.declared.frames.ControlFrame.{ControlFrame};
-ghost use Rattle.laws_two_links.specs.Polls.{IsPollWhileUp, asked_of};
+ghost use Rattle.laws_link.specs.two.Polls.{IsPollWhileUp, asked_of};
 ghost use Rattle.model_line.specs.declared.config.Config.{Config};
 ghost use Rattle.model_line.specs.Event.{Event, hears};
 ghost use Rattle.model_line.specs.Line.{Line, link_number, link_count, place_at, tei_at, link_at, link_in, terms};

@@ -3,7 +3,7 @@
 ghost use Rattle.laws_line.specs.Laws.{TimersFollow, TakesLeaveTimers};
 
 /// A caller that obeys the orders in the answers, those to calls for the next frame, requests and expiries too, runs
-/// exactly the timers that are needed, as the law of this name of `laws_card` has it.
+/// exactly the timers that are needed, as the law of this name of `laws_line::card` has it.
 pub fn timers_follow()
     ensures { TimersFollow }
 {}

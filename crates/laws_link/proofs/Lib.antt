@@ -33,3 +33,4 @@ pub mod Timing
 pub mod TimedRows
 pub mod Losing
 pub mod Restarts
+pub mod OfTwo

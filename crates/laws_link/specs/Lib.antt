@@ -28,3 +28,4 @@ pub mod WorkedExpiries
 pub mod WorkedFollowing
 pub mod Timed
 pub mod Known
+pub mod two

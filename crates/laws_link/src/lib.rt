@@ -23,6 +23,7 @@ mod following;
 mod known;
 mod laws;
 mod sending;
+mod two;
 
 pub use following::{flags_follow, frames_follow, notes_follow, states_follow};
 pub use known::{keeps_its_timers, layer_3_knows, loses_little, restarts_by_establishment};
@@ -32,3 +33,4 @@ pub use sending::{
     offers_leave_timers, rejected_is_sent_again, requests_take_effect, sent_in_order,
     steady_unless_seen,
 };
+pub use two::{arrives_in_any_order, busy_ends_are_heard, busy_ends_recover, busy_is_heeded, contents_arrive, ends_hold_what_was_accepted, gaps_are_rejected, kept_contents_arrive, links_stay_up, losses_are_recovered, nothing_is_held_back, polls_are_answered, runs_what_it_needs, stay_up_while_ahead};

@@ -16,3 +16,4 @@ pub mod LinkReleased
 pub mod ReleasedAt
 pub mod Released
 pub mod PremisesMet
+pub mod OfCircuit

@@ -5,3 +5,4 @@ pub mod Release
 pub mod Worked
 pub mod WorkedRelease
 pub mod WorkedBroken
+pub mod circuit

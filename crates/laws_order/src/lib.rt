@@ -12,6 +12,8 @@
 //! taken its UA.
 #![tactic(auto)]
 
+mod circuit;
 mod laws;
 
 pub use laws::{delivered_in_order, releases_end};
+pub use circuit::{a_call_comes_through_in_octets, a_call_comes_to_rest, all_is_told_in_beats, delivered_though_damaged};

@@ -7,10 +7,10 @@ use Rattle.model_card.specs.Reached.{IsReached}
 use Rattle.model_card.specs.Run.{IsAtLine, AreAtLines}
 use Rattle.model_card.specs.Sound.{IsSound}
 use Rattle.model_card.proofs.Reaching.{reached-sound}
-use Rattle.laws_card.specs.Brief.{GivesWhatWaits}
-use Rattle.laws_card.specs.PromisesOfTakes.{Wherever, WaitingIsTaken, CallsComeToAnEnd}
-use Rattle.laws_card.proofs.Brief.{gives-what-waits, others-stay, causes-are-told}
-use Rattle.laws_card.proofs.Wherever.{waiting-taken, come-to-an-end}
+use Rattle.laws_line.specs.card.Brief.{GivesWhatWaits}
+use Rattle.laws_line.specs.card.PromisesOfTakes.{Wherever, WaitingIsTaken, CallsComeToAnEnd}
+use Rattle.laws_line.proofs.OfCard.Brief.{gives-what-waits, others-stay, causes-are-told}
+use Rattle.laws_line.proofs.OfCard.Wherever.{waiting-taken, come-to-an-end}
 use Rattle.laws_promises.specs.Promises.{Promises}
 
 module _ (m : Card) (events : List Event) (reached : IsReached m) (within : AreAtLines m events) where

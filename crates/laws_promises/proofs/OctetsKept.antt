@@ -1,9 +1,9 @@
 -- Every card of octets that is reached keeps all that is promised of its octets, of every list of events at its lines.
 use Rattle.std.proofs.Common.{List}
-use Rattle.model_ports.specs.Card.{OctetCard}
-use Rattle.model_ports.specs.Event.{Event}
-use Rattle.model_ports.specs.Reached.{IsReached}
-use Rattle.model_ports.specs.Run.{AreAtLines}
+use Rattle.model_card.specs.ports.Card.{OctetCard}
+use Rattle.model_card.specs.ports.Event.{Event}
+use Rattle.model_card.specs.ports.Reached.{IsReached}
+use Rattle.model_card.specs.ports.Run.{AreAtLines}
 use Rattle.laws_promises.specs.PromisesOfOctets.{PromisesOfOctets}
 use Rattle.laws_promises.proofs.Telling.{begun-told}
 

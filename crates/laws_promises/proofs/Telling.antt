@@ -6,13 +6,13 @@ use Rattle.std.proofs.lemmas.Bool.{ltb-true}
 use Rattle.std.proofs.lemmas.List.Elements.{All-nil, All-cons}
 use Rattle.lapd_frame.specs.declared.timers.Order.{Order}
 use Rattle.model_line.specs.Event as line
-use Rattle.model_ports.specs.Card.{OctetCard, port_at}
-unfoldable use Rattle.model_ports.specs.Card.{meant, after, answer}
-use Rattle.model_ports.specs.Event.{Event}
-use Rattle.model_ports.specs.Port as port
-use Rattle.model_ports.specs.Port.{Port, Answer, pull, left_of, is_due, told, refused, pulled}
-unfoldable use Rattle.model_ports.specs.Run.{moments}
-use Rattle.model_ports.proofs.Codec.{asked_at, said_is}
+use Rattle.model_card.specs.ports.Card.{OctetCard, port_at}
+unfoldable use Rattle.model_card.specs.ports.Card.{meant, after, answer}
+use Rattle.model_card.specs.ports.Event.{Event}
+use Rattle.model_card.specs.ports.Port as port
+use Rattle.model_card.specs.ports.Port.{Port, Answer, pull, left_of, is_due, told, refused, pulled}
+unfoldable use Rattle.model_card.specs.ports.Run.{moments}
+use Rattle.model_card.proofs.OfPorts.Codec.{asked_at, said_is}
 use Rattle.laws_promises.specs.PromisesOfOctets.{IsBegunIn}
 
 begun : Answer → Bool

@@ -1,11 +1,11 @@
 -- What is promised of every list of events at the lines of a card, beside the clauses of `drive` and what the laws of the trace of
 -- a line say (`laws_trace`). Of a card of octets it is promised of what its octets and pulls mean to the card of frames inside
--- (`octets_are_a_codec` of `model_ports`).
+-- (`octets_are_a_codec` of `model_card::ports`).
 use Rattle.std.specs.Prelude.{ℕ, List, take}
 use Rattle.model_card.specs.Card.{Card}
 use Rattle.model_card.specs.Event.{Event}
-use Rattle.laws_card.specs.Brief.{OthersStay, CausesAreTold, GivesWhatWaits}
-use Rattle.laws_card.specs.PromisesOfTakes.{Wherever, WaitingIsTaken, CallsComeToAnEnd}
+use Rattle.laws_line.specs.card.Brief.{OthersStay, CausesAreTold, GivesWhatWaits}
+use Rattle.laws_line.specs.card.PromisesOfTakes.{Wherever, WaitingIsTaken, CallsComeToAnEnd}
 
 -- From a card on: those of a whole list hold in each of its moments; and those with a count hold after that many of
 -- its events, so after each of them.

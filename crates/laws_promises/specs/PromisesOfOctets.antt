@@ -1,12 +1,12 @@
 -- What is promised of every list of events at the lines of a card of octets, of its octets. What is promised of frames holds of
 -- what the events mean (`Promises`); so what calls for the next frame of a line come to, its pulls come to, as `pulls_are_takes` of
--- `model_ports` has it.
+-- `model_card::ports` has it.
 use Rattle.std.specs.Prelude.{◌≡◌, ◌<◌, ℕ, true, List, length, All}
 use Rattle.lapd_frame.specs.declared.timers.Order.{Order}
-use Rattle.model_ports.specs.Card.{OctetCard, port_at}
-use Rattle.model_ports.specs.Event.{Event}
-use Rattle.model_ports.specs.Port.{pulled, left_of}
-use Rattle.model_ports.specs.Run.{Moment, moments}
+use Rattle.model_card.specs.ports.Card.{OctetCard, port_at}
+use Rattle.model_card.specs.ports.Event.{Event}
+use Rattle.model_card.specs.ports.Port.{pulled, left_of}
+use Rattle.model_card.specs.ports.Run.{Moment, moments}
 
 -- Where the answer says that a frame was begun, fewer than eight bits were left of the line before.
 abbrev pub IsBegunIn : Moment → Type 0

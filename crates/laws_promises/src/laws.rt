@@ -5,10 +5,10 @@ ghost use Rattle.model_card.specs.Card.{Card};
 ghost use Rattle.model_card.specs.Event.{Event};
 ghost use Rattle.model_card.specs.Reached.{IsReached};
 ghost use Rattle.model_card.specs.Run.{AreAtLines};
-ghost use Rattle.model_ports.specs.Card.{OctetCard};
-ghost use Rattle.model_ports.specs.Event as octets;
-ghost use Rattle.model_ports.specs.Reached as octets_reached;
-ghost use Rattle.model_ports.specs.Run as octets_run;
+ghost use Rattle.model_card.specs.ports.Card.{OctetCard};
+ghost use Rattle.model_card.specs.ports.Event as octets;
+ghost use Rattle.model_card.specs.ports.Reached as octets_reached;
+ghost use Rattle.model_card.specs.ports.Run as octets_run;
 ghost use Rattle.laws_promises.specs.Promises.{Promises};
 ghost use Rattle.laws_promises.specs.PromisesOfOctets.{PromisesOfOctets};
 

@@ -13,7 +13,7 @@ use Rattle.lapd_tei.specs.Messages.{information_of}
 use Rattle.lapd_tei.proofs.Tables.{place_of-is}
 use Rattle.laws_link.specs.InOrder.{IsInOrder}
 use Rattle.laws_link.proofs.InOrder.{given-in-order}
-use Rattle.laws_two_links.proofs.Waiting.{nothing-given, silent-stays}
+use Rattle.laws_link.proofs.OfTwo.Waiting.{nothing-given, silent-stays}
 use Rattle.model_link.specs.declared.terms.Terms.{Terms}
 use Rattle.model_link.specs.Deliveries.{restarts}
 use Rattle.model_link.specs.Events as link

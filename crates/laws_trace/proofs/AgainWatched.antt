@@ -10,7 +10,7 @@ use Rattle.model_card.specs.Card.{fresh, line_at}
 use Rattle.model_card.specs.Event.{Event, at}
 use Rattle.model_card.specs.Machine.{answer}
 use Rattle.model_card.specs.Run.{moments, after_all}
-use Rattle.laws_card.specs.Among.{AreTakesAt, takes_at}
+use Rattle.laws_line.specs.card.Among.{AreTakesAt, takes_at}
 use Rattle.laws_trace.specs.DataGoesOut.{Going, none_yet, Reaches}
 use Rattle.laws_trace.specs.LinkFrames.{Sent, sent_in}
 use Rattle.laws_trace.proofs.TimersWatched.{Known, nothing_yet, watch}

@@ -19,7 +19,7 @@ use Rattle.model_card.specs.Card as cards
 use Rattle.model_card.specs.Card.{line_at}
 use Rattle.model_card.specs.Run.{after_all}
 use Rattle.model_card.proofs.CardSound.{fresh_is_sound}
-use Rattle.laws_card.proofs.Meanwhile.{card-drains}
+use Rattle.laws_line.proofs.OfCard.Meanwhile.{card-drains}
 use Rattle.laws_trace.specs.AllAreAcknowledged.{numbers_at, lost_since, IsLast}
 use Rattle.laws_trace.proofs.AcknowledgedWatched.{AllAreAcknowledged}
 use Rattle.laws_trace.specs.Counting.{Watched, nothing_yet, watch}

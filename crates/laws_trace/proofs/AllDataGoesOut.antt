@@ -18,9 +18,9 @@ use Rattle.model_card.specs.Card.{line_at}
 use Rattle.model_card.specs.Event.{Event}
 use Rattle.model_card.specs.Run.{after_all, AreAtLines}
 use Rattle.model_card.proofs.CardSound.{fresh_is_sound, always_sound}
-use Rattle.laws_card.specs.Among.{AreTakesAt, takes_at}
-use Rattle.laws_card.proofs.Meanwhile.{line-sound, card-drains}
-use Rattle.laws_card.proofs.Wherever.{config-stays}
+use Rattle.laws_line.specs.card.Among.{AreTakesAt, takes_at}
+use Rattle.laws_line.proofs.OfCard.Meanwhile.{line-sound, card-drains}
+use Rattle.laws_line.proofs.OfCard.Wherever.{config-stays}
 use Rattle.laws_trace.proofs.WaitedBegins as frames
 use Rattle.laws_trace.proofs.DataKnown.{IsOpen, all-has-gone}
 use Rattle.laws_trace.proofs.DataRun.{at-end}

@@ -26,10 +26,10 @@ use Rattle.model_card.specs.Run.{Moment, moments, after_all, IsAtLine, AreAtLine
 use Rattle.model_card.specs.Sound as card_sound
 use Rattle.model_card.proofs.CardSound.{fresh_is_sound, always_sound, after_is_sound}
 use Rattle.model_card.proofs.Steps.{has_lines, by_room, line_sound}
-use Rattle.laws_card.specs.Timers.{AllHaveTheirTimers}
-use Rattle.laws_card.specs.Among.{AreTakesAt}
-use Rattle.laws_card.proofs.TimersRun.{timely-all, timely-after, begins-timely-card}
-use Rattle.laws_card.proofs.Wherever.{all-left, all-right, config-stays}
+use Rattle.laws_line.specs.card.Timers.{AllHaveTheirTimers}
+use Rattle.laws_line.specs.card.Among.{AreTakesAt}
+use Rattle.laws_line.proofs.OfCard.TimersRun.{timely-all, timely-after, begins-timely-card}
+use Rattle.laws_line.proofs.OfCard.Wherever.{all-left, all-right, config-stays}
 use Rattle.laws_trace.specs.ControlFrames.{controls_at, IsPart, StaysOn, is_deactivated_at, IsNotDeactivated}
 use Rattle.laws_trace.proofs.ControlsWatched.{command_of, due_in, may_go_in, along, OnlyDueGo, AllDueGo}
 use Rattle.laws_trace.proofs.DeliveriesWatched.{Standing, at_first, stand}

@@ -10,7 +10,7 @@ use Rattle.laws_link.specs.States.{as_heard, moves}
 use Rattle.laws_link.specs.Waiting.{as_response}
 use Rattle.laws_link.proofs.Follows.{event-follows}
 use Rattle.laws_link.proofs.InOrder.{given-in-order}
-use Rattle.laws_two_links.specs.Needed.{HasItsTimer}
+use Rattle.laws_link.specs.two.Needed.{HasItsTimer}
 use Rattle.model_link.specs.declared.states.State.{State}
 use Rattle.model_link.specs.declared.states.State.TheVariants.{TeiAssigned, AwaitingEstablishment, AwaitingRelease, Established, TimerRecovery}
 use Rattle.model_link.specs.declared.frames.ControlFrame.{ControlFrame}

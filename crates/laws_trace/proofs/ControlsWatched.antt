@@ -19,7 +19,7 @@ use Rattle.laws_line.specs.Frames.{lost_in}
 use Rattle.model_card.specs.Card.{fresh, line_at}
 use Rattle.model_card.specs.Event.{Event}
 use Rattle.model_card.specs.Run.{Moment, moments, after_all}
-use Rattle.laws_card.specs.Among.{AreTakesAt, takes_at}
+use Rattle.laws_line.specs.card.Among.{AreTakesAt, takes_at}
 use Rattle.laws_trace.proofs.DeliveriesWatched.{Standing, at_first, stand}
 use Rattle.laws_trace.proofs.States.{expired_of, one_more, is_state, state_before, state_after, differ}
 use Rattle.laws_trace.specs.Trace.{is_up, Seen, heard, begun, granted, seen_in, trace, trace_of}

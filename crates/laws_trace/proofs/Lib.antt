@@ -115,3 +115,4 @@ pub mod KeptOfLink
 pub mod PlacesSeen
 pub mod PlacesAreKept
 pub mod UnitsAreFor
+pub mod OfOctets

@@ -30,7 +30,7 @@ use Rattle.laws_trace.proofs.CallRuns.{called-behind}
 use Rattle.laws_trace.proofs.Turns.{link-frame, ui-frame, name-is}
 use Rattle.laws_trace.proofs.Units.{NoneWaits, plain-order, first-of, given-frames}
 use Rattle.laws_trace.proofs.Walking.{named, Stays, Walk, still, goes, ends, take-turns}
-use Rattle.laws_card.proofs.Wherever.{config-stays}
+use Rattle.laws_line.proofs.OfCard.Wherever.{config-stays}
 
 small-sapi : (service : Service) → sapi_of service < 64
 small-sapi Call = omega arith

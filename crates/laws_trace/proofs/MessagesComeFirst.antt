@@ -18,7 +18,7 @@ use Rattle.model_line.specs.Taken.{Taken, taken, next_of}
 use Rattle.model_line.specs.Sound.{IsSound}
 use Rattle.model_card.specs.Card.{fresh}
 use Rattle.model_card.specs.Run.{moments, after_all}
-use Rattle.laws_card.proofs.Wherever.{all-right, config-stays}
+use Rattle.laws_line.proofs.OfCard.Wherever.{all-right, config-stays}
 use Rattle.laws_line.specs.Served.{IsMessage, IsUnit, IsOfLink, IsOwed, IsIdle, contents_of}
 use Rattle.laws_line.proofs.Serving.{served}
 use Rattle.laws_trace.specs.LinksTakeTurns.{is_of_a_link}

@@ -10,7 +10,7 @@ use Rattle.lapd_frame.specs.Grammar.{Parts}
 use Rattle.lapd_seq.specs.declared.numbers.Seq.{Seq}
 use Rattle.lapd_seq.specs.Circle.{named, distance_of}
 use Rattle.lapd_seq.specs.Numbers.{seq}
-use Rattle.laws_two_links.specs.Needed.{HasItsTimer, needed_in}
+use Rattle.laws_link.specs.two.Needed.{HasItsTimer, needed_in}
 use Rattle.model_link.specs.declared.states.State.{State}
 use Rattle.model_link.specs.declared.states.State.TheVariants.{TeiAssigned, AwaitingEstablishment, AwaitingRelease, Established, TimerRecovery}
 use Rattle.model_link.specs.declared.terms.Terms.{Terms}

@@ -23,8 +23,8 @@ use Rattle.model_card.specs.Run.{Moment, moments, after_all, IsAtLine, AreAtLine
 use Rattle.model_card.specs.Sound as card_sound
 use Rattle.model_card.proofs.CardSound.{fresh_is_sound, after_is_sound}
 use Rattle.model_card.proofs.Steps.{has_lines, by_room, line_sound}
-use Rattle.laws_card.specs.Timers.{AllHaveTheirTimers}
-use Rattle.laws_card.proofs.TimersRun.{timely-after, begins-timely-card}
+use Rattle.laws_line.specs.card.Timers.{AllHaveTheirTimers}
+use Rattle.laws_line.proofs.OfCard.TimersRun.{timely-after, begins-timely-card}
 use Rattle.laws_line.specs.Heard.{notes_of}
 use Rattle.laws_line.proofs.TimersFollow.{nowhere}
 use Rattle.laws_trace.specs.News.{is_news, is_sabme, is_xid, releases, wrong}

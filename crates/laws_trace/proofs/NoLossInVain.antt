@@ -43,7 +43,7 @@ use Rattle.model_card.specs.Run.{after_all, AreAtLines}
 use Rattle.model_card.specs.Sound as card_sound
 use Rattle.model_card.proofs.CardSound.{fresh_is_sound, always_sound}
 use Rattle.model_card.proofs.Steps.{has_lines, by_room, line_sound}
-use Rattle.laws_card.proofs.Wherever.{config-stays}
+use Rattle.laws_line.proofs.OfCard.Wherever.{config-stays}
 use Rattle.laws_line.specs.Frames.{lost_in}
 use Rattle.laws_line.specs.Heard.{IsMalformed, IsTooLong}
 use Rattle.laws_line.specs.Steady.{IsBy, BringsMalformed}

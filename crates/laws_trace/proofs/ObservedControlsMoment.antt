@@ -18,7 +18,7 @@ use Rattle.model_line.specs.Request.{Request}
 use Rattle.laws_link.specs.Waiting.{as_response, as_command}
 use Rattle.laws_line.specs.Frames.{lost_in}
 use Rattle.laws_line.specs.Share.{is_granted}
-use Rattle.laws_card.specs.Timers.{AllHaveTheirTimers}
+use Rattle.laws_line.specs.card.Timers.{AllHaveTheirTimers}
 use Rattle.model_card.specs.Card.{Card, line_at}
 use Rattle.model_card.specs.Event.{Event, at}
 use Rattle.model_card.specs.Machine.{after, answer}

@@ -5,9 +5,9 @@ use Rattle.std.proofs.lemmas.List.Elements.{All-head, All-tail}
 use Rattle.lapd_frame.specs.declared.services.Service.{Service}
 use Rattle.model_line.specs.declared.config.Config.{Config}
 use Rattle.model_line.specs.Sound.{IsInRange}
-use Rattle.laws_card.specs.Timers.{AllHaveTheirTimers}
-use Rattle.laws_card.proofs.TimersRun.{timely-after}
-use Rattle.laws_card.proofs.Wherever.{all-left, all-right}
+use Rattle.laws_line.specs.card.Timers.{AllHaveTheirTimers}
+use Rattle.laws_line.proofs.OfCard.TimersRun.{timely-after}
+use Rattle.laws_line.proofs.OfCard.Wherever.{all-left, all-right}
 use Rattle.model_card.specs.Card.{Card, fresh, line_at}
 use Rattle.model_card.specs.Event.{Event}
 use Rattle.model_card.specs.Machine.{after, answer}

@@ -19,8 +19,8 @@ use Rattle.model_card.specs.Run.{Moment, moments, after_all, IsAtLine, AreAtLine
 use Rattle.model_card.specs.Sound as card_sound
 use Rattle.model_card.proofs.CardSound.{after_is_sound}
 use Rattle.model_card.proofs.Steps.{has_lines, by_room, line_sound}
-use Rattle.laws_card.specs.Timers.{AllHaveTheirTimers}
-use Rattle.laws_card.proofs.TimersRun.{timely-after}
+use Rattle.laws_line.specs.card.Timers.{AllHaveTheirTimers}
+use Rattle.laws_line.proofs.OfCard.TimersRun.{timely-after}
 use Rattle.laws_trace.specs.Managing.{is_on, led}
 use Rattle.laws_trace.specs.Observer.{Observed, View, in_state, by_event, views}
 use Rattle.laws_trace.specs.Trace.{seen, seen_in, trace}

@@ -21,7 +21,7 @@ use Rattle.laws_link.specs.Timed.{obeyed}
 use Rattle.laws_line.specs.Heard.{notes_of}
 use Rattle.laws_line.specs.Steady.{timer_of}
 use Rattle.laws_line.specs.Timers.{left_by}
-use Rattle.laws_card.specs.Timers.{runs_at_callers}
+use Rattle.laws_line.specs.card.Timers.{runs_at_callers}
 use Rattle.model_card.specs.Card.{fresh, line_at}
 use Rattle.model_card.specs.Event.{Event, at}
 use Rattle.model_card.specs.Machine.{after, answer}

@@ -20,8 +20,8 @@ use Rattle.model_card.specs.Machine.{after, answer}
 use Rattle.model_card.specs.Run.{Moment, moments, after_all, IsAtLine, AreAtLines}
 use Rattle.model_card.specs.Sound as card_sound
 use Rattle.model_card.proofs.CardSound.{fresh_is_sound, after_is_sound}
-use Rattle.laws_card.specs.Timers.{AllHaveTheirTimers}
-use Rattle.laws_card.proofs.TimersRun.{timely-after, begins-timely-card}
+use Rattle.laws_line.specs.card.Timers.{AllHaveTheirTimers}
+use Rattle.laws_line.proofs.OfCard.TimersRun.{timely-after, begins-timely-card}
 use Rattle.laws_trace.specs.Managing.{is_on, led}
 use Rattle.laws_trace.specs.Observer.{Observed, View, at_first, in_state, by_event, views, view_of, moment_of, view_behind}
 use Rattle.laws_trace.specs.Trace.{seen}

@@ -50,7 +50,7 @@ use Rattle.laws_line.proofs.Serving.{units-wait}
 use Rattle.laws_line.proofs.TimersFollow.{number-is}
 use Rattle.model_card.specs.Card.{fresh}
 use Rattle.model_card.proofs.CardSound.{fresh_is_sound}
-use Rattle.laws_card.proofs.Wherever.{all-left as all-front, all-right as all-back}
+use Rattle.laws_line.proofs.OfCard.Wherever.{all-left as all-front, all-right as all-back}
 use Rattle.laws_trace.specs.FramesAreRead.{contents_given, GivesOctets, FramesAreOctets}
 use Rattle.laws_trace.specs.Trace.{frame_in, Seen, granted, seen_told, seen, frames_begun, Always}
 use Rattle.laws_trace.proofs.OneLink.{Goes, event-goes}
@@ -60,7 +60,7 @@ use Rattle.laws_trace.proofs.SmallMessagesWait.{messages-after}
 use Rattle.laws_trace.proofs.Units.{none-told, none-requested, given-frames}
 use Rattle.laws_trace.proofs.Spelled.{Anything}
 use Rattle.laws_trace.specs.Trace as traces
-use Rattle.laws_card.proofs.Spelling.{head}
+use Rattle.laws_line.proofs.OfCard.Spelling.{head}
 use Rattle.lapd_frame.specs.declared.services.Service.TheVariants.{Call, Packet}
 
 abbrev IsUnit : UnitData → Type 0

@@ -13,9 +13,9 @@ use Rattle.model_card.specs.Event.{Event, at}
 use Rattle.model_card.specs.Run.{moments, after_all, AreAtLines}
 use Rattle.model_card.proofs.CardSound.{fresh_is_sound, always_sound}
 use Rattle.model_card.proofs.Steps.{has_lines, by_room, line_sound}
-use Rattle.laws_card.specs.Timers.{runs_at_callers}
-use Rattle.laws_card.proofs.TimersRun.{needed-run, needs-none, timely-all, begins-timely-card}
-use Rattle.laws_card.proofs.Wherever.{config-stays}
+use Rattle.laws_line.specs.card.Timers.{runs_at_callers}
+use Rattle.laws_line.proofs.OfCard.TimersRun.{needed-run, needs-none, timely-all, begins-timely-card}
+use Rattle.laws_line.proofs.OfCard.Wherever.{config-stays}
 use Rattle.laws_trace.specs.OrdersHaveReasons.{HasReason, OrdersHaveReasons}
 use Rattle.laws_trace.specs.Trace.{Always}
 use Rattle.laws_trace.proofs.OrdersHaveReasons.{event-due}

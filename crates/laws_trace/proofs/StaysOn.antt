@@ -18,7 +18,7 @@ use Rattle.model_card.specs.Run.{after_all, IsAtLine, AreAtLines}
 use Rattle.model_card.specs.Sound as card_sound
 use Rattle.model_card.proofs.CardSound.{after_is_sound}
 use Rattle.model_card.proofs.Steps.{has_lines, by_room, line_sound}
-use Rattle.laws_card.specs.Among.{AreTakesAt}
+use Rattle.laws_line.specs.card.Among.{AreTakesAt}
 use Rattle.laws_trace.specs.ControlFrames.{StaysOn}
 use Rattle.laws_trace.proofs.CallRuns.{apart}
 

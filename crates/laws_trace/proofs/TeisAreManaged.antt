@@ -20,7 +20,7 @@ use Rattle.model_card.specs.Run.{after_all, IsAtLine, AreAtLines}
 use Rattle.model_card.specs.Sound as card_sound
 use Rattle.model_card.proofs.CardSound.{after_is_sound, fresh_is_sound, always_sound}
 use Rattle.model_card.proofs.Steps.{has_lines, by_room, line_sound as sound-at}
-use Rattle.laws_card.proofs.Wherever.{config-stays}
+use Rattle.laws_line.proofs.OfCard.Wherever.{config-stays}
 use Rattle.laws_trace.specs.Managing.{Managed, none_on, due, led, managed_after}
 use Rattle.laws_trace.specs.TeisAreManaged.{IsGrantedSo, TeisAreManaged}
 use Rattle.laws_trace.specs.Trace.{Always}

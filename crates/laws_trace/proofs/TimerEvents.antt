@@ -5,7 +5,7 @@ use Rattle.lapd_frame.specs.declared.controls.Control.{Control}
 use Rattle.lapd_frame.specs.declared.controls.Control.TheVariants.{Sabme, Disc}
 use Rattle.lapd_frame.specs.declared.notes.ErrorCode.TheVariants as code
 use Rattle.lapd_frame.specs.declared.refusals.Refusal.{Refusal}
-use Rattle.laws_two_links.specs.Needed.{HasItsTimer, IsCalmIn, needed_in}
+use Rattle.laws_link.specs.two.Needed.{HasItsTimer, IsCalmIn, needed_in}
 use Rattle.model_link.specs.declared.states.State.{State}
 use Rattle.model_link.specs.declared.states.State.TheVariants.{TeiAssigned, AwaitingEstablishment, AwaitingRelease, Established, TimerRecovery}
 use Rattle.model_link.specs.declared.terms.Terms.{Terms}

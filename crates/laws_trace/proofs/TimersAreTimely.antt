@@ -7,7 +7,7 @@ use Rattle.std.proofs.lemmas.List.{get_or-set_same, get_or-replicate}
 use Rattle.std.proofs.lemmas.List.Elements.{All-nil, All-cons, All-head, All-tail}
 use Rattle.lapd_frame.specs.declared.refusals.Refusal.TheVariants.{PoolFull}
 use Rattle.lapd_frame.specs.declared.services.Service.{Service}
-use Rattle.laws_two_links.specs.Needed.{HasItsTimer, needed_in}
+use Rattle.laws_link.specs.two.Needed.{HasItsTimer, needed_in}
 use Rattle.model_link.specs.declared.states.State.{State}
 use Rattle.model_link.specs.declared.states.State.TheVariants.{TeiAssigned, AwaitingEstablishment, AwaitingRelease, Established, TimerRecovery}
 use Rattle.model_link.specs.declared.timers.LinkTimer.{LinkTimer}
@@ -33,8 +33,8 @@ use Rattle.model_card.specs.Run.{Moment, moments, after_all, IsAtLine, AreAtLine
 use Rattle.model_card.specs.Sound.{IsSound}
 use Rattle.model_card.proofs.CardSound.{fresh_is_sound, after_is_sound}
 use Rattle.model_card.proofs.Steps.{has_lines, by_room, line_sound}
-use Rattle.laws_card.specs.Timers.{runs_at_callers, AllHaveTheirTimers}
-use Rattle.laws_card.proofs.TimersRun.{needed-run, needs-none, timely-all, timely-after, begins-timely-card}
+use Rattle.laws_line.specs.card.Timers.{runs_at_callers, AllHaveTheirTimers}
+use Rattle.laws_line.proofs.OfCard.TimersRun.{needed-run, needs-none, timely-all, timely-after, begins-timely-card}
 use Rattle.laws_line.specs.Steady.{timer_of}
 use Rattle.laws_line.specs.Timers.{is_needed, left_by, HaveTheirTimers}
 use Rattle.laws_line.proofs.TimersFollow.{nowhere}

@@ -9,7 +9,7 @@ use Rattle.lapd_frame.specs.declared.services.Service.TheVariants.{Call, Packet}
 use Rattle.lapd_frame.specs.Services.{same_service}
 use Rattle.lapd_frame.specs.Grammar.{Parts}
 use Rattle.lapd_tei.proofs.Tables.{place_of-is}
-use Rattle.laws_two_links.specs.Needed.{HasItsTimer, needed}
+use Rattle.laws_link.specs.two.Needed.{HasItsTimer, needed}
 use Rattle.model_link.specs.declared.states.State.{State}
 use Rattle.model_link.specs.declared.terms.Terms.{Terms}
 use Rattle.model_link.specs.declared.timers.LinkTimer.{LinkTimer}

@@ -20,7 +20,7 @@ use Rattle.model_card.specs.Card.{fresh, line_at}
 use Rattle.model_card.specs.Event.{Event, at}
 use Rattle.model_card.specs.Machine.{after, answer}
 use Rattle.model_card.specs.Run.{Moment, moments, after_all}
-use Rattle.laws_card.specs.Timers.{runs_at_callers}
+use Rattle.laws_line.specs.card.Timers.{runs_at_callers}
 use Rattle.laws_trace.specs.LinkFrames.{Sent, sent_in, is_for, frame_of}
 use Rattle.laws_trace.proofs.States.{is_state, state_before, state_after, differ}
 use Rattle.laws_trace.specs.Trace.{Seen, heard, begun, seen_in}

@@ -29,9 +29,9 @@ use Rattle.model_card.specs.Run.{moments, after_all, IsAtLine, AreAtLines}
 use Rattle.model_card.specs.Sound.{IsSound}
 use Rattle.model_card.proofs.CardSound.{after_is_sound, always_sound, fresh_is_sound}
 use Rattle.model_card.proofs.Steps.{has_lines, by_room, line_sound}
-use Rattle.laws_card.specs.Among.{AreTakesAt}
-use Rattle.laws_card.specs.PromisesOfTakes.{StaysAt}
-use Rattle.laws_card.proofs.Wherever.{all-left, all-right, config-stays}
+use Rattle.laws_line.specs.card.Among.{AreTakesAt}
+use Rattle.laws_line.specs.card.PromisesOfTakes.{StaysAt}
+use Rattle.laws_line.proofs.OfCard.Wherever.{all-left, all-right, config-stays}
 use Rattle.laws_trace.specs.Trace as traces
 use Rattle.laws_trace.specs.Trace.{frame_in, Always, Seen, seen, trace, frames_begun, IsAmong}
 use Rattle.laws_trace.specs.LinksTakeTurns.{LinkName, named_in, is_of_a_link, links_begun}

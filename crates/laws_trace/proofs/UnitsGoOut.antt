@@ -10,7 +10,7 @@ use Rattle.model_card.specs.Card.{fresh, line_at}
 use Rattle.model_card.specs.Event.{Event}
 use Rattle.model_card.specs.Run.{after_all, AreAtLines}
 use Rattle.model_card.proofs.CardSound.{fresh_is_sound}
-use Rattle.laws_card.specs.Among.{AreTakesAt, takes_at}
+use Rattle.laws_line.specs.card.Among.{AreTakesAt, takes_at}
 use Rattle.laws_trace.specs.Trace.{trace_of, Always}
 use Rattle.laws_trace.specs.Units.{units_begun, units_granted}
 use Rattle.laws_trace.specs.UnitsGoOut.{UnitsGoOut, AllUnitsGoOut}

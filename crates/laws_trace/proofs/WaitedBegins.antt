@@ -17,10 +17,10 @@ use Rattle.model_card.specs.Machine.{after, answer}
 use Rattle.model_card.specs.Run.{moments, after_all, IsAtLine, AreAtLines}
 use Rattle.model_card.specs.Sound.{IsSound}
 use Rattle.model_card.proofs.CardSound.{fresh_is_sound, always_sound}
-use Rattle.laws_card.specs.Among.{AreTakesAt, takes_at, IsTakenAmong}
-use Rattle.laws_card.specs.PromisesOfTakes.{IsWaiting}
-use Rattle.laws_card.proofs.Meanwhile.{line-sound, card-drains, card-waits}
-use Rattle.laws_card.proofs.Wherever.{all-left, all-right, config-stays}
+use Rattle.laws_line.specs.card.Among.{AreTakesAt, takes_at, IsTakenAmong}
+use Rattle.laws_line.specs.card.PromisesOfTakes.{IsWaiting}
+use Rattle.laws_line.proofs.OfCard.Meanwhile.{line-sound, card-drains, card-waits}
+use Rattle.laws_line.proofs.OfCard.Wherever.{all-left, all-right, config-stays}
 use Rattle.laws_trace.specs.Trace as traces
 use Rattle.laws_trace.specs.Trace.{Always, frame_in, trace, seen, frames_begun, IsAmong}
 use Rattle.laws_trace.specs.WaitedBegins.{AllThatWaitedBegins}

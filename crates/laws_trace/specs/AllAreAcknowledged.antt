@@ -9,7 +9,7 @@ use Rattle.model_line.specs.declared.config.Config.{Config}
 use Rattle.laws_line.specs.Drains.{most_frames}
 use Rattle.laws_line.specs.Heard.{is_data_of}
 use Rattle.model_card.specs.Event.{Event}
-use Rattle.laws_card.specs.Among.{AreTakesAt, takes_at}
+use Rattle.laws_line.specs.card.Among.{AreTakesAt, takes_at}
 use Rattle.laws_trace.specs.ControlFrames.{of_link}
 use Rattle.laws_trace.specs.Observer.{view_of}
 use Rattle.laws_trace.specs.Trace.{Seen, noted, begun, lost, trace_of, is_up}

@@ -5,7 +5,7 @@ use Rattle.model_line.specs.declared.config.Config.{Config}
 use Rattle.model_line.specs.Line.{window}
 use Rattle.laws_line.specs.Drains.{most_frames}
 use Rattle.model_card.specs.Event.{Event}
-use Rattle.laws_card.specs.Among.{AreTakesAt, takes_at}
+use Rattle.laws_line.specs.card.Among.{AreTakesAt, takes_at}
 use Rattle.laws_trace.specs.DataGoesOut.{Going, none_yet, Reaches}
 use Rattle.laws_trace.specs.Observer.{Observed, view_of}
 use Rattle.laws_trace.specs.Trace.{trace_of}

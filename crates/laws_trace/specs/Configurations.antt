@@ -5,7 +5,7 @@ use Rattle.model_line.specs.declared.config.Config.{Config}
 use Rattle.model_line.specs.declared.config.Field.TheVariants as field
 use Rattle.model_line.specs.Config.{first_fault}
 use Rattle.model_line.specs.Sound.{IsInRange}
-use Rattle.laws_card.specs.Worked.{usual}
+use Rattle.laws_line.specs.card.Worked.{usual}
 
 -- The ranges of a configuration (profile; the windows, N201 and N200 by Q.921 clause 5.9).
 pub record HasRanges (c : Config) : Type 0 where

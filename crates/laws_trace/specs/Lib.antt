@@ -48,3 +48,4 @@ pub mod CountersCount
 pub mod WorkedCounters
 pub mod PlacesAreKept
 pub mod WorkedKept
+pub mod octets

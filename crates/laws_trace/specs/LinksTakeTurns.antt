@@ -8,7 +8,7 @@ use Rattle.model_line.specs.declared.config.Config.{Config}
 use Rattle.model_card.specs.Card.{fresh}
 use Rattle.model_card.specs.Event.{Event}
 use Rattle.model_card.specs.Run.{moments, after_all}
-use Rattle.laws_card.specs.Among.{AreTakesAt}
+use Rattle.laws_line.specs.card.Among.{AreTakesAt}
 use Rattle.laws_trace.specs.Trace.{Seen, trace, frames_begun, IsAmong}
 use Rattle.laws_trace.specs.Units.{is_ui}
 

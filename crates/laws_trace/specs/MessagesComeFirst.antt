@@ -5,7 +5,7 @@ use Rattle.model_line.specs.declared.config.Config.{Config}
 use Rattle.model_card.specs.Card.{fresh}
 use Rattle.model_card.specs.Event.{Event}
 use Rattle.model_card.specs.Run.{moments, after_all}
-use Rattle.laws_card.specs.Among.{AreTakesAt}
+use Rattle.laws_line.specs.card.Among.{AreTakesAt}
 use Rattle.laws_trace.specs.Trace.{trace, frames_begun}
 use Rattle.laws_trace.specs.LinksTakeTurns.{is_of_a_link}
 use Rattle.laws_trace.specs.Units.{is_unit}

@@ -10,7 +10,7 @@ use Rattle.model_card.specs.Card.{fresh}
 use Rattle.model_card.specs.Event.{Event, at}
 use Rattle.model_card.specs.Machine.{answer}
 use Rattle.model_card.specs.Run.{moments, after_all}
-use Rattle.laws_card.specs.Timers.{runs_at_callers}
+use Rattle.laws_line.specs.card.Timers.{runs_at_callers}
 
 -- A timer is ordered to stop only where it ran before the event, at a caller's that obeys the orders.
 abbrev pub HasReason : (Timer → Bool) → Order → Type 0

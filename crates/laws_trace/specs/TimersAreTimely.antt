@@ -15,7 +15,7 @@ use Rattle.laws_line.specs.Timers.{left_by}
 use Rattle.model_card.specs.Card.{fresh}
 use Rattle.model_card.specs.Event.{Event, at}
 use Rattle.model_card.specs.Run.{moments}
-use Rattle.laws_card.specs.Timers.{runs_at_callers}
+use Rattle.laws_line.specs.card.Timers.{runs_at_callers}
 use Rattle.laws_trace.specs.News.{brings}
 use Rattle.laws_trace.specs.Observer.{Observed, awaits, view_of, moment_of, view_behind}
 

@@ -8,7 +8,7 @@ use Rattle.model_card.specs.Card.{Card, fresh, line_at}
 use Rattle.model_card.specs.Event.{Event, at}
 use Rattle.model_card.specs.Machine.{after}
 use Rattle.model_card.specs.Run.{moments, after_all}
-use Rattle.laws_card.specs.PromisesOfTakes.{StaysAt}
+use Rattle.laws_line.specs.card.PromisesOfTakes.{StaysAt}
 use Rattle.laws_trace.specs.Trace.{trace, IsAmong}
 use Rattle.laws_trace.specs.LinksTakeTurns.{LinkName, links_begun}
 

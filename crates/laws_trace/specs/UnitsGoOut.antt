@@ -2,7 +2,7 @@
 use Rattle.std.specs.Prelude.{◌≡◌, ◌≤◌, ℕ, List, ◌++◌}
 use Rattle.model_line.specs.declared.config.Config.{Config}
 use Rattle.laws_line.specs.Drains.{most_frames}
-use Rattle.laws_card.specs.Among.{AreTakesAt, takes_at}
+use Rattle.laws_line.specs.card.Among.{AreTakesAt, takes_at}
 use Rattle.model_card.specs.Event.{Event}
 use Rattle.laws_trace.specs.Trace.{trace_of, IsFront}
 use Rattle.laws_trace.specs.Units.{units_begun, units_granted}

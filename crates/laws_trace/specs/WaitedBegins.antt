@@ -6,8 +6,8 @@ use Rattle.laws_line.specs.Drains.{most_frames, control_text}
 use Rattle.model_card.specs.Card.{fresh, line_at}
 use Rattle.model_card.specs.Event.{Event}
 use Rattle.model_card.specs.Run.{after_all, moments}
-use Rattle.laws_card.specs.Among.{AreTakesAt, takes_at}
-use Rattle.laws_card.specs.PromisesOfTakes.{IsWaiting}
+use Rattle.laws_line.specs.card.Among.{AreTakesAt, takes_at}
+use Rattle.laws_line.specs.card.PromisesOfTakes.{IsWaiting}
 use Rattle.laws_trace.specs.Trace.{trace, frames_begun, IsAmong}
 
 -- Once the line was only called for its next frame, as often as the configuration says, each control frame that waited on

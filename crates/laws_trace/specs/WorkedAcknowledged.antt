@@ -9,7 +9,7 @@ use Rattle.lapd_tei.specs.Events as teis
 use Rattle.model_line.specs.Machine as lines
 use Rattle.model_card.specs.Event.{Event}
 use Rattle.model_card.specs.Run.{moments}
-use Rattle.laws_card.specs.Worked.{usual, up}
+use Rattle.laws_line.specs.card.Worked.{usual, up}
 use Rattle.laws_trace.specs.AllAreAcknowledged.{numbers_at, lost_since, IsLast}
 use Rattle.laws_trace.specs.Trace.{Seen, noted, begun, lost, trace_of}
 use Rattle.laws_trace.specs.WorkedDeliveries.{i_frame}

@@ -18,7 +18,7 @@ use Rattle.model_line.specs.Request.{Assign, Remove, Establish, Release, SetBusy
 use Rattle.model_card.specs.Card.{fresh}
 use Rattle.model_card.specs.Event.{Event, at}
 use Rattle.model_card.specs.Run.{moments}
-use Rattle.laws_card.specs.Worked.{usual, on_0, up}
+use Rattle.laws_line.specs.card.Worked.{usual, on_0, up}
 use Rattle.laws_trace.specs.ControlFrames.{controls_at, answer_to, answers, due_in, may_go_in, along, IsPart, none, left_out, taken}
 use Rattle.laws_trace.specs.Observer.{Observed, at_first, in_state}
 use Rattle.laws_trace.specs.Trace.{begun, trace_of}

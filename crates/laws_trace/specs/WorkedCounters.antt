@@ -12,7 +12,7 @@ use Rattle.model_line.specs.declared.config.Config.{Config}
 use Rattle.model_line.specs.Machine as lines
 use Rattle.model_card.specs.Event.{Event}
 use Rattle.model_card.specs.Run.{moments}
-use Rattle.laws_card.specs.Worked.{usual, up}
+use Rattle.laws_line.specs.card.Worked.{usual, up}
 use Rattle.laws_trace.specs.CountersCount.{names}
 use Rattle.laws_trace.specs.Trace.{trace_of}
 use Rattle.laws_trace.specs.WorkedUnits.{calls, comes}

@@ -16,8 +16,8 @@ use Rattle.model_card.specs.Event.{Event}
 use Rattle.model_card.specs.Machine.{answer}
 use Rattle.model_card.specs.Run.{moments, after_all}
 use Rattle.laws_line.specs.Heard.{notes_of, contents_in}
-use Rattle.laws_card.specs.Worked as worked
-use Rattle.laws_card.specs.Worked.{usual, on_0}
+use Rattle.laws_line.specs.card.Worked as worked
+use Rattle.laws_line.specs.card.Worked.{usual, on_0}
 use Rattle.laws_trace.specs.Deliveries.{IsTold}
 use Rattle.laws_trace.specs.Managing.{none_on}
 use Rattle.laws_trace.specs.Observer.{View, in_state}

@@ -12,7 +12,7 @@ use Rattle.lapd_frame.specs.Reading.{reading, header_of, control_of, unnumbered_
 use Rattle.lapd_tei.specs.Events as teis
 use Rattle.model_line.specs.Machine as lines
 use Rattle.model_card.specs.Run.{moments}
-use Rattle.laws_card.specs.Worked.{usual, on_0}
+use Rattle.laws_line.specs.card.Worked.{usual, on_0}
 use Rattle.laws_trace.specs.FramesAreRead.{IsSpelled}
 use Rattle.laws_trace.specs.Trace.{trace_of, frames_begun}
 use Rattle.laws_trace.specs.WorkedUnits.{unit, calls, comes, spelled}

@@ -15,7 +15,7 @@ use Rattle.model_card.specs.Card.{fresh}
 use Rattle.model_card.specs.Room.{room}
 use Rattle.model_card.specs.Event.{Event}
 use Rattle.model_card.specs.Run.{moments, after_all}
-use Rattle.laws_card.specs.Worked.{usual, on_0, up}
+use Rattle.laws_line.specs.card.Worked.{usual, on_0, up}
 use Rattle.laws_trace.specs.PlacesAreKept.{data_granted, shows_loss, went_on}
 use Rattle.laws_trace.specs.Trace.{noted, granted}
 use Rattle.laws_trace.specs.WorkedObserver.{link_after}

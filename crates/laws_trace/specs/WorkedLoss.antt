@@ -12,7 +12,7 @@ use Rattle.model_card.specs.Card.{fresh, line_at}
 use Rattle.model_card.specs.Event.{Event}
 use Rattle.model_card.specs.Machine.{answer}
 use Rattle.model_card.specs.Run.{after_all}
-use Rattle.laws_card.specs.Worked.{usual, on_0, up}
+use Rattle.laws_line.specs.card.Worked.{usual, on_0, up}
 use Rattle.laws_trace.specs.Managing.{due, managed_after}
 use Rattle.laws_trace.specs.NoLossInVain.{HasFullLink}
 use Rattle.laws_trace.specs.WorkedUnits.{comes}

@@ -19,7 +19,7 @@ use Rattle.model_card.specs.Card.{fresh}
 use Rattle.model_card.specs.Event.{Event, at}
 use Rattle.model_card.specs.Machine.{answer}
 use Rattle.model_card.specs.Run.{after_all}
-use Rattle.laws_card.specs.Worked.{usual, on_0}
+use Rattle.laws_line.specs.card.Worked.{usual, on_0}
 use Rattle.laws_trace.specs.Managing.{Due, nothing_due, none_on, due, managed_after}
 use Rattle.laws_trace.specs.TeisAreManaged.{IsAsDue}
 use Rattle.laws_trace.specs.WorkedUnits.{calls, comes}

@@ -17,7 +17,7 @@ use Rattle.model_line.specs.Request.{Assign, Remove, Establish, Release, Data, D
 use Rattle.model_card.specs.Event as card
 use Rattle.model_card.specs.Event.{at}
 use Rattle.model_card.specs.Run.{moments, after_all}
-use Rattle.laws_card.specs.Worked.{usual, on_0, up}
+use Rattle.laws_line.specs.card.Worked.{usual, on_0, up}
 use Rattle.laws_trace.specs.News.{is_news, is_sabme, is_xid, brings, releases, due, wrong}
 use Rattle.laws_trace.specs.Observer.{in_state, view_of, moment_of, view_behind}
 use Rattle.laws_trace.specs.WorkedUnits.{calls}

@@ -19,8 +19,8 @@ use Rattle.model_card.specs.Card.{fresh}
 use Rattle.model_card.specs.Event.{Event, at}
 use Rattle.model_card.specs.Machine.{answer}
 use Rattle.model_card.specs.Run.{moments, after_all}
-use Rattle.laws_card.specs.Timers.{runs_at_callers}
-use Rattle.laws_card.specs.Worked.{usual, on_0, up}
+use Rattle.laws_line.specs.card.Timers.{runs_at_callers}
+use Rattle.laws_line.specs.card.Worked.{usual, on_0, up}
 use Rattle.laws_trace.specs.AllGoesAgain.{MayGo}
 use Rattle.laws_trace.specs.Observer.{Observed, in_state, awaits, by_heard, by_t200, by_expiry, view_of}
 use Rattle.laws_trace.specs.TimersAreTimely.{is_anew}

@@ -10,8 +10,8 @@ use Rattle.model_line.specs.Machine as lines
 use Rattle.model_line.specs.Request.{Assign, Check}
 use Rattle.model_card.specs.Card.{fresh}
 use Rattle.model_card.specs.Run.{moments}
-use Rattle.laws_card.specs.Timers.{runs_at_callers}
-use Rattle.laws_card.specs.Worked.{usual, on_0}
+use Rattle.laws_line.specs.card.Timers.{runs_at_callers}
+use Rattle.laws_line.specs.card.Worked.{usual, on_0}
 use Rattle.laws_trace.specs.OrdersHaveReasons.{HasReason}
 
 -- A TEI is checked, so T201 runs, and may be stopped; T200 does not run.

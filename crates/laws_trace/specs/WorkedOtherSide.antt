@@ -4,7 +4,7 @@ use Rattle.lapd_frame.specs.declared.controls.Control.TheVariants.{Sabme}
 use Rattle.lapd_frame.specs.Grammar.{Parts}
 use Rattle.lapd_frame.specs.Reading.{reading, header_of, control_of, unnumbered_of}
 use Rattle.model_line.specs.Heard.{heard_side}
-use Rattle.laws_card.specs.Worked.{usual}
+use Rattle.laws_line.specs.card.Worked.{usual}
 use Rattle.laws_trace.specs.OtherSide.{bit_in}
 
 -- SABME of a terminal is heard as a command by a card of the network's side.

@@ -11,7 +11,7 @@ use Rattle.model_card.specs.Card.{fresh}
 use Rattle.model_card.specs.Event.{Event}
 use Rattle.model_card.specs.Room.{room}
 use Rattle.model_card.specs.Run.{moments, after_all}
-use Rattle.laws_card.specs.Worked.{usual, on_0, up}
+use Rattle.laws_line.specs.card.Worked.{usual, on_0, up}
 use Rattle.laws_trace.specs.RoomsAreTold.{keeps_nothing}
 use Rattle.laws_trace.specs.WorkedObserver.{link_after}
 use Rattle.laws_trace.specs.WorkedUnits.{calls, comes}

@@ -14,7 +14,7 @@ use Rattle.model_line.specs.Request.{Assign, Check, Establish}
 use Rattle.model_card.specs.Card.{fresh}
 use Rattle.model_card.specs.Event.{Event, at}
 use Rattle.model_card.specs.Run.{moments, after_all}
-use Rattle.laws_card.specs.Worked.{usual, on_0}
+use Rattle.laws_line.specs.card.Worked.{usual, on_0}
 use Rattle.laws_trace.specs.LinksTakeTurns.{LinkName, links_begun, TakeTurns}
 use Rattle.laws_trace.specs.MessagesComeFirst.{rank, AreByRank}
 use Rattle.laws_trace.specs.Trace.{trace, frames_begun, IsAmong}

@@ -9,7 +9,7 @@ use Rattle.model_line.specs.Machine as lines
 use Rattle.model_line.specs.Request.{Request, Assign, Check, Unit}
 use Rattle.model_card.specs.Event.{Event, at}
 use Rattle.model_card.specs.Run.{moments}
-use Rattle.laws_card.specs.Worked.{usual, on_0}
+use Rattle.laws_line.specs.card.Worked.{usual, on_0}
 use Rattle.laws_trace.specs.Trace.{Seen, begun, noted, granted, lost, trace_of, IsFront}
 use Rattle.laws_trace.specs.Units.{units_begun, units_granted}
 

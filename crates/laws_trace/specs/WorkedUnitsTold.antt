@@ -12,7 +12,7 @@ use Rattle.model_card.specs.Card.{fresh}
 use Rattle.model_card.specs.Machine.{answer}
 use Rattle.model_card.specs.Run.{moments, after_all}
 use Rattle.laws_line.specs.Heard.{notes_of, contents_in}
-use Rattle.laws_card.specs.Worked.{usual, on_0}
+use Rattle.laws_line.specs.card.Worked.{usual, on_0}
 use Rattle.laws_trace.specs.Managing.{is_on}
 use Rattle.laws_trace.specs.Observer.{view_of}
 use Rattle.laws_trace.specs.Trace.{is_up}

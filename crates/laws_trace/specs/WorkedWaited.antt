@@ -9,7 +9,7 @@ use Rattle.model_line.specs.Machine as lines
 use Rattle.laws_line.specs.Drains.{control_text}
 use Rattle.model_card.specs.Card.{fresh, line_at}
 use Rattle.model_card.specs.Run.{moments, after_all}
-use Rattle.laws_card.specs.Worked.{usual, up}
+use Rattle.laws_line.specs.card.Worked.{usual, up}
 use Rattle.laws_trace.specs.Trace.{trace, frames_begun, IsAmong}
 use Rattle.laws_trace.specs.WorkedUnits.{calls}
 

@@ -10,7 +10,7 @@ use Rattle.model_line.specs.Machine as lines
 use Rattle.model_line.specs.Request.{Data}
 use Rattle.model_card.specs.Event.{Event}
 use Rattle.model_card.specs.Run.{moments}
-use Rattle.laws_card.specs.Worked.{usual, on_0, up}
+use Rattle.laws_line.specs.card.Worked.{usual, on_0, up}
 use Rattle.laws_trace.specs.AllGoesAgain.{MayGo}
 use Rattle.laws_trace.specs.Observer.{Observed, in_state}
 use Rattle.laws_trace.specs.WorkedObserver.{link_after}

@@ -15,6 +15,7 @@
 #![tactic(auto)]
 
 mod laws;
+mod octets;
 
 pub use laws::{
     all_are_acknowledged, control_frames_go, counters_count, data_goes_out, frames_are_read,
@@ -23,3 +24,4 @@ pub use laws::{
     the_other_side_is_heard, timers_are_timely, units_are_spelled, units_go_out,
     what_is_told_was_heard, windows_are_kept,
 };
+pub use octets::{all_frames_go_out, frames_go_out, latest_is_begun, units_are_heard};

@@ -7,9 +7,9 @@ use Rattle.model_link.specs.Link.{fresh}
 use Rattle.model_link.specs.TwoEnds.{End}
 use Rattle.model_line.specs.declared.config.Config.{Config}
 use Rattle.model_line.specs.Line.{link_in, link_at, terms, terms_at}
-use Rattle.laws_two_links.specs.Rounds.{IsReady, IsTaken, HasArrived}
-use Rattle.laws_two_links.proofs.AnyOrder.{Steady, Direction}
-use Rattle.laws_two_links.proofs.Waiting.{nothing-given}
+use Rattle.laws_link.specs.two.Rounds.{IsReady, IsTaken, HasArrived}
+use Rattle.laws_link.proofs.OfTwo.AnyOrder.{Steady, Direction}
+use Rattle.laws_link.proofs.OfTwo.Waiting.{nothing-given}
 use Rattle.laws_wire.specs.Wire.{Station, Wire, IsStill}
 use Rattle.laws_wire.specs.Facing as facing
 use Rattle.laws_wire.specs.Facing.{line_of, data_of, read_as, end_of}

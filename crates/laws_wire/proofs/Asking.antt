@@ -12,8 +12,8 @@ use Rattle.model_link.specs.Steps.{Course, begun}
 use Rattle.model_link.specs.Sound.{IsSound}
 use Rattle.model_link.specs.TwoEnds.{End, with_link}
 use Rattle.model_link.proofs.SoundEvents.{sound-after}
-use Rattle.laws_two_links.specs.AnyOrder.{load, weight_at}
-use Rattle.laws_two_links.proofs.AnyOrder.{Informs, Lane, lane-order, Steady, Direction}
+use Rattle.laws_link.specs.two.AnyOrder.{load, weight_at}
+use Rattle.laws_link.proofs.OfTwo.AnyOrder.{Informs, Lane, lane-order, Steady, Direction}
 
 -- contents at a place below what was there stay
 pub get-front : (xs ys : List (List ℕ)) (i : ℕ) → i < length xs → slice_get (xs ++ ys) i ≡ slice_get xs i
@@ -34,7 +34,7 @@ module _ (t : Terms) (cs more : List (List ℕ)) where
       let l' : Link = record h.l { contents = cs ++ more } in
       let low' : h.l.s < length cs = subst (λ i. i < length cs) (sym h.number) low in
       let same : slice_get h.l.contents h.l.s ≡ slice_get (cs ++ more) h.l.s = ap (λ xs. slice_get xs h.l.s) h.contents ∙ sym (get-front cs more h.l.s low') in
-      record { l = l'; is = h.is ∙ (λ i. record (Rattle.laws_two_links.proofs.Plain.information_frame t h.l) { info = unwrap_or (same i) [] }); contents = refl; number = h.number; means = h.means }
+      record { l = l'; is = h.is ∙ (λ i. record (Rattle.laws_link.proofs.OfTwo.Plain.information_frame t h.l) { info = unwrap_or (same i) [] }); contents = refl; number = h.number; means = h.means }
 
   pub lane-asked : (r s lo hi : ℕ) (owed : Bool) (way : List Parts) → s ≤ length cs → Lane t cs r s lo hi owed way → Lane t (cs ++ more) r s lo hi owed way
   lane-asked r s lo hi owed [] high h = h

@@ -14,8 +14,8 @@ use Rattle.model_link.specs.TwoEnds.{End}
 use Rattle.model_line.specs.declared.config.Config.{Config}
 use Rattle.model_line.specs.Line.{link_in, terms}
 use Rattle.laws_link.specs.Flags.{awaits_answer}
-use Rattle.laws_two_links.specs.Timely.{is_enquiry, is_answer, supervisory_bit, HasNo}
-use Rattle.laws_two_links.specs.Timely as two_links
+use Rattle.laws_link.specs.two.Timely.{is_enquiry, is_answer, supervisory_bit, HasNo}
+use Rattle.laws_link.specs.two.Timely as two_links
 use Rattle.laws_wire.specs.Wire.{Station}
 use Rattle.laws_wire.specs.Facing.{line_of, read_as, parts_of, end_of}
 use Rattle.laws_wire.specs.Timely.{bit_of, is_poll, is_final, IsNoneOpen, MayRepeat}

@@ -19,7 +19,7 @@ use Rattle.model_line.specs.declared.config.Config.{Config}
 use Rattle.model_line.specs.Line.{terms}
 use Rattle.model_line.specs.Request.{Request}
 use Rattle.model_line.specs.Event.{next}
-use Rattle.laws_two_links.proofs.AnyOrderRuns.{Pair}
+use Rattle.laws_link.proofs.OfTwo.AnyOrderRuns.{Pair}
 use Rattle.laws_wire.specs.Wire.{Station, Wire, happens, frames_by, with_first_of, with_first_lost, Act, requests, times_out, gives, takes, loses, acting, turned, is_turn_of, answered, comes}
 use Rattle.laws_wire.specs.Call.{IsTalkOf, confirmed}
 use Rattle.laws_wire.proofs.Answered.{takes-granted}

@@ -13,8 +13,8 @@ use Rattle.model_line.specs.declared.config.Config.{Config}
 use Rattle.model_line.specs.Line.{terms}
 use Rattle.model_line.specs.Request.{Data}
 use Rattle.model_line.specs.Event.{LineTold, request, next}
-use Rattle.laws_two_links.specs.AnyOrder.{weight_at}
-use Rattle.laws_two_links.proofs.AnyOrderRuns.{Pair}
+use Rattle.laws_link.specs.two.AnyOrder.{weight_at}
+use Rattle.laws_link.proofs.OfTwo.AnyOrderRuns.{Pair}
 use Rattle.laws_wire.specs.Wire.{Station, Wire, happens, frames_by, with_first_of, Act, requests, times_out, gives, takes, loses, Doing, at_near, at_far, acting, turned, doing, is_turn_of, is_turn, answered, comes}
 use Rattle.laws_wire.specs.Call.{IsTalkOf, IsTalk, confirmed}
 use Rattle.laws_wire.proofs.Answered.{gives-granted, takes-granted}

@@ -18,8 +18,8 @@ use Rattle.model_link.specs.Steps.{begun}
 use Rattle.model_link.specs.TwoEnds.{End, with_sent}
 use Rattle.model_link.specs.Words.{command, response}
 use Rattle.model_link.proofs.SoundEvents.{sound-after, sound-fresh}
-use Rattle.laws_two_links.proofs.AnyOrder.{Steady}
-use Rattle.laws_two_links.proofs.AnyOrderRuns.{Pair}
+use Rattle.laws_link.proofs.OfTwo.AnyOrder.{Steady}
+use Rattle.laws_link.proofs.OfTwo.AnyOrderRuns.{Pair}
 use Rattle.laws_wire.specs.Call.{confirmed, indicated}
 use Rattle.laws_wire.proofs.Speaking.{said_by}
 

@@ -13,10 +13,10 @@ use Rattle.model_line.specs.declared.config.Config.{Config}
 use Rattle.model_line.specs.Event.{LineTold}
 use Rattle.model_line.specs.Line.{link_in}
 use Rattle.laws_line.proofs.Obeyed.{service-same}
-use Rattle.laws_two_links.specs.AnyOrder.{AreTurns, weight_at}
-use Rattle.laws_two_links.specs.Rounds.{IsReady, IsTaken}
-use Rattle.laws_two_links.proofs.AnyOrderRuns.{Pair, all-turns}
-use Rattle.laws_two_links.proofs.Waiting.{nothing-to_send}
+use Rattle.laws_link.specs.two.AnyOrder.{AreTurns, weight_at}
+use Rattle.laws_link.specs.two.Rounds.{IsReady, IsTaken}
+use Rattle.laws_link.proofs.OfTwo.AnyOrderRuns.{Pair, all-turns}
+use Rattle.laws_link.proofs.OfTwo.Waiting.{nothing-to_send}
 use Rattle.laws_wire.specs.Wire.{Station, Wire, Doing, doing_all, turns, IsStill}
 use Rattle.laws_wire.specs.Call.{calling, IsTalk, confirmed, data_told, told_first, both_call}
 use Rattle.laws_wire.specs.Facing as facing

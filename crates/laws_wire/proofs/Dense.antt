@@ -4,7 +4,7 @@ use Rattle.lapd_frame.specs.Grammar.{Parts}
 use Rattle.lapd_seq.specs.Numbers.{seq}
 use Rattle.lapd_seq.proofs.Callers.{seq-value}
 use Rattle.model_link.proofs.Lines.{Means, Rising, rising-low}
-use Rattle.laws_two_links.proofs.Trains.{Kind, numbered, enquiry, answer, report, rejection, alien, Every, Calm, Beyond}
+use Rattle.laws_link.proofs.OfTwo.Trains.{Kind, numbered, enquiry, answer, report, rejection, alien, Every, Calm, Beyond}
 
 -- The numbers are lo, lo + 1 and so on, up to below hi.
 abbrev pub Dense : ℕ → ℕ → List Kind → Type 0

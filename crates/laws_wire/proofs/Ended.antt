@@ -23,7 +23,7 @@ use Rattle.model_link.specs.Steps.{begun}
 use Rattle.model_line.specs.declared.config.Config.{Config}
 use Rattle.model_line.specs.Event.{LineTold, expiry, next}
 use Rattle.model_line.specs.Line.{terms}
-use Rattle.laws_two_links.specs.Waits.{HasNothingToSend}
+use Rattle.laws_link.specs.two.Waits.{HasNothingToSend}
 use Rattle.laws_wire.specs.Wire.{Station, Wire, happens, comes, with_first_of, Act, requests, times_out, gives, takes, loses, acting, turned, Doing, at_near, at_far, doing, doing_all}
 use Rattle.laws_wire.specs.Facing.{end_of}
 use Rattle.laws_wire.specs.Timely.{is_poll, is_final, IsNoneOpen, IsTimelyOf}

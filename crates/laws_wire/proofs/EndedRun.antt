@@ -27,8 +27,8 @@ use Rattle.model_line.specs.Request.{Release}
 use Rattle.model_card.specs.Card.{line_at}
 use Rattle.model_card.specs.Event.{at as event_at}
 use Rattle.model_card.specs.Machine.{wants_room}
-use Rattle.laws_two_links.specs.Waits.{HasNothingToSend}
-use Rattle.laws_two_links.proofs.Waiting.{nothing-given}
+use Rattle.laws_link.specs.two.Waits.{HasNothingToSend}
+use Rattle.laws_link.proofs.OfTwo.Waiting.{nothing-given}
 use Rattle.laws_wire.specs.Wire.{Station, Wire, happens, requests, acting, turned, Doing, doing_all, IsStill}
 use Rattle.laws_wire.specs.Call.{calling, confirmed, indicated}
 use Rattle.laws_wire.specs.Losing.{for_layer_3, heard_in}

@@ -23,16 +23,16 @@ use Rattle.laws_link.specs.Flags.{busy_asked, flag_left, takes_contents}
 use Rattle.laws_link.specs.States.{as_heard, is_overlong, state_after}
 use Rattle.laws_link.specs.Telling.{numbered_as, final_as, told_up, told_by_frame, told_expired, told_by}
 use Rattle.laws_link.proofs.Follows.{event-follows}
-use Rattle.laws_two_links.specs.Ahead.{CanRepeat, IsMildAct}
-use Rattle.laws_two_links.specs.Timely.{IsTimely, IsTimelyAct}
-use Rattle.laws_two_links.proofs.Effects.{is_recovering}
-use Rattle.laws_two_links.proofs.Flow.{Flow, flow-low}
-use Rattle.laws_two_links.proofs.Flowing.{no-answer}
-use Rattle.laws_two_links.proofs.Meeting.{line, NoAlien, is-no-alien}
-use Rattle.laws_two_links.proofs.Reached.{Sane, sane-doing}
-use Rattle.laws_two_links.proofs.StayingUp.{Flows, acted-flows}
-use Rattle.laws_two_links.proofs.Together.{done-up, same-after}
-use Rattle.laws_two_links.proofs.Trains.{Kind, numbered, enquiry, answer, report, rejection, alien, kind_of, kind_of_ready, kind_of_reject}
+use Rattle.laws_link.specs.two.Ahead.{CanRepeat, IsMildAct}
+use Rattle.laws_link.specs.two.Timely.{IsTimely, IsTimelyAct}
+use Rattle.laws_link.proofs.OfTwo.Effects.{is_recovering}
+use Rattle.laws_link.proofs.OfTwo.Flow.{Flow, flow-low}
+use Rattle.laws_link.proofs.OfTwo.Flowing.{no-answer}
+use Rattle.laws_link.proofs.OfTwo.Meeting.{line, NoAlien, is-no-alien}
+use Rattle.laws_link.proofs.OfTwo.Reached.{Sane, sane-doing}
+use Rattle.laws_link.proofs.OfTwo.StayingUp.{Flows, acted-flows}
+use Rattle.laws_link.proofs.OfTwo.Together.{done-up, same-after}
+use Rattle.laws_link.proofs.OfTwo.Trains.{Kind, numbered, enquiry, answer, report, rejection, alien, kind_of, kind_of_ready, kind_of_reject}
 use Rattle.laws_wire.specs.Losing.{is_error}
 use Rattle.laws_wire.proofs.Fair.{HasError, Fine, frame-fair}
 use Rattle.laws_wire.proofs.Tame.{Tame, tame-asks, tame-expires, tame-sends, tame-loses, tame-takes}

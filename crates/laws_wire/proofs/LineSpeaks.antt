@@ -42,7 +42,7 @@ use Rattle.model_line.proofs.TakenSound.{round_below}
 use Rattle.laws_line.specs.Served.{IsSilent}
 use Rattle.laws_line.proofs.Serving.{none-waits}
 use Rattle.laws_line.proofs.Silence.{sends-none}
-use Rattle.laws_two_links.proofs.Waiting.{nothing-given, nothing-to_send, silent-stays}
+use Rattle.laws_link.proofs.OfTwo.Waiting.{nothing-given, nothing-to_send, silent-stays}
 
 -- The TEI is on the line, neither a message nor unit data waits, and no other link has anything to give.
 pub record Speaks (c : Config) (service : Service) (tei place : ℕ) (x : Link) (l : Line) : Type 0 where

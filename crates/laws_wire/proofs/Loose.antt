@@ -19,18 +19,18 @@ use Rattle.model_link.proofs.Joined.{Joined, joined-turned, done-at}
 use Rattle.model_link.proofs.Lines.{Rising, rising-low}
 use Rattle.model_link.proofs.Taking.{frame-taken}
 use Rattle.laws_link.specs.Timed.{IsTimedIn}
-use Rattle.laws_two_links.specs.Ahead.{IsMildAct}
-use Rattle.laws_two_links.specs.Heeds.{HeedsIn}
-use Rattle.laws_two_links.specs.Timely.{IsTimelyAct}
-use Rattle.laws_two_links.specs.Waits.{HasNothingToSend}
-use Rattle.laws_two_links.proofs.Effects.{is_recovering}
-use Rattle.laws_two_links.proofs.Flow.{Flow}
-use Rattle.laws_two_links.proofs.Flowing.{no-answer}
-use Rattle.laws_two_links.proofs.Meeting.{line, NoAlien, is-no-alien}
-use Rattle.laws_two_links.proofs.Reached.{Sane, sane-doing}
-use Rattle.laws_two_links.proofs.StayingUp.{Flows, acted-flows}
-use Rattle.laws_two_links.proofs.Together.{done-up, same-after}
-use Rattle.laws_two_links.proofs.Trains.{Kind, numbered, enquiry, answer, report, rejection, alien, kind_of}
+use Rattle.laws_link.specs.two.Ahead.{IsMildAct}
+use Rattle.laws_link.specs.two.Heeds.{HeedsIn}
+use Rattle.laws_link.specs.two.Timely.{IsTimelyAct}
+use Rattle.laws_link.specs.two.Waits.{HasNothingToSend}
+use Rattle.laws_link.proofs.OfTwo.Effects.{is_recovering}
+use Rattle.laws_link.proofs.OfTwo.Flow.{Flow}
+use Rattle.laws_link.proofs.OfTwo.Flowing.{no-answer}
+use Rattle.laws_link.proofs.OfTwo.Meeting.{line, NoAlien, is-no-alien}
+use Rattle.laws_link.proofs.OfTwo.Reached.{Sane, sane-doing}
+use Rattle.laws_link.proofs.OfTwo.StayingUp.{Flows, acted-flows}
+use Rattle.laws_link.proofs.OfTwo.Together.{done-up, same-after}
+use Rattle.laws_link.proofs.OfTwo.Trains.{Kind, numbered, enquiry, answer, report, rejection, alien, kind_of}
 use Rattle.laws_wire.proofs.Fair.{HasError, Fine, frame-fair}
 use Rattle.laws_wire.proofs.Firm.{Firm, IsQuiet, no-error, not-behind}
 

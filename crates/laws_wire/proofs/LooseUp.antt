@@ -26,10 +26,10 @@ use Rattle.model_line.specs.Request.{Request, Data, SetBusy, ClearBusy}
 use Rattle.model_line.specs.Request as asked
 use Rattle.model_line.specs.Requested.{at_requested, aim_of_request}
 use Rattle.laws_link.specs.Flags.{awaits_answer}
-use Rattle.laws_two_links.specs.Ahead.{IsMildRequest, CanRepeat}
-use Rattle.laws_two_links.specs.Timely as two_links_timely
-use Rattle.laws_two_links.specs.Waits.{HasNothingToSend}
-use Rattle.laws_two_links.proofs.Waiting.{nothing-given}
+use Rattle.laws_link.specs.two.Ahead.{IsMildRequest, CanRepeat}
+use Rattle.laws_link.specs.two.Timely as two_links_timely
+use Rattle.laws_link.specs.two.Waits.{HasNothingToSend}
+use Rattle.laws_link.proofs.OfTwo.Waiting.{nothing-given}
 use Rattle.model_link.specs.Told.{runs}
 use Rattle.laws_wire.specs.Wire.{Station, Wire, happens, with_first_of, Act, requests, times_out, gives, takes, loses, acting, turned, IsStill, contents_of}
 use Rattle.laws_wire.specs.Call.{data_told}

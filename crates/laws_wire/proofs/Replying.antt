@@ -25,8 +25,8 @@ use Rattle.model_link.specs.Machine
 use Rattle.model_link.specs.TwoEnds.{frame_given}
 use Rattle.model_link.proofs.Direction.{frames_of, frames-append}
 use Rattle.model_link.proofs.Lines.{Means}
-use Rattle.laws_two_links.proofs.Effects.{c-7, c-8}
-use Rattle.laws_two_links.proofs.Trains.{enquiry, kind_of}
+use Rattle.laws_link.proofs.OfTwo.Effects.{c-7, c-8}
+use Rattle.laws_link.proofs.OfTwo.Trains.{enquiry, kind_of}
 use Rattle.laws_wire.proofs.Dense.{Replies}
 
 abbrev IsUpIn : Course → Type 0

@@ -11,9 +11,9 @@ use Rattle.model_link.specs.declared.terms.Terms.{Terms}
 use Rattle.model_link.specs.TwoEnds.{End}
 use Rattle.model_link.specs.Words.{has_room}
 use Rattle.model_link.proofs.Direction.{frames_of}
-use Rattle.laws_two_links.specs.Timely.{is_enquiry, HasNo}
-use Rattle.laws_two_links.proofs.Meeting.{line}
-use Rattle.laws_two_links.proofs.Trains.{Kind, kind_of, kinds_of, kinds-append, tally, one_enquiry, one_answer, one_rejection}
+use Rattle.laws_link.specs.two.Timely.{is_enquiry, HasNo}
+use Rattle.laws_link.proofs.OfTwo.Meeting.{line}
+use Rattle.laws_link.proofs.OfTwo.Trains.{Kind, kind_of, kinds_of, kinds-append, tally, one_enquiry, one_answer, one_rejection}
 use Rattle.laws_wire.proofs.Firm.{Firm}
 use Rattle.laws_wire.proofs.Tame.{WaitsSo}
 

@@ -12,9 +12,9 @@ use Rattle.model_line.specs.declared.config.Config.{Config}
 use Rattle.model_line.specs.Event.{LineTold, next, gave}
 use Rattle.model_line.specs.Line.{terms}
 use Rattle.model_line.proofs.Ranges.{terms_in_range}
-use Rattle.laws_two_links.specs.Rounds.{HasArrived}
-use Rattle.laws_two_links.proofs.AnyOrderRuns.{Pair, all-there}
-use Rattle.laws_two_links.proofs.Waiting.{nothing-given}
+use Rattle.laws_link.specs.two.Rounds.{HasArrived}
+use Rattle.laws_link.proofs.OfTwo.AnyOrderRuns.{Pair, all-there}
+use Rattle.laws_link.proofs.OfTwo.Waiting.{nothing-given}
 use Rattle.laws_wire.specs.Wire.{Station, Wire, Doing, turned, doing, is_turn, IsStill, answered}
 unfoldable use Rattle.laws_wire.specs.Wire.{doing_all, turns}
 use Rattle.laws_wire.specs.Call.{calling, IsCall, calls_back, confirmed, data_told, told_first, IsBeginningOf, CanCall, ComesThrough, CallsComeThrough}

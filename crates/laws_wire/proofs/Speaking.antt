@@ -20,10 +20,10 @@ use Rattle.model_link.specs.TwoEnds.{End}
 use Rattle.model_link.specs.Words
 use Rattle.model_line.specs.Effect.{unserved_cause}
 use Rattle.model_line.specs.Event.{LineTold}
-use Rattle.laws_two_links.proofs.Plain.{plain, information_frame}
-use Rattle.laws_two_links.proofs.Halves.{named-number, fits-at}
-use Rattle.laws_two_links.proofs.BusyMoves.{acked, noted}
-use Rattle.laws_two_links.proofs.AnyOrder.{Informs, Notes, Lane, lane-low, lane-order, Steady, Direction, is-steady}
+use Rattle.laws_link.proofs.OfTwo.Plain.{plain, information_frame}
+use Rattle.laws_link.proofs.OfTwo.Halves.{named-number, fits-at}
+use Rattle.laws_link.proofs.OfTwo.BusyMoves.{acked, noted}
+use Rattle.laws_link.proofs.OfTwo.AnyOrder.{Informs, Notes, Lane, lane-low, lane-order, Steady, Direction, is-steady}
 use Rattle.laws_wire.specs.Wire.{tells_nothing}
 use Rattle.laws_wire.specs.Call.{data_told}
 

@@ -9,7 +9,7 @@ use Rattle.lapd_frame.specs.Grammar.{Parts, IsFrame, spelling, other_side}
 use Rattle.lapd_frame.specs.Reading.{reading}
 use Rattle.lapd_frame.proofs.Spelling.{reading-again}
 use Rattle.model_line.specs.Came.{came}
-use Rattle.laws_card.proofs.Spelling.{IsNotShort, not-short}
+use Rattle.laws_line.proofs.OfCard.Spelling.{IsNotShort, not-short}
 
 -- A frame that is neither too short nor too long comes as it is.
 not-three : (n : ℕ) → 4 ≤ n → nat_eq n 3 ≡ false

@@ -22,15 +22,15 @@ use Rattle.model_link.proofs.Lines.{Means, Rising, rising-low}
 use Rattle.model_link.proofs.Sending.{offer-gave}
 use Rattle.model_link.proofs.SoundRows.{named-within}
 use Rattle.model_link.proofs.Taking.{frame-taken, named-is_seq}
-use Rattle.laws_two_links.specs.Timely.{IsTimely}
-use Rattle.laws_two_links.proofs.Effects.{is_recovering, Takes, Heard}
-use Rattle.laws_two_links.proofs.Flow.{Flow, most}
-use Rattle.laws_two_links.proofs.Flowing.{answer-says, no-answer}
-use Rattle.laws_two_links.proofs.Going.{offer-goes, Gives}
-use Rattle.laws_two_links.proofs.Halves.{named-number}
-use Rattle.laws_two_links.proofs.HeardRows.{heard}
-use Rattle.laws_two_links.proofs.Meeting.{line, Longer, line-longer, NoAlien, is-no-alien}
-use Rattle.laws_two_links.proofs.Trains.{Kind, numbered, enquiry, answer, report, rejection, alien, kind_of, kinds_of, kinds-append, tally, tally-push, one_enquiry, one_answer, Calm}
+use Rattle.laws_link.specs.two.Timely.{IsTimely}
+use Rattle.laws_link.proofs.OfTwo.Effects.{is_recovering, Takes, Heard}
+use Rattle.laws_link.proofs.OfTwo.Flow.{Flow, most}
+use Rattle.laws_link.proofs.OfTwo.Flowing.{answer-says, no-answer}
+use Rattle.laws_link.proofs.OfTwo.Going.{offer-goes, Gives}
+use Rattle.laws_link.proofs.OfTwo.Halves.{named-number}
+use Rattle.laws_link.proofs.OfTwo.HeardRows.{heard}
+use Rattle.laws_link.proofs.OfTwo.Meeting.{line, Longer, line-longer, NoAlien, is-no-alien}
+use Rattle.laws_link.proofs.OfTwo.Trains.{Kind, numbered, enquiry, answer, report, rejection, alien, kind_of, kinds_of, kinds-append, tally, tally-push, one_enquiry, one_answer, Calm}
 use Rattle.laws_wire.proofs.Asking.{with_more}
 use Rattle.laws_wire.proofs.Dense.{Dense, dense-push, dense-next, calm-dense, dense-beyond, Reaches, reaches-low, reaches-flat, Owed}
 use Rattle.laws_wire.proofs.Firm.{Firm, not-behind}

@@ -16,13 +16,13 @@ use Rattle.model_link.specs.TwoEnds.{End, with_link, with_sent}
 use Rattle.model_link.specs.Words.{has_room, ready_to_receive, response}
 use Rattle.model_link.proofs.Direction.{line_of, frames_of}
 use Rattle.model_link.proofs.Lines.{Rising}
-use Rattle.laws_two_links.specs.Timely.{IsTimely}
-use Rattle.laws_two_links.proofs.Effects.{is_recovering, Takes, Heard}
-use Rattle.laws_two_links.proofs.Flow.{Flow, most}
-use Rattle.laws_two_links.proofs.Going.{offer-goes}
-use Rattle.laws_two_links.proofs.HeardRows.{heard}
-use Rattle.laws_two_links.proofs.Meeting.{line, Longer, line-longer, NoAlien, is-no-alien}
-use Rattle.laws_two_links.proofs.Trains.{Kind, numbered, enquiry, answer, report, rejection, alien, kind_of, kinds_of, kinds-append, tally, tally-push, one_enquiry, one_answer}
+use Rattle.laws_link.specs.two.Timely.{IsTimely}
+use Rattle.laws_link.proofs.OfTwo.Effects.{is_recovering, Takes, Heard}
+use Rattle.laws_link.proofs.OfTwo.Flow.{Flow, most}
+use Rattle.laws_link.proofs.OfTwo.Going.{offer-goes}
+use Rattle.laws_link.proofs.OfTwo.HeardRows.{heard}
+use Rattle.laws_link.proofs.OfTwo.Meeting.{line, Longer, line-longer, NoAlien, is-no-alien}
+use Rattle.laws_link.proofs.OfTwo.Trains.{Kind, numbered, enquiry, answer, report, rejection, alien, kind_of, kinds_of, kinds-append, tally, tally-push, one_enquiry, one_answer}
 use Rattle.laws_wire.proofs.Asking.{with_more}
 use Rattle.laws_wire.proofs.Dense.{Dense, Owed, Replies, owed-after}
 use Rattle.laws_wire.proofs.Firm.{Firm}

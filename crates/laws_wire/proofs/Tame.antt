@@ -21,8 +21,8 @@ use Rattle.laws_link.specs.Flags.{busy_by, busy_heard, flag_left}
 use Rattle.laws_link.specs.States.{as_heard, is_overlong, moves}
 use Rattle.laws_link.specs.Waiting.{receipt_as, as_response, answers_to, command_in, is_next, is_time, room, waiting_left}
 use Rattle.laws_link.proofs.Follows.{event-follows}
-use Rattle.laws_two_links.proofs.Meeting.{NoAlien}
-use Rattle.laws_two_links.proofs.Trains.{Kind, kind_of, one_enquiry, one_answer, one_rejection}
+use Rattle.laws_link.proofs.OfTwo.Meeting.{NoAlien}
+use Rattle.laws_link.proofs.OfTwo.Trains.{Kind, kind_of, one_enquiry, one_answer, one_rejection}
 
 abbrev pub IsFree : Control → Type 0
 IsFree control = busy_by control false ≡ false

@@ -12,8 +12,8 @@ use Rattle.model_link.specs.Machine.{course}
 use Rattle.model_link.specs.TwoEnds.{End, with_link, with_sent}
 use Rattle.model_line.specs.declared.config.Config.{Config}
 use Rattle.model_line.specs.Event.{LineTold, expiry, next}
-use Rattle.laws_two_links.specs.Waits.{HasNothingToSend}
-use Rattle.laws_two_links.proofs.Waiting.{nothing-to_send}
+use Rattle.laws_link.specs.two.Waits.{HasNothingToSend}
+use Rattle.laws_link.proofs.OfTwo.Waiting.{nothing-to_send}
 use Rattle.laws_wire.specs.Wire.{Station, happens, comes, with_first_lost}
 use Rattle.laws_wire.specs.Losing.{for_layer_3, heard_in}
 use Rattle.laws_wire.proofs.Answered.{gives-told}

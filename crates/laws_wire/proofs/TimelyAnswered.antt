@@ -25,8 +25,8 @@ use Rattle.laws_wire.specs.Losing.{IsRoughTalkOf}
 use Rattle.laws_wire.specs.Facing.{end_of}
 use Rattle.laws_wire.specs.Timely.{is_final, IsLongEnough, IsTimelyOf, IsSpared}
 use Rattle.laws_link.specs.Flags.{awaits_answer}
-use Rattle.laws_two_links.specs.Ahead.{CanRepeat}
-use Rattle.laws_two_links.specs.Timely as two_links_timely
+use Rattle.laws_link.specs.two.Ahead.{CanRepeat}
+use Rattle.laws_link.specs.two.Timely as two_links_timely
 use Rattle.laws_wire.proofs.Answered.{takes-granted}
 use Rattle.laws_wire.proofs.Awaited.{closed, link-is, as-here, may-there, open-there, waits-first, goes-first}
 use Rattle.laws_wire.proofs.Asking.{with_more, asked-form}

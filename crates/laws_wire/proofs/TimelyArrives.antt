@@ -17,14 +17,14 @@ use Rattle.model_link.proofs.Direction.{line_of}
 use Rattle.model_link.proofs.Lines.{rising-low}
 use Rattle.model_line.specs.declared.config.Config.{Config}
 use Rattle.model_line.specs.Event.{LineTold, next, gave}
-use Rattle.laws_two_links.specs.CutOff as cut_off
-use Rattle.laws_two_links.specs.CutOff.{IsCutOff}
-use Rattle.laws_two_links.specs.Rounds as two_links
-use Rattle.laws_two_links.specs.Timely.{HasNo}
-use Rattle.laws_two_links.proofs.Expiring.{Asking, Resting, expires-one}
-use Rattle.laws_two_links.proofs.Recovery.{all-recovered}
-use Rattle.laws_two_links.proofs.Shapes.{enquiry_with}
-use Rattle.laws_two_links.proofs.Waiting.{nothing-to_send}
+use Rattle.laws_link.specs.two.CutOff as cut_off
+use Rattle.laws_link.specs.two.CutOff.{IsCutOff}
+use Rattle.laws_link.specs.two.Rounds as two_links
+use Rattle.laws_link.specs.two.Timely.{HasNo}
+use Rattle.laws_link.proofs.OfTwo.Expiring.{Asking, Resting, expires-one}
+use Rattle.laws_link.proofs.OfTwo.Recovery.{all-recovered}
+use Rattle.laws_link.proofs.OfTwo.Shapes.{enquiry_with}
+use Rattle.laws_link.proofs.OfTwo.Waiting.{nothing-to_send}
 use Rattle.laws_link.specs.Flags.{awaits_answer}
 use Rattle.laws_wire.specs.Wire.{Station, Wire, times_out, acting, turned, IsStill, answered}
 use Rattle.laws_wire.specs.Call.{confirmed, indicated, data_told}

@@ -12,8 +12,8 @@ use Rattle.model_link.proofs.Joined.{joined-first}
 use Rattle.model_line.specs.declared.config.Config.{Config}
 use Rattle.model_line.specs.Event.{LineTold, request, next}
 use Rattle.model_line.specs.Request.{Data}
-use Rattle.laws_two_links.specs.Rounds.{IsReady, IsTaken}
-use Rattle.laws_two_links.proofs.Flow.{Flow}
+use Rattle.laws_link.specs.two.Rounds.{IsReady, IsTaken}
+use Rattle.laws_link.proofs.OfTwo.Flow.{Flow}
 use Rattle.laws_wire.specs.Wire.{Station, Wire, happens, with_first_of, with_first_lost, takes, loses, acting}
 use Rattle.laws_wire.proofs.Calling.{end, called, sound-caller, sound-called}
 use Rattle.laws_wire.proofs.Tame.{WaitsSo, IsFreeFrame}

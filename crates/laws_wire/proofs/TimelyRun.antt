@@ -19,8 +19,8 @@ use Rattle.model_line.specs.declared.config.Config.{Config}
 use Rattle.model_line.specs.Event.{LineTold, nothing}
 use Rattle.model_line.specs.Line.{terms}
 use Rattle.model_line.proofs.Ranges.{terms_in_range}
-use Rattle.laws_two_links.specs.Rounds as two_links
-use Rattle.laws_two_links.proofs.Arriving.{all-arrived}
+use Rattle.laws_link.specs.two.Rounds as two_links
+use Rattle.laws_link.proofs.OfTwo.Arriving.{all-arrived}
 use Rattle.laws_wire.specs.Wire.{Station, Wire, Act, gives, takes, times_out, Doing, at_near, at_far, acting, turned, doing, doing_all, IsStill}
 use Rattle.laws_wire.specs.Call.{calling, CanCall, confirmed, indicated, data_told}
 use Rattle.laws_wire.specs.Losing.{for_layer_3, heard_in, is_error, HasNoError, IsRoughTalkOf, IsRoughTalk}

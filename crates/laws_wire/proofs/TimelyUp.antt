@@ -23,10 +23,10 @@ use Rattle.model_link.proofs.Sending.{offer-gave}
 use Rattle.model_line.specs.declared.config.Config.{Config}
 use Rattle.model_line.specs.Event.{LineTold, expiry, request, next, gave}
 use Rattle.model_line.specs.Request.{Data}
-use Rattle.laws_two_links.specs.Ahead.{CanRepeat}
-use Rattle.laws_two_links.specs.Rounds as two_links
-use Rattle.laws_two_links.specs.Timely as two_links_timely
-use Rattle.laws_two_links.proofs.Waiting.{nothing-given}
+use Rattle.laws_link.specs.two.Ahead.{CanRepeat}
+use Rattle.laws_link.specs.two.Rounds as two_links
+use Rattle.laws_link.specs.two.Timely as two_links_timely
+use Rattle.laws_link.proofs.OfTwo.Waiting.{nothing-given}
 use Rattle.laws_wire.specs.Wire.{Station, Wire, happens, with_first_of, Act, requests, times_out, gives, takes, loses, acting, turned, doing_all, answered}
 use Rattle.laws_wire.specs.Losing.{IsOfLink, IsRoughTalkOf}
 use Rattle.laws_wire.specs.Timely.{is_poll, is_final, IsNoneOpen, IsTimelyOf}

@@ -22,7 +22,7 @@ use Rattle.model_line.specs.Event.{LineTold, expiry}
 use Rattle.model_line.specs.Line.{terms}
 use Rattle.model_line.specs.Request.{Request, Data}
 use Rattle.model_line.specs.Request as ask
-use Rattle.laws_two_links.proofs.Waiting.{nothing-to_send}
+use Rattle.laws_link.proofs.OfTwo.Waiting.{nothing-to_send}
 use Rattle.laws_wire.specs.Wire.{Station, Wire, happens, comes, with_first_of, Act, requests, times_out, gives, takes, loses, acting, turned}
 use Rattle.laws_wire.specs.Call.{confirmed, indicated}
 use Rattle.laws_wire.specs.Losing.{for_layer_3, heard_in}

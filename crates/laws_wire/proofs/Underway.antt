@@ -23,12 +23,12 @@ use Rattle.model_line.specs.declared.config.Config.{Config}
 use Rattle.model_line.specs.Event.{LineTold, request}
 use Rattle.model_line.specs.Request.{Data}
 use Rattle.laws_link.specs.Flags.{awaits_answer}
-use Rattle.laws_two_links.specs.Timely as two_links
-use Rattle.laws_two_links.specs.Ahead.{CanRepeat}
-use Rattle.laws_two_links.specs.Waits.{HasNothingToSend}
-use Rattle.laws_two_links.proofs.Meeting.{line}
-use Rattle.laws_two_links.proofs.Trains.{tally, one_enquiry, one_answer}
-use Rattle.laws_two_links.proofs.Waiting.{nothing-given}
+use Rattle.laws_link.specs.two.Timely as two_links
+use Rattle.laws_link.specs.two.Ahead.{CanRepeat}
+use Rattle.laws_link.specs.two.Waits.{HasNothingToSend}
+use Rattle.laws_link.proofs.OfTwo.Meeting.{line}
+use Rattle.laws_link.proofs.OfTwo.Trains.{tally, one_enquiry, one_answer}
+use Rattle.laws_link.proofs.OfTwo.Waiting.{nothing-given}
 use Rattle.laws_wire.specs.Wire.{Station, Wire, happens, Act, requests, times_out, gives, takes, loses, acting, turned, Doing, at_near, at_far, doing, doing_all, IsStill}
 use Rattle.laws_wire.specs.Call.{confirmed, indicated, data_told}
 use Rattle.laws_wire.specs.Losing.{heard_in, IsRoughTalkOf, IsRoughTalk}

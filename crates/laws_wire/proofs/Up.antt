@@ -16,12 +16,12 @@ use Rattle.model_line.specs.declared.config.Config.{Config}
 use Rattle.model_line.specs.Request as asked
 use Rattle.model_line.specs.Request.{Request, Establish, Release, Data, Assign, Remove, Check, SetBusy, ClearBusy, Deactivate}
 use Rattle.model_line.specs.Event.{request, next}
-use Rattle.laws_two_links.specs.AnyOrder.{weight_at}
-use Rattle.laws_two_links.specs.Waits.{HasNothingToSend}
-use Rattle.laws_two_links.proofs.AnyOrder as any_order
-use Rattle.laws_two_links.proofs.AnyOrder.{takes-first}
-use Rattle.laws_two_links.proofs.AnyOrderRuns.{Pair}
-use Rattle.laws_two_links.proofs.Waiting.{nothing-given, nothing-to_send, silent-stays}
+use Rattle.laws_link.specs.two.AnyOrder.{weight_at}
+use Rattle.laws_link.specs.two.Waits.{HasNothingToSend}
+use Rattle.laws_link.proofs.OfTwo.AnyOrder as any_order
+use Rattle.laws_link.proofs.OfTwo.AnyOrder.{takes-first}
+use Rattle.laws_link.proofs.OfTwo.AnyOrderRuns.{Pair}
+use Rattle.laws_link.proofs.OfTwo.Waiting.{nothing-given, nothing-to_send, silent-stays}
 use Rattle.laws_wire.specs.Wire.{Station, Wire, happens, frames_by, with_first_of, with_first_lost, Act, requests, times_out, gives, takes, loses, Doing, at_near, at_far, acting, turned, doing, doing_all, is_any, is_turn_of, is_turn, turns, answered, comes}
 use Rattle.laws_wire.specs.Call.{IsTalkOf, IsTalk}
 use Rattle.laws_wire.proofs.Answered.{gives-granted, takes-granted}

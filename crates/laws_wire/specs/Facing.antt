@@ -14,9 +14,9 @@ use Rattle.model_line.specs.Event.{LineTold}
 use Rattle.model_line.specs.Line.{Line, link_number, link_count, link_at, link_of, place_in, terms, terms_at}
 use Rattle.model_card.specs.Card.{line_at}
 use Rattle.model_card.specs.Sound as card_sound
-use Rattle.laws_two_links.specs.AnyOrder.{weight}
-use Rattle.laws_two_links.specs.Rounds.{IsReady, IsTaken}
-use Rattle.laws_two_links.specs.Waits.{HasNothingToSend}
+use Rattle.laws_link.specs.two.AnyOrder.{weight}
+use Rattle.laws_link.specs.two.Rounds.{IsReady, IsTaken}
+use Rattle.laws_link.specs.two.Waits.{HasNothingToSend}
 use Rattle.laws_wire.specs.Wire.{Station, Wire, Doing, doing_all, turns, IsStill}
 use Rattle.laws_wire.specs.Call.{calling, CanCall, IsTalk, IsCall, data_told}
 

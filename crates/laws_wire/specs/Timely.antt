@@ -5,7 +5,7 @@ use Rattle.lapd_frame.specs.declared.controls.Control.TheVariants.{Information, 
 use Rattle.lapd_frame.specs.declared.timers.Timer.TheVariants.{T200, T203}
 use Rattle.model_link.specs.TwoEnds.{End}
 use Rattle.laws_link.specs.Flags.{awaits_answer}
-use Rattle.laws_two_links.specs.Timely.{HasNo}
+use Rattle.laws_link.specs.two.Timely.{HasNo}
 use Rattle.laws_wire.specs.Wire.{Wire, Act, times_out, loses, turned, Doing, at_near, at_far, doing}
 use Rattle.laws_wire.specs.Losing.{heard_in}
 use Rattle.laws_wire.specs.Facing.{end_of}

@@ -31,7 +31,7 @@ heard_far : heard_in (doing_all loses_two begins).far ≡ indicated Call 0 ∷ d
 unfolding lines.after lines.answer lines.takes_slot reading header_of control_of unnumbered_of supervisory_of teis.course teis.refusal seq distance_of named doing_all turns
 heard_far = refl
 
--- No frame is lost, but T200 expires while an enquiry is on its way (`specs/WorkedUntimely` of `laws_two_links`, with cards): an error
+-- No frame is lost, but T200 expires while an enquiry is on its way (`specs/WorkedUntimely` of `laws_link`, with cards): an error
 -- is told, the link is established a second time, and contents come a second time.
 abbrev pub two_enquiries : List Doing
 two_enquiries =

@@ -20,7 +20,7 @@ pub fn a_call_comes_through()
 {}
 
 /// Cards deliver. Two cards, one of each side, with the same N201, face each other by a link of the same service and TEI:
-/// their links are in state 7, as [`laws_two_links::arrives_in_any_order`] has them, and nothing else waits on their
+/// their links are in state 7, as [`laws_link::arrives_in_any_order`] has them, and nothing else waits on their
 /// lines, however the cards came there. Then data is asked for at either end, as it is granted or refused, and turns
 /// come, in any order, on ways that lose nothing; no timer expires. There are at most as many turns as the weight of the
 /// two ends says, and four for each request that is granted meanwhile. Layer 3 of each is told of data and of nothing

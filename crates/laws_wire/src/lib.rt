@@ -8,7 +8,7 @@
 //! T200 may expire (`Counted`), how many turns there are at most (`Resting`), two cards that face each other by links
 //! in state 7 (`Facing`), and worked values that compute (`Worked`, `WorkedLosing`, `WorkedRecovering`,
 //! `WorkedArriving`, `WorkedAnswering`, `WorkedEnding`, `WorkedCounted`, `WorkedResting`). What a card does at an
-//! event is the machine of `model_card`, of frames; the laws of two links are those of `laws_two_links`.
+//! event is the machine of `model_card`, of frames; the laws of two links are those of `laws_link`.
 //!
 //! # Open
 //!

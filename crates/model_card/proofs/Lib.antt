@@ -17,3 +17,4 @@ pub mod Numbering
 pub mod Isolated
 pub mod NeverFull
 pub mod Rooms
+pub mod OfPorts

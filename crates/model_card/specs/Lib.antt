@@ -19,3 +19,4 @@ pub mod Isolation
 pub mod Promises
 pub mod Laws
 pub mod Counted
+pub mod ports

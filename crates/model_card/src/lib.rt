@@ -6,7 +6,7 @@
 //! `Counted`, `Stored`), of single events too (`ByEvent`, `Drops`), what a link delivers (`Numbered`), one line beside the
 //! others (`Isolation`), what is promised of whole lists of events (`Promises`), and the laws, which say of which cards and
 //! lists (`Laws`). Nothing here is of octets on a line: a card of octets is this card with a port at each line
-//! (`model_ports`).
+//! (`model_card::ports`).
 //!
 //! The code of a card stands above, in another crate. Here is the type that it shares with the definitions:
 //!
@@ -16,6 +16,7 @@
 
 mod events;
 mod laws;
+pub mod ports;
 
 pub use events::FrameEvent;
 pub use laws::{

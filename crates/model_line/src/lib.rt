@@ -5,7 +5,7 @@
 //! worked values are in `laws_line`. It reads from the line and its events (`Line`, `Event`, `Request`) by what an event is
 //! to the parts (`Effect`; `Heard`, `Expiry`, `Requested`), why a request is refused (`Refusal`) and what is sent next
 //! (`Taken`) to the whole (`Machine`). `Stored`, `Counts` and `Deliveries` say what is counted of a line. Nothing here is of
-//! octets on a line: these are a codec around it (`model_ports`).
+//! octets on a line: these are a codec around it (`model_card::ports`).
 //!
 //! The code of a line stands above, in another crate. Here are the plain types that it shares with the definitions:
 //!

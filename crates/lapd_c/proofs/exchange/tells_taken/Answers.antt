@@ -1,7 +1,7 @@
 -- Hand-written answers for `tells_taken`.
 use Rattle.lapd_c.proofs.Vocabulary.{not, ap, subst, ◌∙◌, ShowsReply, is_quiet}
-use Rattle.model_ports.specs.Event.{at}
-use Rattle.model_ports.specs.Port as port
+use Rattle.model_card.specs.ports.Event.{at}
+use Rattle.model_card.specs.ports.Port as port
 use Rattle.lapd_c.proofs.Served.{small_reply}
 use Rattle.lapd_c.proofs.exchange.tells_taken.Goals as goal
 

@@ -1,7 +1,7 @@
 -- Hand-written answers for `take_octet`.
 use Rattle.lapd_c.proofs.Vocabulary.{refl, ap, subst, ◌∙◌, ShowsReply}
-use Rattle.model_ports.specs.Event.{at}
-use Rattle.model_ports.specs.Port as port
+use Rattle.model_card.specs.ports.Event.{at}
+use Rattle.model_card.specs.ports.Port as port
 use Rattle.lapd_c.proofs.Served.{shown_reply}
 use Rattle.lapd_c.proofs.octets.take_octet.Goals as goal
 

@@ -1,6 +1,6 @@
 -- Hand-written answers for `limit`.
 use Rattle.lapd_card.proofs.Vocabulary.{◌≡◌, ◌+◌, ◌*◌, sym, subst, Fits, w32}
-use Rattle.model_ports.specs.Stored.{limit}
+use Rattle.model_card.specs.ports.Stored.{limit}
 use Rattle.lapd_card.proofs.Amounts.{octets_small, fits_32}
 use Rattle.lapd_card.proofs.stored.limit.Goals as goal
 

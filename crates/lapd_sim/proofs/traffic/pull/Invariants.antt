@@ -1,7 +1,7 @@
 -- The invariants of the loops of `pull`.
 use Rattle.lapd_sim.proofs.Vocabulary.{◌≡◌, take, Holds}
 use Rattle.lapd_sim.proofs.Pulls.{Pulled}
-use Rattle.model_sim.specs.Setup as machine
+use Rattle.lapd_sim.specs.machine.Setup as machine
 use Rattle.lapd_sim.proofs.traffic.pull.Given as goal
 
 -- the lines are the same, and the places so far have been filled

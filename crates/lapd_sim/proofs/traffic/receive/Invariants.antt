@@ -1,6 +1,6 @@
 -- The invariants of the loops of `receive`.
 use Rattle.lapd_sim.proofs.Vocabulary.{◌≡◌, Ok, take, after_rx, WriteFailed, scene, Tells, Holds, output}
-use Rattle.model_sim.specs.Setup as machine
+use Rattle.lapd_sim.specs.machine.Setup as machine
 use Rattle.lapd_sim.proofs.traffic.receive.Given as goal
 
 -- the lines are the same, and the octets so far have come

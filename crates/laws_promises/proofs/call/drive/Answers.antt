@@ -1,7 +1,7 @@
 -- Hand-written answers for `drive`.
-use Rattle.model_ports.specs.Run.{meant_all}
-use Rattle.model_ports.proofs.Codec.{refines}
-use Rattle.model_ports.proofs.Reaching.{frames_reached}
+use Rattle.model_card.specs.ports.Run.{meant_all}
+use Rattle.model_card.proofs.OfPorts.Codec.{refines}
+use Rattle.model_card.proofs.OfPorts.Reaching.{frames_reached}
 use Rattle.lapd_card.specs.Drive.{events_of}
 use Rattle.lapd_card.proofs.OctetHeadline.{events_at_lines}
 use Rattle.laws_promises.proofs.Kept.{promises-kept}

@@ -1,10 +1,10 @@
 -- Hand-written answers for `Card::drive`.
 use Rattle.lapd_card.proofs.Vocabulary.{◌≡◌, ◌+◌, rules, refl, sym, ap, subst, arith, ◌∙◌, take, get_or, take_all, length-map, slice_get-get_or, moments, all_counted, counters_in, Taken, OctetCard}
-use Rattle.model_ports.specs.Event.{event_of}
-use Rattle.model_ports.specs.Run.{one_more, run}
-unfoldable use Rattle.model_ports.specs.Run.{meant_all}
-use Rattle.model_ports.specs.declared.events.Event.TheVariants.{Octet}
-use Rattle.model_ports.proofs.Fold.{run_is_moments}
+use Rattle.model_card.specs.ports.Event.{event_of}
+use Rattle.model_card.specs.ports.Run.{one_more, run}
+unfoldable use Rattle.model_card.specs.ports.Run.{meant_all}
+use Rattle.model_card.specs.declared.ports.events.Event.TheVariants.{Octet}
+use Rattle.model_card.proofs.OfPorts.Fold.{run_is_moments}
 use Rattle.lapd_card.specs.Drive.{events_of, MissesReply, MissesAt}
 use Rattle.lapd_card.specs.Stands.{Stands, meaning_counted}
 use Rattle.lapd_card.proofs.Taken.{Taken-more, one-further, one-at, at_ok, at_err}

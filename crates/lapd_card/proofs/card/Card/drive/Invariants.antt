@@ -1,8 +1,8 @@
 -- The invariants of the loops of `Card::drive`.
 use Rattle.lapd_card.proofs.Vocabulary.{◌≡◌, take, moments, counters_in, all_counted, Taken}
-use Rattle.model_ports.specs.Card as machine
-use Rattle.model_ports.specs.Run.{run}
-unfoldable use Rattle.model_ports.specs.Run.{meant_all}
+use Rattle.model_card.specs.ports.Card as machine
+use Rattle.model_card.specs.ports.Run.{run}
+unfoldable use Rattle.model_card.specs.ports.Run.{meant_all}
 use Rattle.lapd_card.specs.Drive.{events_of}
 use Rattle.lapd_card.specs.Stands.{Stands}
 use Rattle.lapd_card.proofs.card.Card.drive.Given as goal

@@ -3,8 +3,8 @@ use Rattle.lapd_card.proofs.Vocabulary.{◌≡◌, ◌<◌, None, Some, IsSome, 
 use Rattle.model_card.specs.Event as frames
 use Rattle.model_card.specs.Machine.{answer}
 use Rattle.model_line.specs.Event as line
-use Rattle.model_ports.specs.Event.{at}
-use Rattle.model_ports.specs.Port as port
+use Rattle.model_card.specs.ports.Event.{at}
+use Rattle.model_card.specs.ports.Port as port
 use Rattle.lapd_line.specs.Reports.{octets_of}
 use Rattle.lapd_line.proofs.PortSteps.{nothing_heard, is_dropped}
 use Rattle.lapd_card.specs.Card.{line_count}

@@ -1,6 +1,6 @@
 -- Hand-written answers for `Card::octet`.
 use Rattle.lapd_card.proofs.Vocabulary.{◌<◌, subst, sym, refl, ap, ◌∙◌, report_told}
-use Rattle.model_ports.specs.Port.{told}
+use Rattle.model_card.specs.ports.Port.{told}
 use Rattle.lapd_card.proofs.OneOctet.{dropped}
 use Rattle.lapd_card.proofs.card.Card.octet.Goals as goal
 

@@ -1,7 +1,7 @@
 -- Hand-written answers for `Card::pull`.
 use Rattle.lapd_card.proofs.Vocabulary.{◌<◌, length, refl, sym, subst, slice_get, IfSome, port_at}
-use Rattle.model_ports.specs.Event.{at}
-use Rattle.model_ports.specs.Port as port
+use Rattle.model_card.specs.ports.Event.{at}
+use Rattle.model_card.specs.ports.Port as port
 use Rattle.lapd_card.specs.Card.{line_count}
 use Rattle.lapd_card.proofs.OnePort.{port-there, port-in, to_place, port_holds, seen, stood, past_after}
 use Rattle.lapd_card.proofs.OneOctet.{priced, not_due, quiet, none_told, none_leads}

@@ -1,6 +1,6 @@
 -- Hand-written answers for `Card::start`.
 use Rattle.lapd_card.proofs.Vocabulary.{arith, ranges_of}
-use Rattle.model_ports.specs.Card.{fresh}
+use Rattle.model_card.specs.ports.Card.{fresh}
 use Rattle.lapd_card.proofs.OctetsBegin.{fresh_stands}
 use Rattle.lapd_card.proofs.card.Card.start.Goals as goal
 

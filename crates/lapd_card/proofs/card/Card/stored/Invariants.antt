@@ -1,8 +1,8 @@
 -- The invariants of the loops of `Card::stored`.
 use Rattle.lapd_card.proofs.Vocabulary.{◌≡◌, ◌+◌, ◌*◌, ◌≤◌, take, sum_by}
 use Rattle.model_card.specs.Stored as cards
-use Rattle.model_ports.specs.Card as machine
-use Rattle.model_ports.specs.Stored.{held_at}
+use Rattle.model_card.specs.ports.Card as machine
+use Rattle.model_card.specs.ports.Stored.{held_at}
 use Rattle.lapd_card.specs.Stands.{Stands}
 use Rattle.lapd_card.proofs.card.Card.stored.Given as goal
 

@@ -1,6 +1,6 @@
 -- Hand-written answers for `FrameCard::limit`.
 use Rattle.lapd_card.proofs.Vocabulary.{sym, subst, ap, ◌∙◌, IsInRange, Stands}
-use Rattle.model_ports.specs.Stored.{limit}
+use Rattle.model_card.specs.ports.Stored.{limit}
 use Rattle.lapd_card.proofs.frame_card.FrameCard.limit.Goals as goal
 
 pub limit-requires : goal.limit-requires

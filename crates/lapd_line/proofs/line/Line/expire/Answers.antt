@@ -1,6 +1,6 @@
 -- Hand-written answers for `Line::expire`.
 use Rattle.lapd_line.proofs.Vocabulary.{ap}
-use Rattle.model_ports.specs.Port.{answer_of}
+use Rattle.model_card.specs.ports.Port.{answer_of}
 use Rattle.lapd_line.proofs.OctetSteps.{expiry_leads}
 use Rattle.lapd_line.proofs.line.Line.expire.Goals as goal
 

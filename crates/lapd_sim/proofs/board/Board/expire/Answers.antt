@@ -3,7 +3,7 @@ use Rattle.lapd_sim.proofs.Vocabulary.{refl, at, expiry, report_told, Octets, Fr
 use Rattle.lapd_sim.proofs.Boards.{octets_lead, frames_lead, leads_from, on_octets, on_frames, octets_told, frames_told}
 use Rattle.lapd_sim.proofs.board.Board.expire.Goals as goal
 use Rattle.model_line.specs.Event as line_event
-use Rattle.model_ports.specs.Port as port
+use Rattle.model_card.specs.ports.Port as port
 
 pub returns-in-Octets-clause-told : goal.returns-in-Octets-clause-told
 returns-in-Octets-clause-told c = λ b on.

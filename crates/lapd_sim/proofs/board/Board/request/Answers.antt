@@ -3,7 +3,7 @@ use Rattle.lapd_sim.proofs.Vocabulary.{refl, at, request, ◌∙◌, request_of,
 use Rattle.lapd_sim.proofs.Boards.{octets_lead, frames_lead, leads_from, on_octets, on_frames, octets_told, frames_told, octets_answered, frames_answered}
 use Rattle.lapd_sim.proofs.board.Board.request.Goals as goal
 use Rattle.model_line.specs.Event as line_event
-use Rattle.model_ports.specs.Port as port
+use Rattle.model_card.specs.ports.Port as port
 use Rattle.lapd_card.specs.Reply as octets_replies
 use Rattle.lapd_card.specs.FrameReply as frames_replies
 

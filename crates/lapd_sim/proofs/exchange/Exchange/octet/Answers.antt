@@ -1,7 +1,7 @@
 -- Hand-written answers for `Exchange::octet`.
 use Rattle.lapd_sim.proofs.Vocabulary.{refl, report_told, at, octet, told, Octets}
 use Rattle.lapd_sim.proofs.Boards.{octets_lead, leads_from, past_on, on_octets, octets_told, told_on}
-use Rattle.model_ports.specs.Port as port
+use Rattle.model_card.specs.ports.Port as port
 use Rattle.lapd_sim.proofs.exchange.Exchange.octet.Goals as goal
 
 pub invariant_of-self-clause-past : goal.invariant_of-self-clause-past

@@ -2,7 +2,7 @@
 use Rattle.lapd_sim.proofs.Vocabulary.{◌∙◌, fold, refl, ap, at, pull, octet_in, ordered, Octets}
 use Rattle.lapd_line.specs.Reports.{pulled_of}
 use Rattle.lapd_sim.proofs.Boards.{octets_lead, leads_from, past_on, on_octets, octets_told, goes_on}
-use Rattle.model_ports.specs.Port as port
+use Rattle.model_card.specs.ports.Port as port
 use Rattle.lapd_sim.proofs.exchange.Exchange.pull.Goals as goal
 
 pub invariant_of-self-clause-past : goal.invariant_of-self-clause-past

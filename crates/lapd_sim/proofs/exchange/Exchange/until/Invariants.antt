@@ -1,7 +1,7 @@
 -- The invariants of the loops of `Exchange::until`.
 use Rattle.lapd_sim.proofs.Vocabulary.{◌≡◌, time_until, Holds, output}
 use Rattle.lapd_sim.proofs.Waits.{Waits}
-use Rattle.model_sim.specs.Setup as machine
+use Rattle.lapd_sim.specs.machine.Setup as machine
 use Rattle.lapd_sim.proofs.exchange.Exchange.until.Given as goal
 
 -- from every setup for which the exchange stood, some timers have expired

@@ -1,6 +1,6 @@
 -- The invariants of the loops of `Player::play`.
 use Rattle.lapd_sim.proofs.Vocabulary.{◌≡◌, ◌-◌, ◌^◌, ℕ, List, Option, AreLeft, Has, output, IsPut}
-use Rattle.model_sim.specs.Setup as machine
+use Rattle.lapd_sim.specs.machine.Setup as machine
 use Rattle.lapd_sim.proofs.Playing.{HasPlayed}
 use Rattle.lapd_sim.proofs.player.Player.play.Given as goal
 

@@ -1,0 +1,113 @@
+-- The events at the card that a script brings, and what its setup has to do with them.
+use Rattle.std.specs.Prelude.{◌≡◌, ℕ, zero, suc, ◌+◌, List, [], ◌∷◌, ◌++◌, map, replicate, Option, None, Some, Result, Ok, Err}
+use Rattle.lapd_clock.specs.Timers as clocks
+use Rattle.model_line.specs.declared.config.Config.{Config}
+use Rattle.model_bits.specs.Stream.{dropped}
+use Rattle.model_line.specs.Came.{cause_of}
+use Rattle.model_line.specs.Sound.{IsInRange}
+use Rattle.model_card.specs.Event as frames
+use Rattle.model_card.specs.Run as runs
+use Rattle.model_card.specs.ports.Card.{OctetCard}
+use Rattle.model_card.specs.ports.Event as octets
+use Rattle.model_card.specs.ports.Run as octet_runs
+use Rattle.lapd_sim.specs.machine.Board.{Board, pull, hears, next, expiry, request, Event, at, fresh, after_all, AreAtLines, octet_event, frame_event}
+use Rattle.lapd_script.specs.declared.command.CardKind.{CardKind}
+use Rattle.lapd_script.specs.declared.command.CardKind.TheVariants.{Octets, Frames}
+use Rattle.lapd_script.specs.declared.kind.FaultKind.{FaultKind}
+use Rattle.lapd_script.specs.Meaning as line
+use Rattle.lapd_script.specs.Read.{read}
+use Rattle.lapd_script.specs.Pieces.{pieces_of, line_in}
+use Rattle.lapd_sim.specs.machine.Setup.{Setup, terminal_at}
+use Rattle.lapd_transcript.specs.Terminal.{octets_sent}
+use Rattle.lapd_sim.specs.machine.Steps.{Scene, octets_at, expired, is_heard_as, request_for}
+use Rattle.lapd_sim.specs.machine.Script.{Fault, Played, not_begun, one_more, played}
+
+-- `wait`: the expiries that fall due up to its end, one after the other.
+abbrev pub expiry_events : ℕ → ℕ → Scene → List Event
+expiry_events zero end s = []
+expiry_events (suc more) end s = elim (clocks.due_at s.setup.clock end) [ None ↦ [] | Some due ↦ at due.0 (expiry due.1) ∷ expiry_events more end (expired end due.0 due.1 s) ]
+
+abbrev pub events_until : ℕ → Scene → List Event
+events_until end s = expiry_events (clocks.time_until end s.setup.clock) end s
+
+-- `in`: the octets of the terminal, or what a frame that comes is heard as.
+abbrev pub coming_events : CardKind → ℕ → List ℕ → Scene → List Event
+coming_events Octets number octets s = octets_at number (octets_sent octets (terminal_at number s.setup))
+coming_events Frames number octets s = at number (is_heard_as s octets) ∷ []
+
+-- What a line brings where there is a card.
+abbrev pub meant_events : line.Meaning → Scene → List Event
+meant_events line.skip s = []
+meant_events (line.card kind config) s = []
+meant_events (line.rx number octets) s = octets_at number octets
+meant_events (line.into number octets) s = coming_events s.setup.board.kind number octets s
+meant_events (line.failed number fault) s = at number (hears (dropped (cause_of fault))) ∷ []
+meant_events (line.next number) s = at number next ∷ []
+meant_events (line.pull number count) s = replicate count (at number pull)
+meant_events (line.wait milliseconds) s = events_until (s.setup.now + milliseconds) s
+meant_events (line.timers t200 t203 t201) s = []
+meant_events line.stored s = []
+meant_events (line.counters number group) s = []
+meant_events (line.ask number tei what octets) s = at number (request (request_for what tei octets)) ∷ []
+
+-- Before the card line, nothing.
+abbrev pub read_events : Result line.Meaning FaultKind → Option Setup → List Event
+read_events (Err kind) setup = []
+read_events (Ok m) None = []
+read_events (Ok m) (Some setup) = meant_events m (record { setup = setup; text = [] })
+
+-- Nor does the faulty line bring anything, and no line after it.
+abbrev pub unless_fault : {X : Type 0} → Option Fault → List X → List X
+unless_fault None xs = xs
+unless_fault (Some fault) xs = []
+
+abbrev pub line_events : List ℕ → Played → List Event
+line_events piece p = unless_fault (one_more p piece).fault (read_events (read (line_in piece)) p.setup)
+
+-- Of lines, from where the script has been played to.
+abbrev pub events_from : Played → List (List ℕ) → List Event
+events_from p [] = []
+events_from p (piece ∷ pieces) = line_events piece p ++ events_from (one_more p piece) pieces
+
+abbrev pub script_events : List ℕ → List Event
+script_events text = events_from not_begun (pieces_of text)
+
+-- The board of the first card line, fresh.
+abbrev pub board_meant : Result line.Meaning FaultKind → Option Board
+board_meant (Err kind) = None
+board_meant (Ok line.skip) = None
+board_meant (Ok (line.card kind config)) = Some (fresh kind config)
+board_meant (Ok (line.rx number octets)) = None
+board_meant (Ok (line.into number octets)) = None
+board_meant (Ok (line.failed number fault)) = None
+board_meant (Ok (line.next number)) = None
+board_meant (Ok (line.pull number count)) = None
+board_meant (Ok (line.wait milliseconds)) = None
+board_meant (Ok (line.timers t200 t203 t201)) = None
+board_meant (Ok line.stored) = None
+board_meant (Ok (line.counters number group)) = None
+board_meant (Ok (line.ask number tei what octets)) = None
+
+abbrev pub first_board : List (List ℕ) → Option Board
+first_board [] = None
+first_board (piece ∷ pieces) = elim (board_meant (read (line_in piece))) [ None ↦ first_board pieces | Some b ↦ Some b ]
+
+-- The board of the setup is that of the card line, fresh, after the script's events. Its configuration is one with which a
+-- card can be started, and the events are at its lines and of its kind: so laws of runs hold of it.
+pub record HasRun (text : List ℕ) (setup : Setup) : Type 0 where
+  pub kind : CardKind
+  pub config : Config
+  pub begun : first_board (pieces_of text) ≡ Some (fresh kind config)
+  pub in_range : IsInRange config
+  pub at_lines : AreAtLines (fresh kind config) (script_events text)
+  pub board : setup.board ≡ after_all (fresh kind config) (script_events text)
+
+abbrev pub ScriptsAreRuns : Type 0
+ScriptsAreRuns = (text : List ℕ) (setup : Setup) → (played (pieces_of text)).setup ≡ Some setup → HasRun text setup
+
+-- Runs on a board are those of its card: of one of octets, as `model_card::ports` has them; of one of frames, as `model_card` does.
+pub record RunsOnBoards : Type 0 where
+  pub octets : (c : Config) (m : OctetCard) (events : List octets.Event) →
+      after_all (record { kind = Octets; config = c; card = m }) (map octet_event events) ≡ record { kind = Octets; config = c; card = octet_runs.after_all m events }
+  pub frames : (c : Config) (m : OctetCard) (events : List frames.Event) →
+      after_all (record { kind = Frames; config = c; card = m }) (map frame_event events) ≡ record { kind = Frames; config = c; card = record m { card = runs.after_all m.card events } }

@@ -1,0 +1,226 @@
+-- What each line of a script makes of the setup, and what it says in the transcript.
+use Rattle.std.specs.Prelude.{ℕ, zero, suc, ◌+◌, ◌-◌, ◌^◌, nat_lt, nat_le, Bool, true, ◌&&◌, if◌then◌else◌, List, [], ◌∷◌, ◌++◌, length, map, fold, Option, None, Some, Result, Ok, Err}
+use Rattle.lapd_frame.specs.declared.timers.Timer.{Timer}
+use Rattle.lapd_clock.specs.Timer.{Lengths, first_out_of_range}
+use Rattle.lapd_clock.specs.Timers as clocks
+use Rattle.model_line.specs.declared.config.Config.{Config}
+use Rattle.model_line.specs.Config.{first_fault}
+use Rattle.model_bits.specs.Stream.{dropped}
+use Rattle.model_line.specs.Came.{came, cause_of}
+use Rattle.model_line.specs.declared.faults.Fault.{Fault}
+use Rattle.model_line.specs.Request as asking
+use Rattle.model_card.specs.Stored as cards
+use Rattle.model_card.specs.ports.Card.{OctetCard}
+use Rattle.model_card.specs.ports.Stored.{stored, limit}
+use Rattle.lapd_sim.specs.machine.Board.{Board, What, octet, pull, hears, next, expiry, request, Event, at, Reply, told, refused, pulled, gave, reply}
+use Rattle.lapd_script.specs.declared.kind.FaultKind.{FaultKind}
+use Rattle.lapd_script.specs.declared.kind.FaultKind.TheVariants.{BadNumber, NoCard, SecondCard, BadCard, WrongCard, BadLine, BadFrame, TimeOver}
+use Rattle.lapd_script.specs.declared.command.Asked.{Asked}
+use Rattle.lapd_script.specs.declared.command.Asked.TheVariants as asked
+use Rattle.lapd_script.specs.declared.command.CardKind.{CardKind}
+use Rattle.lapd_script.specs.declared.command.CardKind.TheVariants.{Octets, Frames}
+use Rattle.lapd_script.specs.Meaning as line
+use Rattle.lapd_transcript.specs.Text.{report_text, refused_text, frame_text, nothing_text, stored_text}
+use Rattle.lapd_transcript.specs.declared.counters.CounterGroup.{CounterGroup}
+use Rattle.lapd_transcript.specs.Counted.{counters_text}
+use Rattle.lapd_sim.specs.machine.Setup.{Setup, begun, happened, terminal_at, counters_at, taken_at, with_terminal, with_taken}
+use Rattle.lapd_transcript.specs.Terminal.{octets_sent, after_sending}
+use Rattle.lapd_transcript.specs.Listened.{pulled_text}
+
+-- A scene: the setup, and what has been said.
+pub record Scene : Type 0 where
+  pub setup : Setup
+  pub text : List ℕ
+
+-- What a reply says. Octets that are pulled are told together, and timer orders are not told.
+abbrev pub reply_text : ℕ → Reply → List ℕ
+reply_text line (told t) = report_text line t.notes t.contents t.cause t.lost
+reply_text line (refused why) = refused_text line why
+reply_text line (pulled value begins orders) = []
+reply_text line (gave None) = nothing_text line
+reply_text line (gave (Some given)) = frame_text line given.octets
+
+-- An event, and events one after the other.
+abbrev pub with_event : Scene → Event → Scene
+with_event s e = record { setup = happened s.setup e; text = s.text ++ reply_text e.line (reply e s.setup.board) }
+
+abbrev pub with_events : List Event → Scene → Scene
+with_events events s = fold with_event s events
+
+-- `rx`: each octet is an event.
+abbrev pub octets_at : ℕ → List ℕ → List Event
+octets_at line octets = map (λ value. at line (octet value)) octets
+
+abbrev pub after_rx : ℕ → List ℕ → Scene → Scene
+after_rx line octets s = with_events (octets_at line octets) s
+
+-- On a card for octets, the octets of a terminal that sends a frame come from its line.
+abbrev pub after_in : ℕ → List ℕ → Scene → Scene
+after_in line frame s =
+    let terminal = terminal_at line s.setup in
+    after_rx line (octets_sent frame terminal) (record s { setup = with_terminal line (after_sending frame terminal) s.setup })
+
+-- `pull`: the octets that the line takes, and the frames that are complete in them.
+abbrev pub octet_in : Reply → ℕ
+octet_in (told t) = 0
+octet_in (refused why) = 0
+octet_in (pulled value begins orders) = value
+octet_in (gave given) = 0
+
+pub record Pulls : Type 0 where
+  pub setup : Setup
+  pub octets : List ℕ
+
+abbrev pub one_pull : ℕ → Pulls → Pulls
+one_pull line p = record { setup = happened p.setup (at line pull); octets = p.octets ++ octet_in (reply (at line pull) p.setup.board) ∷ [] }
+
+abbrev pub pulls : ℕ → ℕ → Pulls → Pulls
+pulls zero line p = p
+pulls (suc count) line p = pulls count line (one_pull line p)
+
+abbrev pub after_pulls : ℕ → Pulls → List ℕ → Scene
+after_pulls line p text = record { setup = with_taken line p.octets p.setup; text = text ++ pulled_text line (taken_at line p.setup) p.octets }
+
+abbrev pub after_pull : ℕ → ℕ → Scene → Scene
+after_pull line count s = after_pulls line (pulls count line (record { setup = s.setup; octets = [] })) s.text
+
+-- `in`: a frame comes, on either kind of card. On a card for frames it is heard as `Came` of `model_line` has it.
+abbrev pub is_heard_as : Scene → List ℕ → What
+is_heard_as s frame = hears (came s.setup.board.config.n201 frame)
+
+abbrev pub after_coming : CardKind → ℕ → List ℕ → Scene → Scene
+after_coming Octets line frame s = after_in line frame s
+after_coming Frames line frame s = with_event s (at line (is_heard_as s frame))
+
+-- `failed`: a fault is told in place of a frame; `next`: the next frame is taken, if there is one.
+abbrev pub after_failed : ℕ → Fault → Scene → Scene
+after_failed line fault s = with_event s (at line (hears (dropped (cause_of fault))))
+
+abbrev pub after_next : ℕ → Scene → Scene
+after_next line s = with_event s (at line next)
+
+-- `wait`: what falls due at or before the end, one after the other, each at its moment. A timer that expires is taken
+-- from the clock, and the orders of its event are applied at that moment. It ends: with each expiry, the time that the
+-- running timers still run until the end falls, and that is how often it is tried.
+abbrev pub moment_of : Option ℕ → ℕ
+moment_of None = 0
+moment_of (Some moment) = moment
+
+abbrev pub at_expiry : ℕ → Setup → Setup
+at_expiry end b = record b { now = moment_of (clocks.next_moment b.clock); clock = clocks.after_due b.clock end }
+
+abbrev pub expired : ℕ → ℕ → Timer → Scene → Scene
+expired end line timer s = with_event (record s { setup = at_expiry end s.setup }) (at line (expiry timer))
+
+abbrev pub expiries : ℕ → ℕ → Scene → Scene
+expiries zero end s = s
+expiries (suc more) end s = elim (clocks.due_at s.setup.clock end) [ None ↦ s | Some due ↦ expiries more end (expired end due.0 due.1 s) ]
+
+abbrev pub until : ℕ → Scene → Scene
+until end s =
+    let after = expiries (clocks.time_until end s.setup.clock) end s in
+    record after { setup = record after.setup { now = end } }
+
+abbrev pub after_wait : ℕ → Scene → Scene
+after_wait milliseconds s = until (s.setup.now + milliseconds) s
+
+-- `timers`: timers that are started from now on run so long; those that run keep their moments.
+abbrev pub after_timers : Lengths → Scene → Scene
+after_timers lengths s = record s { setup = record s.setup { clock = clocks.with_lengths lengths s.setup.clock } }
+
+-- The requests.
+abbrev pub request_for : Asked → ℕ → List ℕ → asking.Request
+request_for asked.Assign tei octets = asking.Assign tei
+request_for asked.Remove tei octets = asking.Remove tei
+request_for asked.Check tei octets = asking.Check tei
+request_for (asked.Establish service) tei octets = asking.Establish service tei
+request_for (asked.Release service) tei octets = asking.Release service tei
+request_for (asked.SetBusy service) tei octets = asking.SetBusy service tei
+request_for (asked.ClearBusy service) tei octets = asking.ClearBusy service tei
+request_for (asked.Deactivate service) tei octets = asking.Deactivate service tei
+request_for (asked.«Data» service) tei octets = asking.«Data» service tei octets
+request_for (asked.Unit service) tei octets = asking.Unit service tei octets
+
+abbrev pub after_request : ℕ → ℕ → Asked → List ℕ → Scene → Scene
+after_request line tei what octets s = with_event s (at line (request (request_for what tei octets)))
+
+-- `stored`: what the card holds, and its bound. A card for frames keeps nothing of those that came and went.
+abbrev pub held_in : CardKind → OctetCard → ℕ
+held_in Octets card = stored card
+held_in Frames card = cards.stored card.card
+
+abbrev pub held : Board → ℕ
+held b = held_in b.kind b.card
+
+abbrev pub after_stored : Scene → Scene
+after_stored s = record s { text = s.text ++ stored_text (held s.setup.board) (limit s.setup.board.config) }
+
+-- `counters`, `messages`: what was counted of the line.
+abbrev pub after_counters : CounterGroup → ℕ → Scene → Scene
+after_counters group line s = record s { text = s.text ++ counters_text line group (counters_at line s.setup) }
+
+-- What can be wrong with a line once there is a card: it is about octets, and the card for frames, or the other way
+-- round; the card's line is not there; the frame's length, where a terminal sends it; the time.
+abbrev pub for_octets : CardKind → Result Scene FaultKind → Result Scene FaultKind
+for_octets Octets said = said
+for_octets Frames said = Err WrongCard
+
+abbrev pub for_frames : CardKind → Result Scene FaultKind → Result Scene FaultKind
+for_frames Octets said = Err WrongCard
+for_frames Frames said = said
+
+abbrev pub at_line : ℕ → Scene → Scene → Result Scene FaultKind
+at_line line s after = if nat_lt line s.setup.board.config.lines then Ok after else Err BadLine
+
+abbrev pub is_frame : List ℕ → Bool
+is_frame octets = nat_le 3 (length octets) && nat_le (length octets) 1028
+
+abbrev pub can_come : CardKind → List ℕ → Bool
+can_come Octets octets = is_frame octets
+can_come Frames octets = true
+
+abbrev pub in_at_line : ℕ → List ℕ → Scene → Result Scene FaultKind
+in_at_line line octets s = if can_come s.setup.board.kind octets then Ok (after_coming s.setup.board.kind line octets s) else Err BadFrame
+
+abbrev pub last_moment : ℕ
+last_moment = 2 ^ 63 - 1
+
+abbrev pub in_time : ℕ → Scene → Result Scene FaultKind
+in_time milliseconds s = if nat_le (s.setup.now + milliseconds) last_moment then Ok (after_wait milliseconds s) else Err TimeOver
+
+-- The lengths of `timers` have to be in range.
+abbrev pub with_timers : Lengths → Scene → Result Scene FaultKind
+with_timers lengths s = elim (first_out_of_range lengths) [ None ↦ Ok (after_timers lengths s) | Some timer ↦ Err BadNumber ]
+
+-- What a line does where there is a card,
+abbrev pub with_card : line.Meaning → Scene → Result Scene FaultKind
+with_card line.skip s = Ok s
+with_card (line.card kind config) s = Err SecondCard
+with_card (line.rx number octets) s = for_octets s.setup.board.kind (at_line number s (after_rx number octets s))
+with_card (line.into number octets) s = if nat_lt number s.setup.board.config.lines then in_at_line number octets s else Err BadLine
+with_card (line.failed number fault) s = for_frames s.setup.board.kind (at_line number s (after_failed number fault s))
+with_card (line.next number) s = for_frames s.setup.board.kind (at_line number s (after_next number s))
+with_card (line.pull number count) s = for_octets s.setup.board.kind (at_line number s (after_pull number count s))
+with_card (line.wait milliseconds) s = in_time milliseconds s
+with_card (line.timers t200 t203 t201) s = with_timers (record { t200 = t200; t203 = t203; t201 = t201 }) s
+with_card line.stored s = Ok (after_stored s)
+with_card (line.counters number group) s = at_line number s (after_counters group number s)
+with_card (line.ask number tei what octets) s = at_line number s (after_request number tei what octets s)
+
+-- and where there is none.
+abbrev pub begun_with : CardKind → Config → Result (Option Setup) FaultKind
+begun_with kind c = elim (first_fault c) [ None ↦ Ok (Some (begun kind c)) | Some field ↦ Err BadCard ]
+
+abbrev pub without_card : line.Meaning → Result (Option Setup) FaultKind
+without_card line.skip = Ok None
+without_card (line.card kind config) = begun_with kind config
+without_card (line.rx number octets) = Err NoCard
+without_card (line.into number octets) = Err NoCard
+without_card (line.failed number fault) = Err NoCard
+without_card (line.next number) = Err NoCard
+without_card (line.pull number count) = Err NoCard
+without_card (line.wait milliseconds) = Err NoCard
+without_card (line.timers t200 t203 t201) = Err NoCard
+without_card line.stored = Err NoCard
+without_card (line.counters number group) = Err NoCard
+without_card (line.ask number tei what octets) = Err NoCard

@@ -1,6 +1,0 @@
--- Which cards are reached.
-use Rattle.model_card.proofs.Reaching.{reached-after, reached-fresh, reached-sound}
-use Rattle.laws_card.specs.Machine.{CardsAreReached}
-
-pub cards_are_reached : CardsAreReached
-cards_are_reached = record { begins = reached-fresh; goes_on = reached-after; sound = reached-sound }

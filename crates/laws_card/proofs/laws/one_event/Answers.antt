@@ -1,6 +1,0 @@
--- Hand-written answers for `one_event`.
-use Rattle.laws_card.proofs.OneEvent.{one-all}
-use Rattle.laws_card.proofs.laws.one_event.Goals as goal
-
-pub returns : goal.returns
-returns c = λ card events s all. one-all card events s all

@@ -1,6 +1,0 @@
--- Hand-written answers for `others_stay`.
-use Rattle.laws_card.proofs.Brief.{others-stay}
-use Rattle.laws_card.proofs.laws.others_stay.Goals as goal
-
-pub returns : goal.returns
-returns c = λ card events s all. others-stay card events s all

@@ -1,6 +1,0 @@
--- Hand-written answers for `a_call_comes_to_rest`.
-use Rattle.laws_circuit.proofs.Resting.{calls-come-to-rest}
-use Rattle.laws_circuit.proofs.laws.a_call_comes_to_rest.Goals as goal
-
-pub returns : goal.returns
-returns c = calls-come-to-rest

@@ -1,6 +1,0 @@
--- Hand-written answers for `all_is_told_in_beats`.
-use Rattle.laws_circuit.proofs.Beats.{all-is-told-in-beats}
-use Rattle.laws_circuit.proofs.laws.all_is_told_in_beats.Goals as goal
-
-pub returns : goal.returns
-returns c = all-is-told-in-beats

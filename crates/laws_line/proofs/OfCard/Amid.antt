@@ -1,0 +1,169 @@
+-- A control frame that waits at a line of a card is taken by one of so many calls also where other events of that line are
+-- between them.
+use Rattle.std.proofs.Common.{◌≡◌, ℕ, ◌+◌, ◌-◌, ◌<◌, ◌≤◌, ◌==◌, ◌&&◌, Bool, true, false, cond, List, [], ◌∷◌, ◌++◌, length, get_or, set, Some, refl, sym, ap, subst, ◌∙◌, ◌⊎◌, inl, inr, arith}
+use Rattle.std.proofs.lemmas.Bool.{eqb-true, eqb-false, and_parts}
+use Rattle.std.proofs.lemmas.List.{get_or-set_same}
+use Rattle.std.proofs.lemmas.List.Elements.{All-head, All-tail}
+use Rattle.model_link.specs.declared.frames.ControlFrame.{ControlFrame}
+use Rattle.model_line.specs.Event as line_event
+use Rattle.model_line.specs.Event.{hears, expiry, request, next}
+use Rattle.model_line.specs.Line.{Line, fresh_line, link_count, service_at, place_at, tei_at, link_at}
+use Rattle.model_line.specs.Machine as lines
+use Rattle.model_line.specs.Taken.{Taken, taken}
+use Rattle.laws_line.specs.Among.{is_take, go_first}
+use Rattle.laws_line.specs.Drains.{frames_before, control_text}
+use Rattle.laws_line.specs.Requests.{deactivates}
+use Rattle.laws_line.proofs.Among.{no-farther-off, other-waits}
+use Rattle.laws_line.proofs.Ordered.{next-goes}
+use Rattle.model_card.specs.Card.{Card, line_at}
+use Rattle.model_card.specs.Event.{Event, at}
+use Rattle.model_card.specs.Machine.{wants_room, after}
+use Rattle.model_card.specs.Run.{IsAtLine, AreAtLines, after_all}
+use Rattle.model_card.specs.Sound.{IsSound}
+use Rattle.model_card.proofs.CardSound.{after_is_sound}
+use Rattle.laws_line.specs.card.Among.{IsTakenAmong}
+use Rattle.laws_line.specs.card.PromisesOfTakes.{come_first_at, takes_of, is_deactivated_at, StaysAt, IsNotDeactivated}
+use Rattle.laws_line.proofs.OfCard.Meanwhile.{at-another, at-next, few-lines, line-sound}
+
+is-the-next : (w : line_event.Event) → is_take w ≡ true → w ≡ next
+is-the-next (hears e) is = absurd (cc)
+is-the-next (expiry timer) is = absurd (cc)
+is-the-next (request r) is = absurd (cc)
+is-the-next next is = refl
+
+module _ (number link tei : ℕ) (f : ControlFrame) where
+  -- an event at the line finds room, or changes nothing
+  own-line : (card : Card) (e : Event) (x : Line) (b : Bool) → number < length card.lines → e.line ≡ number
+      → (get_or (cond b card.lines (set card.lines e.line x)) number (fresh_line card.config) ≡ line_at number card)
+      ⊎ (get_or (cond b card.lines (set card.lines e.line x)) number (fresh_line card.config) ≡ x)
+  own-line card e x true few same = inl refl
+  own-line card e x false few same =
+      inr (subst (λ n. get_or (set card.lines e.line x) n (fresh_line card.config) ≡ x) same
+      (get_or-set_same card.lines e.line x (fresh_line card.config) (subst (λ n. n < length card.lines) (sym same) few)))
+
+  abbrev Waits : Line → List ControlFrame → List ControlFrame → Type 0
+  Waits l before behind = (link_at link l).waiting ≡ before ++ f ∷ behind
+
+  abbrev On : Line → Type 0
+  On l = tei_at (place_at link) l ≡ Some tei
+
+  abbrev Farther : Card → List ControlFrame → Line → Line → Type 0
+  Farther card before l l' =
+      ((behind' : List ControlFrame) × Waits l' before behind')
+      × (frames_before card.config l' link (length before) ≤ frames_before card.config l link (length before) + (go_first l' - go_first l))
+
+  unmoved : (card : Card) (before behind : List ControlFrame) (l l' : Line) → l' ≡ l → Waits l before behind → Farther card before l l'
+  unmoved card before behind l l' same waits =
+      subst (λ x. Farther card before l x) (sym same)
+      ((behind, waits), omega arith)
+
+  on-first : (card : Card) (events : List Event) → StaysAt number link tei card events → On (line_at number card)
+  unfolding StaysAt
+  on-first card [] on = on
+  on-first card (e ∷ events) on = on.0
+
+  -- what is no next of the line
+  other-event : (card : Card) (e : Event) → IsSound card → number < card.config.lines → link < link_count card.config → (e.line == number && is_take e.what) ≡ false → is_deactivated_at number link tei e ≡ false
+      → On (line_at number card) → On (line_at number (after e card)) → (before behind : List ControlFrame) → Waits (line_at number card) before behind
+      → Farther card before (line_at number card) (line_at number (after e card))
+  other-event card e s few some apart up at at' before behind waits = go (e.line == number) refl apart up
+    where
+      by-own : is_take e.what ≡ false → deactivates (service_at link) tei e.what ≡ false
+          → ((line_at number (after e card) ≡ line_at number card) ⊎ (line_at number (after e card) ≡ lines.after card.config e.what (line_at e.line card))) → e.line ≡ number
+          → Farther card before (line_at number card) (line_at number (after e card))
+      by-own other stays (inl same) here = unmoved card before behind (line_at number card) (line_at number (after e card)) same waits
+      by-own other stays (inr moved) here =
+          let is : line_at number (after e card) ≡ lines.after card.config e.what (line_at number card) = moved ∙ ap (λ n. lines.after card.config e.what (line_at n card)) here in
+          subst (λ x. Farther card before (line_at number card) x) (sym is) (
+            other-waits card.config s.config link tei some e.what (line_at number card) other stays (line-sound card number s few) at (subst On is at') before f behind waits,
+            no-farther-off card.config s.config link tei some e.what (line_at number card) (length before) other,
+          )
+
+      go : (b : Bool) → (e.line == number) ≡ b → (b && is_take e.what) ≡ false → (b && deactivates (service_at link) tei e.what) ≡ false → Farther card before (line_at number card) (line_at number (after e card))
+      go true is other stays =
+          by-own other stays (own-line card e (lines.after card.config e.what (line_at e.line card)) (wants_room e card) (few-lines number card s few) (eqb-true e.line number is)) (eqb-true e.line number is)
+      go false is other stays =
+          unmoved card before behind (line_at number card) (line_at number (after e card))
+          (at-another card number e (λ same. eqb-false e.line number is (sym same))) waits
+
+  abbrev Less : Card → List Event → List ControlFrame → Type 0
+  Less card events before =
+      frames_before card.config (line_at number card) link (length before) + come_first_at number card events < takes_of number events
+
+  Rest : Card → Event → List Event → Type 0
+  Rest card e events =
+      (before behind : List ControlFrame) → Waits (line_at number (after e card)) before behind → Less (after e card) events before
+      → IsTakenAmong (after e card) number events (control_text card.config link tei f)
+
+  sooner : (card : Card) (e : Event) (events : List Event) (frame : List ℕ) → IsTakenAmong (after e card) number events frame → IsTakenAmong card number (e ∷ events) frame
+  unfolding after_all
+  sooner card e events frame x =
+      record { front = e ∷ x.front; back = x.back; split = ap (λ es. e ∷ es) x.split; one = x.one; taken_is = x.taken_is; is = x.is }
+
+  by-call : (card : Card) (events : List Event) → IsSound card → number < card.config.lines → link < link_count card.config → On (line_at number card)
+      → (before behind : List ControlFrame) → Waits (line_at number card) before behind
+      → frames_before card.config (line_at number card) link (length before) + come_first_at number (after (at number next) card) events < 1 + takes_of number events
+      → Rest card (at number next) events → IsTakenAmong card number (at number next ∷ events) (control_text card.config link tei f)
+  unfolding Rest after_all
+  by-call card events s few some at' before behind waits less more =
+      go (next-goes card.config s.config link tei some (line_at number card) (line-sound card number s few) at' f behind before waits)
+    where
+      is : line_at number (after (at number next) card) ≡ lines.after card.config next (line_at number card)
+      is = at-next card number (few-lines number card s few)
+
+      go : ((t : Taken) × (taken card.config (line_at number card) ≡ Some t) × (t.frame ≡ control_text card.config link tei f))
+          ⊎ ((before' : List ControlFrame) × Waits (lines.after card.config next (line_at number card)) before' behind
+          × (frames_before card.config (lines.after card.config next (line_at number card)) link (length before') + 1 ≤ frames_before card.config (line_at number card) link (length before)))
+          → IsTakenAmong card number (at number next ∷ events) (control_text card.config link tei f)
+      go (inl (t, begins, same)) = record { front = []; back = events; split = refl; one = t; taken_is = begins; is = same }
+      go (inr (before', waits', nearer)) =
+          let near : frames_before card.config (line_at number (after (at number next) card)) link (length before') + 1 ≤ frames_before card.config (line_at number card) link (length before) =
+          subst (λ l. frames_before card.config l link (length before') + 1 ≤ frames_before card.config (line_at number card) link (length before)) (sym is) nearer in
+          sooner card (at number next) events (control_text card.config link tei f)
+          (more before' behind (subst (λ l. Waits l before' behind) (sym is) waits') (omega (arith, less, near)))
+
+  pub taken-amid : (events : List Event) (card : Card) → IsSound card → number < card.config.lines → link < link_count card.config → AreAtLines card events → StaysAt number link tei card events
+      → IsNotDeactivated number link tei events
+      → (before behind : List ControlFrame) → Waits (line_at number card) before behind → Less card events before → IsTakenAmong card number events (control_text card.config link tei f)
+  unfolding StaysAt come_first_at Rest
+  taken-amid [] card s few some lines on up before behind waits less = absurd (omega (arith, less))
+  taken-amid (e ∷ events) card s few some lines on up before behind waits less =
+      let here = All-head (IsAtLine card) e events lines in
+      by-kind (e.line == number && is_take e.what) refl
+      (λ before' behind' waits' less'. taken-amid events (after e card) (after_is_sound card e s here) few some (All-tail (IsAtLine card) e events lines) on.1
+      (All-tail (λ e. is_deactivated_at number link tei e ≡ false) e events up) before' behind' waits' less')
+    where
+      come : ℕ
+      come = go_first (line_at number (after e card)) - go_first (line_at number card)
+
+      rest : ℕ
+      rest = come_first_at number (after e card) events
+
+      with-kind : (b : Bool) → (e.line == number && is_take e.what) ≡ b
+          → frames_before card.config (line_at number card) link (length before) + (cond b 0 come + rest) < cond b 1 0 + takes_of number events
+      with-kind b is =
+          subst (λ x. frames_before card.config (line_at number card) link (length before) + (cond x 0 come + rest) < cond x 1 0 + takes_of number events) is less
+
+      by-kind : (b : Bool) → (e.line == number && is_take e.what) ≡ b
+          → ((before' behind' : List ControlFrame) → Waits (line_at number (after e card)) before' behind' → Less (after e card) events before'
+          → IsTakenAmong (after e card) number events (control_text card.config link tei f))
+          → IsTakenAmong card number (e ∷ events) (control_text card.config link tei f)
+      by-kind true is more =
+          let parts = and_parts (e.line == number) (is_take e.what) is in
+          let line-is = eqb-true e.line number parts.0 in
+          let what-is = is-the-next e.what parts.1 in
+          let same : e ≡ at number next = λ i. record { line = line-is i; what = what-is i } in
+          let none : cond true 0 come + rest ≡ rest = omega arith in
+          let fewer : frames_before card.config (line_at number card) link (length before) + (cond true 0 come + rest) < cond true 1 0 + takes_of number events = with-kind true is in
+          let now : frames_before card.config (line_at number card) link (length before) + rest < 1 + takes_of number events = omega (arith, fewer, none) in
+          subst (λ x. IsTakenAmong card number (x ∷ events) (control_text card.config link tei f)) (sym same)
+          (by-call card events s few some on.0 before behind waits
+          (subst (λ x. frames_before card.config (line_at number card) link (length before) + come_first_at number (after x card) events < 1 + takes_of number events) same now)
+          (subst (λ x. Rest card x events) same more))
+      by-kind false is more =
+          let stays = All-head (λ e. is_deactivated_at number link tei e ≡ false) e events up in
+          let x = other-event card e s few some is stays on.0 (on-first (after e card) events on.1) before behind waits in
+          let farther = x.1 in
+          let fewer : frames_before card.config (line_at number card) link (length before) + (cond false 0 come + rest) < cond false 1 0 + takes_of number events = with-kind false is in
+          let sum : (cond false 0 come + rest) ≡ come + rest = omega arith in
+          sooner card e events (control_text card.config link tei f) (more before x.0.0 x.0.1 (omega (arith, fewer, farther, sum)))

@@ -1,0 +1,130 @@
+-- What laws of whole runs say in brief.
+use Rattle.std.proofs.Common.{⊎_elim, ◌≡◌, ◌≢◌, ◌<◌, ℕ, List, set, Option, Some, None, option_map, refl, sym, ap, ◌∙◌, subst, inl, inr}
+use Rattle.std.proofs.lemmas.List.{set-get_or, get_or-set_other}
+use Rattle.std.specs.Option.{option_map_or}
+use Rattle.model_link.specs.Link.{fresh as fresh_link}
+use Rattle.model_line.specs.declared.config.Config.{Config}
+use Rattle.model_line.specs.Event as line_event
+use Rattle.model_line.specs.Event.{next, gave}
+use Rattle.model_line.specs.Line.{Line, fresh_line, link_number, link_count, link_at}
+use Rattle.model_line.specs.Machine as lines
+use Rattle.model_line.specs.Sound as line
+use Rattle.model_line.specs.Taken.{Taken, taken, next_of, line_of}
+use Rattle.laws_line.specs.OneEvent.{IsOneEvent, IsOfPart, of_link, of_management, of_units, of_group, of_next}
+use Rattle.laws_line.specs.Served.{IsIdle, IsOwed, contents_of}
+use Rattle.laws_line.proofs.Serving.{served}
+use Rattle.model_card.specs.Card.{Card, line_at}
+use Rattle.model_card.specs.Event.{Event, at}
+use Rattle.model_card.specs.Machine.{after, answer}
+use Rattle.model_card.specs.Run.{after_all, IsAtLine, AreAtLines}
+use Rattle.model_card.specs.Sound.{IsSound}
+use Rattle.model_card.proofs.CardSound.{always_sound}
+use Rattle.model_card.proofs.EachMoment.{moment_of, each_moment}
+use Rattle.model_card.proofs.Steps.{has_lines, line_sound}
+use Rattle.laws_line.specs.card.Brief.{IsIdleAt, GivesWhatWaits, LinksStay, LeavesOthers, OthersStay, TellsCause, CausesAreTold}
+use Rattle.laws_line.proofs.OfCard.Hearing.{heard-group, tells-cause}
+use Rattle.laws_line.proofs.OfCard.OneEvent.{one-in}
+use Rattle.laws_line.proofs.OfCard.Serving.{after-config}
+
+-- A call that gives none takes none.
+none-given : (o : Option Taken) → gave (option_map next_of o) ≡ gave None → o ≡ None
+none-given None e = refl
+none-given (Some t) e = cc e
+
+idle-at : (card : Card) (number : ℕ) → IsSound card → number < card.config.lines → answer (at number next) card ≡ gave None → IsIdleAt card number
+unfolding lines.answer lines.after lines.takes_slot
+idle-at card number s within none =
+    let c = card.config in
+    let l = line_at number card in
+    let is : taken c l ≡ None = none-given (taken c l) none in
+    let idle : IsIdle c l (lines.after c next l) =
+    subst (λ o. elim o as (λ o. Type 0) [ None ↦ IsIdle c l (lines.after c next l) | Some t ↦ IsOwed c (contents_of l) l (lines.after c next l) t.frame ]) is
+    (served c l (line_sound card number (has_lines card s) within)) in
+    record {
+      nothing = idle.nothing;
+      same = ap (λ ls. record card { lines = ls }) (ap (λ o. set card.lines number (option_map_or line_of o l)) is ∙ set-get_or card.lines number (fresh_line c));
+    }
+
+pub gives-what-waits : (card : Card) (events : List Event) → IsSound card → AreAtLines card events → GivesWhatWaits card events
+gives-what-waits card events s all number within none =
+    let end = after_all card events in
+    idle-at end number (always_sound card events s all) (subst (λ (c : Config). number < c.lines) (sym (after-config card events)) within) none
+
+-- Of the links of a line a call for the next frame changes one, or none.
+Changed : Line → Line → ℕ → Type 0
+Changed before after one = (other : ℕ) → other ≢ one → link_at other after ≡ link_at other before
+
+module _ (c : Config) (l : Line) (s : line.IsSound c l) where
+  owed-one : (then : Line) (frame : List ℕ) → IsOwed c (contents_of l) l then frame → (one : ℕ) × Changed l then one
+  unfolding Changed
+  owed-one then frame (inl x) = (0, λ other away. ap (link_at other) x.line)
+  owed-one then frame (inr (inl x)) = (0, λ other away. ap (link_at other) x.line)
+  owed-one then frame (inr (inr x)) =
+      (x.number, λ other away. ap (link_at other) x.line ∙ get_or-set_other l.links x.number other (link_at x.number then) fresh_link away)
+
+  next-one : (one : ℕ) × Changed l (lines.after c next l) one
+  unfolding Changed
+  next-one = go (taken c l) (served c l s)
+    where
+      go : (o : Option Taken)
+          → elim o as (λ o. Type 0) [ None ↦ IsIdle c l (lines.after c next l) | Some t ↦ IsOwed c (contents_of l) l (lines.after c next l) t.frame ]
+          → (one : ℕ) × Changed l (lines.after c next l) one
+      go None x = (0, λ other away. ap (link_at other) x.line)
+      go (Some t) x = owed-one (lines.after c next l) t.frame x
+
+module _ (card : Card) (e : Event) (s : IsSound card) (here : IsAtLine card e) where
+  abbrev c : Config
+  c = card.config
+
+  abbrev l : Line
+  l = line_at e.line card
+
+  abbrev then : Line
+  then = line_at e.line (after e card)
+
+  own : IsOneEvent c e.what l then (answer e card)
+  own = (one-in card e s here).own
+
+  -- no link changes
+  none-change : then ≡ l → LinksStay (link_count c) l then
+  none-change same = record { one = 0; others = λ other few away stays. ap (link_at other) same }
+
+  called : e.what ≡ next → LinksStay (link_count c) l then
+  unfolding Changed
+  called is =
+      let x = next-one c l (line_sound card e.line (has_lines card s) here) in
+      record { one = x.0; others = λ other few away stays. ap (link_at other) (own.takes is).0 ∙ x.1 other away }
+
+  by-part : e.what ≢ next → IsOfPart c l e.what (answer e card) → LinksStay (link_count c) l then
+  by-part apart (of_link service tei place event on by) =
+      let x = own.link service tei place event apart on by in
+      record {
+        one = link_number place service;
+        others = λ other few away stays.
+            ap (link_at other) x.line ∙ get_or-set_other l.links (link_number place service) other _ fresh_link away;
+      }
+  by-part apart (of_management event by) = record { one = 0; others = λ other few away stays. (own.management event by).stay other few stays }
+  by-part apart (of_units unit granted) = record { one = 0; others = λ other few away stays. ap (link_at other) (own.units unit granted).0 }
+  by-part apart (of_group parts service h to) = none-change (heard-group card e s here parts service h to).line
+  by-part apart (of_next is) = absurd (apart is)
+
+  links-stay : LinksStay (link_count c) l then
+  links-stay = go e.what refl
+    where
+      other : e.what ≢ next → LinksStay (link_count c) l then
+      other apart = ⊎_elim (λ x. by-part apart x) (λ x. none-change x.0) own.none
+
+      go : (what : line_event.Event) → e.what ≡ what → LinksStay (link_count c) l then
+      go (line_event.hears x) is = other (λ n. cc (sym is ∙ n))
+      go (line_event.expiry x) is = other (λ n. cc (sym is ∙ n))
+      go (line_event.request x) is = other (λ n. cc (sym is ∙ n))
+      go line_event.next is = called is
+
+  leaves-others : LeavesOthers (moment_of card e)
+  leaves-others = record { lines = (one-in card e s here).others; links = links-stay }
+
+pub others-stay : (card : Card) (events : List Event) → IsSound card → AreAtLines card events → OthersStay card events
+others-stay card events s all = each_moment LeavesOthers leaves-others card events s all
+
+pub causes-are-told : (card : Card) (events : List Event) → IsSound card → AreAtLines card events → CausesAreTold card events
+causes-are-told card events s all = each_moment TellsCause tells-cause card events s all

@@ -1,0 +1,33 @@
+-- What layer 3 knows by notes: over runs of a card.
+use Rattle.std.proofs.Common.{◌≡◌, List, refl, sym, ap, subst}
+use Rattle.std.proofs.lemmas.List.{get_or-replicate}
+use Rattle.model_line.specs.declared.config.Config.{Config}
+use Rattle.model_link.specs.Link.{Link, fresh as fresh_link}
+use Rattle.model_line.specs.Line.{fresh_line, link_count, link_at}
+use Rattle.laws_line.specs.Knowledge.{is_up_of, taken_for_up}
+use Rattle.laws_line.proofs.Knowing.{known-up, begins-down}
+use Rattle.laws_line.proofs.KnowingTeis.{begins-off}
+use Rattle.laws_line.proofs.TimersFollow.{begins-with-none}
+use Rattle.model_card.specs.Event.{Event}
+use Rattle.model_card.specs.Card.{Card}
+use Rattle.model_card.specs.Run.{AreAtLines}
+use Rattle.model_card.specs.Sound.{IsSound}
+use Rattle.laws_line.specs.card.Promises.{NotesTell, IsNew, BeginsAnew}
+use Rattle.laws_line.proofs.OfCard.Watching.{run-seen}
+
+pub up-known : (card : Card) (events : List Event) → IsSound card → AreAtLines card events → NotesTell card events
+up-known card events s all line service tei within =
+    run-seen (is_up_of service tei) (λ up e a. taken_for_up service tei up a) (λ c e l sound. known-up c e l service tei sound) (λ up r. refl) card events s all line
+
+new-line : (c : Config) → IsNew c (fresh_line c)
+new-line c = record {
+  empty = λ number few.
+      let link : link_at number (fresh_line c) ≡ fresh_link = get_or-replicate (link_count c) number fresh_link fresh_link few in
+      (ap (λ (x : Link). x.contents) link, ap (λ (x : Link). x.a) link);
+  quiet = begins-with-none c;
+  down = begins-down c;
+  off = begins-off c;
+}
+
+pub begins-anew : (c : Config) → BeginsAnew c
+begins-anew c line within = subst (IsNew c) (sym (get_or-replicate c.lines line (fresh_line c) (fresh_line c) within)) (new-line c)

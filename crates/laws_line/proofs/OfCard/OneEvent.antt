@@ -1,0 +1,91 @@
+-- In a moment of a run one part of one line has one event, and all else is as it was.
+use Rattle.std.proofs.Common.{⊎_elim, ◌≡◌, ◌≢◌, ℕ, true, List, get_or, refl, sym, ap, ◌∙◌, subst, arith, inr, true≢false}
+use Rattle.std.proofs.lemmas.Bool.{and_parts}
+use Rattle.std.proofs.lemmas.List.{get_or-set_same, get_or-set_other}
+use Rattle.lapd_frame.specs.declared.refusals.Refusal.TheVariants.{PoolFull}
+use Rattle.lapd_frame.specs.declared.services.Service.{Service}
+use Rattle.lapd_tei.specs.Events as teis
+use Rattle.model_bits.specs.Stream as stream
+use Rattle.model_link.specs.Events as link
+use Rattle.model_line.specs.declared.config.Config.{Config}
+use Rattle.model_line.specs.Event as line_event
+use Rattle.model_line.specs.Event.{refused}
+use Rattle.model_line.specs.Line.{Line, fresh_line}
+use Rattle.model_line.specs.Machine as lines
+use Rattle.laws_line.specs.OneEvent.{IsOneEvent}
+use Rattle.laws_line.specs.Steady.{IsOf, IsOfManagement}
+use Rattle.laws_line.proofs.Parts.{one-event}
+use Rattle.model_card.specs.Event.{Event}
+use Rattle.model_card.specs.Card.{Card, line_at, is_full}
+use Rattle.model_card.specs.Machine.{after, answer}
+use Rattle.model_card.specs.Run.{IsAtLine, AreAtLines}
+use Rattle.model_card.specs.Sound.{IsSound}
+use Rattle.model_card.proofs.EachMoment.{moment_of, each_moment}
+use Rattle.model_card.proofs.Steps.{has_lines, by_room, line_sound}
+use Rattle.laws_line.specs.card.OneEvent.{IsOneEventIn}
+use Rattle.laws_line.specs.card.Promises.{HasOneEvent}
+
+-- A request that finds the pool full changes nothing, and is an event of no part; and nothing else takes a slot.
+module _ (c : Config) (l : Line) (e : line_event.Event) (takes : lines.takes_slot c e l ≡ true) where
+  no-heard : (x : stream.Event) → e ≡ line_event.hears x → ⊥
+  unfolding lines.takes_slot
+  no-heard x is = true≢false (sym takes ∙ ap (λ e. lines.takes_slot c e l) is)
+
+  no-expiry : (timer : _) → e ≡ line_event.expiry timer → ⊥
+  unfolding lines.takes_slot
+  no-expiry timer is = true≢false (sym takes ∙ ap (λ e. lines.takes_slot c e l) is)
+
+  no-take : e ≡ line_event.next → ⊥
+  unfolding lines.takes_slot
+  no-take is = true≢false (sym takes ∙ ap (λ e. lines.takes_slot c e l) is)
+
+  no-link : (service : Service) (tei : ℕ) (event : link.Event) → IsOf c e (refused PoolFull) service tei event → ⊥
+  no-link service tei (link.received (link.frame parts)) by = no-heard (stream.frame by.octets) by.by
+  no-link service tei (link.received link.undefined) by = ⊎_elim (λ x. no-heard _ x.0) (λ x. no-heard _ x.0) by.by
+  no-link service tei (link.received link.wrong_size) by = ⊎_elim (λ x. no-heard _ x.0) (λ x. no-heard _ x.0) by.by
+  no-link service tei (link.received link.overlong) by = ⊎_elim (λ x. no-heard _ x.0) (λ x. no-heard _ x.0) by.by
+  no-link service tei (link.expired timer) by = no-expiry _ by
+  no-link service tei (link.requested asked full) by = true≢false (sym by.1)
+  no-link service tei link.offer by = no-take by
+  no-link service tei link.cleared by = true≢false (sym by.1)
+
+  no-management : (event : teis.Event) → IsOfManagement c e (refused PoolFull) event → ⊥
+  no-management (teis.message info) by = no-heard (stream.frame by.heard.octets) by.heard.by
+  no-management teis.expiry by = no-expiry _ by
+  no-management (teis.assign tei) by = true≢false (sym by.1)
+  no-management (teis.remove tei) by = true≢false (sym by.1)
+  no-management (teis.check tei) by = true≢false (sym by.1)
+
+  pub no-event : IsOneEvent c e l l (refused PoolFull)
+  no-event = record {
+    link = λ service tei place event other on by. absurd (no-link service tei event by);
+    management = λ event by. absurd (no-management event by);
+    units = λ unit granted. absurd (true≢false (sym granted.granted));
+    takes = λ is. absurd (no-take is);
+    none = inr (refl, tt);
+  }
+
+module _ (card : Card) (e : Event) (s : IsSound card) (here : IsAtLine card e) where
+  abbrev l : Line
+  l = line_at e.line card
+
+  apart : (other : ℕ) → other ≢ e.line → line_at other (after e card) ≡ line_at other card
+  apart other away =
+      by_room (λ ls a. get_or ls other (fresh_line card.config) ≡ line_at other card) e card (λ full. refl)
+      (λ room. get_or-set_other card.lines e.line other (lines.after card.config e.what l) (fresh_line card.config) away)
+
+  at-line : IsOneEvent card.config e.what l (line_at e.line (after e card)) (answer e card)
+  at-line =
+      by_room (λ ls a. IsOneEvent card.config e.what l (get_or ls e.line (fresh_line card.config)) a) e card
+      (λ full. no-event card.config l e.what (and_parts (lines.takes_slot card.config e.what l) (is_full card) full).0)
+      (λ room.
+      let own = lines.after card.config e.what l in
+      subst (λ (x : Line). IsOneEvent card.config e.what l x (lines.answer card.config e.what l))
+      (sym (get_or-set_same card.lines e.line own (fresh_line card.config) (omega (arith, s.count, here))))
+      (one-event card.config e.what l (line_sound card e.line (has_lines card s) here)))
+
+  pub one-in : IsOneEventIn (moment_of card e)
+  one-in = record { own = at-line; others = apart }
+
+pub one-all : (card : Card) (events : List Event) → IsSound card → AreAtLines card events → HasOneEvent card events
+one-all card events s all = each_moment IsOneEventIn one-in card events s all

@@ -1,0 +1,70 @@
+-- What is taken after a list of events.
+use Rattle.std.proofs.Common.{◌≡◌, ℕ, ◌<◌, cond, slice_get, List, [], ◌∷◌, Option, Some, None, refl, sym, subst, inl, inr}
+use Rattle.model_link.specs.Sound.{is_information}
+use Rattle.model_line.specs.declared.config.Config.{Config}
+use Rattle.model_line.specs.Event.{next}
+use Rattle.model_line.specs.Line.{Line, link_at, link_count}
+use Rattle.model_line.specs.Machine as lines
+use Rattle.model_line.specs.Taken.{Taken, taken}
+use Rattle.laws_line.specs.Served.{IsOfLink, IsOwed, IsIdle, contents_of, IsServed}
+use Rattle.laws_line.proofs.Serving.{served}
+use Rattle.model_card.specs.Event.{Event}
+use Rattle.model_card.specs.Card.{Card, line_at}
+use Rattle.model_card.specs.Machine.{after}
+use Rattle.model_card.specs.Run.{after_all, AreAtLines}
+use Rattle.model_card.specs.Sound.{IsSound}
+use Rattle.model_card.proofs.CardSound.{always_sound}
+use Rattle.model_card.proofs.Steps.{has_lines, line_sound}
+use Rattle.laws_line.specs.card.Contents.{accepted_at}
+use Rattle.laws_line.specs.card.Promises.{IsServedIn}
+use Rattle.laws_line.proofs.OfCard.Keeping.{run-counted}
+
+-- the same of other lists of contents that are the same
+module _ (c : Config) (one other : ℕ → List (List ℕ)) (same : (number : ℕ) → number < link_count c → one number ≡ other number) (l : Line) where
+  of-link : (then : Line) (frame : List ℕ) → IsOfLink c one l then frame → IsOfLink c other l then frame
+  of-link then frame x = record {
+    number = x.number;
+    few = x.few;
+    its_turn = x.its_turn;
+    tei = x.tei;
+    on_line = x.on_line;
+    command = x.command;
+    control = x.control;
+    information = x.information;
+    spelled = x.spelled;
+    in_order = x.in_order;
+    carried = subst (λ all. x.information ≡ cond (is_information x.control) (slice_get all (link_at x.number l).s) None) (same x.number x.few) x.carried;
+    counted = x.counted;
+    line = x.line;
+  }
+
+  owed : (then : Line) (frame : List ℕ) → IsOwed c one l then frame → IsOwed c other l then frame
+  owed then frame (inl x) = inl x
+  owed then frame (inr (inl x)) = inr (inl x)
+  owed then frame (inr (inr x)) = inr (inr (of-link then frame x))
+
+  serves : IsServed c one l → IsServed c other l
+  serves h = go (taken c l) h
+    where
+      go : (o : Option Taken)
+          → elim o as (λ o. Type 0) [ None ↦ IsIdle c l (lines.after c next l) | Some t ↦ IsOwed c one l (lines.after c next l) t.frame ]
+          → elim o as (λ o. Type 0) [ None ↦ IsIdle c l (lines.after c next l) | Some t ↦ IsOwed c other l (lines.after c next l) t.frame ]
+      go None x = x
+      go (Some t) x = owed (lines.after c next l) t.frame x
+
+pub after-config : (card : Card) (events : List Event) → (after_all card events).config ≡ card.config
+unfolding after_all
+after-config card [] = refl
+after-config card (e ∷ events) = after-config (after e card) events
+
+pub served-in : (card : Card) (events : List Event) → IsSound card → AreAtLines card events → IsServedIn card events
+served-in card events s all number within =
+    let end = after_all card events in
+    let sound = always_sound card events s all in
+    let config : end.config ≡ card.config = after-config card events in
+    let there : number < end.config.lines = subst (λ (c : Config). number < c.lines) (sym config) within in
+    let l = line_at number end in
+    let now : IsServed end.config (contents_of l) l = served end.config l (line_sound end number (has_lines end sound) there) in
+    serves card.config (contents_of l) (accepted_at card events number)
+    (λ n few. (run-counted card events s all (record { line = number; number = n }) (within, few)).accepted) l
+    (subst (λ c. IsServed c (contents_of l) l) config now)

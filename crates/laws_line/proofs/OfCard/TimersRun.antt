@@ -1,0 +1,109 @@
+-- A caller that obeys the orders runs the timers that are needed: over runs of a card.
+use Rattle.std.proofs.Common.{◌≡◌, ◌≢◌, ℕ, ◌<◌, ◌==◌, Bool, true, false, cond, List, [], ◌∷◌, get_or, set, refl, sym, ap, ◌∙◌, subst, arith, eqb-true, eq-eqb, true≢false}
+use Rattle.std.proofs.lemmas.Bool.{and_parts}
+use Rattle.std.proofs.lemmas.List.{get_or-set_same, get_or-set_other, get_or-replicate}
+use Rattle.std.proofs.lemmas.List.Elements.{All-head, All-tail}
+use Rattle.lapd_frame.specs.declared.timers.Timer.{Timer}
+use Rattle.model_line.specs.declared.config.Config.{Config}
+use Rattle.model_line.specs.Event as line_event
+use Rattle.model_line.specs.Line.{Line, fresh_line}
+use Rattle.model_line.specs.Machine as lines
+use Rattle.laws_line.specs.Timers.{is_needed, runs_then, left_by, HaveTheirTimers}
+use Rattle.laws_line.proofs.TimersFollow.{timely-line, followed, begins-timely, begins-with-none}
+use Rattle.model_card.specs.Event.{Event}
+use Rattle.model_card.specs.Card.{Card, fresh, line_at, is_full}
+use Rattle.model_card.specs.Machine.{after, answer}
+use Rattle.model_card.specs.Reached.{IsReached}
+use Rattle.model_card.specs.Run.{moments, after_all, IsAtLine, AreAtLines}
+use Rattle.model_card.specs.Sound.{IsSound}
+use Rattle.model_card.proofs.CardSound.{after_is_sound, fresh_is_sound}
+use Rattle.model_card.proofs.EachMoment.{moment_of}
+use Rattle.model_card.proofs.Steps.{has_lines, by_room, line_sound}
+use Rattle.laws_line.specs.card.Promises.{RunsWhatIsNeeded}
+use Rattle.laws_line.specs.card.Timers.{one_more, runs_at_callers, AllHaveTheirTimers}
+
+-- a request that finds the pool full is no expiry, and orders nothing
+module _ (card : Card) (e : Event) (s : IsSound card) (timely : AllHaveTheirTimers card) (here : IsAtLine card e) where
+  abbrev l : Line
+  l = line_at e.line card
+
+  abbrev own : Line
+  own = lines.after card.config e.what l
+
+  now : get_or (set card.lines e.line own) e.line (fresh_line card.config) ≡ own
+  now = get_or-set_same card.lines e.line own (fresh_line card.config) (omega (arith, s.count, here))
+
+  left-by : (what : line_event.Event) → lines.takes_slot card.config what (line_at e.line card) ≡ true → (timer : Timer) (b : Bool) → left_by what timer b ≡ b
+  unfolding lines.takes_slot
+  left-by (line_event.hears x) takes timer b = refl
+  left-by (line_event.expiry other) takes timer b = absurd (true≢false (sym takes))
+  left-by (line_event.request r) takes timer b = refl
+  left-by line_event.next takes timer b = refl
+
+  -- at the event's line
+  own-line : (timer : Timer) → runs_then timer (is_needed timer (line_at e.line card)) e.what (answer e card) ≡ is_needed timer (line_at e.line (after e card))
+  own-line timer =
+      by_room (λ ls a. runs_then timer (is_needed timer (line_at e.line card)) e.what a ≡ is_needed timer (get_or ls e.line (fresh_line card.config))) e card
+      (λ full. left-by e.what (and_parts (lines.takes_slot card.config e.what (line_at e.line card)) (is_full card) full).0 timer (is_needed timer (line_at e.line card)))
+      (λ room.
+      followed card.config e.what (line_at e.line card) timer s.config (line_sound card e.line (has_lines card s) here) (timely.lines e.line here)
+      ∙ ap (is_needed timer) (sym now))
+
+  apart : (other : ℕ) → other ≢ e.line → line_at other (after e card) ≡ line_at other card
+  apart other away =
+      by_room (λ ls a. get_or ls other (fresh_line card.config) ≡ line_at other card) e card (λ full. refl)
+      (λ room. get_or-set_other card.lines e.line other (lines.after card.config e.what (line_at e.line card)) (fresh_line card.config) away)
+
+  -- at any line
+  pub moment-runs : (line : ℕ) (timer : Timer) → one_more line timer (is_needed timer (line_at line card)) (moment_of card e) ≡ is_needed timer (line_at line (after e card))
+  moment-runs line timer = go (e.line == line) refl
+    where
+      go : (b : Bool) → (e.line == line) ≡ b → cond b (runs_then timer (is_needed timer (line_at line card)) e.what (answer e card)) (is_needed timer (line_at line card))
+          ≡ is_needed timer (line_at line (after e card))
+      go true is = subst (λ n. runs_then timer (is_needed timer (line_at n card)) e.what (answer e card) ≡ is_needed timer (line_at n (after e card))) (eqb-true e.line line is) (own-line timer)
+      go false other = ap (is_needed timer) (sym (apart line (λ same. true≢false (sym (eq-eqb e.line line (sym same)) ∙ other))))
+
+  own-timely : HaveTheirTimers (line_at e.line (after e card))
+  own-timely =
+      by_room (λ ls a. HaveTheirTimers (get_or ls e.line (fresh_line card.config))) e card (λ full. timely.lines e.line here)
+      (λ room.
+      subst (λ (x : Line). HaveTheirTimers x) (sym now)
+      (timely-line card.config e.what (line_at e.line card) s.config (line_sound card e.line (has_lines card s) here) (timely.lines e.line here)))
+
+  pub timely-after : AllHaveTheirTimers (after e card)
+  timely-after = record { lines = λ line within. go line within (line == e.line) refl }
+    where
+      go : (line : ℕ) → line < card.config.lines → (b : Bool) → (line == e.line) ≡ b → HaveTheirTimers (line_at line (after e card))
+      go line within true is = subst (λ n. HaveTheirTimers (line_at n (after e card))) (sym (eqb-true line e.line is)) own-timely
+      go line within false other =
+          subst (λ (x : Line). HaveTheirTimers x) (sym (apart line (λ same. true≢false (sym (eq-eqb line e.line same) ∙ other)))) (timely.lines line within)
+
+-- Over a run.
+pub needed-run : (card : Card) (events : List Event) → IsSound card → AllHaveTheirTimers card → AreAtLines card events → RunsWhatIsNeeded card events
+unfolding moments after_all
+needed-run card [] s timely all line timer within = refl
+needed-run card (e ∷ events) s timely all line timer within =
+    let here = All-head (IsAtLine card) e events all in
+    ap (λ b. runs_at_callers line timer b (moments (after e card) events)) (moment-runs card e s timely here line timer)
+    ∙ needed-run (after e card) events (after_is_sound card e s here) (timely-after card e s timely here) (All-tail (IsAtLine card) e events all) line timer within
+
+pub timely-all : (card : Card) (events : List Event) → IsSound card → AllHaveTheirTimers card → AreAtLines card events → AllHaveTheirTimers (after_all card events)
+unfolding after_all
+timely-all card [] s timely all = timely
+timely-all card (e ∷ events) s timely all =
+    let here = All-head (IsAtLine card) e events all in
+    timely-all (after e card) events (after_is_sound card e s here) (timely-after card e s timely here) (All-tail (IsAtLine card) e events all)
+
+pub needs-none : (c : Config) (line : ℕ) (timer : Timer) → line < c.lines → is_needed timer (line_at line (fresh c)) ≡ false
+needs-none c line timer within = ap (is_needed timer) (get_or-replicate c.lines line (fresh_line c) (fresh_line c) within) ∙ begins-with-none c timer
+
+pub begins-timely-card : (c : Config) → AllHaveTheirTimers (fresh c)
+begins-timely-card c = record {
+  lines = λ line within. subst (λ (l : Line). HaveTheirTimers l) (sym (get_or-replicate c.lines line (fresh_line c) (fresh_line c) within)) (begins-timely c);
+}
+
+-- so each link of a card that is reached runs the timer that it needs
+pub reached-timely : (card : Card) → IsReached card → AllHaveTheirTimers card
+reached-timely card r =
+    subst AllHaveTheirTimers (sym r.same)
+    (timely-all (fresh card.config) r.events (fresh_is_sound card.config r.config) (begins-timely-card card.config) r.at_lines)

@@ -1,0 +1,76 @@
+-- The laws of a line's takes wherever they come in a list of events.
+use Rattle.std.proofs.Common.{◌≡◌, ◌<◌, List, [], ◌∷◌, ◌++◌, length, option_map, refl, sym, ap, subst, arith}
+use Rattle.std.specs.Prelude.{All}
+use Rattle.std.proofs.lemmas.List.Elements.{All-nil, All-cons, All-head, All-tail}
+use Rattle.model_line.specs.declared.config.Config.{Config}
+use Rattle.model_line.specs.Event.{gave}
+use Rattle.model_line.specs.Machine as lines
+use Rattle.model_line.specs.Taken.{next_of}
+use Rattle.laws_line.specs.Served.{HasNothing}
+use Rattle.laws_line.proofs.Bounds.{to-go-few}
+use Rattle.laws_line.proofs.Soon.{few-before, others-fit}
+use Rattle.model_card.specs.Card.{Card, line_at}
+use Rattle.model_card.specs.Event.{Event}
+use Rattle.model_card.specs.Machine.{after}
+use Rattle.model_card.specs.Run.{IsAtLine, AreAtLines, after_all}
+use Rattle.model_card.specs.Sound.{IsSound}
+use Rattle.model_card.proofs.CardSound.{after_is_sound, always_sound}
+use Rattle.laws_line.specs.card.PromisesOfTakes.{Wherever, WaitingIsTaken, CallsComeToAnEnd}
+use Rattle.laws_line.proofs.OfCard.Amid.{taken-amid}
+use Rattle.laws_line.proofs.OfCard.Meanwhile.{IsServed, line-sound, card-drains, card-idles}
+
+-- What holds of all of a list holds of its parts.
+pub all-left : {X : Type 0} (P : X → Type 0) (xs ys : List X) → All P (xs ++ ys) → All P xs
+all-left P [] ys h = All-nil P
+all-left P (x ∷ xs) ys h = All-cons P x xs (All-head P x (xs ++ ys) h) (all-left P xs ys (All-tail P x (xs ++ ys) h))
+
+pub all-right : {X : Type 0} (P : X → Type 0) (xs ys : List X) → All P (xs ++ ys) → All P ys
+all-right P [] ys h = h
+all-right P (x ∷ xs) ys h = all-right P xs ys (All-tail P x (xs ++ ys) h)
+
+-- A law of sound cards holds behind every front.
+Law : (Card → List Event → Type 0) → Type 0
+Law P = (card : Card) (events : List Event) → IsSound card → AreAtLines card events → P card events
+
+behind : (P : Card → List Event → Type 0) → Law P → (card : Card) (front rest : List Event) → IsSound card → AreAtLines card (front ++ rest) → P (after_all card front) rest
+unfolding after_all Law
+behind P law card [] rest s all = law card rest s all
+behind P law card (e ∷ front) rest s all =
+    behind P law (after e card) front rest (after_is_sound card e s (All-head (IsAtLine card) e (front ++ rest) all)) (All-tail (IsAtLine card) e (front ++ rest) all)
+
+wherever : (P : Card → List Event → Type 0) → Law P → (m : Card) (events : List Event) → IsSound m → AreAtLines m events → Wherever P m events
+wherever P law m events s all front rest split = behind P law m front rest s (subst (AreAtLines m) split all)
+
+pub config-stays : (card : Card) (events : List Event) → (after_all card events).config ≡ card.config
+unfolding after_all
+config-stays card [] = refl
+config-stays card (e ∷ events) = config-stays (after e card) events
+
+-- What waits is taken.
+waiting : Law WaitingIsTaken
+unfolding Law
+waiting card events s all number link tei before f behind few h on up less =
+    let l = line_at number card in
+    let sound = line-sound card number s few in
+    let first = few-before card.config l sound link (length before) h.few (others-fit card.config s.config l sound link tei h.few h.on_line before f behind h.waits) in
+    taken-amid number link tei f events card s few h.few all on up before behind h.waits (omega (arith, first, less))
+
+pub waiting-taken : (m : Card) (events : List Event) → IsSound m → AreAtLines m events → Wherever WaitingIsTaken m events
+unfolding Law
+waiting-taken = wherever WaitingIsTaken waiting
+
+-- Calls come to an end.
+ends : Law CallsComeToAnEnd
+unfolding Law lines.answer lines.takes_slot after_all
+ends card events s all number few only enough =
+    let most = to-go-few card.config (line_at number card) (line-sound card number s few) in
+    let nothing = card-drains card number events s few all only (omega (arith, most, enough)) in
+    let end = after_all card events in
+    let kept = config-stays card events in
+    let idle = card-idles end number [] (always_sound card events s all) (subst (λ (c : Config). number < c.lines) (sym kept) few)
+    (All-nil (IsAtLine end)) (All-nil (IsServed number)) (subst (λ c. HasNothing c (line_at number end)) (sym kept) nothing) in
+    ap (λ o. gave (option_map next_of o)) idle.none
+
+pub come-to-an-end : (m : Card) (events : List Event) → IsSound m → AreAtLines m events → Wherever CallsComeToAnEnd m events
+unfolding Law
+come-to-an-end = wherever CallsComeToAnEnd ends

@@ -1,0 +1,68 @@
+-- Worked values: states, answers and runs that would break the promises, which no card comes to.
+use Rattle.std.specs.Prelude.{◌≡◌, ◌≢◌, ℕ, zero, suc, ◌<◌, true, false, List, [], ◌∷◌, ◌++◌, None, refl}
+use Rattle.std.proofs.Common.{ap, arith}
+use Rattle.model_bits.specs.Stream as stream
+use Rattle.model_bits.specs.declared.heard.Cause.TheVariants.{Fcs}
+use Rattle.lapd_frame.specs.declared.services.Service.TheVariants.{Call}
+use Rattle.lapd_frame.specs.declared.timers.Timer.TheVariants.{T200}
+use Rattle.model_link.specs.Link.{Link, fresh as fresh_link}
+use Rattle.model_line.specs.Event.{told, gave, hears, next, nothing}
+use Rattle.model_line.specs.Laws.{cause_in}
+use Rattle.model_line.specs.Machine as lines
+use Rattle.model_line.specs.Line.{Line, fresh_line, place_at, tei_at, link_at}
+use Rattle.laws_line.specs.Served.{HasNothing}
+use Rattle.model_card.specs.Card.{Card, fresh}
+use Rattle.model_card.specs.Event.{Event, at}
+use Rattle.model_card.specs.Machine.{answer}
+use Rattle.laws_line.specs.card.Among.{IsTakenAmong}
+use Rattle.laws_line.specs.card.Brief.{LinksStay, TellsCause}
+use Rattle.laws_line.specs.card.Knowledge.{up_by_notes}
+use Rattle.laws_line.specs.card.Timers.{runs_at_callers}
+use Rattle.laws_line.specs.card.Worked.{usual}
+
+-- `others_stay`: two links of a line that an event changes.
+abbrev with_links : Link → Line
+with_links link = record (fresh_line usual) { links = link ∷ link ∷ [] }
+
+both_change : LinksStay 2 (with_links fresh_link) (with_links (record fresh_link { pending = true })) → ⊥
+both_change x = go x.one x.others
+  where
+    go : (one : ℕ)
+        → ((other : ℕ) → other < 2 → other ≢ one → tei_at (place_at other) (with_links (record fresh_link { pending = true })) ≡ tei_at (place_at other) (with_links fresh_link)
+        → link_at other (with_links (record fresh_link { pending = true })) ≡ link_at other (with_links fresh_link)) → ⊥
+    go zero stay = let same = ap (λ (l : Link). l.pending) (stay 1 (omega arith) (λ e. cc e) refl) in cc same
+    go (suc n) stay = let same = ap (λ (l : Link). l.pending) (stay 0 (omega arith) (λ e. cc e) refl) in cc same
+
+-- `causes_are_told`: a wrong check that is not told.
+untold : TellsCause (record { card = fresh usual; event = at 0 (hears (stream.dropped Fcs)); answer = told nothing }) → ⊥
+untold x = let same = ap cause_in (x.no_frame Fcs refl) in cc same
+
+-- `timers_follow` and `notes_tell`: a timer that is needed, and was never started; a link that is up, of which no note told.
+not_started : runs_at_callers 0 (T200 Call 64) false [] ≡ true → ⊥
+not_started e = cc e
+
+not_noted : up_by_notes 0 Call 64 false [] ≡ true → ⊥
+not_noted e = cc e
+
+-- `gives_what_waits`: a call that gives none where unit data waits.
+abbrev with_unit : Line
+with_unit = record (fresh_line usual) { units = record { service = Call; tei = 127; contents = 0xAB ∷ [] } ∷ [] }
+
+passed_over : HasNothing usual with_unit → ⊥
+passed_over x = cc x.units
+
+-- `waiting_is_taken`: no call takes what waits.
+no_call : (front back : List Event) → [] ≡ front ++ at 0 next ∷ back → ⊥
+no_call [] back e = cc e
+no_call (x ∷ front) back e = cc e
+
+never_taken : IsTakenAmong (fresh usual) 0 [] (0x00 ∷ 0x81 ∷ 0x73 ∷ []) → ⊥
+never_taken x = no_call x.front x.back x.split
+
+-- `calls_come_to_an_end`: a line on which unit data waits still, after as many calls as are enough.
+abbrev with_line : Line → Card
+with_line l = record (fresh usual) { lines = l ∷ [] }
+
+gives_still : answer (at 0 next) (with_line with_unit) ≡ gave None → ⊥
+unfolding lines.answer lines.takes_slot
+gives_still e = cc e

@@ -1,0 +1,79 @@
+-- Worked values: cards, and moments with other answers, that would break the clauses of `Card::drive`.
+use Rattle.std.specs.Prelude.{◌≡◌, ◌+◌, ◌*◌, ◌≤◌, List, [], ◌∷◌, map, Some, None, refl}
+use Rattle.std.proofs.Common.{ap, arith}
+use Rattle.model_bits.specs.Stream as stream
+use Rattle.model_bits.specs.Stream.{frame}
+use Rattle.model_bits.specs.declared.heard.Cause.TheVariants.{Fcs, Short}
+use Rattle.lapd_frame.specs.declared.refusals.Refusal.TheVariants.{PoolFull}
+use Rattle.lapd_frame.specs.declared.services.Service.TheVariants.{Call}
+use Rattle.lapd_frame.specs.Reading.{reading, header_of, control_of, unnumbered_of}
+use Rattle.lapd_seq.specs.Numbers.{seq}
+use Rattle.lapd_tei.specs.Events as teis
+use Rattle.model_line.specs.Event as line_event
+use Rattle.model_line.specs.Event.{hears, next, request, gave, Answer, told, refused, dropped}
+use Rattle.model_line.specs.Laws.{cause_in}
+use Rattle.model_line.specs.Line.{Line, fresh_line}
+use Rattle.model_line.specs.Machine as lines
+use Rattle.model_line.specs.Request.{Assign, Data}
+use Rattle.laws_line.specs.Frames.{lost_in}
+use Rattle.model_card.specs.Card.{Card, fresh}
+use Rattle.model_card.specs.Counts.{sent, heard, accepted, expired, rejected, window}
+use Rattle.model_card.specs.Drops.{IsDropWithoutCost, IsDropWithoutEffect}
+use Rattle.model_card.specs.Event.{at}
+use Rattle.model_card.specs.Isolation.{events_at, answers_at, answer_in}
+use Rattle.model_card.specs.Numbered.{Share, AreNumbered}
+use Rattle.model_card.specs.Promises.{IsWithinLimit, IsNotRefusedForPool}
+use Rattle.model_card.specs.Run.{Moment, moments, after_all}
+use Rattle.laws_line.specs.card.Worked.{usual, on_0}
+
+abbrev moment : Card → line_event.Event → Answer → Moment
+moment card what answer = record { card = card; event = at 0 what; answer = answer }
+
+-- `drops` and `without_effect`: SABME is told as dropped, and its answer waits; and what is dropped is told as lost as well.
+abbrev sabme : line_event.Event
+sabme = hears (frame (0x00 ∷ 0x81 ∷ 0x7F ∷ []))
+
+dropped_at_a_cost : IsDropWithoutCost (moment (after_all (fresh usual) (on_0 (Assign 64) ∷ [])) sabme (told (dropped Fcs))) → ⊥
+unfolding after_all lines.after lines.takes_slot reading header_of control_of unnumbered_of teis.course teis.refusal
+dropped_at_a_cost free = cc (free (frame (0x00 ∷ 0x81 ∷ 0x7F ∷ [])) refl refl)
+
+dropped_with_effect : IsDropWithoutEffect (moment (fresh usual) (hears (stream.dropped Fcs)) (told (record (dropped Fcs) { lost = 1 }))) → ⊥
+dropped_with_effect none = let lost : 1 ≡ 0 = ap lost_in (none (stream.dropped Fcs) Fcs refl refl).0 in omega (arith, lost)
+
+-- `within_limit`: an octet is stored where none may be.
+abbrev with_unit : Line
+with_unit = record (fresh_line usual) { units = record { service = Call; tei = 127; contents = 0xAB ∷ [] } ∷ [] }
+
+abbrev none_may : Card
+none_may = record { config = record usual { lines = 0; slots = 0 }; lines = with_unit ∷ [] }
+
+stored_beyond : IsWithinLimit none_may [] → ⊥
+unfolding after_all
+stored_beyond within = let few : 1 ≤ 0 = within in omega (arith, few)
+
+-- `amortised`: a frame is sent, and nothing was heard, granted, or due.
+abbrev out_of_nothing : List Moment
+out_of_nothing = moment (fresh usual) next (gave (Some (record { octets = 0x02 ∷ 0x81 ∷ 0x73 ∷ []; orders = [] }))) ∷ []
+
+unpaid : sent out_of_nothing ≤ 2 * heard out_of_nothing + accepted out_of_nothing + (window usual + 1) * expired out_of_nothing + window usual * rejected out_of_nothing → ⊥
+unpaid few = let one : 1 ≤ 0 = few in omega (arith, one)
+
+-- `isolated`: a line that answers what it hears as it would not on a card of its own; and `never_full`: a request that finds
+-- no slot.
+abbrev other_answer : List Moment
+other_answer = moment (fresh usual) (hears (stream.dropped Short)) (told (dropped Fcs)) ∷ []
+
+not_alone : answers_at 0 other_answer ≡ map answer_in (moments (fresh usual) (events_at 0 other_answer)) → ⊥
+unfolding moments lines.answer lines.takes_slot
+not_alone same = let causes : Some Fcs ∷ [] ≡ Some Short ∷ [] = ap (map cause_in) same in cc causes
+
+no_slot : IsNotRefusedForPool (moment (fresh usual) (request (Data Call 64 [])) (refused PoolFull)) → ⊥
+no_slot none = cc none
+
+-- `numbered`: the I-frame with number 0 is not delivered, or later than it came.
+abbrev first_comes : Share
+first_comes = record { arrived = Some (record { ns = seq 0; contents = 0x41 ∷ [] }); delivered = None }
+
+undelivered : AreNumbered 0 (first_comes ∷ []) → ⊥
+unfolding seq
+undelivered numbered = cc numbered.0

@@ -1,0 +1,40 @@
+//! What a card does, over whole runs. Each law is the contract of a call that does nothing. Where its comment names a field of
+//! `Promises` (crate `laws_promises`), the comment of the field says it in words.
+
+ghost use Rattle.laws_line.specs.card.Laws.{TakesServe, OneEvent, OthersAreLeft, CausesTold};
+
+/// What is sent is what was accepted, for whom, and in which order. What a call for the next frame takes is the message
+/// of TEI management that has waited longest, else the oldest unit data, else a frame of the first link in turn that
+/// has one; and it takes none only where none waits. Unit data goes whole, once, with its service and TEI. The link's
+/// frame has its SAPI and TEI, of a TEI on the line, and the next turn is that of the link after it; it is the control
+/// frame that has waited longest; else, in state 7 while the terminal is not busy and fewer than k are outstanding, an
+/// I-frame with N(R) = V(R), which carries contents number V(S) of those that were accepted for the link since its
+/// numbers began, and V(S) counts it; else the acknowledgement that is owed (clauses 3.5.2.2, 5.2.2, 5.6.1, 5.6.3.1 and
+/// 5.6.5).
+pub fn takes_serve()
+    ensures { TakesServe }
+{}
+
+/// In every moment one part of one line has one event, and all else is as it was. A frame for a link of a TEI on the
+/// line, also one that the grammar does not have, or that is too long, the expiry of a timer of it, or a request of it that is granted, is this event of the link, and changes
+/// nothing else; the answer tells what the link tells. A message of TEI management, the expiry of T201, or a request of
+/// management that is granted, is this event of TEI management; the links of a TEI that comes or leaves are as ones
+/// that begin, the others stay, and noted is what TEI management notes, and what the links of a TEI that leaves tell as
+/// they end. Unit data whose request was granted waits, whole, behind what waits. A call for the next frame leaves its
+/// line, and answers, as the machine of the line does; so what [`takes_serve`] says of that machine's next call is said
+/// of each call of the run. Whatever else comes changes nothing, and nothing is told (clauses 2.2 to 2.7, 3.6.1, 5.2.2,
+/// 5.3, 5.8.5 and the profile).
+pub fn one_event()
+    ensures { OneEvent }
+{}
+
+/// In every moment all lines stay as they are but that of the event, and of its links all but one: `others_stay`.
+pub fn others_stay()
+    ensures { OthersAreLeft }
+{}
+
+/// Of what is heard and is no frame why it is none is all that is answered, and of a frame of TEI management on the user's side
+/// that it is not served: `causes_are_told`.
+pub fn causes_are_told()
+    ensures { CausesTold }
+{}

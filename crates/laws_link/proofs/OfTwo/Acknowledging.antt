@@ -1,0 +1,42 @@
+-- What a valid N(R) does in state 7: V(A) becomes the number that it names. Which timer then runs is left open.
+use Rattle.std.proofs.Common.{◌≡◌, ℕ, ◌≤◌, Bool, true, false, cond, ◌==◌, Option, Some, refl, sym, subst, arith}
+use Rattle.std.specs.Prelude.{nat_lt}
+use Rattle.std.proofs.lemmas.Bool.{ltb-false}
+use Rattle.lapd_seq.specs.declared.numbers.Seq.{Seq}
+use Rattle.lapd_seq.specs.Circle.{named}
+use Rattle.model_link.specs.declared.timers.LinkTimer.{LinkTimer}
+use Rattle.model_link.specs.declared.timers.LinkTimer.TheVariants.{T200, T203}
+use Rattle.model_link.specs.declared.terms.Terms.{Terms}
+use Rattle.model_link.specs.Steps.{Course, ◌then◌}
+use Rattle.model_link.specs.Words
+use Rattle.model_link.specs.Established
+use Rattle.laws_link.proofs.OfTwo.Shapes.{effect}
+
+pub record Acknowledges (x : ℕ) (c c' : Course) : Type 0 where
+  pub running : Option LinkTimer
+  pub started : Option LinkTimer
+  pub is : c' ≡ record c { link = record c.link { a = x; running = running }; started = started }
+
+module _ (t : Terms) (nr : Seq) (x : ℕ) (c : Course) (names : named c.link.a c.link.s nr ≡ Some x) (low : c.link.a ≤ x) where
+  by-tests : (all more : Bool) → nat_lt c.link.a x ≡ more
+      → Acknowledges x c (cond all ((Words.acknowledge x then Words.start T203) c) (cond more ((Words.acknowledge x then Words.start T200) c) c))
+  by-tests true more e = record { running = Some T203; started = Some T203; is = refl }
+  by-tests false true e = record { running = Some T200; started = Some T200; is = refl }
+  by-tests false false e =
+      let high : x ≤ c.link.a = ltb-false c.link.a x e in
+      let same : c.link.a ≡ x = omega (arith, low, high) in
+      record { running = c.link.running; started = c.started; is = λ i. record c { link = record c.link { a = same i } } }
+
+  in-7 : Acknowledges x c (Established.acknowledged_in_7 x c)
+  in-7 = by-tests (x == c.link.s) (nat_lt c.link.a x) refl
+
+  by-flag : (busy : Bool) → Acknowledges x c (cond busy (Words.acknowledge x c) (Established.acknowledged_in_7 x c))
+  by-flag true = record { running = c.link.running; started = c.started; is = refl }
+  by-flag false = in-7
+
+  -- of RR, and of an I-frame
+  pub by-rr : Acknowledges x c (Words.by_number t nr Established.acknowledged_in_7 c)
+  by-rr = subst (λ o. Acknowledges x c (effect t nr Established.acknowledged_in_7 c o)) (sym names) in-7
+
+  pub by-information : Acknowledges x c (Words.by_number t nr Established.acknowledged_by_information_in_7 c)
+  by-information = subst (λ o. Acknowledges x c (effect t nr Established.acknowledged_by_information_in_7 c o)) (sym names) (by-flag c.link.peer_busy)

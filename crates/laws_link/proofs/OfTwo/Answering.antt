@@ -1,0 +1,255 @@
+-- What answers a poll.
+use Rattle.std.proofs.Common.{◌≡◌, ℕ, ◌+◌, ◌≤◌, Bool, true, false, cond, IsTrue, List, [], ◌∷◌, ◌++◌, length, Option, None, Some, refl, sym, ap, subst, ◌∙◌, true≢false, arith}
+use Rattle.std.specs.Prelude.{nat_lt}
+use Rattle.std.proofs.lemmas.Bool.{lt-ltb, le-ltb}
+use Rattle.lapd_seq.specs.declared.numbers.Seq.{Seq}
+use Rattle.lapd_seq.specs.Numbers.{seq}
+use Rattle.lapd_seq.specs.Circle.{named}
+use Rattle.lapd_frame.specs.declared.controls.Control.{Control}
+use Rattle.lapd_frame.specs.declared.controls.Control.TheVariants.{Information, ReceiveReady, ReceiveNotReady, Reject, Sabme, Disc, Ui, Ua, Dm, Frmr, Xid}
+use Rattle.lapd_frame.specs.declared.notes.ErrorCode.TheVariants as code
+use Rattle.lapd_frame.specs.Grammar.{Parts}
+use Rattle.model_link.specs.declared.states.State.{State}
+use Rattle.model_link.specs.declared.states.State.TheVariants.{TeiAssigned, AwaitingEstablishment, AwaitingRelease, Established, TimerRecovery}
+use Rattle.model_link.specs.declared.timers.LinkTimer.{LinkTimer}
+use Rattle.model_link.specs.declared.timers.LinkTimer.TheVariants.{T200, T203}
+use Rattle.model_link.specs.declared.frames.ControlFrame.{ControlFrame}
+use Rattle.model_link.specs.declared.terms.Terms.{Terms}
+use Rattle.model_link.specs.Link.{Link, is_multiple_frame}
+use Rattle.model_link.specs.Events.{frame, received}
+use Rattle.model_link.specs.Steps.{Course, begun, Step, ◌then◌}
+use Rattle.model_link.specs.Words
+use Rattle.model_link.specs.MultipleFrame
+use Rattle.model_link.specs.Established
+use Rattle.model_link.specs.TimerRecovery
+use Rattle.model_link.specs.Machine
+use Rattle.model_link.proofs.Leads.{Leads, then_leads, keeping_then, nothing_leads, depending_leads, bit_leads}
+use Rattle.laws_link.specs.two.Polls.{IsValidAt, IsPollWith, SaysReceived, Answered, AnsweredBy, asked_of}
+
+-- What waits, and V(R), after the answer; V(A) and V(S) are still as they were before it.
+pub record Waits (ws : List ControlFrame) (r : ℕ) (c : Course) : Type 0 where
+  pub waits : c.link.waiting ≡ ws
+  pub number : c.link.r ≡ r
+
+module _ (ws : List ControlFrame) (r : ℕ) where
+  pub acknowledge_waits : (n : ℕ) → Leads (Waits ws r) (Words.acknowledge n) (Waits ws r)
+  acknowledge_waits n = record { leads = λ c h. record { waits = h.waits; number = h.number } }
+
+  pub again_waits : (n : ℕ) → Leads (Waits ws r) (Words.send_again_from n) (Waits ws r)
+  again_waits n = record { leads = λ c h. record { waits = h.waits; number = h.number } }
+
+  pub start_waits : (timer : LinkTimer) → Leads (Waits ws r) (Words.start timer) (Waits ws r)
+  start_waits timer = record { leads = λ c h. record { waits = h.waits; number = h.number } }
+
+  pub enter_waits : (state : State) → Leads (Waits ws r) (Words.enter state) (Waits ws r)
+  enter_waits state = record { leads = λ c h. record { waits = h.waits; number = h.number } }
+
+  pub ruleset words = (keeping_then, nothing_leads, depending_leads, bit_leads, acknowledge_waits, again_waits, start_waits, enter_waits)
+
+  pub in_7_waits : (n : ℕ) → Leads (Waits ws r) (Established.acknowledged_in_7 n) (Waits ws r)
+  in_7_waits n = search words depth 12 fits 4000
+
+  pub information_7_waits : (n : ℕ) → Leads (Waits ws r) (Established.acknowledged_by_information_in_7 n) (Waits ws r)
+  information_7_waits n = search words depth 12 fits 4000
+
+  pub rnr_7_waits : (n : ℕ) → Leads (Waits ws r) (Established.acknowledged_by_rnr_in_7 n) (Waits ws r)
+  rnr_7_waits n = search words depth 12 fits 4000
+
+  pub rej_7_waits : (n : ℕ) → Leads (Waits ws r) (Established.acknowledged_by_rej_in_7 n) (Waits ws r)
+  rej_7_waits n = search words depth 12 fits 4000
+
+  pub in_8_waits : (timer : LinkTimer) (final : Bool) (n : ℕ) → Leads (Waits ws r) (TimerRecovery.acknowledged_in_8 timer final n) (Waits ws r)
+  in_8_waits timer final n = search words depth 12 fits 4000
+
+-- The answer waits, before the N(R) has its effect.
+record Halfway (l : Link) (c : Course) : Type 0 where
+  answered : Answered l.waiting c.link
+  low : c.link.a ≡ l.a
+  high : c.link.s ≡ l.s
+
+answered-by : (ws : List ControlFrame) (l : Link) (c : Course) (h : Answered ws l) → Waits l.waiting l.r c → Answered ws c.link
+answered-by ws l c h w =
+    record {
+      answer = h.answer;
+      waits = w.waits ∙ h.waits;
+      is_response = h.is_response;
+      says = subst (λ r. SaysReceived r h.answer.control) (sym w.number) h.says;
+    }
+
+says-ready : (b : Bool) (r : ℕ) → SaysReceived r (cond b (ReceiveNotReady (seq r) true) (ReceiveReady (seq r) true))
+says-ready true r = (refl, refl)
+says-ready false r = (refl, refl)
+
+module _ (t : Terms) (l : Link) (room : length l.waiting + 1 ≤ t.control) where
+  has-room : nat_lt (length l.waiting) t.control ≡ true
+  has-room = lt-ltb (length l.waiting) t.control (omega (arith, room))
+
+  put : (f : ControlFrame) → cond (nat_lt (length l.waiting) t.control) (l.waiting ++ f ∷ []) l.waiting ≡ l.waiting ++ f ∷ []
+  put f = ap (λ b. cond b (l.waiting ++ f ∷ []) l.waiting) has-room
+
+  -- the effect of what an N(R) names
+  abbrev effect : (ℕ → Step) → Course → Option ℕ → Course
+  effect f c o = elim o [ None ↦ (Words.error t code.J then Words.re_establish t) c | Some n ↦ f n c ]
+
+  numbered : (nr : Seq) (f : ℕ → Step) → ((ws : List ControlFrame) (r n : ℕ) → Leads (Waits ws r) (f n) (Waits ws r)) → IsValidAt l nr
+      → (c : Course) → Halfway l c → Answered l.waiting (Words.by_number t nr f c).link
+  numbered nr f x (n, valid) c h =
+      let same : named c.link.a c.link.s nr ≡ Some n = ap (λ a. named a c.link.s nr) h.low ∙ ap (λ s. named l.a s nr) h.high ∙ valid in
+      subst (λ o. Answered l.waiting (effect f c o).link) (sym same)
+      (answered-by l.waiting c.link (f n c) h.answered ((x c.link.waiting c.link.r n).leads c (record { waits = refl; number = refl })))
+
+  -- an answer RR or RNR, and an answer REJ
+  ready : (c : Course) → c.link.waiting ≡ l.waiting → c.link.a ≡ l.a → c.link.s ≡ l.s → Halfway l (Words.answer t c)
+  ready c w a s =
+      record {
+        answered = record {
+          answer = Words.response (Words.ready_to_receive true c.link);
+          waits = ap (λ ws. cond (nat_lt (length ws) t.control) (ws ++ Words.response (Words.ready_to_receive true c.link) ∷ []) ws) w ∙ put (Words.response (Words.ready_to_receive true c.link));
+          is_response = refl;
+          says = says-ready c.link.own_busy c.link.r;
+        };
+        low = a;
+        high = s;
+      }
+
+  rejected : Halfway l ((Words.rejecting_is true then Words.reject t true) (begun l))
+  rejected =
+      record {
+        answered = record {
+          answer = Words.response (Reject (seq l.r) true);
+          waits = put (Words.response (Reject (seq l.r) true));
+          is_response = refl;
+          says = (refl, refl);
+        };
+        low = refl;
+        high = refl;
+      }
+
+  branch : (b : Bool) (u v : Course) → Halfway l u → Halfway l v → Halfway l (cond b u v)
+  branch true u v x y = x
+  branch false u v x y = y
+
+  contents : (ns : Seq) (octets : List ℕ) → Halfway l (MultipleFrame.contents_in_7_8 t ns true octets (begun l))
+  contents ns octets =
+      branch l.own_busy _ _ (ready (begun l) refl refl refl)
+      (branch (MultipleFrame.is_next ns l) _ _
+      (ready ((Words.count_received then Words.rejecting_is false then Words.deliver t octets) (begun l)) refl refl refl)
+      (branch l.rejecting _ _ (ready (begun l) refl refl refl) rejected))
+
+  information : (ns nr : Seq) (octets : List ℕ) (f : ℕ → Step) → length octets ≤ t.n201
+      → ((ws : List ControlFrame) (r n : ℕ) → Leads (Waits ws r) (f n) (Waits ws r)) → IsValidAt l nr
+      → Answered l.waiting (MultipleFrame.information_in_7_8 t ns nr true octets f (begun l)).link
+  information ns nr octets f size x valid =
+      subst (λ b. Answered l.waiting (cond b (MultipleFrame.failed t code.O (begun l)) ((MultipleFrame.contents_in_7_8 t ns true octets then Words.by_number t nr f) (begun l))).link)
+      (sym (le-ltb t.n201 (length octets) size))
+      (numbered nr f x valid (MultipleFrame.contents_in_7_8 t ns true octets (begun l)) (contents ns octets))
+
+  supervisory : (b : Bool) (nr : Seq) (f : ℕ → Step) → ((ws : List ControlFrame) (r n : ℕ) → Leads (Waits ws r) (f n) (Waits ws r)) → IsValidAt l nr
+      → Answered l.waiting ((Words.peer_busy_is b then Words.answer t then Words.by_number t nr f) (begun l)).link
+  supervisory b nr f x valid = numbered nr f x valid (Words.answer t (Words.peer_busy_is b (begun l))) (ready (Words.peer_busy_is b (begun l)) refl refl refl)
+
+  in-7 : (command : Bool) (octets : List ℕ) (control : Control) → IsPollWith t l command octets control
+      → Answered l.waiting (Established.frame_in_7 t command octets control (begun l)).link
+  in-7 command octets (Information ns nr true) h = information ns nr octets Established.acknowledged_by_information_in_7 h.1 information_7_waits h.2
+  in-7 command octets (Information ns nr false) h = absurd (true≢false (sym h.0))
+  in-7 true octets (ReceiveReady nr true) h = supervisory false nr Established.acknowledged_in_7 in_7_waits h.2
+  in-7 true octets (ReceiveReady nr false) h = absurd (true≢false (sym h.1))
+  in-7 false octets (ReceiveReady nr p) h = absurd (true≢false (sym h.0))
+  in-7 true octets (ReceiveNotReady nr true) h = supervisory true nr Established.acknowledged_by_rnr_in_7 rnr_7_waits h.2
+  in-7 true octets (ReceiveNotReady nr false) h = absurd (true≢false (sym h.1))
+  in-7 false octets (ReceiveNotReady nr p) h = absurd (true≢false (sym h.0))
+  in-7 true octets (Reject nr true) h = supervisory false nr Established.acknowledged_by_rej_in_7 rej_7_waits h.2
+  in-7 true octets (Reject nr false) h = absurd (true≢false (sym h.1))
+  in-7 false octets (Reject nr p) h = absurd (true≢false (sym h.0))
+  in-7 command octets (Sabme p) h = absurd h
+  in-7 command octets (Disc p) h = absurd h
+  in-7 command octets (Ui p) h = absurd h
+  in-7 command octets (Ua f) h = absurd h
+  in-7 command octets (Dm f) h = absurd h
+  in-7 command octets (Frmr f) h = absurd h
+  in-7 command octets (Xid pf) h = absurd h
+
+  in-8 : (command : Bool) (octets : List ℕ) (control : Control) → IsPollWith t l command octets control
+      → Answered l.waiting (TimerRecovery.frame_in_8 t command octets control (begun l)).link
+  in-8 command octets (Information ns nr true) h = information ns nr octets Words.acknowledge h.1 acknowledge_waits h.2
+  in-8 command octets (Information ns nr false) h = absurd (true≢false (sym h.0))
+  in-8 true octets (ReceiveReady nr true) h = supervisory false nr (TimerRecovery.acknowledged_in_8 T203 false) (λ ws r n. in_8_waits ws r T203 false n) h.2
+  in-8 true octets (ReceiveReady nr false) h = absurd (true≢false (sym h.1))
+  in-8 false octets (ReceiveReady nr p) h = absurd (true≢false (sym h.0))
+  in-8 true octets (ReceiveNotReady nr true) h = supervisory true nr (TimerRecovery.acknowledged_in_8 T200 false) (λ ws r n. in_8_waits ws r T200 false n) h.2
+  in-8 true octets (ReceiveNotReady nr false) h = absurd (true≢false (sym h.1))
+  in-8 false octets (ReceiveNotReady nr p) h = absurd (true≢false (sym h.0))
+  in-8 true octets (Reject nr true) h = supervisory false nr (TimerRecovery.acknowledged_in_8 T203 false) (λ ws r n. in_8_waits ws r T203 false n) h.2
+  in-8 true octets (Reject nr false) h = absurd (true≢false (sym h.1))
+  in-8 false octets (Reject nr p) h = absurd (true≢false (sym h.0))
+  in-8 command octets (Sabme p) h = absurd h
+  in-8 command octets (Disc p) h = absurd h
+  in-8 command octets (Ui p) h = absurd h
+  in-8 command octets (Ua f) h = absurd h
+  in-8 command octets (Dm f) h = absurd h
+  in-8 command octets (Frmr f) h = absurd h
+  in-8 command octets (Xid pf) h = absurd h
+
+  frames-in : (here : State) → IsTrue (is_multiple_frame here) → (command : Bool) (octets : List ℕ) (control : Control)
+      → IsPollWith t l command octets control → Answered l.waiting (Machine.frame_in here t command octets control (begun l)).link
+  frames-in TeiAssigned up command octets control h = absurd (true≢false (sym up))
+  frames-in AwaitingEstablishment up command octets control h = absurd (true≢false (sym up))
+  frames-in AwaitingRelease up command octets control h = absurd (true≢false (sym up))
+  frames-in Established up command octets control h = in-7 command octets control h
+  frames-in TimerRecovery up command octets control h = in-8 command octets control h
+
+  frame-answered : IsTrue (is_multiple_frame l.state) → (command : Bool) (octets : List ℕ) (control : Control) → IsPollWith t l command octets control
+      → Answered l.waiting (Machine.frame_step t command octets control (begun l)).link
+  frame-answered up command octets (Information ns nr p) h = frames-in l.state up command octets (Information ns nr p) h
+  frame-answered up command octets (ReceiveReady nr p) h = frames-in l.state up command octets (ReceiveReady nr p) h
+  frame-answered up command octets (ReceiveNotReady nr p) h = frames-in l.state up command octets (ReceiveNotReady nr p) h
+  frame-answered up command octets (Reject nr p) h = frames-in l.state up command octets (Reject nr p) h
+  frame-answered up command octets (Sabme p) h = absurd h
+  frame-answered up command octets (Disc p) h = absurd h
+  frame-answered up command octets (Ui p) h = absurd h
+  frame-answered up command octets (Ua f) h = absurd h
+  frame-answered up command octets (Dm f) h = absurd h
+  frame-answered up command octets (Frmr f) h = absurd h
+  frame-answered up command octets (Xid pf) h = absurd h
+
+  pub poll-answered : (f : Parts) → IsTrue (is_multiple_frame l.state) → IsPollWith t l f.address.command f.info f.control
+      → Answered l.waiting (Machine.after t (received (frame f)) l)
+  poll-answered f up h = frame-answered up f.address.command f.info f.control h
+
+  -- SABME and DISC
+  same-waiting : (b : Bool) (u v : Course) (ws : List ControlFrame) → u.link.waiting ≡ ws → v.link.waiting ≡ ws → (cond b u v).link.waiting ≡ ws
+  same-waiting true u v ws x y = x
+  same-waiting false u v ws x y = y
+
+  sabme-7-8 : (p : Bool) → (MultipleFrame.sabme_in_7_8 t p (begun l)).link.waiting ≡ l.waiting ++ Words.response (Ua p) ∷ []
+  sabme-7-8 p = same-waiting _ _ _ (l.waiting ++ Words.response (Ua p) ∷ []) (put _) (put _)
+
+  sabme-in : (here : State) (command : Bool) (octets : List ℕ) (p : Bool)
+      → AnsweredBy (asked_of here (Sabme p)) l.waiting (Machine.frame_in here t command octets (Sabme p) (begun l)).link
+  sabme-in TeiAssigned command octets p = put _
+  sabme-in AwaitingEstablishment command octets p = put _
+  sabme-in AwaitingRelease command octets p = put _
+  sabme-in Established command octets p = sabme-7-8 p
+  sabme-in TimerRecovery command octets p = sabme-7-8 p
+
+  disc-in : (here : State) (command : Bool) (octets : List ℕ) (p : Bool)
+      → AnsweredBy (asked_of here (Disc p)) l.waiting (Machine.frame_in here t command octets (Disc p) (begun l)).link
+  disc-in TeiAssigned command octets p = put _
+  disc-in AwaitingEstablishment command octets p = put _
+  disc-in AwaitingRelease command octets p = put _
+  disc-in Established command octets p = put _
+  disc-in TimerRecovery command octets p = put _
+
+  pub unnumbered-answered : (command : Bool) (octets : List ℕ) (control : Control)
+      → AnsweredBy (asked_of l.state control) l.waiting (Machine.frame_step t command octets control (begun l)).link
+  unnumbered-answered command octets (Information ns nr p) = tt
+  unnumbered-answered command octets (ReceiveReady nr pf) = tt
+  unnumbered-answered command octets (ReceiveNotReady nr pf) = tt
+  unnumbered-answered command octets (Reject nr pf) = tt
+  unnumbered-answered command octets (Sabme p) = sabme-in l.state command octets p
+  unnumbered-answered command octets (Disc p) = disc-in l.state command octets p
+  unnumbered-answered command octets (Ui p) = tt
+  unnumbered-answered command octets (Ua f) = tt
+  unnumbered-answered command octets (Dm f) = tt
+  unnumbered-answered command octets (Frmr f) = tt
+  unnumbered-answered command octets (Xid pf) = tt

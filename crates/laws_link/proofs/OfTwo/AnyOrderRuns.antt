@@ -1,0 +1,161 @@
+-- Runs of turns in any order, and where they end.
+use Rattle.std.proofs.Common.{◌≡◌, ℕ, suc, ◌+◌, ◌≤◌, false, List, [], ◌∷◌, length, take, refl, sym, ap, subst, ◌∙◌, arith}
+use Rattle.std.specs.Prelude.{nat_lt}
+use Rattle.std.proofs.Math.Seq.{take-length}
+use Rattle.model_link.specs.Offers
+use Rattle.model_link.specs.TwoEnds.{End, Ends, Act, asks, expires, sends, receives, loses, Doing, at_near, at_far, acting, turned, doing, doing_all}
+use Rattle.laws_link.specs.two.Waits.{HasNothingToSend}
+use Rattle.laws_link.specs.two.Rounds.{IsReady, IsTaken, HasArrived}
+use Rattle.laws_link.specs.two.AnyOrder.{IsTurnOf, IsTurn, AreTurns, IsStill, weight_at, weight}
+use Rattle.laws_link.proofs.OfTwo.Plain.{plain}
+use Rattle.laws_link.proofs.OfTwo.Halves.{all-acknowledged}
+use Rattle.laws_link.proofs.OfTwo.Arriving.{nothing-unsent}
+use Rattle.laws_link.proofs.OfTwo.AnyOrder.{Lane, Steady, Direction, is-steady, gives, takes-first}
+
+pub record Pair (e : Ends) : Type 0 where
+  pub near : Steady e.near
+  pub far : Steady e.far
+  pub there : Direction e.near e.far
+  pub back : Direction e.far e.near
+
+-- a turn
+record AfterTurn (e e' : Ends) : Type 0 where
+  pair : Pair e'
+  lighter : weight e' + 1 ≤ weight e
+  near_kept : e'.near.link.contents ≡ e.near.link.contents
+  far_kept : e'.far.link.contents ≡ e.far.link.contents
+
+one-lighter : (a' a b : ℕ) → a' + 1 ≤ a → (a' + b) + 1 ≤ a + b
+one-lighter a' a b h = omega (arith, h)
+
+both-lighter : (a' a b' b : ℕ) → (b' + a') + 1 ≤ b + a → (a' + b') + 1 ≤ a + b
+both-lighter a' a b' b h = omega (arith, h)
+
+turn-near : (act : Act) (e : Ends) → Pair e → IsTurnOf act e.near e.far → AfterTurn e (acting act e)
+turn-near (asks request full) e h t = absurd t
+turn-near (expires timer) e h t = absurd t
+turn-near sends e h t =
+    let x = gives e.near e.far h.near h.there h.back t in
+    record {
+      pair = record { near = x.steady; far = h.far; there = x.there; back = x.back };
+      lighter = one-lighter (weight_at (acting sends e).near) (weight_at e.near) (weight_at e.far) x.lighter;
+      near_kept = x.kept;
+      far_kept = refl;
+    }
+turn-near receives e h t =
+    let x = takes-first e.far e.near h.far h.near h.back h.there t in
+    record {
+      pair = record { near = x.taker; far = x.giver; there = x.back; back = x.there };
+      lighter = both-lighter (weight_at (acting receives e).near) (weight_at e.near) (weight_at (acting receives e).far) (weight_at e.far) x.lighter;
+      near_kept = x.kept_m;
+      far_kept = x.kept_n;
+    }
+turn-near loses e h t = absurd t
+
+turn-any : (d : Doing) (e : Ends) → Pair e → IsTurn d e → AfterTurn e (doing d e)
+turn-any (at_near act) e h t = turn-near act e h t
+turn-any (at_far act) e h t =
+    let x = turn-near act (turned e) (record { near = h.far; far = h.near; there = h.back; back = h.there }) t in
+    record {
+      pair = record { near = x.pair.far; far = x.pair.near; there = x.pair.back; back = x.pair.there };
+      lighter = both-lighter (weight_at (doing (at_far act) e).near) (weight_at e.near) (weight_at (doing (at_far act) e).far) (weight_at e.far) x.lighter;
+      near_kept = x.far_kept;
+      far_kept = x.near_kept;
+    }
+
+-- a run
+pub record Ran (ds : List Doing) (e e' : Ends) : Type 0 where
+  pub pair : Pair e'
+  pub bounded : length ds + weight e' ≤ weight e
+  pub near_kept : e'.near.link.contents ≡ e.near.link.contents
+  pub far_kept : e'.far.link.contents ≡ e.far.link.contents
+
+none-more : (w : ℕ) → 0 + w ≤ w
+none-more w = omega arith
+
+one-more : (n w w' w'' : ℕ) → n + w'' ≤ w' → w' + 1 ≤ w → suc n + w'' ≤ w
+one-more n w w' w'' h k = omega (arith, h, k)
+
+runs : (ds : List Doing) (e : Ends) → Pair e → AreTurns ds e → Ran ds e (doing_all ds e)
+unfolding doing_all AreTurns
+runs [] e h t = record { pair = h; bounded = none-more (weight e); near_kept = refl; far_kept = refl }
+runs (d ∷ ds) e h t =
+    let x = turn-any d e h t.0 in
+    let y = runs ds (doing d e) x.pair t.1 in
+    record {
+      pair = y.pair;
+      bounded = one-more (length ds) (weight e) (weight (doing d e)) (weight (doing_all ds (doing d e))) y.bounded x.lighter;
+      near_kept = y.near_kept ∙ x.near_kept;
+      far_kept = y.far_kept ∙ x.far_kept;
+    }
+
+-- the first pair
+steady-first : (n : End) → IsReady n → Steady n
+steady-first n h = record { ranges = h.ranges; sound = h.sound; state = h.state; peer_busy = h.peer_busy; own_busy = h.own_busy; waiting = h.waiting }
+
+first-lane : (n m : End) → IsReady n → IsReady m → IsTaken n m → IsTaken m n → Lane n.terms n.link.contents m.link.r n.link.s m.link.a n.link.r n.link.pending []
+first-lane n m hn hm there back =
+    let from : n.link.r ≡ m.link.s = back.received in
+    let ordered : m.link.a ≤ m.link.s = hm.sound.ordered in
+    (there.received, omega (arith, from, ordered), λ off. all-acknowledged m.link.a m.link.s n.link.pending (nat_lt m.link.a m.link.s) refl off ordered back.owed ∙ sym from)
+
+first-direction : (n m : End) → IsReady n → IsReady m → IsTaken n m → IsTaken m n → Direction n m
+first-direction n m hn hm there back =
+    record {
+      lane = subst (λ way. Lane n.terms n.link.contents m.link.r n.link.s m.link.a n.link.r n.link.pending way) (sym hn.way) (first-lane n m hn hm there back);
+      delivered = there.delivered;
+      sizes = there.sizes;
+    }
+
+pub all-turns : (ds : List Doing) (e : Ends) → IsReady e.near → IsReady e.far → IsTaken e.near e.far → IsTaken e.far e.near → AreTurns ds e → Ran ds e (doing_all ds e)
+all-turns ds e hn hm there back turns =
+    runs ds e (record {
+      near = steady-first e.near hn;
+      far = steady-first e.far hm;
+      there = first-direction e.near e.far hn hm there back;
+      back = first-direction e.far e.near hm hn back there;
+    }) turns
+
+-- where no turn is left
+module _ (n m : End) (hn : Steady n) (there : Direction n m) (back : Direction m n) (rn : HasNothingToSend n.terms n.link) (rm : HasNothingToSend m.terms m.link)
+    (en : n.way ≡ []) (em : m.way ≡ []) where
+  lane-there : Lane n.terms n.link.contents m.link.r n.link.s m.link.a n.link.r n.link.pending []
+  lane-there = subst (λ way. Lane n.terms n.link.contents m.link.r n.link.s m.link.a n.link.r n.link.pending way) en there.lane
+
+  lane-back : Lane m.terms m.link.contents n.link.r m.link.s n.link.a m.link.r m.link.pending []
+  lane-back = subst (λ way. Lane m.terms m.link.contents n.link.r m.link.s n.link.a m.link.r m.link.pending way) em back.lane
+
+  by-lanes : (m.link.r ≡ n.link.s) × (n.link.a ≡ m.link.r)
+  by-lanes = go lane-there lane-back
+    where
+      go : Lane n.terms n.link.contents m.link.r n.link.s m.link.a n.link.r n.link.pending [] → Lane m.terms m.link.contents n.link.r m.link.s n.link.a m.link.r m.link.pending []
+          → (m.link.r ≡ n.link.s) × (n.link.a ≡ m.link.r)
+      go (at, low, told) (at', low', told') = (at, told' rm.pending)
+
+  arrived-one : (cs : List (List ℕ)) → n.link.contents ≡ cs → HasArrived cs n m
+  arrived-one cs kept =
+      let all-sent : n.link.a ≡ n.link.s = by-lanes.1 ∙ by-lanes.0 in
+      let may : Offers.may_send_information n.terms (plain n.link) ≡ false = subst (λ x. Offers.may_send_information n.terms x.link ≡ false) (is-steady n hn) rn.information in
+      let ready : IsReady n = record { ranges = hn.ranges; sound = hn.sound; state = hn.state; peer_busy = hn.peer_busy; own_busy = hn.own_busy; waiting = hn.waiting; way = en } in
+      let none : length n.link.contents ≤ n.link.s = nothing-unsent n ready all-sent may in
+      let most : n.link.s ≤ length cs = subst (λ xs. n.link.s ≤ length xs) kept hn.sound.accepted in
+      let all : length cs ≤ n.link.s = subst (λ xs. length xs ≤ n.link.s) kept none in
+      let sent : n.link.s ≡ length cs = omega (arith, most, all) in
+      let received : m.link.r ≡ length cs = by-lanes.0 ∙ sent in
+      record {
+        kept = kept;
+        delivered = there.delivered ∙ ap (λ xs. take m.link.r xs) kept ∙ ap (λ i. take i cs) received ∙ take-length cs;
+        received = received;
+        sent = sent;
+        acknowledged = all-sent ∙ sent;
+        state = hn.state;
+        nothing = rn;
+        way = en;
+      }
+
+pub all-there : (ds : List Doing) (e e' : Ends) → Ran ds e e' → IsStill e' → HasArrived e.near.link.contents e'.near e'.far × HasArrived e.far.link.contents e'.far e'.near
+all-there ds e e' x still =
+    let p = x.pair in (
+      arrived-one e'.near e'.far p.near p.there p.back still.near still.far still.near_way still.far_way e.near.link.contents x.near_kept,
+      arrived-one e'.far e'.near p.far p.back p.there still.far still.near still.far_way still.near_way e.far.link.contents x.far_kept,
+    )

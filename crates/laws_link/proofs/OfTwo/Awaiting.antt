@@ -1,0 +1,322 @@
+-- In state 7 T200 runs only where something is awaited: each row, and each event.
+use Rattle.std.proofs.Common.{◌≡◌, ◌≢◌, ◌⊎◌, inl, inr, ℕ, ◌+◌, ◌≤◌, ◌==◌, ◌&&◌, nat_lt, Bool, true, false, cond, List, [], ◌∷◌, Option, None, Some, refl, sym, ap, ◌∙◌, arith, true≢false, eq-eqb}
+use Rattle.std.proofs.lemmas.Bool.{ltb-false}
+use Rattle.lapd_seq.specs.declared.numbers.Seq.{Seq}
+use Rattle.lapd_seq.specs.Circle.{named}
+use Rattle.lapd_frame.specs.declared.controls.Control.{Control}
+use Rattle.lapd_frame.specs.declared.controls.Control.TheVariants.{Information, ReceiveReady, ReceiveNotReady, Reject, Sabme, Disc, Ui, Ua, Dm, Frmr, Xid}
+use Rattle.lapd_frame.specs.declared.notes.ErrorCode.{ErrorCode}
+use Rattle.lapd_frame.specs.declared.notes.ErrorCode.TheVariants as code
+use Rattle.lapd_frame.specs.declared.refusals.Refusal.{Refusal}
+use Rattle.model_link.specs.declared.states.State.{State}
+use Rattle.model_link.specs.declared.states.State.TheVariants.{TeiAssigned, AwaitingEstablishment, AwaitingRelease, Established, TimerRecovery}
+use Rattle.model_link.specs.declared.timers.LinkTimer.{LinkTimer}
+use Rattle.model_link.specs.declared.timers.LinkTimer.TheVariants.{T200, T203}
+use Rattle.model_link.specs.declared.frames.ControlFrame.{ControlFrame}
+use Rattle.model_link.specs.declared.terms.Terms.{Terms}
+use Rattle.model_link.specs.Link.{Link}
+use Rattle.model_link.specs.Events.{frame, undefined, wrong_size, overlong, Request, Establish, Release, Data, SetBusy, ClearBusy, Event, received, expired, requested, offer, cleared}
+use Rattle.model_link.specs.Steps.{Course, Step, begun, ◌then◌, nothing}
+use Rattle.model_link.specs.Told.{runs}
+use Rattle.model_link.specs.Words
+use Rattle.model_link.specs.TeiAssigned.{frame_in_4}
+use Rattle.model_link.specs.AwaitingEstablishment.{frame_in_5}
+use Rattle.model_link.specs.AwaitingRelease.{frame_in_6}
+use Rattle.model_link.specs.MultipleFrame
+use Rattle.model_link.specs.Established
+use Rattle.model_link.specs.TimerRecovery
+use Rattle.model_link.specs.Requests
+use Rattle.model_link.specs.Offers
+use Rattle.model_link.specs.Machine
+use Rattle.model_link.proofs.Leads.{Leads, then_leads, bit_leads}
+use Rattle.model_link.proofs.SoundRows.{named-within}
+use Rattle.laws_link.proofs.OfTwo.Heeding.{On, at_state, words}
+
+-- the terminal is taken for busy, or an I-frame is outstanding
+abbrev pub Awaits : State → Option LinkTimer → Bool → ℕ → ℕ → Type 0
+Awaits state running busy a s = state ≡ Established → running ≡ Some T200 → (busy ≡ true) ⊎ (a ≢ s)
+
+pub record Awaiting (c : Course) : Type 0 where
+  pub holds : Awaits c.link.state c.link.running c.link.peer_busy c.link.a c.link.s
+
+-- what is known before a row: nothing, or the state
+abbrev Any : Course → Type 0
+Any c = Unit {0}
+
+abbrev At : State → Course → Type 0
+At here c = c.link.state ≡ here
+
+-- another timer runs, or the state is another
+other-timer : Some T203 ≡ Some T200 → ⊥
+other-timer e = true≢false (sym (ap (runs T200) e))
+
+other-state : (here : State) → Offers.is_established here ≡ false → here ≡ Established → ⊥
+other-state here down is = true≢false (sym (ap Offers.is_established is) ∙ down)
+
+t203-runs : (state : State) (busy : Bool) (a s : ℕ) → Awaits state (Some T203) busy a s
+t203-runs state busy a s is e = absurd (other-timer e)
+
+elsewhere : (here : State) → Offers.is_established here ≡ false → (running : Option LinkTimer) (busy : Bool) (a s : ℕ) → Awaits here running busy a s
+elsewhere here down running busy a s is e = absurd (other-state here down is)
+
+stays-elsewhere : (here : State) → Offers.is_established here ≡ false → (state : State) → state ≡ here → (running : Option LinkTimer) (busy : Bool) (a s : ℕ) → Awaits state running busy a s
+stays-elsewhere here down state at running busy a s is e = absurd (other-state here down (sym at ∙ is))
+
+unequal : (a b : ℕ) → (a == b) ≡ false → a ≢ b
+unequal a b other is = true≢false (sym (eq-eqb a b is) ∙ other)
+
+-- what was before says nothing
+any-then : {P : Course → Type 0} (f : Step) {g : Step} → Leads Any g Awaiting → Leads P (f then g) Awaiting
+any-then f x = record { leads = λ c h. x.leads (f c) tt }
+
+-- by the N(R)
+number : {P : Course → Type 0} (t : Terms) (nr : Seq) (f : ℕ → Step) → ((n : ℕ) (c : Course) → P c → c.link.a ≤ n → Awaiting (f n c))
+    → Leads P (Words.by_number t nr f) Awaiting
+number {P} t nr f x = record { leads = λ c h. go c h (named c.link.a c.link.s nr) refl }
+  where
+    go : (c : Course) → P c → (o : Option ℕ) → named c.link.a c.link.s nr ≡ o
+        → Awaiting (elim o [ None ↦ (Words.error t code.J then Words.re_establish t) c | Some n ↦ f n c ])
+    go c h None e = record { holds = elsewhere AwaitingEstablishment refl _ _ _ _ }
+    go c h (Some n) e = x n c h (named-within c.link.a c.link.s n nr e).0
+
+-- state 7
+acknowledged-7 : (n : ℕ) (c : Course) → c.link.a ≤ n → Awaiting (Established.acknowledged_in_7 n c)
+acknowledged-7 n c from = go (n == c.link.s) refl (nat_lt c.link.a n) refl
+  where
+    go : (all : Bool) → (n == c.link.s) ≡ all → (more : Bool) → nat_lt c.link.a n ≡ more
+        → Awaiting (cond all ((Words.acknowledge n then Words.start T203) c) (cond more ((Words.acknowledge n then Words.start T200) c) c))
+    go true is more e = record { holds = t203-runs _ _ _ _ }
+    go false is true e = record { holds = λ at timer. inr (unequal n c.link.s is) }
+    go false is false e =
+        let same : c.link.a ≡ n = omega (arith, from, ltb-false c.link.a n e) in
+        record { holds = λ at timer. inr (λ x. unequal n c.link.s is (sym same ∙ x)) }
+
+information-7 : (n : ℕ) (c : Course) → c.link.a ≤ n → Awaiting (Established.acknowledged_by_information_in_7 n c)
+information-7 n c from = go c.link.peer_busy refl
+  where
+    go : (b : Bool) → c.link.peer_busy ≡ b → Awaiting (cond b (Words.acknowledge n c) (Established.acknowledged_in_7 n c))
+    go true e = record { holds = λ at timer. inl e }
+    go false e = acknowledged-7 n c from
+
+abbrev Busy : Course → Type 0
+Busy c = c.link.peer_busy ≡ true
+
+rnr-7 : (n : ℕ) (c : Course) → Busy c → Awaiting (Established.acknowledged_by_rnr_in_7 n c)
+rnr-7 n c busy = record { holds = λ at timer. inl busy }
+
+-- a row leaves the terminal busy, or the state
+module _ (t : Terms) where
+  answered-busy : (b pf : Bool) → Leads Busy (MultipleFrame.answered t b pf) Busy
+  answered-busy b pf = bit_leads {f = Words.answer t} {g = nothing} (b && pf) (record { leads = λ c h. h }) (record { leads = λ c h. h })
+
+  unsolicited-busy : (f : Bool) → Leads Busy (Established.unsolicited t f) Busy
+  unsolicited-busy f = bit_leads {f = Words.error t code.A} {g = nothing} f (record { leads = λ c h. h }) (record { leads = λ c h. h })
+
+  answered-at : (here : State) (b pf : Bool) → Leads (At here) (MultipleFrame.answered t b pf) (At here)
+  answered-at here b pf = bit_leads {f = Words.answer t} {g = nothing} (b && pf) (record { leads = λ c h. h }) (record { leads = λ c h. h })
+
+  contents-on : (here : State) (ns : Seq) (p : Bool) (octets : List ℕ) → Leads (On (at_state here)) (MultipleFrame.contents_in_7_8 t ns p octets) (On (at_state here))
+  contents-on here ns p octets = search words depth 12 fits 4000
+
+  contents-at : (here : State) (ns : Seq) (p : Bool) (octets : List ℕ) → Leads (At here) (MultipleFrame.contents_in_7_8 t ns p octets) (At here)
+  contents-at here ns p octets = record { leads = λ c h. ((contents-on here ns p octets).leads c (record { holds = h })).holds }
+
+  failed-ends : {P : Course → Type 0} (e : ErrorCode) → Leads P (MultipleFrame.failed t e) Awaiting
+  failed-ends e = record { leads = λ c h. record { holds = elsewhere AwaitingEstablishment refl _ _ _ _ } }
+
+  unit-ends : (octets : List ℕ) → Leads Awaiting (Words.unit_data t octets) Awaiting
+  unit-ends octets = bit_leads _ (record { leads = λ c h. record { holds = h.holds } }) (record { leads = λ c h. record { holds = h.holds } })
+
+  ua-ends : (f : Bool) → Leads Awaiting (MultipleFrame.ua_in_7_8 t f) Awaiting
+  ua-ends f = bit_leads f (record { leads = λ c h. record { holds = h.holds } }) (record { leads = λ c h. record { holds = h.holds } })
+
+  in-4 : (octets : List ℕ) (control : Control) → Leads Awaiting (frame_in_4 t octets control) Awaiting
+  in-4 octets (Sabme p) = record { leads = λ c h. record { holds = t203-runs _ _ _ _ } }
+  in-4 octets (Disc p) = record { leads = λ c h. record { holds = h.holds } }
+  in-4 octets (Ua true) = record { leads = λ c h. record { holds = h.holds } }
+  in-4 octets (Ua false) = record { leads = λ c h. record { holds = h.holds } }
+  in-4 octets (Ui p) = unit-ends octets
+  in-4 octets (Information ns nr p) = record { leads = λ c h. record { holds = h.holds } }
+  in-4 octets (ReceiveReady nr pf) = record { leads = λ c h. record { holds = h.holds } }
+  in-4 octets (ReceiveNotReady nr pf) = record { leads = λ c h. record { holds = h.holds } }
+  in-4 octets (Reject nr pf) = record { leads = λ c h. record { holds = h.holds } }
+  in-4 octets (Dm f) = record { leads = λ c h. record { holds = h.holds } }
+  in-4 octets (Frmr f) = record { leads = λ c h. record { holds = h.holds } }
+  in-4 octets (Xid pf) = record { leads = λ c h. record { holds = h.holds } }
+
+  in-5 : (octets : List ℕ) (control : Control) → Leads Awaiting (frame_in_5 t octets control) Awaiting
+  in-5 octets (Sabme p) = record { leads = λ c h. record { holds = h.holds } }
+  in-5 octets (Disc p) = record { leads = λ c h. record { holds = h.holds } }
+  in-5 octets (Ua true) = record { leads = λ c h. record { holds = t203-runs _ _ _ _ } }
+  in-5 octets (Ua false) = record { leads = λ c h. record { holds = h.holds } }
+  in-5 octets (Ui p) = unit-ends octets
+  in-5 octets (Information ns nr p) = record { leads = λ c h. record { holds = h.holds } }
+  in-5 octets (ReceiveReady nr pf) = record { leads = λ c h. record { holds = h.holds } }
+  in-5 octets (ReceiveNotReady nr pf) = record { leads = λ c h. record { holds = h.holds } }
+  in-5 octets (Reject nr pf) = record { leads = λ c h. record { holds = h.holds } }
+  in-5 octets (Dm true) = record { leads = λ c h. record { holds = elsewhere TeiAssigned refl _ _ _ _ } }
+  in-5 octets (Dm false) = record { leads = λ c h. record { holds = h.holds } }
+  in-5 octets (Frmr f) = record { leads = λ c h. record { holds = h.holds } }
+  in-5 octets (Xid pf) = record { leads = λ c h. record { holds = h.holds } }
+
+  in-6 : (octets : List ℕ) (control : Control) → Leads Awaiting (frame_in_6 t octets control) Awaiting
+  in-6 octets (Sabme p) = record { leads = λ c h. record { holds = h.holds } }
+  in-6 octets (Disc p) = record { leads = λ c h. record { holds = h.holds } }
+  in-6 octets (Ua true) = record { leads = λ c h. record { holds = elsewhere TeiAssigned refl _ _ _ _ } }
+  in-6 octets (Ua false) = record { leads = λ c h. record { holds = h.holds } }
+  in-6 octets (Ui p) = unit-ends octets
+  in-6 octets (Information ns nr p) = record { leads = λ c h. record { holds = h.holds } }
+  in-6 octets (ReceiveReady nr pf) = record { leads = λ c h. record { holds = h.holds } }
+  in-6 octets (ReceiveNotReady nr pf) = record { leads = λ c h. record { holds = h.holds } }
+  in-6 octets (Reject nr pf) = record { leads = λ c h. record { holds = h.holds } }
+  in-6 octets (Dm true) = record { leads = λ c h. record { holds = elsewhere TeiAssigned refl _ _ _ _ } }
+  in-6 octets (Dm false) = record { leads = λ c h. record { holds = h.holds } }
+  in-6 octets (Frmr f) = record { leads = λ c h. record { holds = h.holds } }
+  in-6 octets (Xid pf) = record { leads = λ c h. record { holds = h.holds } }
+
+  in-7 : (b : Bool) (octets : List ℕ) (control : Control) → Leads Awaiting (Established.frame_in_7 t b octets control) Awaiting
+  in-7 b octets (Information ns nr p) =
+      bit_leads _ (failed-ends code.O)
+      (any-then (MultipleFrame.contents_in_7_8 t ns p octets) (number {P = Any} t nr Established.acknowledged_by_information_in_7 (λ n c h from. information-7 n c from)))
+  in-7 b octets (ReceiveReady nr pf) =
+      any-then (Words.peer_busy_is false) (any-then (MultipleFrame.answered t b pf) (any-then (Established.unsolicited t (MultipleFrame.is_final b pf))
+      (number {P = Any} t nr Established.acknowledged_in_7 (λ n c h from. acknowledged-7 n c from))))
+  in-7 b octets (ReceiveNotReady nr pf) =
+      then_leads {Q = Busy} {f = Words.peer_busy_is true} (record { leads = λ c h. refl }) (then_leads {Q = Busy} (answered-busy b pf) (then_leads {Q = Busy} (unsolicited-busy (MultipleFrame.is_final b pf))
+      (number {P = Busy} t nr Established.acknowledged_by_rnr_in_7 (λ n c h from. rnr-7 n c h))))
+  in-7 b octets (Reject nr pf) =
+      any-then (Words.peer_busy_is false) (any-then (MultipleFrame.answered t b pf) (any-then (Established.unsolicited t (MultipleFrame.is_final b pf))
+      (number {P = Any} t nr Established.acknowledged_by_rej_in_7 (λ n c h from. record { holds = t203-runs _ _ _ _ }))))
+  in-7 b octets (Sabme p) = record { leads = λ c h. record { holds = t203-runs _ _ _ _ } }
+  in-7 b octets (Disc p) = record { leads = λ c h. record { holds = elsewhere TeiAssigned refl _ _ _ _ } }
+  in-7 b octets (Ua f) = ua-ends f
+  in-7 b octets (Dm true) = record { leads = λ c h. record { holds = h.holds } }
+  in-7 b octets (Dm false) = failed-ends code.E
+  in-7 b octets (Frmr f) = failed-ends code.K
+  in-7 b octets (Ui p) = unit-ends octets
+  in-7 b octets (Xid pf) = record { leads = λ c h. record { holds = h.holds } }
+
+  -- state 8: it stays, or T203 is started, or the terminal is busy
+  at-8 : {f : Step} → Leads (At TimerRecovery) f (At TimerRecovery) → Leads (At TimerRecovery) f Awaiting
+  at-8 {f} x = record { leads = λ c h. record { holds = stays-elsewhere TimerRecovery refl (f c).link.state (x.leads c h) _ _ _ _ } }
+
+  recovers : (final : Bool) (n : ℕ) → Leads (At TimerRecovery) (TimerRecovery.acknowledged_in_8 T203 final n) Awaiting
+  recovers final n = bit_leads final (record { leads = λ c h. record { holds = t203-runs _ _ _ _ } }) (at-8 (record { leads = λ c h. h }))
+
+  abbrev BusyAt : State → Course → Type 0
+  BusyAt here c = (c.link.state ≡ here) × (c.link.peer_busy ≡ true)
+
+  recovers-busy : (final : Bool) (n : ℕ) → Leads (BusyAt TimerRecovery) (TimerRecovery.acknowledged_in_8 T200 final n) Awaiting
+  recovers-busy final n =
+      bit_leads final (record { leads = λ c h. record { holds = λ at timer. inl h.1 } })
+      (record { leads = λ c h. record { holds = stays-elsewhere TimerRecovery refl c.link.state h.0 _ _ _ _ } })
+
+  supervisory-8 : (busy b pf : Bool) (nr : Seq) → Leads (At TimerRecovery)
+      (MultipleFrame.supervisory t (TimerRecovery.particulars_in_8 t) busy b pf nr (TimerRecovery.acknowledged_in_8 T203)) Awaiting
+  supervisory-8 busy b pf nr =
+      let final = MultipleFrame.is_final b pf in
+      then_leads {Q = At TimerRecovery} {f = Words.peer_busy_is busy} (record { leads = λ c h. h }) (then_leads {Q = At TimerRecovery} (answered-at TimerRecovery b pf)
+      (then_leads {Q = At TimerRecovery} {f = TimerRecovery.solicited final} (record { leads = λ c h. h })
+      (number t nr (TimerRecovery.acknowledged_in_8 T203 final) (λ n c h from. (recovers final n).leads c h))))
+
+  answered-busy-at : (here : State) (b pf : Bool) → Leads (BusyAt here) (MultipleFrame.answered t b pf) (BusyAt here)
+  answered-busy-at here b pf = bit_leads {f = Words.answer t} {g = nothing} (b && pf) (record { leads = λ c h. h }) (record { leads = λ c h. h })
+
+  in-8 : (b : Bool) (octets : List ℕ) (control : Control) → Leads (At TimerRecovery) (TimerRecovery.frame_in_8 t b octets control) Awaiting
+  in-8 b octets (Information ns nr p) =
+      bit_leads _ (failed-ends code.O)
+      (then_leads (contents-at TimerRecovery ns p octets) (number t nr Words.acknowledge (λ n c h from. record { holds = stays-elsewhere TimerRecovery refl c.link.state h _ _ _ _ })))
+  in-8 b octets (ReceiveReady nr pf) = supervisory-8 false b pf nr
+  in-8 b octets (ReceiveNotReady nr pf) =
+      let final = MultipleFrame.is_final b pf in
+      then_leads {Q = BusyAt TimerRecovery} {f = Words.peer_busy_is true} (record { leads = λ c h. (h, refl) }) (then_leads {Q = BusyAt TimerRecovery} (answered-busy-at TimerRecovery b pf)
+      (then_leads {Q = BusyAt TimerRecovery} {f = TimerRecovery.solicited final} (record { leads = λ c h. h })
+      (number t nr (TimerRecovery.acknowledged_in_8 T200 final) (λ n c h from. (recovers-busy final n).leads c h))))
+  in-8 b octets (Reject nr pf) = supervisory-8 false b pf nr
+  in-8 b octets (Sabme p) = record { leads = λ c h. record { holds = t203-runs _ _ _ _ } }
+  in-8 b octets (Disc p) = record { leads = λ c h. record { holds = elsewhere TeiAssigned refl _ _ _ _ } }
+  in-8 b octets (Ua f) = at-8 (bit_leads f (record { leads = λ c h. h }) (record { leads = λ c h. h }))
+  in-8 b octets (Dm true) = failed-ends code.B
+  in-8 b octets (Dm false) = failed-ends code.E
+  in-8 b octets (Frmr f) = failed-ends code.K
+  in-8 b octets (Ui p) = at-8 (bit_leads _ (record { leads = λ c h. h }) (record { leads = λ c h. h }))
+  in-8 b octets (Xid pf) = at-8 (record { leads = λ c h. h })
+
+-- Each event.
+module _ (t : Terms) (l : Link) (h : Awaits l.state l.running l.peer_busy l.a l.s) (ordered : l.a ≤ l.s) where
+  before : Awaiting (begun l)
+  before = record { holds = h }
+
+  frames : (here : State) → l.state ≡ here → (b : Bool) (octets : List ℕ) (control : Control) → Awaiting (Machine.frame_in here t b octets control (begun l))
+  frames TeiAssigned e b octets control = (in-4 t octets control).leads (begun l) before
+  frames AwaitingEstablishment e b octets control = (in-5 t octets control).leads (begun l) before
+  frames AwaitingRelease e b octets control = (in-6 t octets control).leads (begun l) before
+  frames Established e b octets control = (in-7 t b octets control).leads (begun l) before
+  frames TimerRecovery e b octets control = (in-8 t b octets control).leads (begun l) e
+
+  malformed : (here : State) (e : ErrorCode) → Awaiting (Machine.malformed_in here t e (begun l))
+  malformed TeiAssigned e = record { holds = h }
+  malformed AwaitingEstablishment e = record { holds = h }
+  malformed AwaitingRelease e = record { holds = h }
+  malformed Established e = (failed-ends t {P = Any} e).leads (begun l) tt
+  malformed TimerRecovery e = (failed-ends t {P = Any} e).leads (begun l) tt
+
+  branch : (b : Bool) (u v : Course) → Awaiting u → Awaiting v → Awaiting (cond b u v)
+  branch true u v x y = x
+  branch false u v x y = y
+
+  expiries : (here : State) → l.state ≡ here → (timer : LinkTimer) → Awaiting (Machine.expired_in here timer t (begun l))
+  expiries TeiAssigned e timer = before
+  expiries AwaitingEstablishment e T200 =
+      branch (nat_lt l.repeats t.n200) _ _ (record { holds = stays-elsewhere AwaitingEstablishment refl l.state e _ _ _ _ })
+      (record { holds = elsewhere TeiAssigned refl _ _ _ _ })
+  expiries AwaitingEstablishment e T203 = before
+  expiries AwaitingRelease e T200 =
+      branch (nat_lt l.repeats t.n200) _ _ (record { holds = stays-elsewhere AwaitingRelease refl l.state e _ _ _ _ })
+      (record { holds = elsewhere TeiAssigned refl _ _ _ _ })
+  expiries AwaitingRelease e T203 = before
+  expiries Established e timer = record { holds = elsewhere TimerRecovery refl _ _ _ _ }
+  expiries TimerRecovery e T200 =
+      branch (nat_lt l.repeats t.n200) _ _ (record { holds = stays-elsewhere TimerRecovery refl l.state e _ _ _ _ })
+      ((failed-ends t {P = Any} code.I).leads (begun l) tt)
+  expiries TimerRecovery e T203 = before
+
+  releases : (here : State) → Awaiting (Requests.release_in here t (begun l))
+  releases TeiAssigned = record { holds = h }
+  releases AwaitingEstablishment = before
+  releases AwaitingRelease = before
+  releases Established = record { holds = elsewhere AwaitingRelease refl _ _ _ _ }
+  releases TimerRecovery = record { holds = elsewhere AwaitingRelease refl _ _ _ _ }
+
+  grants : (request : Request) → Awaiting (Requests.granted t request (begun l))
+  grants Establish = record { holds = elsewhere AwaitingEstablishment refl _ _ _ _ }
+  grants Release = releases l.state
+  grants (Data octets) = record { holds = h }
+  grants SetBusy = branch l.own_busy _ _ (record { holds = h }) (record { holds = h })
+  grants ClearBusy = branch l.own_busy _ _ (record { holds = h }) (record { holds = h })
+
+  asked : (request : Request) (o : Option Refusal) → Awaiting (elim o [ None ↦ Requests.granted t request (begun l) | Some _ ↦ begun l ])
+  asked request None = grants request
+  asked request (Some w) = before
+
+  -- an I-frame that goes is outstanding
+  one-more : l.a ≢ l.s + 1
+  one-more e = omega (arith, ordered, e)
+
+  offers : (ws : List ControlFrame) → Awaiting (Offers.offer_among t ws (begun l))
+  offers (f ∷ fs) = record { holds = h }
+  offers [] =
+      branch (Offers.may_send_information t l) _ _
+      (branch (Offers.is_awaiting_acknowledgement (Offers.with_one_sent l)) _ _
+      (record { holds = λ at timer. inr one-more }) (record { holds = λ at timer. inr one-more }))
+      (branch l.pending _ _ (record { holds = h }) (record { holds = h }))
+
+  pub event-awaits : (e : Event) → Awaiting (Machine.course t e l)
+  event-awaits (received (frame f)) = frames l.state refl f.address.command f.info f.control
+  event-awaits (received undefined) = malformed l.state code.L
+  event-awaits (received wrong_size) = malformed l.state code.N
+  event-awaits (received overlong) = malformed l.state code.O
+  event-awaits (expired timer) = branch (Machine.is_running timer l) _ _ (expiries l.state refl timer) before
+  event-awaits (requested request full) = asked request (Requests.refusal t l full request)
+  event-awaits offer = offers l.waiting
+  event-awaits cleared = record { holds = elsewhere TeiAssigned refl _ _ _ _ }

@@ -1,0 +1,281 @@
+-- An end that is busy itself, and the other, in state 7: one gives its next frame, and the other receives it.
+use Rattle.std.proofs.Common.{◌≡◌, ℕ, ◌+◌, ◌≤◌, Bool, true, false, cond, ◌==◌, List, [], ◌∷◌, ◌++◌, length, Some, refl, sym, ap, subst, ◌∙◌, ◌⊎◌, inl, inr, append-nil, eq-eqb, arith}
+use Rattle.std.specs.Prelude.{nat_lt, slice_get, unwrap_or, option_to_list}
+use Rattle.std.proofs.lemmas.Bool.{ltb-true, le-ltb, and_parts}
+use Rattle.lapd_seq.specs.Numbers.{seq}
+use Rattle.lapd_seq.specs.Circle.{named}
+use Rattle.lapd_frame.specs.declared.notes.ErrorCode.TheVariants as code
+use Rattle.model_link.specs.declared.states.State.TheVariants as state
+use Rattle.model_link.specs.declared.terms.Terms.{Terms}
+use Rattle.model_link.specs.Link.{Link}
+use Rattle.model_link.specs.Events.{frame, received}
+use Rattle.model_link.specs.Steps.{Course, begun}
+use Rattle.model_link.specs.Words
+use Rattle.model_link.specs.MultipleFrame
+use Rattle.model_link.specs.Established
+use Rattle.model_link.specs.Offers
+use Rattle.model_link.specs.TwoEnds.{End, with_link, with_sent, with_first_of, with_first_lost}
+use Rattle.laws_link.specs.two.Rounds.{IsTaken}
+use Rattle.laws_link.specs.two.OwnBusy.{IsBusyItself, IsOpenItself, IsDropped}
+use Rattle.laws_link.proofs.OfTwo.Plain.{plain, plain_with, plain_end_with, with_information_with, with_acknowledgement_with, information_frame, acknowledgement_frame, gives-information, gives-acknowledgement, gives-nothing}
+use Rattle.laws_link.proofs.OfTwo.Halves.{named-number, fits-at, all-acknowledged, One, Nothing, giver_of, taker_of}
+use Rattle.laws_link.proofs.OfTwo.Acknowledging.{Acknowledges, by-rr, by-information}
+
+-- What becomes of the end that gives and of the one that receives: of numbers and contents that stay,
+pub record Same (n n' : End) : Type 0 where
+  pub terms : n'.terms ≡ n.terms
+  pub contents : n'.link.contents ≡ n.link.contents
+
+-- and of the flags.
+pub record Flags (own busy : Bool) (n : End) : Type 0 where
+  pub state : n.link.state ≡ state.Established
+  pub own_busy : n.link.own_busy ≡ own
+  pub peer_busy : n.link.peer_busy ≡ busy
+  pub waiting : n.link.waiting ≡ []
+  pub way : n.way ≡ []
+
+flags : (own busy : Bool) (n : End) → Flags own busy n → n ≡ plain_end_with own busy n
+flags own busy n h =
+    λ i. record n {
+      link = record n.link { state = h.state i; peer_busy = h.peer_busy i; own_busy = h.own_busy i; waiting = h.waiting i };
+      way = h.way i;
+    }
+
+busy-flags : (n : End) → IsBusyItself n → Flags true false n
+busy-flags n h = record { state = h.state; own_busy = h.own_busy; peer_busy = h.peer_busy; waiting = h.waiting; way = h.way }
+
+open-flags : (m : End) → IsOpenItself m → Flags false m.link.peer_busy m
+open-flags m h = record { state = h.state; own_busy = h.own_busy; peer_busy = refl; waiting = h.waiting; way = h.way }
+
+-- an I-frame at the open end, and at the busy end, and an acknowledgement there
+module _ (m : End) where
+  abbrev having : Course → End
+  having c = record m { link = c.link; way = []; delivered = m.delivered ++ option_to_list c.delivered }
+
+  module _ (busy : Bool) (t : Terms) (l : Link) (x : ℕ) (fits : nat_lt m.terms.n201 (length (unwrap_or (slice_get l.contents l.s) [])) ≡ false)
+      (names : named m.link.a m.link.s (seq l.r) ≡ Some x) (low : m.link.a ≤ x) where
+    abbrev octets : List ℕ
+    octets = unwrap_or (slice_get l.contents l.s) []
+
+    abbrev number : Course → Course
+    number c = Words.by_number m.terms (seq l.r) Established.acknowledged_by_information_in_7 c
+
+    -- taken
+    abbrev here : Course
+    here = begun (plain_with false busy m.link)
+
+    abbrev added : Course
+    added = MultipleFrame.in_sequence m.terms false octets here
+
+    pub acked : Acknowledges x added (number added)
+    acked = by-information m.terms (seq l.r) x added names low
+
+    pub takes-one : ((seq l.s).value == (seq m.link.r).value) ≡ true
+        → with_link (received (frame (information_frame t l))) (plain_end_with false busy m)
+        ≡ record m { link = record (plain_with false busy m.link) { r = m.link.r + 1; rejecting = false; pending = true; a = x; running = acked.running }; way = []; delivered = m.delivered ++ octets ∷ [] }
+    takes-one next =
+        ap (λ b. having (cond b (MultipleFrame.failed m.terms code.O here) (number (MultipleFrame.contents_in_7_8 m.terms (seq l.s) false octets here)))) fits
+        ∙ ap (λ b. having (number (cond b (MultipleFrame.in_sequence m.terms false octets here) (MultipleFrame.out_of_sequence m.terms false here)))) next
+        ∙ ap having acked.is
+
+    -- dropped
+    abbrev there : Course
+    there = begun (plain_with true false m.link)
+
+    heeded : Acknowledges x there (number there)
+    heeded = by-information m.terms (seq l.r) x there names low
+
+    drops-one : with_link (received (frame (information_frame t l))) (plain_end_with true false m)
+        ≡ record m { link = record (plain_with true false m.link) { a = x; running = heeded.running }; way = []; delivered = m.delivered ++ [] }
+    drops-one =
+        ap (λ b. having (cond b (MultipleFrame.failed m.terms code.O there) (number there))) fits
+        ∙ ap having heeded.is
+
+  module _ (own : Bool) (t : Terms) (l : Link) (x : ℕ) (names : named m.link.a m.link.s (seq l.r) ≡ Some x) (low : m.link.a ≤ x) where
+    abbrev told : Course
+    told = begun (plain_with own false m.link)
+
+    pub noted : Acknowledges x told (Words.by_number m.terms (seq l.r) Established.acknowledged_in_7 told)
+    noted = by-rr m.terms (seq l.r) x told names low
+
+    pub takes-note : with_link (received (frame (acknowledgement_frame t l))) (plain_end_with own false m)
+        ≡ record m { link = record (plain_with own false m.link) { a = x; running = noted.running }; way = []; delivered = m.delivered ++ [] }
+    takes-note = ap having noted.is
+
+-- The busy end's turn.
+pub record BusyMoved (n m n' m' : End) : Type 0 where
+  pub giver : Same n n'
+  pub giver_flags : Flags true false n'
+  pub taker : Same m m'
+  pub taker_flags : Flags false m.link.peer_busy m'
+  pub received : n'.link.r ≡ n.link.r
+  pub delivered : n'.delivered ≡ n.delivered
+  pub a : n'.link.a ≡ n.link.a
+  pub low : m'.link.a ≤ n.link.r
+  pub s : m'.link.s ≡ m.link.s
+  pub moved : One n m n' m' ⊎ Nothing n m n' m'
+
+-- The other end's.
+pub record OpenMoved (n m n' m' : End) : Type 0 where
+  pub giver : Same m m'
+  pub giver_flags : Flags false m.link.peer_busy m'
+  pub taker : Same n n'
+  pub taker_flags : Flags true false n'
+  pub received : n'.link.r ≡ n.link.r
+  pub delivered : n'.delivered ≡ n.delivered
+  pub a : n'.link.a ≡ n.link.s
+  pub s : n'.link.s ≡ n.link.s
+  pub other_received : m'.link.r ≡ m.link.r
+  pub other_delivered : m'.delivered ≡ m.delivered
+  pub other_a : m'.link.a ≡ m.link.a
+  pub other_s : m.link.s ≤ m'.link.s
+  pub quiet : m'.link.pending ≡ false
+
+module _ (n m : End) (hn : IsBusyItself n) (hm : IsOpenItself m) (there : IsTaken n m) (back : IsDropped n m) where
+  quiet : n.link.pending ≡ false
+  quiet = hn.sound.owes_nothing hn.own_busy
+
+  is-n : n ≡ plain_end_with true false n
+  is-n = flags true false n (busy-flags n hn)
+
+  is-m : m ≡ plain_end_with false m.link.peer_busy m
+  is-m = flags false m.link.peer_busy m (open-flags m hm)
+
+  names-r : named m.link.a m.link.s (seq n.link.r) ≡ Some n.link.r
+  names-r =
+      let within : m.link.s ≤ m.link.a + m.terms.k = hm.sound.within in
+      let small : m.terms.k ≤ 127 = hm.ranges.k_high in
+      named-number m.link.a m.link.s n.link.r back.low back.high (omega arith)
+
+  names-s : named n.link.a n.link.s (seq m.link.r) ≡ Some n.link.s
+  names-s =
+      let within : n.link.s ≤ n.link.a + n.terms.k = hn.sound.within in
+      let small : n.terms.k ≤ 127 = hn.ranges.k_high in
+      subst (λ w. named n.link.a n.link.s (seq w) ≡ Some n.link.s) (sym there.received) (named-number n.link.a n.link.s n.link.s hn.sound.ordered (omega arith) (omega arith))
+
+  -- the busy end gives an I-frame
+  busy-one : Offers.may_send_information n.terms (plain n.link) ≡ true → BusyMoved n m (giver_of n) (taker_of n m)
+  busy-one may =
+      let parts = and_parts (nat_lt _ n.terms.k) (nat_lt n.link.s (length n.link.contents)) may in
+      let gives : with_sent n ≡ record n { link = with_information_with true false n.link; way = information_frame n.terms n.link ∷ [] } = ap with_sent is-n ∙ gives-information true false n may in
+      let fits = le-ltb m.terms.n201 (length (unwrap_or (slice_get n.link.contents n.link.s) [])) (fits-at m.terms.n201 n.link.contents n.link.s there.sizes) in
+      let takes =
+      ap (with_link (received (frame (information_frame n.terms n.link)))) is-m
+      ∙ takes-one m m.link.peer_busy n.terms n.link n.link.r fits names-r back.low (eq-eqb (seq n.link.s).value (seq m.link.r).value (ap (λ i. (seq i).value) (sym there.received))) in
+      subst (λ x. BusyMoved n m (with_first_lost x) (with_first_of x.way m)) (sym gives)
+      (subst (λ y. BusyMoved n m (record n { link = with_information_with true false n.link; way = [] }) y) (sym takes)
+      (record {
+        giver = record { terms = refl; contents = refl };
+        giver_flags = record { state = refl; own_busy = refl; peer_busy = refl; waiting = refl; way = refl };
+        taker = record { terms = refl; contents = refl };
+        taker_flags = record { state = refl; own_busy = refl; peer_busy = refl; waiting = refl; way = refl };
+        received = refl;
+        delivered = refl;
+        a = refl;
+        low = omega arith;
+        s = refl;
+        moved = inl (record { unsent = ltb-true n.link.s (length n.link.contents) parts.1; sent = refl; received = refl; pending = refl; delivered = refl });
+      }))
+
+  -- or nothing
+  busy-none : Offers.may_send_information n.terms (plain n.link) ≡ false → BusyMoved n m (giver_of n) (taker_of n m)
+  busy-none may =
+      let gives : with_sent n ≡ record n { link = with_acknowledgement_with true false n.link; way = [] } = ap with_sent is-n ∙ gives-nothing true false n may quiet in
+      subst (λ x. BusyMoved n m (with_first_lost x) (with_first_of x.way m)) (sym gives)
+      (record {
+        giver = record { terms = refl; contents = refl };
+        giver_flags = record { state = refl; own_busy = refl; peer_busy = refl; waiting = refl; way = refl };
+        taker = record { terms = refl; contents = refl };
+        taker_flags = open-flags m hm;
+        received = refl;
+        delivered = refl;
+        a = refl;
+        low = back.low;
+        s = refl;
+        moved = inr (record { may = may; sent = refl; received = refl; pending = refl; delivered = refl });
+      })
+
+  busy-by : (may : Bool) → Offers.may_send_information n.terms (plain n.link) ≡ may → BusyMoved n m (giver_of n) (taker_of n m)
+  busy-by true e = busy-one e
+  busy-by false e = busy-none e
+
+  pub busy-moves : BusyMoved n m (giver_of n) (taker_of n m)
+  busy-moves = busy-by (Offers.may_send_information n.terms (plain n.link)) refl
+
+  -- the other end gives an I-frame, which is dropped,
+  open-one : Offers.may_send_information m.terms (plain_with false m.link.peer_busy m.link) ≡ true → OpenMoved n m (taker_of m n) (giver_of m)
+  open-one may =
+      let gives : with_sent m ≡ record m { link = with_information_with false m.link.peer_busy m.link; way = information_frame m.terms m.link ∷ [] } = ap with_sent is-m ∙ gives-information false m.link.peer_busy m may in
+      let fits = le-ltb n.terms.n201 (length (unwrap_or (slice_get m.link.contents m.link.s) [])) (fits-at n.terms.n201 m.link.contents m.link.s back.sizes) in
+      let takes =
+      ap (with_link (received (frame (information_frame m.terms m.link)))) is-n ∙ drops-one n false m.terms m.link n.link.s fits names-s hn.sound.ordered in
+      subst (λ x. OpenMoved n m (with_first_of x.way n) (with_first_lost x)) (sym gives)
+      (subst (λ y. OpenMoved n m y (record m { link = with_information_with false m.link.peer_busy m.link; way = [] })) (sym takes)
+      (record {
+        giver = record { terms = refl; contents = refl };
+        giver_flags = record { state = refl; own_busy = refl; peer_busy = refl; waiting = refl; way = refl };
+        taker = record { terms = refl; contents = refl };
+        taker_flags = record { state = refl; own_busy = refl; peer_busy = refl; waiting = refl; way = refl };
+        received = refl;
+        delivered = append-nil n.delivered;
+        a = refl;
+        s = refl;
+        other_received = refl;
+        other_delivered = refl;
+        other_a = refl;
+        other_s = omega arith;
+        quiet = refl;
+      }))
+
+  -- or an acknowledgement,
+  open-note : Offers.may_send_information m.terms (plain_with false m.link.peer_busy m.link) ≡ false → m.link.pending ≡ true → OpenMoved n m (taker_of m n) (giver_of m)
+  open-note may owed =
+      let gives : with_sent m ≡ record m { link = with_acknowledgement_with false m.link.peer_busy m.link; way = acknowledgement_frame m.terms m.link ∷ [] } = ap with_sent is-m ∙ gives-acknowledgement false m.link.peer_busy m may owed in
+      let takes =
+      ap (with_link (received (frame (acknowledgement_frame m.terms m.link)))) is-n ∙ takes-note n true m.terms m.link n.link.s names-s hn.sound.ordered in
+      subst (λ x. OpenMoved n m (with_first_of x.way n) (with_first_lost x)) (sym gives)
+      (subst (λ y. OpenMoved n m y (record m { link = with_acknowledgement_with false m.link.peer_busy m.link; way = [] })) (sym takes)
+      (record {
+        giver = record { terms = refl; contents = refl };
+        giver_flags = record { state = refl; own_busy = refl; peer_busy = refl; waiting = refl; way = refl };
+        taker = record { terms = refl; contents = refl };
+        taker_flags = record { state = refl; own_busy = refl; peer_busy = refl; waiting = refl; way = refl };
+        received = refl;
+        delivered = append-nil n.delivered;
+        a = refl;
+        s = refl;
+        other_received = refl;
+        other_delivered = refl;
+        other_a = refl;
+        other_s = omega arith;
+        quiet = refl;
+      }))
+
+  -- or nothing: then nothing of the busy end's is outstanding
+  open-none : Offers.may_send_information m.terms (plain_with false m.link.peer_busy m.link) ≡ false → m.link.pending ≡ false → OpenMoved n m (taker_of m n) (giver_of m)
+  open-none may owed =
+      let gives : with_sent m ≡ record m { link = with_acknowledgement_with false m.link.peer_busy m.link; way = [] } = ap with_sent is-m ∙ gives-nothing false m.link.peer_busy m may owed in
+      subst (λ x. OpenMoved n m (with_first_of x.way n) (with_first_lost x)) (sym gives)
+      (record {
+        giver = record { terms = refl; contents = refl };
+        giver_flags = record { state = refl; own_busy = refl; peer_busy = refl; waiting = refl; way = refl };
+        taker = record { terms = refl; contents = refl };
+        taker_flags = busy-flags n hn;
+        received = refl;
+        delivered = refl;
+        a = all-acknowledged n.link.a n.link.s m.link.pending (nat_lt n.link.a n.link.s) refl owed hn.sound.ordered there.owed;
+        s = refl;
+        other_received = refl;
+        other_delivered = refl;
+        other_a = refl;
+        other_s = omega arith;
+        quiet = refl;
+      })
+
+  open-by : (may owed : Bool) → Offers.may_send_information m.terms (plain_with false m.link.peer_busy m.link) ≡ may → m.link.pending ≡ owed → OpenMoved n m (taker_of m n) (giver_of m)
+  open-by true owed e p = open-one e
+  open-by false true e p = open-note e p
+  open-by false false e p = open-none e p
+
+  pub open-moves : OpenMoved n m (taker_of m n) (giver_of m)
+  open-moves = open-by (Offers.may_send_information m.terms (plain_with false m.link.peer_busy m.link)) m.link.pending refl refl

@@ -1,0 +1,290 @@
+-- Turn after turn of an end that is busy itself and of the other, until all contents of the busy end have arrived.
+use Rattle.std.proofs.Common.{◌≡◌, ℕ, zero, suc, ◌+◌, ◌-◌, ◌<◌, ◌≤◌, Bool, true, false, ◌&&◌, List, [], ◌∷◌, ◌++◌, length, take, Option, refl, sym, ap, subst, ◌∙◌, ◌⊎◌, inl, inr, true≢false, arith}
+use Rattle.std.specs.Prelude.{All, nat_lt, slice_get, unwrap_or}
+use Rattle.std.proofs.lemmas.Bool.{lt-ltb, le-ltb, ltb-false, and_right}
+use Rattle.std.proofs.Math.Seq.{take-length}
+use Rattle.lapd_frame.specs.Grammar.{Parts}
+use Rattle.model_link.specs.declared.timers.LinkTimer.{LinkTimer}
+use Rattle.model_link.specs.Events.{frame, received, offer}
+use Rattle.model_link.specs.Offers
+use Rattle.model_link.specs.Sound.{IsInRange, IsSound}
+use Rattle.model_link.specs.TwoEnds.{End, Ends, with_sent, with_first_of}
+use Rattle.model_link.proofs.SoundEvents.{sound-after}
+use Rattle.laws_link.specs.two.Rounds.{IsTaken, HasUnsent, HasArrived, rounds}
+use Rattle.laws_link.specs.two.OwnBusy.{IsBusyItself, IsOpenItself, IsDropped, GetsThrough}
+use Rattle.laws_link.proofs.OfTwo.Plain.{plain}
+use Rattle.laws_link.proofs.OfTwo.Halves.{take-one, One, Nothing, giver_of, taker_of}
+use Rattle.laws_link.proofs.OfTwo.Arriving.{near_moves, far_moves, no-more}
+use Rattle.laws_link.proofs.OfTwo.Shapes.{in_7_with}
+use Rattle.laws_link.proofs.OfTwo.BusyMoves.{BusyMoved, OpenMoved, busy-moves, open-moves}
+
+-- The busy end n and the other, m: what holds of them between two turns, with the busy end's numbers as they were at first.
+pub record Paired (busy : Bool) (r : ℕ) (ds cn cm : List (List ℕ)) (n m : End) : Type 0 where
+  pub itself : IsBusyItself n
+  pub other : IsOpenItself m
+  pub taken : IsTaken n m
+  pub dropped : IsDropped n m
+  pub taken_for : m.link.peer_busy ≡ busy
+  pub received : n.link.r ≡ r
+  pub delivered : n.delivered ≡ ds
+  pub kept_n : n.link.contents ≡ cn
+  pub kept_m : m.link.contents ≡ cm
+
+sound-taker : (n : End) (way : List Parts) → IsInRange n.terms → IsSound n.terms n.link → IsSound (with_first_of way n).terms (with_first_of way n).link
+sound-taker n [] r h = h
+sound-taker n (f ∷ fs) r h = sound-after n.terms r (received (frame f)) n.link h
+
+module _ (busy : Bool) (r : ℕ) (ds cn cm : List (List ℕ)) (n m : End) (h : Paired busy r ds cn cm n m) where
+  by-busy : BusyMoved n m (giver_of n) (taker_of n m)
+  by-busy = busy-moves n m h.itself h.other h.taken h.dropped
+
+  by-open : OpenMoved n m (taker_of m n) (giver_of m)
+  by-open = open-moves n m h.itself h.other h.taken h.dropped
+
+  -- what was sent is taken
+  taken-after : One n m (giver_of n) (taker_of n m) ⊎ Nothing n m (giver_of n) (taker_of n m) → IsTaken (giver_of n) (taker_of n m)
+  taken-after (inl x) =
+      let from : m.link.r ≡ n.link.s = h.taken.received in
+      let up : suc n.link.s ≡ (taker_of n m).link.r = omega (arith, x.received, from) in
+      record {
+        received = x.received ∙ ap (λ i. i + 1) from ∙ sym x.sent;
+        delivered =
+            x.delivered ∙ ap (λ ds. ds ++ unwrap_or (slice_get n.link.contents n.link.s) [] ∷ []) (h.taken.delivered ∙ ap (λ i. take i n.link.contents) from)
+            ∙ take-one n.link.contents n.link.s x.unsent ∙ ap (λ i. take i n.link.contents) up ∙ ap (λ cs. take (taker_of n m).link.r cs) (sym by-busy.giver.contents);
+        owed = λ less. x.pending;
+        sizes = subst (λ t. All (λ octets. length octets ≤ t.n201) (giver_of n).link.contents) (sym by-busy.taker.terms) (subst (λ cs. All (λ octets. length octets ≤ m.terms.n201) cs) (sym by-busy.giver.contents) h.taken.sizes);
+      }
+  taken-after (inr x) =
+      record {
+        received = x.received ∙ h.taken.received ∙ sym x.sent;
+        delivered = x.delivered ∙ h.taken.delivered ∙ ap (λ i. take i n.link.contents) (sym x.received) ∙ ap (λ cs. take (taker_of n m).link.r cs) (sym by-busy.giver.contents);
+        owed = λ less. x.pending ∙ h.taken.owed (subst (λ i. i < n.link.s) by-busy.a (subst (λ i. (giver_of n).link.a < i) x.sent less));
+        sizes = subst (λ t. All (λ octets. length octets ≤ t.n201) (giver_of n).link.contents) (sym by-busy.taker.terms) (subst (λ cs. All (λ octets. length octets ≤ m.terms.n201) cs) (sym by-busy.giver.contents) h.taken.sizes);
+      }
+
+  pub busy-turn : Paired busy r ds cn cm (giver_of n) (taker_of n m)
+  busy-turn =
+      let x = by-busy in
+      let g = x.giver_flags in
+      let t = x.taker_flags in
+      record {
+        itself = record { ranges = h.itself.ranges; sound = sound-after n.terms h.itself.ranges offer n.link h.itself.sound; state = g.state; peer_busy = g.peer_busy; own_busy = g.own_busy; waiting = g.waiting; way = g.way };
+        other = record {
+          ranges = subst (λ t. IsInRange t) (sym x.taker.terms) h.other.ranges;
+          sound = sound-taker m (with_sent n).way h.other.ranges h.other.sound;
+          state = t.state;
+          own_busy = t.own_busy;
+          waiting = t.waiting;
+          way = t.way;
+        };
+        taken = taken-after x.moved;
+        dropped = record {
+          low = subst (λ i. (taker_of n m).link.a ≤ i) (sym x.received) x.low;
+          high = subst (λ i. i ≤ (taker_of n m).link.s) (sym x.received) (subst (λ i. n.link.r ≤ i) (sym x.s) h.dropped.high);
+          sizes = subst (λ cs. All (λ octets. length octets ≤ n.terms.n201) cs) (sym x.taker.contents) h.dropped.sizes;
+        };
+        taken_for = t.peer_busy ∙ h.taken_for;
+        received = x.received ∙ h.received;
+        delivered = x.delivered ∙ h.delivered;
+        kept_n = x.giver.contents ∙ h.kept_n;
+        kept_m = x.taker.contents ∙ h.kept_m;
+      }
+
+  pub open-turn : Paired busy r ds cn cm (taker_of m n) (giver_of m)
+  open-turn =
+      let x = by-open in
+      let g = x.giver_flags in
+      let t = x.taker_flags in
+      record {
+        itself = record {
+          ranges = subst (λ t. IsInRange t) (sym x.taker.terms) h.itself.ranges;
+          sound = sound-taker n (with_sent m).way h.itself.ranges h.itself.sound;
+          state = t.state;
+          peer_busy = t.peer_busy;
+          own_busy = t.own_busy;
+          waiting = t.waiting;
+          way = t.way;
+        };
+        other = record { ranges = h.other.ranges; sound = sound-after m.terms h.other.ranges offer m.link h.other.sound; state = g.state; own_busy = g.own_busy; waiting = g.waiting; way = g.way };
+        taken = record {
+          received = x.other_received ∙ h.taken.received ∙ sym x.s;
+          delivered = x.other_delivered ∙ h.taken.delivered ∙ ap (λ i. take i n.link.contents) (sym x.other_received) ∙ ap (λ cs. take (giver_of m).link.r cs) (sym x.taker.contents);
+          owed = λ less. absurd (omega (arith, less, x.a, x.s));
+          sizes = subst (λ cs. All (λ octets. length octets ≤ m.terms.n201) cs) (sym x.taker.contents) h.taken.sizes;
+        };
+        dropped = record {
+          low = subst (λ i. (giver_of m).link.a ≤ i) (sym x.received) (subst (λ i. i ≤ n.link.r) (sym x.other_a) h.dropped.low);
+          high = subst (λ i. i ≤ (giver_of m).link.s) (sym x.received) (omega (arith, h.dropped.high, x.other_s));
+          sizes = subst (λ t. All (λ octets. length octets ≤ t.n201) (giver_of m).link.contents) (sym x.taker.terms) (subst (λ cs. All (λ octets. length octets ≤ n.terms.n201) cs) (sym x.giver.contents) h.dropped.sizes);
+        };
+        taken_for = g.peer_busy ∙ h.taken_for;
+        received = x.received ∙ h.received;
+        delivered = x.delivered ∙ h.delivered;
+        kept_n = x.taker.contents ∙ h.kept_n;
+        kept_m = x.giver.contents ∙ h.kept_m;
+      }
+
+-- Before the busy end's turn, when the other has had its own: all that is sent is acknowledged, and at most u are unsent.
+pub record Ahead (u : ℕ) (busy : Bool) (r : ℕ) (ds cn cm : List (List ℕ)) (n m : End) : Type 0 where
+  pub paired : Paired busy r ds cn cm n m
+  pub acknowledged : n.link.a ≡ n.link.s
+  pub quiet : m.link.pending ≡ false
+  pub left : HasUnsent u n
+
+-- the other's turn leads there
+pub first-open : (u : ℕ) (busy : Bool) (r : ℕ) (ds cn cm : List (List ℕ)) (n m : End) → Paired busy r ds cn cm n m → HasUnsent u n → Ahead u busy r ds cn cm (taker_of m n) (giver_of m)
+first-open u busy r ds cn cm n m h left =
+    let x = open-moves n m h.itself h.other h.taken h.dropped in
+    record {
+      paired = open-turn busy r ds cn cm n m h;
+      acknowledged = x.a ∙ sym x.s;
+      quiet = x.quiet;
+      left = subst (λ s. length (taker_of m n).link.contents ≤ s + u) (sym x.s) (subst (λ cs. length cs ≤ n.link.s + u) (sym x.taker.contents) left);
+    }
+
+-- with the window open one fewer is left
+nothing-unsent : (n : End) → IsBusyItself n → n.link.a ≡ n.link.s → Offers.may_send_information n.terms (plain n.link) ≡ false → length n.link.contents ≤ n.link.s
+nothing-unsent n h open_ may = by-test (nat_lt n.link.s (length n.link.contents)) refl
+  where
+    window : nat_lt (n.link.s - n.link.a) n.terms.k ≡ true
+    window = let low : 1 ≤ n.terms.k = h.ranges.k_low in lt-ltb (n.link.s - n.link.a) n.terms.k (omega (arith, open_))
+
+    by-test : (b : Bool) → nat_lt n.link.s (length n.link.contents) ≡ b → length n.link.contents ≤ n.link.s
+    by-test true e = absurd (true≢false (sym (ap (λ b. b && nat_lt n.link.s (length n.link.contents)) window ∙ e) ∙ may))
+    by-test false e = ltb-false n.link.s (length n.link.contents) e
+
+one-fewer : (v : ℕ) (n m n' m' : End) → IsBusyItself n → n.link.a ≡ n.link.s → length n.link.contents ≤ n.link.s + suc v → n'.link.contents ≡ n.link.contents
+    → One n m n' m' ⊎ Nothing n m n' m' → length n'.link.contents ≤ n'.link.s + v
+one-fewer v n m n' m' h o left kept (inl x) = subst (λ cs. length cs ≤ n'.link.s + v) (sym kept) (omega (arith, left, x.sent))
+one-fewer v n m n' m' h o left kept (inr x) =
+    subst (λ cs. length cs ≤ n'.link.s + v) (sym kept) (let all = nothing-unsent n h o x.may in omega (arith, all, x.sent))
+
+-- the busy end's turn and the other's
+pub next-both : (u : ℕ) (busy : Bool) (r : ℕ) (ds cn cm : List (List ℕ)) (n m : End) → Ahead (suc u) busy r ds cn cm n m
+    → Ahead u busy r ds cn cm (taker_of (taker_of n m) (giver_of n)) (giver_of (taker_of n m))
+next-both u busy r ds cn cm n m h =
+    let p = h.paired in
+    let x = busy-moves n m p.itself p.other p.taken p.dropped in
+    first-open u busy r ds cn cm (giver_of n) (taker_of n m) (busy-turn busy r ds cn cm n m p)
+    (one-fewer u n m (giver_of n) (taker_of n m) p.itself h.acknowledged h.left x.giver.contents x.moved)
+
+-- At the end.
+pub record Done (busy : Bool) (r : ℕ) (ds cn cm : List (List ℕ)) (n m : End) : Type 0 where
+  pub paired : Paired busy r ds cn cm n m
+  pub acknowledged : n.link.a ≡ n.link.s
+  pub all : length n.link.contents ≤ n.link.s
+
+done-first : (busy : Bool) (r : ℕ) (ds cn cm : List (List ℕ)) (n m : End) → Ahead 0 busy r ds cn cm n m → Done busy r ds cn cm n m
+done-first busy r ds cn cm n m h = record { paired = h.paired; acknowledged = h.acknowledged; all = omega (arith, h.left) }
+
+-- with all sent the busy end's turn changes nothing of it, nor does the other's
+no-one : (n m n' m' : End) → length n.link.contents ≤ n.link.s → n'.link.contents ≡ n.link.contents → n'.link.a ≡ n.link.a → n.link.a ≡ n.link.s → One n m n' m' ⊎ Nothing n m n' m'
+    → (n'.link.a ≡ n'.link.s) × (length n'.link.contents ≤ n'.link.s)
+no-one n m n' m' all kept a acked (inl x) = absurd (omega (arith, all, x.unsent))
+no-one n m n' m' all kept a acked (inr x) = (a ∙ acked ∙ sym x.sent, subst (λ cs. length cs ≤ n'.link.s) (sym kept) (omega (arith, all, x.sent)))
+
+pub done-busy : (busy : Bool) (r : ℕ) (ds cn cm : List (List ℕ)) (n m : End) → Done busy r ds cn cm n m → Done busy r ds cn cm (giver_of n) (taker_of n m)
+done-busy busy r ds cn cm n m h =
+    let p = h.paired in
+    let x = busy-moves n m p.itself p.other p.taken p.dropped in
+    let y = no-one n m (giver_of n) (taker_of n m) h.all x.giver.contents x.a h.acknowledged x.moved in
+    record { paired = busy-turn busy r ds cn cm n m p; acknowledged = y.0; all = y.1 }
+
+-- Rounds: the busy end is near, and then far.
+pub rounds-near : (u : ℕ) (busy : Bool) (r : ℕ) (ds cn cm : List (List ℕ)) (e : Ends) → Ahead u busy r ds cn cm e.near e.far
+    → Done busy r ds cn cm (rounds u e).near (rounds u e).far
+unfolding rounds
+rounds-near zero busy r ds cn cm e h = done-first busy r ds cn cm e.near e.far h
+rounds-near (suc u) busy r ds cn cm e h = rounds-near u busy r ds cn cm (far_moves (near_moves e)) (next-both u busy r ds cn cm e.near e.far h)
+
+pub rounds-far : (u : ℕ) (busy : Bool) (r : ℕ) (ds cn cm : List (List ℕ)) (e : Ends) → Ahead u busy r ds cn cm e.far e.near
+    → Done busy r ds cn cm (rounds u (far_moves e)).far (rounds u (far_moves e)).near
+unfolding rounds
+rounds-far zero busy r ds cn cm e h = done-busy busy r ds cn cm e.far e.near (done-first busy r ds cn cm e.far e.near h)
+rounds-far (suc u) busy r ds cn cm e h = rounds-far u busy r ds cn cm (near_moves (far_moves e)) (next-both u busy r ds cn cm e.far e.near h)
+
+-- What is asked of them then.
+module _ (busy : Bool) (r : ℕ) (ds cn cm : List (List ℕ)) (n m : End) (h : Done busy r ds cn cm n m) where
+  has-arrived : HasArrived cn n m
+  has-arrived =
+      let p = h.paired in
+      let kept = p.kept_n in
+      let most : n.link.s ≤ length cn = subst (λ cs. n.link.s ≤ length cs) kept p.itself.sound.accepted in
+      let all : length cn ≤ n.link.s = subst (λ cs. length cs ≤ n.link.s) kept h.all in
+      let sent : n.link.s ≡ length cn = omega arith in
+      let received : m.link.r ≡ length cn = p.taken.received ∙ sent in
+      record {
+        kept = kept;
+        delivered = p.taken.delivered ∙ ap (λ cs. take m.link.r cs) kept ∙ ap (λ i. take i cn) received ∙ take-length cn;
+        received = received;
+        sent = sent;
+        acknowledged = h.acknowledged ∙ sent;
+        state = p.itself.state;
+        nothing = record {
+          waiting = p.itself.waiting;
+          information = and_right _ (nat_lt n.link.s (length n.link.contents)) (le-ltb n.link.s (length n.link.contents) h.all);
+          pending = p.itself.sound.owes_nothing p.itself.own_busy;
+        };
+        way = p.itself.way;
+      }
+
+-- So it is of a pair that began as it did.
+pub gets-through : (busy : Bool) (n m n' m' : End) → Done busy n.link.r n.delivered n.link.contents m.link.contents n' m' → GetsThrough n m n' m'
+gets-through busy n m n' m' h =
+    let p = h.paired in
+    record {
+      arrived = has-arrived busy n.link.r n.delivered n.link.contents m.link.contents n' m' h;
+      kept = record {
+        own_busy = p.itself.own_busy;
+        received = p.received;
+        delivered = p.delivered;
+        state = p.other.state;
+        contents = p.kept_m;
+        unacknowledged = subst (λ i. m'.link.a ≤ i) p.received p.dropped.low;
+        sent = subst (λ i. i ≤ m'.link.s) p.received p.dropped.high;
+      };
+    }
+
+-- From a pair on, whose turn it may be.
+one-more : (u : ℕ) → suc u ≡ u + 1
+one-more u = omega arith
+
+pub from-near : (u : ℕ) (busy : Bool) (r : ℕ) (ds cn cm : List (List ℕ)) (e : Ends) → Paired busy r ds cn cm e.near e.far → HasUnsent u e.near
+    → Done busy r ds cn cm (rounds (u + 1) e).near (rounds (u + 1) e).far
+unfolding rounds
+from-near u busy r ds cn cm e h left =
+    let x = busy-moves e.near e.far h.itself h.other h.taken h.dropped in
+    let left' = no-more u e.near e.far (giver_of e.near) (taker_of e.near e.far) left x.giver.contents x.moved in
+    subst (λ i. Done busy r ds cn cm (rounds i e).near (rounds i e).far) (one-more u)
+    (rounds-near u busy r ds cn cm (far_moves (near_moves e)) (first-open u busy r ds cn cm (giver_of e.near) (taker_of e.near e.far) (busy-turn busy r ds cn cm e.near e.far h) left'))
+
+pub from-far : (u : ℕ) (busy : Bool) (r : ℕ) (ds cn cm : List (List ℕ)) (e : Ends) → Paired busy r ds cn cm e.far e.near → HasUnsent u e.far
+    → Done busy r ds cn cm (rounds (u + 1) e).far (rounds (u + 1) e).near
+unfolding rounds
+from-far u busy r ds cn cm e h left =
+    subst (λ i. Done busy r ds cn cm (rounds i e).far (rounds i e).near) (one-more u)
+    (rounds-far u busy r ds cn cm (near_moves e) (first-open u busy r ds cn cm e.far e.near h left))
+
+-- The pair as it is at first.
+pub paired-first : (n m : End) → IsBusyItself n → IsOpenItself m → IsTaken n m → IsDropped n m → Paired m.link.peer_busy n.link.r n.delivered n.link.contents m.link.contents n m
+paired-first n m hn hm there back =
+    record { itself = hn; other = hm; taken = there; dropped = back; taken_for = refl; received = refl; delivered = refl; kept_n = refl; kept_m = refl }
+
+-- A pair by its shapes.
+pub paired-shapes : (n m : End) (a s a' s' : ℕ) (busy p : Bool) (running running' : Option LinkTimer) (ds : List (List ℕ))
+    → IsInRange n.terms → IsInRange m.terms → IsSound n.terms (in_7_with true false n [] a s false running n.delivered).link → IsSound m.terms (in_7_with false busy m [] a' s' p running' ds).link
+    → m.link.r ≡ s → ds ≡ take s n.link.contents → (a < s → p ≡ true) → All (λ octets. length octets ≤ m.terms.n201) n.link.contents
+    → a' ≤ n.link.r → n.link.r ≤ s' → All (λ octets. length octets ≤ n.terms.n201) m.link.contents
+    → Paired busy n.link.r n.delivered n.link.contents m.link.contents (in_7_with true false n [] a s false running n.delivered) (in_7_with false busy m [] a' s' p running' ds)
+paired-shapes n m a s a' s' busy p running running' ds rn rm sn sm at there owed sizes low high sizes' =
+    record {
+      itself = record { ranges = rn; sound = sn; state = refl; peer_busy = refl; own_busy = refl; waiting = refl; way = refl };
+      other = record { ranges = rm; sound = sm; state = refl; own_busy = refl; waiting = refl; way = refl };
+      taken = record { received = at; delivered = there ∙ ap (λ i. take i n.link.contents) (sym at); owed = owed; sizes = sizes };
+      dropped = record { low = low; high = high; sizes = sizes' };
+      taken_for = refl;
+      received = refl;
+      delivered = refl;
+      kept_n = refl;
+      kept_m = refl;
+    }

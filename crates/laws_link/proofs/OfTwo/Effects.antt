@@ -1,0 +1,216 @@
+-- What an event does to a link that stays in states 7 and 8: its numbers, its state, and the kind of frame that waits anew.
+use Rattle.std.proofs.Common.{◌≡◌, ℕ, ◌+◌, Bool, true, false, cond, IsTrue, List, [], ◌∷◌, ◌++◌, Option, None, Some, refl, sym, subst, ◌∙◌, ◌⊎◌, inl, inr, true≢false}
+use Rattle.std.specs.Prelude.{nat_lt, length}
+use Rattle.std.proofs.lemmas.Bool.{eqb-true, eqb-false}
+use Rattle.lapd_seq.specs.declared.numbers.Seq.{Seq}
+use Rattle.lapd_seq.specs.Numbers.{seq}
+use Rattle.lapd_seq.specs.Circle.{named}
+use Rattle.lapd_seq.proofs.Callers.{seq-value, is_seq}
+use Rattle.lapd_frame.specs.declared.controls.Control.{Control}
+use Rattle.lapd_frame.specs.declared.controls.Control.TheVariants.{ReceiveReady, ReceiveNotReady, Reject}
+use Rattle.lapd_frame.specs.declared.notes.ErrorCode.TheVariants as code
+use Rattle.model_link.specs.declared.states.State.{State}
+use Rattle.model_link.specs.declared.states.State.TheVariants.{TeiAssigned, AwaitingEstablishment, AwaitingRelease, Established, TimerRecovery}
+use Rattle.model_link.specs.declared.timers.LinkTimer.{LinkTimer}
+use Rattle.model_link.specs.declared.frames.ControlFrame.{ControlFrame}
+use Rattle.model_link.specs.declared.terms.Terms.{Terms}
+use Rattle.model_link.specs.Link.{Link, is_multiple_frame}
+use Rattle.model_link.specs.Steps.{Course, begun, Step, ◌then◌}
+use Rattle.model_link.specs.Words
+use Rattle.model_link.specs.MultipleFrame
+use Rattle.model_link.specs.Established
+use Rattle.model_link.specs.TimerRecovery
+use Rattle.laws_link.proofs.OfTwo.Trains.{Kind, numbered, enquiry, answer, report, rejection, alien, kind_of}
+
+-- Whether a state is timer recovery.
+abbrev pub is_recovering : State → Bool
+is_recovering TeiAssigned = false
+is_recovering AwaitingEstablishment = false
+is_recovering AwaitingRelease = false
+is_recovering Established = false
+is_recovering TimerRecovery = true
+
+-- One frame more waits, of this kind; or none, since there was no room.
+abbrev pub Grown : List ControlFrame → List ControlFrame → Kind → Type 0
+Grown before after k = (after ≡ before) ⊎ ((f : ControlFrame) × (after ≡ before ++ f ∷ []) × (kind_of f.command f.control ≡ k))
+
+pub grows : (b : Bool) (ws : List ControlFrame) (f : ControlFrame) (k : Kind) → kind_of f.command f.control ≡ k → Grown ws (cond b (ws ++ f ∷ []) ws) k
+grows true ws f k e = inr (f, refl, e)
+grows false ws f k e = inl refl
+
+-- All that counts stays as it was.
+pub record Kept (l l' : Link) : Type 0 where
+  pub state : l'.state ≡ l.state
+  pub s : l'.s ≡ l.s
+  pub r : l'.r ≡ l.r
+  pub rejecting : l'.rejecting ≡ l.rejecting
+  pub waiting : l'.waiting ≡ l.waiting
+
+-- V(S) becomes what the N(R) names, and the state is 7.
+pub record Back (nr : Seq) (l l' : Link) : Type 0 where
+  pub state : l'.state ≡ Established
+  pub s : named l.a l.s nr ≡ Some l'.s
+  pub r : l'.r ≡ l.r
+  pub rejecting : l'.rejecting ≡ l.rejecting
+  pub waiting : l'.waiting ≡ l.waiting
+
+-- So it stays, except for a frame of this kind that waits anew.
+pub record Went (k : Kind) (l l' : Link) : Type 0 where
+  pub state : l'.state ≡ l.state
+  pub s : l'.s ≡ l.s
+  pub r : l'.r ≡ l.r
+  pub rejecting : l'.rejecting ≡ l.rejecting
+  pub waiting : Grown l.waiting l'.waiting k
+
+-- An I-frame is dropped, it is the next, or it is not and REJ is sent.
+abbrev pub Takes : Seq → Link → Link → Type 0
+Takes ns l l' =
+    ((l'.r ≡ l.r) × (l'.rejecting ≡ l.rejecting) × (l'.waiting ≡ l.waiting))
+    ⊎ ((ns ≡ seq l.r) × (l'.r ≡ l.r + 1) × (l'.rejecting ≡ false) × (l'.waiting ≡ l.waiting))
+    ⊎ ((ns.value ≡ (seq l.r).value → ⊥) × (l.rejecting ≡ false) × (l'.r ≡ l.r) × (l'.rejecting ≡ true) × Grown l.waiting l'.waiting (rejection (seq l.r)))
+
+pub record Informed (ns : Seq) (l l' : Link) : Type 0 where
+  pub state : l'.state ≡ l.state
+  pub s : l'.s ≡ l.s
+  pub takes : Takes ns l l'
+
+-- What each kind of frame does in state 7, and in state 8.
+abbrev pub Heard : Kind → Bool → Link → Link → Type 0
+Heard (numbered ns) recovers l l' = Informed ns l l'
+Heard enquiry recovers l l' = Went (answer (seq l.r)) l l'
+Heard (answer nr) true l l' = Back nr l l'
+Heard (answer nr) false l l' = Kept l l'
+Heard report recovers l l' = Kept l l'
+Heard (rejection nr) true l l' = Kept l l'
+Heard (rejection nr) false l l' = Back nr l l'
+Heard alien recovers l l' = Unit {0}
+
+abbrev IsUpIn : Course → Type 0
+IsUpIn c = IsTrue (is_multiple_frame c.link.state)
+
+pub either : (P : Link → Type 0) (b : Bool) (u v : Course) → P u.link → P v.link → P (cond b u v).link
+either P true u v x y = x
+either P false u v x y = y
+
+-- An N(R) has its effect, or leads out of the states.
+abbrev effected : Terms → (ℕ → Step) → Course → Option ℕ → Course
+effected t f c o = elim o [ None ↦ (Words.error t code.J then Words.re_establish t) c | Some n ↦ f n c ]
+
+effect : (P : Link → Type 0) (t : Terms) (f : ℕ → Step) (c : Course) (o : Option ℕ) → ((n : ℕ) → o ≡ Some n → P (f n c).link)
+    → IsUpIn (effected t f c o) → P (effected t f c o).link
+effect P t f c None x up = absurd (true≢false (sym up))
+effect P t f c (Some n) x up = x n refl
+
+by-number : (P : Link → Type 0) (t : Terms) (nr : Seq) (f : ℕ → Step) (c : Course) → ((n : ℕ) → named c.link.a c.link.s nr ≡ Some n → P (f n c).link)
+    → IsUpIn (Words.by_number t nr f c) → P (Words.by_number t nr f c).link
+by-number P t nr f c x up = effect P t f c (named c.link.a c.link.s nr) x up
+
+-- The effects.
+same : (c : Course) → Kept c.link c.link
+same c = record { state = refl; s = refl; r = refl; rejecting = refl; waiting = refl }
+
+pub acknowledged-7 : (c : Course) (n : ℕ) → Kept c.link (Established.acknowledged_in_7 n c).link
+acknowledged-7 c n =
+    either (Kept c.link) (Established.is_all_sent n c.link) _ _ (record { state = refl; s = refl; r = refl; rejecting = refl; waiting = refl })
+    (either (Kept c.link) (Established.is_beyond_acknowledged n c.link) _ _ (record { state = refl; s = refl; r = refl; rejecting = refl; waiting = refl }) (same c))
+
+pub information-7 : (c : Course) (n : ℕ) → Kept c.link (Established.acknowledged_by_information_in_7 n c).link
+information-7 c n =
+    either (Kept c.link) c.link.peer_busy _ _ (record { state = refl; s = refl; r = refl; rejecting = refl; waiting = refl }) (acknowledged-7 c n)
+
+-- A supervisory frame, up to its N(R).
+module _ (t : Terms) (l : Link) where
+  abbrev pub c-7 : Bool → Bool → Bool → Course
+  c-7 busy b pf = (Words.peer_busy_is busy then MultipleFrame.answered t b pf then Established.unsolicited t (MultipleFrame.is_final b pf)) (begun l)
+
+  abbrev pub c-8 : Bool → Bool → Bool → Course
+  c-8 busy b pf = (Words.peer_busy_is busy then MultipleFrame.answered t b pf then TimerRecovery.solicited (MultipleFrame.is_final b pf)) (begun l)
+
+  abbrev ready : Control
+  ready = Words.ready_to_receive true l
+
+  kind-of-ready : (own : Bool) → kind_of false (cond own (ReceiveNotReady (seq l.r) true) (ReceiveReady (seq l.r) true)) ≡ answer (seq l.r)
+  kind-of-ready true = refl
+  kind-of-ready false = refl
+
+  -- what waits, after the answer
+  answers : (c : Course) (l' : Link) → c.link.state ≡ l.state → c.link.s ≡ l.s → c.link.r ≡ l.r → c.link.rejecting ≡ l.rejecting
+      → c.link.waiting ≡ cond (Words.has_room t l) (l.waiting ++ Words.response ready ∷ []) l.waiting → Kept c.link l' → Went (answer (seq l.r)) l l'
+  answers c l' state s r rejecting waiting k =
+      record {
+        state = k.state ∙ state;
+        s = k.s ∙ s;
+        r = k.r ∙ r;
+        rejecting = k.rejecting ∙ rejecting;
+        waiting =
+            subst (λ ws. Grown l.waiting ws (answer (seq l.r))) (sym (k.waiting ∙ waiting))
+            (grows (Words.has_room t l) l.waiting (Words.response ready) (answer (seq l.r)) (kind-of-ready l.own_busy));
+      }
+
+  pub enquired-7 : (busy : Bool) (nr : Seq) (f : ℕ → Step) → ((c : Course) (n : ℕ) → Kept c.link (f n c).link)
+      → IsUpIn (Words.by_number t nr f (c-7 busy true true)) → Went (answer (seq l.r)) l (Words.by_number t nr f (c-7 busy true true)).link
+  enquired-7 busy nr f x up = by-number (Went (answer (seq l.r)) l) t nr f (c-7 busy true true) (λ n e. answers (c-7 busy true true) _ refl refl refl refl refl (x (c-7 busy true true) n)) up
+
+  pub enquired-8 : (busy : Bool) (nr : Seq) (f : ℕ → Step) → ((c : Course) (n : ℕ) → Kept c.link (f n c).link)
+      → IsUpIn (Words.by_number t nr f (c-8 busy true true)) → Went (answer (seq l.r)) l (Words.by_number t nr f (c-8 busy true true)).link
+  enquired-8 busy nr f x up = by-number (Went (answer (seq l.r)) l) t nr f (c-8 busy true true) (λ n e. answers (c-8 busy true true) _ refl refl refl refl refl (x (c-8 busy true true) n)) up
+
+  -- nothing is answered
+  keeps : (c : Course) (l' : Link) → Kept l c.link → Kept c.link l' → Kept l l'
+  keeps c l' h k =
+      record { state = k.state ∙ h.state; s = k.s ∙ h.s; r = k.r ∙ h.r; rejecting = k.rejecting ∙ h.rejecting; waiting = k.waiting ∙ h.waiting }
+
+  pub kept-by : (nr : Seq) (f : ℕ → Step) (c : Course) → Kept l c.link → ((c : Course) (n : ℕ) → Kept c.link (f n c).link)
+      → IsUpIn (Words.by_number t nr f c) → Kept l (Words.by_number t nr f c).link
+  kept-by nr f c h x up = by-number (Kept l) t nr f c (λ n e. keeps c _ h (x c n)) up
+
+  pub unchanged : Kept l l
+  unchanged = record { state = refl; s = refl; r = refl; rejecting = refl; waiting = refl }
+
+  -- V(S) goes back
+  pub backs-7 : (nr : Seq) → l.state ≡ Established → IsUpIn (Words.by_number t nr Established.acknowledged_by_rej_in_7 (c-7 false false false))
+      → Back nr l (Words.by_number t nr Established.acknowledged_by_rej_in_7 (c-7 false false false)).link
+  backs-7 nr here up = by-number (Back nr l) t nr Established.acknowledged_by_rej_in_7 (c-7 false false false) (λ n e. record { state = here; s = e; r = refl; rejecting = refl; waiting = refl }) up
+
+  pub backs-8 : (busy : Bool) (timer : LinkTimer) (nr : Seq) → IsUpIn (Words.by_number t nr (TimerRecovery.acknowledged_in_8 timer true) (c-8 busy false true))
+      → Back nr l (Words.by_number t nr (TimerRecovery.acknowledged_in_8 timer true) (c-8 busy false true)).link
+  backs-8 busy timer nr up = by-number (Back nr l) t nr (TimerRecovery.acknowledged_in_8 timer true) (c-8 busy false true) (λ n e. record { state = refl; s = e; r = refl; rejecting = refl; waiting = refl }) up
+
+  -- I-frames
+  chosen : (ns : Seq) (b : Bool) (u v : Course) → (b ≡ true → Informed ns l u.link) → (b ≡ false → Informed ns l v.link) → Informed ns l (cond b u v).link
+  chosen ns true u v x y = x refl
+  chosen ns false u v x y = y refl
+
+  contents : (ns : Seq) (octets : List ℕ) → Informed ns l (MultipleFrame.contents_in_7_8 t ns false octets (begun l)).link
+  contents ns octets =
+      chosen ns l.own_busy _ _ (λ e. record { state = refl; s = refl; takes = inl (refl, refl, refl) })
+      (λ e. chosen ns (MultipleFrame.is_next ns l) _ _
+      (λ next. record { state = refl; s = refl; takes = inr (inl (is_seq ns l.r (eqb-true ns.value (seq l.r).value next ∙ seq-value (seq l.r) l.r refl), refl, refl, refl)) })
+      (λ other. chosen ns l.rejecting _ _ (λ q. record { state = refl; s = refl; takes = inl (refl, refl, refl) })
+      (λ q. record {
+        state = refl;
+        s = refl;
+        takes = inr (inr (eqb-false ns.value (seq l.r).value other, q, refl, refl, grows (Words.has_room t l) l.waiting (Words.response (Reject (seq l.r) false)) (rejection (seq l.r)) refl));
+      })))
+
+  took-then : (ns : Seq) (c : Course) (l' : Link) → Informed ns l c.link → Kept c.link l' → Informed ns l l'
+  took-then ns c l' h k =
+      record {
+        state = k.state ∙ h.state;
+        s = k.s ∙ h.s;
+        takes =
+            subst (λ r. Takes ns l (record l' { r = r })) (sym k.r)
+            (subst (λ q. Takes ns l (record l' { r = c.link.r; rejecting = q })) (sym k.rejecting)
+            (subst (λ ws. Takes ns l (record l' { r = c.link.r; rejecting = c.link.rejecting; waiting = ws })) (sym k.waiting) h.takes));
+      }
+
+  fitting : (ns : Seq) (b : Bool) (u v : Course) → (IsUpIn u → ⊥) → (IsUpIn v → Informed ns l v.link) → IsUpIn (cond b u v) → Informed ns l (cond b u v).link
+  fitting ns true u v x y up = absurd (x up)
+  fitting ns false u v x y up = y up
+
+  pub informs : (ns nr : Seq) (octets : List ℕ) (f : ℕ → Step) → ((c : Course) (n : ℕ) → Kept c.link (f n c).link)
+      → IsUpIn (MultipleFrame.information_in_7_8 t ns nr false octets f (begun l)) → Informed ns l (MultipleFrame.information_in_7_8 t ns nr false octets f (begun l)).link
+  informs ns nr octets f x up =
+      let c = MultipleFrame.contents_in_7_8 t ns false octets (begun l) in
+      fitting ns (nat_lt t.n201 (length octets)) (MultipleFrame.failed t code.O (begun l)) (Words.by_number t nr f c) (λ u. true≢false (sym u))
+      (λ u. by-number (Informed ns l) t nr f c (λ n e. took-then ns c _ (contents ns octets) (x c n)) u) up

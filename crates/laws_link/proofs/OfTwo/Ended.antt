@@ -1,0 +1,199 @@
+-- What comes of two ends once own busy is over at one of them.
+use Rattle.std.proofs.Common.{◌≡◌, ℕ, ◌+◌, ◌<◌, ◌≤◌, Bool, true, false, IsTrue, [], length, take, Some, refl, sym, ap, subst, ◌∙◌, arith}
+use Rattle.std.specs.Prelude.{All}
+use Rattle.model_link.specs.declared.states.State.{State}
+use Rattle.model_link.specs.declared.states.State.TheVariants as state
+use Rattle.model_link.specs.declared.timers.LinkTimer.TheVariants.{T200}
+use Rattle.model_link.specs.Link.{is_multiple_frame}
+use Rattle.model_link.specs.Events.{requested, ClearBusy}
+use Rattle.model_link.specs.Sound.{IsInRange, IsSound}
+use Rattle.model_link.specs.TwoEnds.{End, Ends, asks, sends, receives, loses, at_near, at_far, with_first_of, turned, doing}
+use Rattle.laws_link.specs.Timed.{IsTimedIn}
+use Rattle.model_link.proofs.SoundEvents.{sound-after}
+use Rattle.laws_link.specs.two.Rounds.{rounds, IsReady, IsTaken, HasUnsent}
+use Rattle.laws_link.specs.two.CutOff.{IsCutOff, IsCutOffWith, HasMissing, with_t200_expired}
+use Rattle.laws_link.specs.two.OwnBusy.{IsBusyItself, IsOpenItself}
+use Rattle.laws_link.specs.two.BusyOver.{with_near_told, with_near_untold, HasDroppedNothing, BothHaveArrived}
+use Rattle.laws_link.proofs.OfTwo.Halves.{named-number}
+use Rattle.laws_link.proofs.OfTwo.Arriving.{Arrived, all-arrived}
+use Rattle.laws_link.proofs.OfTwo.Recovering.{Sounds, sounds-near}
+use Rattle.laws_link.proofs.OfTwo.Recovery.{all-recovered}
+use Rattle.laws_link.proofs.OfTwo.Reached.{Sane, BothSane, sane-doing}
+use Rattle.laws_link.proofs.OfTwo.Ending.{IsLeft, Gives, gives, heard}
+
+-- Both ends, as they are left.
+record Over (e : Ends) (a : ℕ) (busy : Bool) (e' : Ends) : Type 0 where
+  near : IsLeft e.near.link.a e.near.link.peer_busy false e.near e'.near
+  far : IsLeft a busy e.far.link.pending e.far e'.far
+
+module _ (e : Ends) where
+  abbrev asked : Ends
+  asked = doing (at_near (asks ClearBusy false)) e
+
+  timed-8 : (here : State) → e.far.link.state ≡ here → IsTimedIn here e.far.link → here ≡ state.TimerRecovery → e.far.link.running ≡ Some T200
+  timed-8 here s h is = let at : IsTimedIn state.TimerRecovery e.far.link = subst (λ x. IsTimedIn x e.far.link) is h in at
+
+  module _ (ranges : IsInRange e.near.terms) (busy : e.near.link.own_busy ≡ true) (waiting : e.near.link.waiting ≡ []) (way : e.near.way ≡ []) (up : IsTrue (is_multiple_frame e.near.link.state)) where
+    given : Gives e.near ranges busy waiting way (doing (at_near sends) asked).near
+    given = gives e.near ranges busy waiting way up
+
+    told : e.far.link.own_busy ≡ false → e.far.link.waiting ≡ [] → e.far.way ≡ [] → IsTrue (is_multiple_frame e.far.link.state)
+        → (e.far.link.state ≡ state.TimerRecovery → e.far.link.running ≡ Some T200) → e.far.link.a ≤ e.near.link.r → e.near.link.r ≤ e.far.link.s → e.far.link.s ≤ e.far.link.a + 127
+        → Over e e.near.link.r false (with_near_told e)
+    told free waits ways up' ran low high within =
+        record {
+          near = given.left;
+          far = subst (λ fs. IsLeft e.near.link.r false e.far.link.pending e.far (with_first_of fs e.far)) (sym given.way)
+              (heard e.far free waits ways e.near.terms e.near.link e.near.link.r (named-number e.far.link.a e.far.link.s e.near.link.r low high within) low e.far.link.state refl up' ran);
+        }
+
+    untold : e.far.link.own_busy ≡ false → e.far.link.waiting ≡ [] → e.far.way ≡ [] → Over e e.far.link.a e.far.link.peer_busy (with_near_untold e)
+    untold free waits ways =
+        record {
+          near = given.left;
+          far = record { terms = refl; contents = refl; a = refl; s = refl; r = refl; delivered = refl; state = refl; repeats = refl; peer_busy = refl; pending = refl; own_busy = free; waiting = waits; way = ways };
+        }
+
+-- Cut off they were, and so they are.
+cut-off : (own : Bool) (a : ℕ) (busy pending : Bool) (b : ℕ) (busy' pending' : Bool) (n m n' m' : End) → IsCutOffWith own n m → IsLeft a busy pending n n' → IsLeft b busy' pending' m m'
+    → a ≤ m.link.r → IsSound n'.terms n'.link → Sane n'.link → IsCutOff n' m'
+cut-off own a busy pending b busy' pending' n m n' m' h x y low sound sane =
+    let high : m.link.r ≤ n.link.s = h.high in
+    record {
+      ranges = subst (λ t. IsInRange t) (sym x.terms) h.ranges;
+      sound = sound;
+      timed = sane.timed;
+      heeds = sane.heeds;
+      up = subst (λ s. IsTrue (is_multiple_frame s)) (sym x.state) h.up;
+      repeats = λ s. subst (λ t. n'.link.repeats < t.n200) (sym x.terms) (subst (λ i. i < n.terms.n200) (sym x.repeats) (h.repeats (sym x.state ∙ s)));
+      own_busy = x.own_busy;
+      waiting = x.waiting;
+      way = x.way;
+      low = omega (arith, low, x.a, y.r);
+      high = omega (arith, high, x.s, y.r);
+      delivered = y.delivered ∙ h.delivered ∙ ap (λ i. take i n.link.contents) (sym y.r) ∙ ap (λ cs. take m'.link.r cs) (sym x.contents);
+      sizes = subst (λ t. All (λ octets. length octets ≤ t.n201) n'.link.contents) (sym y.terms) (subst (λ cs. All (λ octets. length octets ≤ m.terms.n201) cs) (sym x.contents) h.sizes);
+    }
+
+abbrev Recovers : ℕ → Ends → Ends → Type 0
+Recovers u e e' = Arrived e.near.link.contents e.far.link.contents (rounds (u + 3) (with_t200_expired e')) × Arrived e.far.link.contents e.near.link.contents (rounds (u + 3) (with_t200_expired (turned e')))
+
+missing : (u a b : ℕ) (busy pending busy' pending' : Bool) (n m n' m' : End) → IsLeft a busy pending n n' → IsLeft b busy' pending' m m' → HasMissing u n m → HasMissing u n' m'
+missing u a b busy pending busy' pending' n m n' m' x y h = subst (λ cs. length cs ≤ m'.link.r + u) (sym x.contents) (omega (arith, h, y.r))
+
+module _ (u : ℕ) (e : Ends) (hn : IsCutOffWith true e.near e.far) (hm : IsCutOff e.far e.near) (un : HasMissing u e.near e.far) (um : HasMissing u e.far e.near) where
+  recovers : (e' : Ends) (a : ℕ) (busy : Bool) → Over e a busy e' → a ≤ e.near.link.r → Sounds e' → BothSane e' → Recovers u e e'
+  recovers e' a busy h low s sane =
+      let near-low : e.near.link.a ≤ e.far.link.r = hn.low in
+      let n = cut-off true e.near.link.a e.near.link.peer_busy false a busy e.far.link.pending e.near e.far e'.near e'.far hn h.near h.far near-low s.near sane.0 in
+      let m = cut-off false a busy e.far.link.pending e.near.link.a e.near.link.peer_busy false e.far e.near e'.far e'.near hm h.far h.near low s.far sane.1 in
+      let vn = missing u e.near.link.a a e.near.link.peer_busy false busy e.far.link.pending e.near e.far e'.near e'.far h.near h.far un in
+      let vm = missing u a e.near.link.a busy e.far.link.pending e.near.link.peer_busy false e.far e.near e'.far e'.near h.far h.near um in (
+        subst (λ cs. Arrived cs e.far.link.contents (rounds (u + 3) (with_t200_expired e'))) h.near.contents
+            (subst (λ cs. Arrived e'.near.link.contents cs (rounds (u + 3) (with_t200_expired e'))) h.far.contents (all-recovered u e' n m vn vm)),
+        subst (λ cs. Arrived e.far.link.contents cs (rounds (u + 3) (with_t200_expired (turned e')))) h.near.contents
+            (subst (λ cs. Arrived cs e'.near.link.contents (rounds (u + 3) (with_t200_expired (turned e')))) h.far.contents (all-recovered u (turned e') m n vm vn)),
+      )
+
+  sounds : Sounds (asked e)
+  sounds =
+      record {
+        near_ranges = hn.ranges;
+        far_ranges = hm.ranges;
+        near = sound-after e.near.terms hn.ranges (requested ClearBusy false) e.near.link hn.sound;
+        far = hm.sound;
+      }
+
+  sanes : BothSane e
+  sanes = (record { timed = hn.timed; heeds = hn.heeds }, record { timed = hm.timed; heeds = hm.heeds })
+
+  pub told-recovers : Recovers u e (with_near_told e)
+  told-recovers =
+      let within : e.far.link.s ≤ e.far.link.a + e.far.terms.k = hm.sound.within in
+      let small : e.far.terms.k ≤ 127 = hm.ranges.k_high in
+      let one = sane-doing (at_near (asks ClearBusy false)) e sanes in
+      let two = sane-doing (at_near sends) (asked e) one in
+      recovers (with_near_told e) e.near.link.r false
+      (told e hn.ranges hn.own_busy hn.waiting hn.way hn.up hm.own_busy hm.waiting hm.way hm.up (timed-8 e e.far.link.state refl hm.timed.timer) hm.low hm.high (omega (arith, within, small)))
+      (omega arith) (sounds-near (asked e) sounds) (sane-doing (at_far receives) (doing (at_near sends) (asked e)) two)
+
+  pub untold-recovers : Recovers u e (with_near_untold e)
+  untold-recovers =
+      let s = sounds-near (asked e) sounds in
+      let one = sane-doing (at_near (asks ClearBusy false)) e sanes in
+      let two = sane-doing (at_near sends) (asked e) one in
+      recovers (with_near_untold e) e.far.link.a e.far.link.peer_busy (untold e hn.ranges hn.own_busy hn.waiting hn.way hn.up hm.own_busy hm.waiting hm.way) hm.low
+      (record { near_ranges = s.near_ranges; far_ranges = hm.ranges; near = s.near; far = hm.sound }) (sane-doing (at_near loses) (doing (at_near sends) (asked e)) two)
+
+-- Where nothing was dropped it goes without T200.
+module _ (u : ℕ) (e : Ends) (hn : IsBusyItself e.near) (hm : IsOpenItself e.far) (there : IsTaken e.near e.far) (kept : HasDroppedNothing e.near e.far) (un : HasUnsent u e.near) (um : HasUnsent u e.far) where
+  abbrev after : Ends
+  after = with_near_told e
+
+  no-8 : e.far.link.state ≡ state.TimerRecovery → e.far.link.running ≡ Some T200
+  no-8 s = absurd (let two : state.Established ≡ state.TimerRecovery = sym hm.state ∙ s in cc)
+
+  left : Over e e.near.link.r false after
+  left =
+      let within : e.far.link.s ≤ e.far.link.a + e.far.terms.k = hm.sound.within in
+      let small : e.far.terms.k ≤ 127 = hm.ranges.k_high in
+      let ordered : e.far.link.a ≤ e.far.link.s = hm.sound.ordered in
+      let all : e.near.link.r ≡ e.far.link.s = kept.received in
+      told e hn.ranges hn.own_busy hn.waiting hn.way (subst (λ s. IsTrue (is_multiple_frame s)) (sym hn.state) refl) hm.own_busy hm.waiting hm.way
+      (subst (λ s. IsTrue (is_multiple_frame s)) (sym hm.state) refl) no-8 (omega (arith, ordered, all)) (omega (arith, all)) (omega (arith, within, small))
+
+  sound : Sounds after
+  sound =
+      sounds-near (asked e)
+      (record { near_ranges = hn.ranges; far_ranges = hm.ranges; near = sound-after e.near.terms hn.ranges (requested ClearBusy false) e.near.link hn.sound; far = hm.sound })
+
+  near-ready : IsReady after.near
+  near-ready =
+      let x = left.near in
+      record { ranges = sound.near_ranges; sound = sound.near; state = x.state ∙ hn.state; peer_busy = x.peer_busy ∙ hn.peer_busy; own_busy = x.own_busy; waiting = x.waiting; way = x.way }
+
+  far-ready : IsReady after.far
+  far-ready =
+      let y = left.far in
+      record { ranges = sound.far_ranges; sound = sound.far; state = y.state ∙ hm.state; peer_busy = y.peer_busy; own_busy = y.own_busy; waiting = y.waiting; way = y.way }
+
+  taken-there : IsTaken after.near after.far
+  taken-there =
+      let x = left.near in
+      let y = left.far in
+      record {
+        received = y.r ∙ there.received ∙ sym x.s;
+        delivered = y.delivered ∙ there.delivered ∙ ap (λ i. take i e.near.link.contents) (sym y.r) ∙ ap (λ cs. take after.far.link.r cs) (sym x.contents);
+        owed = λ less. y.pending ∙ there.owed (omega (arith, less, x.a, x.s));
+        sizes = subst (λ t. All (λ octets. length octets ≤ t.n201) after.near.link.contents) (sym y.terms) (subst (λ cs. All (λ octets. length octets ≤ e.far.terms.n201) cs) (sym x.contents) there.sizes);
+      }
+
+  taken-back : IsTaken after.far after.near
+  taken-back =
+      let x = left.near in
+      let y = left.far in
+      let all : e.near.link.r ≡ e.far.link.s = kept.received in
+      record {
+        received = x.r ∙ all ∙ sym y.s;
+        delivered = x.delivered ∙ kept.delivered ∙ ap (λ i. take i e.far.link.contents) (sym x.r) ∙ ap (λ cs. take after.near.link.r cs) (sym y.contents);
+        owed = λ less. absurd (omega (arith, less, y.a, y.s, all));
+        sizes = subst (λ t. All (λ octets. length octets ≤ t.n201) after.far.link.contents) (sym x.terms) (subst (λ cs. All (λ octets. length octets ≤ e.near.terms.n201) cs) (sym y.contents) kept.sizes);
+      }
+
+  near-unsent : HasUnsent u after.near
+  near-unsent = subst (λ cs. length cs ≤ after.near.link.s + u) (sym left.near.contents) (omega (arith, un, left.near.s))
+
+  far-unsent : HasUnsent u after.far
+  far-unsent = subst (λ cs. length cs ≤ after.far.link.s + u) (sym left.far.contents) (omega (arith, um, left.far.s))
+
+  pub near-arrives : BothHaveArrived e (rounds (u + 1) after)
+  near-arrives =
+      subst (λ cs. Arrived cs e.far.link.contents (rounds (u + 1) after)) left.near.contents
+      (subst (λ cs. Arrived after.near.link.contents cs (rounds (u + 1) after)) left.far.contents
+      (all-arrived u after near-ready far-ready taken-there taken-back near-unsent far-unsent))
+
+  pub far-arrives : BothHaveArrived (turned e) (rounds (u + 1) (turned after))
+  far-arrives =
+      subst (λ cs. Arrived e.far.link.contents cs (rounds (u + 1) (turned after))) left.near.contents
+      (subst (λ cs. Arrived cs after.near.link.contents (rounds (u + 1) (turned after))) left.far.contents
+      (all-arrived u (turned after) far-ready near-ready taken-back taken-there far-unsent near-unsent))

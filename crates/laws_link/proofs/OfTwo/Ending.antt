@@ -1,0 +1,142 @@
+-- Own busy ends at an end: what its request and its RR leave, at that end and at the other.
+use Rattle.std.proofs.Common.{◌≡◌, ℕ, ◌≤◌, Bool, true, false, cond, IsTrue, List, [], ◌∷◌, ◌++◌, Option, Some, refl, sym, ap, subst, ◌∙◌, append-nil, true≢false, arith}
+use Rattle.std.specs.Prelude.{nat_lt}
+use Rattle.std.proofs.lemmas.Bool.{lt-ltb}
+use Rattle.lapd_seq.specs.Numbers.{seq}
+use Rattle.lapd_seq.specs.Circle.{named}
+use Rattle.lapd_frame.specs.declared.controls.Control.TheVariants.{ReceiveReady}
+use Rattle.lapd_frame.specs.Grammar.{Parts}
+use Rattle.model_link.specs.declared.states.State.{State}
+use Rattle.model_link.specs.declared.states.State.TheVariants as state
+use Rattle.model_link.specs.declared.timers.LinkTimer.{LinkTimer}
+use Rattle.model_link.specs.declared.timers.LinkTimer.TheVariants.{T200}
+use Rattle.model_link.specs.declared.terms.Terms.{Terms}
+use Rattle.model_link.specs.Link.{Link, is_multiple_frame}
+use Rattle.model_link.specs.Events.{frame, received, requested, ClearBusy}
+use Rattle.model_link.specs.Sound.{IsInRange}
+use Rattle.model_link.specs.Steps.{Course, begun}
+use Rattle.model_link.specs.Words
+use Rattle.model_link.specs.TwoEnds.{End, with_link, with_sent, with_first_lost}
+use Rattle.laws_link.proofs.OfTwo.Plain.{acknowledgement_frame}
+use Rattle.laws_link.proofs.OfTwo.Shapes.{in_8_with, in_7_with, having, acknowledged-8}
+use Rattle.laws_link.proofs.OfTwo.Acknowledging.{Acknowledges, by-rr}
+
+-- An end that is left as it was, except for V(A), that own busy is off, whether it takes the other for busy, and
+-- whether it owes an acknowledgement.
+pub record IsLeft (va : ℕ) (taken owed : Bool) (n n' : End) : Type 0 where
+  pub terms : n'.terms ≡ n.terms
+  pub contents : n'.link.contents ≡ n.link.contents
+  pub a : n'.link.a ≡ va
+  pub s : n'.link.s ≡ n.link.s
+  pub r : n'.link.r ≡ n.link.r
+  pub delivered : n'.delivered ≡ n.delivered
+  pub state : n'.link.state ≡ n.link.state
+  pub repeats : n'.link.repeats ≡ n.link.repeats
+  pub peer_busy : n'.link.peer_busy ≡ taken
+  pub pending : n'.link.pending ≡ owed
+  pub own_busy : n'.link.own_busy ≡ false
+  pub waiting : n'.link.waiting ≡ []
+  pub way : n'.way ≡ []
+
+-- The end that was busy gives RR.
+module _ (n : End) (ranges : IsInRange n.terms) (busy : n.link.own_busy ≡ true) (waits : n.link.waiting ≡ []) (ways : n.way ≡ []) where
+  abbrev over : End → End
+  over x = with_sent (with_link (requested ClearBusy false) x)
+
+  room : nat_lt 0 n.terms.control ≡ true
+  room = let low : 2 ≤ n.terms.control = ranges.control_low in lt-ltb 0 n.terms.control (omega arith)
+
+  abbrev known : State → End
+  known here = record n { link = record n.link { state = here; own_busy = true; waiting = [] }; way = [] }
+
+  is-known : (here : State) → n.link.state ≡ here → n ≡ known here
+  is-known here s = λ i. record n { link = record n.link { state = s i; own_busy = busy i; waiting = waits i }; way = ways i }
+
+  abbrev told : State → Bool → End
+  told here b =
+      record n {
+        link = record n.link { state = here; own_busy = false; pending = false; waiting = cond b (Words.response (ReceiveReady (seq n.link.r) false) ∷ []) [] };
+        way = [];
+        delivered = n.delivered ++ [];
+      }
+
+  abbrev quiet : State → List Parts → List (List ℕ) → End
+  quiet here fs ds = record n { link = record n.link { state = here; own_busy = false; pending = false; waiting = [] }; way = fs; delivered = ds }
+
+  pub record Gives (x : End) : Type 0 where
+    pub way : x.way ≡ acknowledgement_frame n.terms n.link ∷ []
+    pub left : IsLeft n.link.a n.link.peer_busy false n (with_first_lost x)
+
+  gives-quiet : (here : State) → n.link.state ≡ here → Gives (quiet here (acknowledgement_frame n.terms n.link ∷ []) n.delivered)
+  gives-quiet here s =
+      record {
+        way = refl;
+        left = record { terms = refl; contents = refl; a = refl; s = refl; r = refl; delivered = refl; state = sym s; repeats = refl; peer_busy = refl; pending = refl; own_busy = refl; waiting = refl; way = refl };
+      }
+
+  in-7 : n.link.state ≡ state.Established → over n ≡ quiet state.Established (acknowledgement_frame n.terms n.link ∷ []) n.delivered
+  in-7 s =
+      ap over (is-known state.Established s) ∙ ap (λ b. with_sent (told state.Established b)) room
+      ∙ ap (quiet state.Established (acknowledgement_frame n.terms n.link ∷ [])) (append-nil n.delivered)
+
+  in-8 : n.link.state ≡ state.TimerRecovery → over n ≡ quiet state.TimerRecovery (acknowledgement_frame n.terms n.link ∷ []) n.delivered
+  in-8 s =
+      ap over (is-known state.TimerRecovery s) ∙ ap (λ b. with_sent (told state.TimerRecovery b)) room
+      ∙ ap (quiet state.TimerRecovery (acknowledgement_frame n.terms n.link ∷ [])) (append-nil n.delivered)
+
+  by-state : (here : State) → n.link.state ≡ here → IsTrue (is_multiple_frame here) → Gives (over n)
+  by-state state.TeiAssigned e up = absurd (true≢false (sym up))
+  by-state state.AwaitingEstablishment e up = absurd (true≢false (sym up))
+  by-state state.AwaitingRelease e up = absurd (true≢false (sym up))
+  by-state state.Established e up = subst Gives (sym (in-7 e)) (gives-quiet state.Established e)
+  by-state state.TimerRecovery e up = subst Gives (sym (in-8 e)) (gives-quiet state.TimerRecovery e)
+
+  pub gives : IsTrue (is_multiple_frame n.link.state) → Gives (over n)
+  gives up = by-state n.link.state refl up
+
+-- The other receives it.
+module _ (m : End) (free : m.link.own_busy ≡ false) (waiting : m.link.waiting ≡ []) (way : m.way ≡ []) (t : Terms) (l : Link) (x : ℕ)
+    (names : named m.link.a m.link.s (seq l.r) ≡ Some x) (low : m.link.a ≤ x) where
+  abbrev hears : End → End
+  hears y = with_link (received (frame (acknowledgement_frame t l))) y
+
+  abbrev Hears : End → Type 0
+  Hears y = IsLeft x false m.link.pending m y
+
+  is-7 : m.link.state ≡ state.Established → m ≡ in_7_with false m.link.peer_busy m [] m.link.a m.link.s m.link.pending m.link.running m.delivered
+  is-7 e = λ i. record m { link = record m.link { state = e i; own_busy = free i; waiting = waiting i }; way = way i }
+
+  is-8 : m.link.state ≡ state.TimerRecovery → m.link.running ≡ Some T200 → m ≡ in_8_with false m [] m.link.peer_busy m.link.a m.link.pending m.delivered
+  is-8 e r = λ i. record m { link = record m.link { state = e i; own_busy = free i; waiting = waiting i; running = r i }; way = way i }
+
+  abbrev here : Course
+  here = begun (in_7_with false false m [] m.link.a m.link.s m.link.pending m.link.running m.delivered).link
+
+  left-7 : (running : Option LinkTimer) → m.link.state ≡ state.Established → Hears (in_7_with false false m [] x m.link.s m.link.pending running m.delivered)
+  left-7 running e =
+      record { terms = refl; contents = refl; a = refl; s = refl; r = refl; delivered = refl; state = sym e; repeats = refl; peer_busy = refl; pending = refl; own_busy = refl; waiting = refl; way = refl }
+
+  left-8 : m.link.state ≡ state.TimerRecovery → Hears (in_8_with false m [] false x m.link.pending m.delivered)
+  left-8 e =
+      record { terms = refl; contents = refl; a = refl; s = refl; r = refl; delivered = refl; state = sym e; repeats = refl; peer_busy = refl; pending = refl; own_busy = refl; waiting = refl; way = refl }
+
+  ended : (c : Course) → Acknowledges x here c → m.link.state ≡ state.Established → Hears (having (in_7_with false false m [] m.link.a m.link.s m.link.pending m.link.running m.delivered) c)
+  ended c h e =
+      let is : having (in_7_with false false m [] m.link.a m.link.s m.link.pending m.link.running m.delivered) c ≡ in_7_with false false m [] x m.link.s m.link.pending h.running m.delivered =
+      ap (having (in_7_with false false m [] m.link.a m.link.s m.link.pending m.link.running m.delivered)) h.is
+      ∙ ap (λ ds. in_7_with false false m [] x m.link.s m.link.pending h.running ds) (append-nil m.delivered) in
+      subst Hears (sym is) (left-7 h.running e)
+
+  hears-7 : m.link.state ≡ state.Established → Hears (hears m)
+  hears-7 e = subst (λ y. Hears (hears y)) (sym (is-7 e)) (ended _ (by-rr m.terms (seq l.r) x here names low) e)
+
+  hears-8 : m.link.state ≡ state.TimerRecovery → m.link.running ≡ Some T200 → Hears (hears m)
+  hears-8 e r =
+      subst Hears (sym (ap hears (is-8 e r) ∙ acknowledged-8 false m [] m.link.peer_busy m.link.a m.link.pending m.delivered t l x names)) (left-8 e)
+
+  pub heard : (here : State) → m.link.state ≡ here → IsTrue (is_multiple_frame here) → (here ≡ state.TimerRecovery → m.link.running ≡ Some T200) → Hears (hears m)
+  heard state.TeiAssigned e up ran = absurd (true≢false (sym up))
+  heard state.AwaitingEstablishment e up ran = absurd (true≢false (sym up))
+  heard state.AwaitingRelease e up ran = absurd (true≢false (sym up))
+  heard state.Established e up ran = hears-7 e
+  heard state.TimerRecovery e up ran = hears-8 e (ran refl)

@@ -1,0 +1,105 @@
+-- What the expiry of T200 makes of an end that is cut off: it asks, or it has nothing outstanding.
+use Rattle.std.proofs.Common.{◌≡◌, ℕ, ◌+◌, ◌≤◌, Bool, true, false, cond, IsTrue, [], ◌∷◌, ◌++◌, Option, Some, refl, sym, ap, ◌∙◌, ◌⊎◌, inl, inr, append-nil, true≢false, arith}
+use Rattle.std.specs.Prelude.{nat_lt, option_to_list}
+use Rattle.std.proofs.lemmas.Bool.{lt-ltb}
+use Rattle.model_link.specs.declared.states.State.{State}
+use Rattle.model_link.specs.declared.states.State.TheVariants as state
+use Rattle.model_link.specs.declared.timers.LinkTimer.{LinkTimer}
+use Rattle.model_link.specs.declared.timers.LinkTimer.TheVariants.{T200, T203}
+use Rattle.lapd_frame.specs.declared.notes.ErrorCode.TheVariants as code
+use Rattle.model_link.specs.Link.{Link, is_multiple_frame}
+use Rattle.model_link.specs.Events.{expired}
+use Rattle.model_link.specs.Steps.{Course, begun}
+use Rattle.model_link.specs.Words
+use Rattle.model_link.specs.MultipleFrame
+use Rattle.laws_link.specs.Timed.{IsTimedIn}
+use Rattle.model_link.specs.TwoEnds.{End, with_link}
+use Rattle.laws_link.specs.two.Heeds.{HeedsIn}
+use Rattle.laws_link.specs.two.CutOff.{IsCutOffWith}
+use Rattle.laws_link.proofs.OfTwo.Shapes.{enquiry_with, in_8_with, in_7_with}
+
+abbrev pub with_count : ℕ → End → End
+with_count c n = record n { link = record n.link { repeats = c } }
+
+pub record Asking (own : Bool) (n n' : End) : Type 0 where
+  pub count : ℕ
+  pub is : n' ≡ in_8_with own (with_count count n) (enquiry_with own n.link.r ∷ []) n.link.peer_busy n.link.a false n.delivered
+
+pub record Resting (own : Bool) (n n' : End) : Type 0 where
+  pub running : Option LinkTimer
+  pub is : n' ≡ in_7_with own false n [] n.link.a n.link.s n.link.pending running n.delivered
+  pub all : n.link.s ≤ n.link.a
+  pub before : n.link.running ≡ Some T203
+
+module _ (own : Bool) (n m : End) (h : IsCutOffWith own n m) where
+  abbrev after : End → End
+  after x = with_link (expired T200) x
+
+  room : nat_lt 0 n.terms.control ≡ true
+  room = let low : 2 ≤ n.terms.control = h.ranges.control_low in lt-ltb 0 n.terms.control (omega arith)
+
+  -- the end with what is known of it
+  abbrev known : State → Bool → Option LinkTimer → End
+  known here busy running =
+      record n { link = record n.link { state = here; own_busy = own; peer_busy = busy; waiting = []; running = running }; way = [] }
+
+  is-known : (here : State) (busy : Bool) (running : Option LinkTimer) → n.link.state ≡ here → n.link.peer_busy ≡ busy → n.link.running ≡ running → n ≡ known here busy running
+  is-known here busy running s b r =
+      λ i. record n { link = record n.link { state = s i; own_busy = h.own_busy i; peer_busy = b i; waiting = h.waiting i; running = r i }; way = h.way i }
+
+  abbrev asked : Bool → ℕ → End
+  asked b count =
+      record n {
+        link = record n.link { state = state.TimerRecovery; own_busy = own; pending = false; waiting = cond b (enquiry_with own n.link.r ∷ []) []; running = Some T200; repeats = count };
+        way = [];
+        delivered = n.delivered ++ [];
+      }
+
+  asks : (b : Bool) (count : ℕ) → b ≡ true → asked b count ≡ in_8_with own (with_count count n) (enquiry_with own n.link.r ∷ []) n.link.peer_busy n.link.a false n.delivered
+  asks b count e = ap (λ x. asked x count) e ∙ ap (λ ds. in_8_with own (with_count count n) (enquiry_with own n.link.r ∷ []) n.link.peer_busy n.link.a false ds) (append-nil n.delivered)
+
+  in-7-t200 : n.link.state ≡ state.Established → n.link.running ≡ Some T200 → Asking own n (after n)
+  in-7-t200 s r = record { count = 0; is = ap after (is-known state.Established n.link.peer_busy (Some T200) s refl r) ∙ asks (nat_lt 0 n.terms.control) 0 room }
+
+  in-7-t203 : n.link.state ≡ state.Established → n.link.peer_busy ≡ false → n.link.running ≡ Some T203 → n.link.s ≤ n.link.a → Resting own n (after n)
+  in-7-t203 s b r all =
+      record {
+        running = Some T203;
+        is = ap after (is-known state.Established false (Some T203) s b r) ∙ ap (λ ds. in_7_with own false n [] n.link.a n.link.s n.link.pending (Some T203) ds) (append-nil n.delivered);
+        all = all;
+        before = r;
+      }
+
+  in-8-t200 : n.link.state ≡ state.TimerRecovery → n.link.running ≡ Some T200 → Asking own n (after n)
+  in-8-t200 s r =
+      let l = (known state.TimerRecovery n.link.peer_busy (Some T200)).link in
+      let again : nat_lt n.link.repeats n.terms.n200 ≡ true = lt-ltb n.link.repeats n.terms.n200 (h.repeats s) in
+      record {
+        count = n.link.repeats + 1;
+        is =
+            ap after (is-known state.TimerRecovery n.link.peer_busy (Some T200) s refl r)
+            ∙ ap (λ b. ended (cond b (repeating l) (MultipleFrame.failed n.terms code.I (begun l)))) again
+            ∙ asks (nat_lt 0 n.terms.control) (n.link.repeats + 1) room;
+      }
+    where
+      repeating : Link → Course
+      repeating l = Words.start T200 (Words.repeated (Words.enquire n.terms (begun l)))
+
+      ended : Course → End
+      ended c = record n { link = c.link; way = []; delivered = n.delivered ++ option_to_list c.delivered }
+
+  not-busy : (b : Bool) → n.link.peer_busy ≡ b → n.link.running ≡ Some T203 → (IsTrue n.link.peer_busy → n.link.running ≡ Some T200) → n.link.peer_busy ≡ false
+  not-busy false e r w = e
+  not-busy true e r w = absurd (let two : Some T203 ≡ Some T200 = sym r ∙ w e in cc)
+
+  by-state : (here : State) → n.link.state ≡ here → IsTrue (is_multiple_frame here) → IsTimedIn here n.link → HeedsIn here n.link.peer_busy n.link.running
+      → Asking own n (after n) ⊎ Resting own n (after n)
+  by-state state.TeiAssigned e up timed heeds = absurd (true≢false (sym up))
+  by-state state.AwaitingEstablishment e up timed heeds = absurd (true≢false (sym up))
+  by-state state.AwaitingRelease e up timed heeds = absurd (true≢false (sym up))
+  by-state state.Established e up (inl r) heeds = inl (in-7-t200 e r)
+  by-state state.Established e up (inr r) heeds = inr (in-7-t203 e (not-busy n.link.peer_busy refl r.0 heeds) r.0 r.1)
+  by-state state.TimerRecovery e up timed heeds = inl (in-8-t200 e timed)
+
+  pub expires-one : Asking own n (after n) ⊎ Resting own n (after n)
+  expires-one = by-state n.link.state refl h.up h.timed.timer h.heeds.heeds

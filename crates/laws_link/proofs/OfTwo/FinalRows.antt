@@ -1,0 +1,195 @@
+-- No event but a poll makes a response with F=1 wait, and a poll makes at most one.
+use Rattle.std.proofs.Common.{◌≡◌, ℕ, ◌+◌, ◌≤◌, Bool, true, false, cond, ◌&&◌, List, [], ◌∷◌, Option, None, Some, arith}
+use Rattle.std.proofs.lemmas.List.Sums.{sum_by-cons}
+use Rattle.lapd_seq.specs.declared.numbers.Seq.{Seq}
+use Rattle.lapd_frame.specs.declared.controls.Control.{Control}
+use Rattle.lapd_frame.specs.declared.controls.Control.TheVariants.{Information, ReceiveReady, ReceiveNotReady, Reject, Sabme, Disc, Ui, Ua, Dm, Frmr, Xid}
+use Rattle.lapd_frame.specs.declared.notes.ErrorCode.{ErrorCode}
+use Rattle.lapd_frame.specs.declared.refusals.Refusal.{Refusal}
+use Rattle.model_link.specs.declared.states.State.{State}
+use Rattle.model_link.specs.declared.states.State.TheVariants.{TeiAssigned, AwaitingEstablishment, AwaitingRelease, Established, TimerRecovery}
+use Rattle.model_link.specs.declared.timers.LinkTimer.{LinkTimer}
+use Rattle.model_link.specs.declared.timers.LinkTimer.TheVariants.{T200, T203}
+use Rattle.model_link.specs.declared.frames.ControlFrame.{ControlFrame}
+use Rattle.model_link.specs.declared.terms.Terms.{Terms}
+use Rattle.model_link.specs.Link.{Link}
+use Rattle.model_link.specs.Events.{frame, undefined, wrong_size, overlong, Request, Establish, Release, Data, SetBusy, ClearBusy, Event, received, expired, requested, offer, cleared}
+use Rattle.model_link.specs.Steps.{Course, Step, begun}
+use Rattle.model_link.specs.Words
+use Rattle.model_link.specs.TeiAssigned.{frame_in_4, establish_in_4}
+use Rattle.model_link.specs.AwaitingEstablishment.{frame_in_5}
+use Rattle.model_link.specs.AwaitingRelease.{frame_in_6}
+use Rattle.model_link.specs.MultipleFrame
+use Rattle.model_link.specs.Established
+use Rattle.model_link.specs.TimerRecovery
+use Rattle.model_link.specs.Requests
+use Rattle.model_link.specs.Offers
+use Rattle.model_link.specs.Machine
+use Rattle.model_link.proofs.Leads.{Leads, then_leads, nothing_leads, bit_leads}
+use Rattle.laws_link.specs.two.Polls.{finals, is_poll, polls, is_final_response}
+use Rattle.laws_link.proofs.OfTwo.Finals.{Few, rows, answers, weaker, ua_few, dm_few, failed_few, number_few, acknowledge_few}
+
+module _ (t : Terms) (n : ℕ) where
+  in-4 : (b : Bool) (octets : List ℕ) (control : Control) → Leads (Few n) (frame_in_4 t octets control) (Few (n + cond {A = ℕ} (is_poll b control) 1 0))
+  in-4 b octets (Sabme p) = search answers depth 14 fits 6000
+  in-4 b octets (Disc p) = dm_few t n p
+  in-4 b octets (Ua true) = weaker n false (search rows depth 12 fits 4000)
+  in-4 b octets (Ua false) = weaker n false (search rows depth 12 fits 4000)
+  in-4 b octets (Information ns nr p) = weaker n p (search rows)
+  in-4 b octets (ReceiveReady nr p) = weaker n (b && p) (search rows)
+  in-4 b octets (ReceiveNotReady nr p) = weaker n (b && p) (search rows)
+  in-4 b octets (Reject nr p) = weaker n (b && p) (search rows)
+  in-4 b octets (Ui p) = weaker n false (search rows)
+  in-4 b octets (Dm f) = weaker n false (search rows)
+  in-4 b octets (Frmr f) = weaker n false (search rows)
+  in-4 b octets (Xid pf) = weaker n false (search rows)
+
+  in-5 : (b : Bool) (octets : List ℕ) (control : Control) → Leads (Few n) (frame_in_5 t octets control) (Few (n + cond {A = ℕ} (is_poll b control) 1 0))
+  in-5 b octets (Sabme p) = ua_few t n p
+  in-5 b octets (Disc p) = dm_few t n p
+  in-5 b octets (Ua true) = weaker n false (search rows depth 12 fits 4000)
+  in-5 b octets (Ua false) = weaker n false (search rows depth 12 fits 4000)
+  in-5 b octets (Information ns nr p) = weaker n p (search rows)
+  in-5 b octets (ReceiveReady nr p) = weaker n (b && p) (search rows)
+  in-5 b octets (ReceiveNotReady nr p) = weaker n (b && p) (search rows)
+  in-5 b octets (Reject nr p) = weaker n (b && p) (search rows)
+  in-5 b octets (Ui p) = weaker n false (search rows)
+  in-5 b octets (Dm true) = weaker n false (search rows depth 12 fits 4000)
+  in-5 b octets (Dm false) = weaker n false (search rows)
+  in-5 b octets (Frmr f) = weaker n false (search rows)
+  in-5 b octets (Xid pf) = weaker n false (search rows)
+
+  in-6 : (b : Bool) (octets : List ℕ) (control : Control) → Leads (Few n) (frame_in_6 t octets control) (Few (n + cond {A = ℕ} (is_poll b control) 1 0))
+  in-6 b octets (Sabme p) = dm_few t n p
+  in-6 b octets (Disc p) = ua_few t n p
+  in-6 b octets (Ua true) = weaker n false (search rows depth 12 fits 4000)
+  in-6 b octets (Ua false) = weaker n false (search rows depth 12 fits 4000)
+  in-6 b octets (Information ns nr p) = weaker n p (search rows)
+  in-6 b octets (ReceiveReady nr p) = weaker n (b && p) (search rows)
+  in-6 b octets (ReceiveNotReady nr p) = weaker n (b && p) (search rows)
+  in-6 b octets (Reject nr p) = weaker n (b && p) (search rows)
+  in-6 b octets (Ui p) = weaker n false (search rows)
+  in-6 b octets (Dm true) = weaker n false (search rows depth 12 fits 4000)
+  in-6 b octets (Dm false) = weaker n false (search rows)
+  in-6 b octets (Frmr f) = weaker n false (search rows)
+  in-6 b octets (Xid pf) = weaker n false (search rows)
+
+  -- states 7 and 8
+  contents : (ns : Seq) (p : Bool) (octets : List ℕ) → Leads (Few n) (MultipleFrame.contents_in_7_8 t ns p octets) (Few (n + cond {A = ℕ} p 1 0))
+  contents ns p octets = search answers depth 14 fits 6000
+
+  information : (ns nr : Seq) (p : Bool) (octets : List ℕ) (f : ℕ → Step) → ((m i : ℕ) → Leads (Few m) (f i) (Few m))
+      → Leads (Few n) (MultipleFrame.information_in_7_8 t ns nr p octets f) (Few (n + cond {A = ℕ} p 1 0))
+  information ns nr p octets f x =
+      bit_leads _ (weaker n p (failed_few t n _)) (then_leads (contents ns p octets) (number_few t (n + cond {A = ℕ} p 1 0) nr (x (n + cond {A = ℕ} p 1 0))))
+
+  in-7 : (b : Bool) (octets : List ℕ) (control : Control) → Leads (Few n) (Established.frame_in_7 t b octets control) (Few (n + cond {A = ℕ} (is_poll b control) 1 0))
+  in-7 b octets (Information ns nr p) = information ns nr p octets Established.acknowledged_by_information_in_7 (λ m i. search rows depth 12 fits 4000)
+  in-7 b octets (ReceiveReady nr p) = search answers depth 14 fits 6000
+  in-7 b octets (ReceiveNotReady nr p) = search answers depth 14 fits 6000
+  in-7 b octets (Reject nr p) = search answers depth 14 fits 6000
+  in-7 b octets (Sabme p) = search answers depth 14 fits 6000
+  in-7 b octets (Disc p) = search answers depth 14 fits 6000
+  in-7 b octets (Ua f) = weaker n false (search rows depth 12 fits 4000)
+  in-7 b octets (Dm true) = weaker n false (search rows depth 12 fits 4000)
+  in-7 b octets (Dm false) = weaker n false (search rows depth 12 fits 4000)
+  in-7 b octets (Frmr f) = weaker n false (search rows depth 12 fits 4000)
+  in-7 b octets (Ui p) = weaker n false (search rows)
+  in-7 b octets (Xid pf) = weaker n false (search rows)
+
+  in-8 : (b : Bool) (octets : List ℕ) (control : Control) → Leads (Few n) (TimerRecovery.frame_in_8 t b octets control) (Few (n + cond {A = ℕ} (is_poll b control) 1 0))
+  in-8 b octets (Information ns nr p) = information ns nr p octets Words.acknowledge (λ m i. acknowledge_few m i)
+  in-8 b octets (ReceiveReady nr p) = search answers depth 14 fits 6000
+  in-8 b octets (ReceiveNotReady nr p) = search answers depth 14 fits 6000
+  in-8 b octets (Reject nr p) = search answers depth 14 fits 6000
+  in-8 b octets (Sabme p) = search answers depth 14 fits 6000
+  in-8 b octets (Disc p) = search answers depth 14 fits 6000
+  in-8 b octets (Ua f) = weaker n false (search rows depth 12 fits 4000)
+  in-8 b octets (Dm true) = weaker n false (search rows depth 12 fits 4000)
+  in-8 b octets (Dm false) = weaker n false (search rows depth 12 fits 4000)
+  in-8 b octets (Frmr f) = weaker n false (search rows depth 12 fits 4000)
+  in-8 b octets (Ui p) = weaker n false (search rows)
+  in-8 b octets (Xid pf) = weaker n false (search rows)
+
+  frames-in : (here : State) (b : Bool) (octets : List ℕ) (control : Control)
+      → Leads (Few n) (Machine.frame_in here t b octets control) (Few (n + cond {A = ℕ} (is_poll b control) 1 0))
+  frames-in TeiAssigned b octets control = in-4 b octets control
+  frames-in AwaitingEstablishment b octets control = in-5 b octets control
+  frames-in AwaitingRelease b octets control = in-6 b octets control
+  frames-in Established b octets control = in-7 b octets control
+  frames-in TimerRecovery b octets control = in-8 b octets control
+
+  frames : (b : Bool) (octets : List ℕ) (control : Control) → Leads (Few n) (Machine.frame_step t b octets control) (Few (n + cond {A = ℕ} (is_poll b control) 1 0))
+  frames b octets control = record { leads = λ c h. (frames-in c.link.state b octets control).leads c h }
+
+  malformed : (e : ErrorCode) (here : State) → Leads (Few n) (Machine.malformed_in here t e) (Few n)
+  malformed e TeiAssigned = search rows
+  malformed e AwaitingEstablishment = search rows
+  malformed e AwaitingRelease = search rows
+  malformed e Established = failed_few t n _
+  malformed e TimerRecovery = failed_few t n _
+
+  expiries : (here : State) (timer : LinkTimer) → Leads (Few n) (Machine.expired_in here timer t) (Few n)
+  expiries TeiAssigned timer = nothing_leads
+  expiries AwaitingEstablishment T200 = search rows depth 12 fits 4000
+  expiries AwaitingEstablishment T203 = nothing_leads
+  expiries AwaitingRelease T200 = search rows depth 12 fits 4000
+  expiries AwaitingRelease T203 = nothing_leads
+  expiries Established timer = search rows depth 12 fits 4000
+  expiries TimerRecovery T200 = search rows depth 12 fits 4000
+  expiries TimerRecovery T203 = nothing_leads
+
+  releases : (here : State) → Leads (Few n) (Requests.release_in here t) (Few n)
+  releases TeiAssigned = search rows
+  releases AwaitingEstablishment = search rows
+  releases AwaitingRelease = search rows
+  releases Established = search rows depth 12 fits 4000
+  releases TimerRecovery = search rows depth 12 fits 4000
+
+  establishes : Leads (Few n) (establish_in_4 t) (Few n)
+  establishes = search rows depth 12 fits 4000
+
+  sets-busy : Leads (Few n) (MultipleFrame.set_busy_in_7_8 t) (Few n)
+  sets-busy = search rows depth 12 fits 4000
+
+  clears-busy : Leads (Few n) (MultipleFrame.clear_busy_in_7_8 t) (Few n)
+  clears-busy = search rows depth 12 fits 4000
+
+  grants : (request : Request) (c : Course) → Few n c → Few n (Requests.granted t request c)
+  grants Establish c h = establishes.leads c h
+  grants Release c h = (releases c.link.state).leads c h
+  grants (Data octets) c h = record { few = h.few }
+  grants SetBusy c h = sets-busy.leads c h
+  grants ClearBusy c h = clears-busy.leads c h
+
+  asked : (request : Request) (c : Course) (o : Option Refusal) → Few n c → Few n (elim o [ None ↦ Requests.granted t request c | Some _ ↦ c ])
+  asked request c None h = grants request c h
+  asked request c (Some w) h = h
+
+  chosen : (b : Bool) (u v : Course) → Few n u → Few n v → Few n (cond b u v)
+  chosen true u v x y = x
+  chosen false u v x y = y
+
+  offers : (ws : List ControlFrame) (c : Course) → finals ws ≤ n → Few n c → Few n (Offers.offer_among t ws c)
+  offers (f ∷ fs) c few h = record { few = let e : finals (f ∷ fs) ≡ cond {A = ℕ} (is_final_response f) 1 0 + finals fs = sum_by-cons (λ g. cond {A = ℕ} (is_final_response g) 1 0) f fs in omega (arith, few) }
+  offers [] c few h =
+      chosen (Offers.may_send_information t c.link) _ _
+      (chosen (Offers.is_awaiting_acknowledgement (Offers.with_one_sent c.link)) _ _ (record { few = h.few }) (record { few = h.few }))
+      (chosen c.link.pending _ _ (record { few = h.few }) h)
+
+none-left : (n : ℕ) (c : Course) → Few n c → finals c.link.waiting ≤ n + 0
+none-left n c h = omega (arith, h.few)
+
+pub event-finals : (t : Terms) (l : Link) (e : Event) → finals (Machine.after t e l).waiting ≤ finals l.waiting + polls e
+event-finals t l (received (frame f)) = ((frames t (finals l.waiting) f.address.command f.info f.control).leads (begun l) (record { few = omega arith })).few
+event-finals t l (received undefined) = none-left _ _ ((malformed t (finals l.waiting) _ l.state).leads (begun l) (record { few = omega arith }))
+event-finals t l (received wrong_size) = none-left _ _ ((malformed t (finals l.waiting) _ l.state).leads (begun l) (record { few = omega arith }))
+event-finals t l (received overlong) = none-left _ _ ((malformed t (finals l.waiting) _ l.state).leads (begun l) (record { few = omega arith }))
+event-finals t l (expired timer) =
+    none-left _ _ (chosen t (finals l.waiting) (Machine.is_running timer l) _ _ ((expiries t (finals l.waiting) l.state timer).leads (begun l) (record { few = omega arith })) (record { few = omega arith }))
+event-finals t l (requested request full) = none-left _ _ (asked t (finals l.waiting) request (begun l) (Requests.refusal t l full request) (record { few = omega arith }))
+event-finals t l offer = none-left _ _ (offers t (finals l.waiting) l.waiting (begun l) (omega arith) (record { few = omega arith }))
+event-finals t l cleared = none-left _ (Machine.course t cleared l) (cleared-few l.state)
+  where
+    cleared-few : (here : State) → Few (finals l.waiting) (Words.begin_anew (Machine.told_of_clearing here t (begun l)))
+    cleared-few here = record { few = omega arith }

@@ -1,0 +1,184 @@
+-- How many responses with F=1 wait: each word but the answers leaves their number.
+use Rattle.std.proofs.Common.{◌≡◌, ℕ, ◌+◌, ◌≤◌, Bool, true, false, cond, List, [], ◌∷◌, ◌++◌, Option, None, Some, refl, subst, arith}
+use Rattle.std.proofs.lemmas.List.Sums.{sum_by_push}
+use Rattle.lapd_seq.specs.declared.numbers.Seq.{Seq}
+use Rattle.lapd_seq.specs.Numbers.{seq}
+use Rattle.lapd_seq.specs.Circle.{named}
+use Rattle.lapd_frame.specs.declared.controls.Control.{Control}
+use Rattle.lapd_frame.specs.declared.controls.Control.TheVariants.{ReceiveReady, ReceiveNotReady, Reject, Ua, Dm}
+use Rattle.lapd_frame.specs.declared.notes.Note.{Note}
+use Rattle.lapd_frame.specs.declared.notes.ErrorCode.TheVariants as code
+use Rattle.model_link.specs.declared.states.State.{State}
+use Rattle.model_link.specs.declared.timers.LinkTimer.{LinkTimer}
+use Rattle.model_link.specs.declared.frames.ControlFrame.{ControlFrame}
+use Rattle.model_link.specs.declared.terms.Terms.{Terms}
+use Rattle.model_link.specs.Link.{Link}
+use Rattle.model_link.specs.Steps.{Course, Step, ◌then◌, nothing, by_bit}
+use Rattle.model_link.specs.Words
+use Rattle.model_link.proofs.Leads.{Leads, then_leads, keeping_then, nothing_leads, depending_leads, bit_leads, to_less}
+use Rattle.laws_link.specs.two.Polls.{finals, is_final_response}
+
+-- At most n of them wait.
+pub record Few (n : ℕ) (c : Course) : Type 0 where
+  pub few : finals c.link.waiting ≤ n
+
+pushed : (b : Bool) (n : ℕ) (ws : List ControlFrame) (f : ControlFrame) → finals ws ≤ n
+    → finals (cond b (ws ++ f ∷ []) ws) ≤ n + cond {A = ℕ} (is_final_response f) 1 0
+pushed true n ws f h = let e : finals (ws ++ f ∷ []) ≡ finals ws + cond {A = ℕ} (is_final_response f) 1 0 = sum_by_push (λ f. cond {A = ℕ} (is_final_response f) 1 0) ws f in omega (arith, h)
+pushed false n ws f h = omega (arith, h)
+
+-- one that may be such a response
+pub sends : (t : Terms) (n : ℕ) (f : Link → ControlFrame) (b : Bool) → ((l : Link) → is_final_response (f l) ≡ b)
+    → Leads (Few n) (λ c. Words.send t (f c.link) c) (Few (n + cond {A = ℕ} b 1 0))
+sends t n f b e =
+    record {
+      leads = λ c h. record {
+        few = subst (λ b. finals (cond (Words.has_room t c.link) (c.link.waiting ++ f c.link ∷ []) c.link.waiting) ≤ n + cond {A = ℕ} b 1 0) (e c.link) (pushed (Words.has_room t c.link) n c.link.waiting (f c.link) h.few);
+      };
+    }
+
+ready-response : (b f : Bool) (x y : Seq) → is_final_response (Words.response (cond b (ReceiveNotReady x f) (ReceiveReady y f))) ≡ f
+ready-response true true x y = refl
+ready-response true false x y = refl
+ready-response false true x y = refl
+ready-response false false x y = refl
+
+same-bit : (f : Bool) → is_final_response (Words.response (Ua f)) ≡ f
+same-bit true = refl
+same-bit false = refl
+
+same-bit-dm : (f : Bool) → is_final_response (Words.response (Dm f)) ≡ f
+same-bit-dm true = refl
+same-bit-dm false = refl
+
+same-bit-rej : (f : Bool) (nr : Seq) → is_final_response (Words.response (Reject nr f)) ≡ f
+same-bit-rej true nr = refl
+same-bit-rej false nr = refl
+
+no-more : (n : ℕ) (c : Course) → Few (n + 0) c → Few n c
+no-more n c h = record { few = omega (arith, h.few) }
+
+-- commands, and responses with F=0
+pub command_few : (t : Terms) (n : ℕ) (control : Control) → Leads (Few n) (Words.send t (Words.command control)) (Few n)
+command_few t n control = to_less (no-more n) (sends t n (λ l. Words.command control) false (λ l. refl))
+
+module _ (n : ℕ) where
+  pub note_few : (x : Note) → Leads (Few n) (Words.note x) (Few n)
+  note_few x = record { leads = λ c h. record { few = h.few } }
+
+  pub deliver_few : (t : Terms) (octets : List ℕ) → Leads (Few n) (Words.deliver t octets) (Few n)
+  deliver_few t octets = record { leads = λ c h. record { few = h.few } }
+
+  pub deliver_unit_few : (t : Terms) (octets : List ℕ) → Leads (Few n) (Words.deliver_unit t octets) (Few n)
+  deliver_unit_few t octets = record { leads = λ c h. record { few = h.few } }
+
+  pub refuse_few : Leads (Few n) Words.leave_unserved (Few n)
+  refuse_few = record { leads = λ c h. record { few = h.few } }
+
+  pub peer_busy_few : (b : Bool) → Leads (Few n) (Words.peer_busy_is b) (Few n)
+  peer_busy_few b = record { leads = λ c h. record { few = h.few } }
+
+  pub own_busy_few : (b : Bool) → Leads (Few n) (Words.own_busy_is b) (Few n)
+  own_busy_few b = record { leads = λ c h. record { few = h.few } }
+
+  pub rejecting_few : (b : Bool) → Leads (Few n) (Words.rejecting_is b) (Few n)
+  rejecting_few b = record { leads = λ c h. record { few = h.few } }
+
+  pub pending_few : (b : Bool) → Leads (Few n) (Words.pending_is b) (Few n)
+  pending_few b = record { leads = λ c h. record { few = h.few } }
+
+  pub asked_few : (b : Bool) → Leads (Few n) (Words.asked_is b) (Few n)
+  asked_few b = record { leads = λ c h. record { few = h.few } }
+
+  pub repeats_few : (m : ℕ) → Leads (Few n) (Words.repeats_are m) (Few n)
+  repeats_few m = record { leads = λ c h. record { few = h.few } }
+
+  pub repeated_few : Leads (Few n) Words.repeated (Few n)
+  repeated_few = record { leads = λ c h. record { few = h.few } }
+
+  pub enter_few : (state : State) → Leads (Few n) (Words.enter state) (Few n)
+  enter_few state = record { leads = λ c h. record { few = h.few } }
+
+  pub flags_few : Leads (Few n) Words.clear_flags (Few n)
+  flags_few = record { leads = λ c h. record { few = h.few } }
+
+  pub start_few : (timer : LinkTimer) → Leads (Few n) (Words.start timer) (Few n)
+  start_few timer = record { leads = λ c h. record { few = h.few } }
+
+  pub no_timer_few : Leads (Few n) Words.no_timer (Few n)
+  no_timer_few = record { leads = λ c h. record { few = h.few } }
+
+  pub zero_few : Leads (Few n) Words.zero_numbers (Few n)
+  zero_few = record { leads = λ c h. record { few = h.few } }
+
+  pub count_few : Leads (Few n) Words.count_received (Few n)
+  count_few = record { leads = λ c h. record { few = h.few } }
+
+  pub discard_few : Leads (Few n) Words.discard (Few n)
+  discard_few = record { leads = λ c h. record { few = h.few } }
+
+  pub acknowledge_few : (m : ℕ) → Leads (Few n) (Words.acknowledge m) (Few n)
+  acknowledge_few m = record { leads = λ c h. record { few = h.few } }
+
+  pub send_again_few : (m : ℕ) → Leads (Few n) (Words.send_again_from m) (Few n)
+  send_again_few m = record { leads = λ c h. record { few = h.few } }
+
+  pub enquire_few : (t : Terms) → Leads (Few n) (Words.enquire t) (Few n)
+  enquire_few t = then_leads (to_less (no-more n) (sends t n (λ l. Words.command (Words.ready_to_receive true l)) false (λ l. refl))) (pending_few false)
+
+  pub report_few : (t : Terms) → Leads (Few n) (Words.report_ready t) (Few n)
+  report_few t =
+      then_leads (to_less (no-more n) (sends t n (λ l. Words.response (Words.ready_to_receive false l)) false (λ l. ready-response l.own_busy false (seq l.r) (seq l.r)))) (pending_few false)
+
+-- the answers
+pub ua_few : (t : Terms) (n : ℕ) (p : Bool) → Leads (Few n) (Words.send t (Words.response (Ua p))) (Few (n + cond {A = ℕ} p 1 0))
+ua_few t n p = sends t n (λ l. Words.response (Ua p)) p (λ l. same-bit p)
+
+pub dm_few : (t : Terms) (n : ℕ) (p : Bool) → Leads (Few n) (Words.send t (Words.response (Dm p))) (Few (n + cond {A = ℕ} p 1 0))
+dm_few t n p = sends t n (λ l. Words.response (Dm p)) p (λ l. same-bit-dm p)
+
+pub reject_few : (t : Terms) (n : ℕ) (p : Bool) → Leads (Few n) (Words.reject t p) (Few (n + cond {A = ℕ} p 1 0))
+reject_few t n p = then_leads (sends t n (λ l. Words.response (Reject (seq l.r) p)) p (λ l. same-bit-rej p (seq l.r))) (pending_few (n + cond {A = ℕ} p 1 0) false)
+
+pub answer_few : (t : Terms) (n : ℕ) → Leads (Few n) (Words.answer t) (Few (n + 1))
+answer_few t n = then_leads (sends t n (λ l. Words.response (Words.ready_to_receive true l)) true (λ l. ready-response l.own_busy true (seq l.r) (seq l.r))) (pending_few (n + 1) false)
+
+-- an answer where the bit is 1, else another step
+pub answer-by : (t : Terms) (n : ℕ) (p : Bool) {g : Step} → Leads (Few n) g (Few n) → Leads (Few n) (by_bit p (Words.answer t) g) (Few (n + cond {A = ℕ} p 1 0))
+answer-by t n true {g} x = record { leads = λ c h. (answer_few t n).leads c h }
+answer-by t n false {g} x = record { leads = λ c h. record { few = omega (arith, (x.leads c h).few) } }
+
+-- more may wait
+pub weaker : (n : ℕ) (b : Bool) {f : Step} → Leads (Few n) f (Few n) → Leads (Few n) f (Few (n + cond {A = ℕ} b 1 0))
+weaker n true x = to_less (λ c h. record { few = omega (arith, h.few) }) x
+weaker n false x = to_less (λ c h. record { few = omega (arith, h.few) }) x
+
+pub ruleset words = (keeping_then, nothing_leads, depending_leads, bit_leads, command_few, note_few, deliver_few, deliver_unit_few, refuse_few, peer_busy_few, own_busy_few, rejecting_few, pending_few, asked_few, repeats_few, repeated_few, enter_few, flags_few, start_few, no_timer_few, zero_few, count_few, discard_few, acknowledge_few, send_again_few, enquire_few, report_few)
+
+by-number : (t : Terms) (n : ℕ) (nr : Seq) (f : ℕ → Step) → Leads (Few n) (Words.error t code.J then Words.re_establish t) (Few n)
+    → ((m : ℕ) → Leads (Few n) (f m) (Few n)) → (c : Course) → Few n c → (o : Option ℕ)
+    → Few n (elim o [ None ↦ (Words.error t code.J then Words.re_establish t) c | Some m ↦ f m c ])
+by-number t n nr f w x c h None = w.leads c h
+by-number t n nr f w x c h (Some m) = (x m).leads c h
+
+pub failed_few : (t : Terms) (n : ℕ) (x : Note) → Leads (Few n) (Words.note x then Words.re_establish t) (Few n)
+failed_few t n x = search words depth 12 fits 4000
+
+pub number_few : (t : Terms) (n : ℕ) (nr : Seq) {f : ℕ → Step} → ((m : ℕ) → Leads (Few n) (f m) (Few n)) → Leads (Few n) (Words.by_number t nr f) (Few n)
+number_few t n nr {f} x = record { leads = λ c h. by-number t n nr f (failed_few t n _) x c h (named c.link.a c.link.s nr) }
+
+-- an answer, and then the rest
+pub ua_then : (t : Terms) (n : ℕ) (p : Bool) {g : Step} → Leads (Few (n + cond {A = ℕ} p 1 0)) g (Few (n + cond {A = ℕ} p 1 0))
+    → Leads (Few n) (Words.send t (Words.response (Ua p)) then g) (Few (n + cond {A = ℕ} p 1 0))
+ua_then t n p x = then_leads (ua_few t n p) x
+
+pub answered_then : (t : Terms) (n : ℕ) (p : Bool) {g : Step} → Leads (Few (n + cond {A = ℕ} p 1 0)) g (Few (n + cond {A = ℕ} p 1 0))
+    → Leads (Few n) (by_bit p (Words.answer t) nothing then g) (Few (n + cond {A = ℕ} p 1 0))
+answered_then t n p x = then_leads (answer-by t n p nothing_leads) x
+
+pub answer_by : (t : Terms) (n : ℕ) (p : Bool) {g : Step} → Leads (Few n) g (Few n) → Leads (Few n) (by_bit p (Words.answer t) g) (Few (n + cond {A = ℕ} p 1 0))
+answer_by t n p x = answer-by t n p x
+
+pub ruleset rows = (words, failed_few, number_few)
+
+pub ruleset answers = (rows, ua_then, answered_then, answer_by, reject_few)

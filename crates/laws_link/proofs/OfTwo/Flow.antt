@@ -1,0 +1,185 @@
+-- One direction between two links whose T200 is timely: the sender's V(S), the receiver's V(R), and what is between them.
+use Rattle.std.proofs.Common.{◌≡◌, ℕ, ◌+◌, ◌<◌, ◌≤◌, Bool, true, false, List, [], ◌∷◌, ◌++◌, refl, arith}
+use Rattle.lapd_seq.specs.Numbers.{seq}
+use Rattle.laws_link.proofs.OfTwo.Trains.{Kind, numbered, enquiry, answer, report, rejection, alien, tally, one_enquiry, one_answer, one_rejection, tally-push, Every, every-push, Behind, behind-push, behind-first, Calm, Comes, calm-comes, Rise, rise-lower, rise-low, rise-push, calm-rise, Beyond, calm-beyond, Late, rise-late, beyond-late, late-low, late-tail, late-push, rise-next, late-next}
+
+-- What is on the line to a receiver that has sent no REJ, and to one that has.
+abbrev pub Order : Bool → ℕ → ℕ → List Kind → Type 0
+Order true r s xs = Late r s xs
+Order false r s xs = Rise r s xs
+
+-- An N(R) of REJ, or of an answer, is V(R).
+abbrev pub RejectsAt : ℕ → Kind → Type 0
+RejectsAt r (numbered ns) = Unit {0}
+RejectsAt r enquiry = Unit {0}
+RejectsAt r (answer nr) = Unit {0}
+RejectsAt r report = Unit {0}
+RejectsAt r (rejection nr) = nr ≡ seq r
+RejectsAt r alien = Unit {0}
+
+abbrev pub AnswersAt : ℕ → Kind → Type 0
+AnswersAt r (numbered ns) = Unit {0}
+AnswersAt r enquiry = Unit {0}
+AnswersAt r (answer nr) = nr ≡ seq r
+AnswersAt r report = Unit {0}
+AnswersAt r (rejection nr) = Unit {0}
+AnswersAt r alien = Unit {0}
+
+abbrev pub IsNoRejection : Kind → Type 0
+IsNoRejection x = one_rejection x ≡ 0
+
+-- While REJ is on its way, no I-frame between the two is the next, and V(S) is beyond V(R).
+pub record Rejected (s r : ℕ) (rejects : Bool) (there back : List Kind) : Type 0 where
+  pub is : rejects ≡ true
+  pub below : r < s
+  pub beyond : Every (Beyond r) there
+  pub says : Every (RejectsAt r) back
+
+-- While an answer is on its way, there is no I-frame, and no REJ behind it.
+pub record Answered (r : ℕ) (there back : List Kind) : Type 0 where
+  pub calm : Every Calm there
+  pub says : Every (AnswersAt r) back
+  pub behind : Behind one_answer IsNoRejection back
+
+-- In state 8 one enquiry is open at most, in state 7 none.
+abbrev pub most : Bool → ℕ
+most true = 1
+most false = 0
+
+pub record Flow (s r : ℕ) (recovers rejects : Bool) (there back : List Kind) : Type 0 where
+  pub order : Order rejects r s there
+  pub one : tally one_rejection back ≤ 1
+  pub rejected : 1 ≤ tally one_rejection back → Rejected s r rejects there back
+  pub asked : tally one_enquiry there + tally one_answer back ≤ most recovers
+  pub last : 1 ≤ tally one_enquiry there → Behind one_enquiry Calm there
+  pub answered : 1 ≤ tally one_answer back → Answered r there back
+
+-- the order, whether REJ was sent or not
+order-low : (q : Bool) (r s : ℕ) (xs : List Kind) → Order q r s xs → r ≤ s
+order-low true r s xs h = late-low r s xs h
+order-low false r s xs h = rise-low r s xs h
+
+pub flow-low : (s r : ℕ) (b q : Bool) (ln lm : List Kind) → Flow s r b q ln lm → r ≤ s
+flow-low s r b q ln lm h = order-low q r s ln h.order
+
+pub order-tail : (q : Bool) (r s : ℕ) (x : Kind) (xs : List Kind) → Order q r s (x ∷ xs) → Order q r s xs
+order-tail true r s x xs h = late-tail r s x xs h
+order-tail false r s x xs (top, up, here, rest) = rise-lower top r s xs up rest
+
+order-push : (q : Bool) (r s top : ℕ) (xs : List Kind) (y : Kind) → s ≤ top → Comes s top y → Order q r s xs → Order q r top (xs ++ y ∷ [])
+order-push true r s top xs y le p h = late-push r s top xs y le p h
+order-push false r s top xs y le p h = rise-push r s top xs y le p h
+
+pub order-calm : (q : Bool) (r : ℕ) (xs : List Kind) → Every Calm xs → Order q r r xs
+order-calm true r xs h = rise-late r r xs (calm-rise r xs h)
+order-calm false r xs h = calm-rise r xs h
+
+pub order-beyond : (q : Bool) (r : ℕ) (xs : List Kind) → q ≡ true → Every (Beyond r) xs → Order q r r xs
+order-beyond true r xs e h = beyond-late r r xs (omega arith) h
+order-beyond false r xs e h = absurd (cc)
+
+pub order-next : (q : Bool) (r s : ℕ) (xs : List Kind) → Order q r s (numbered (seq r) ∷ xs) → Rise (r + 1) s xs
+order-next true r s xs h = late-next r s xs h
+order-next false r s xs h = rise-next r s xs h
+
+-- a frame that is not among those that are counted
+pub few-more : (one : Kind → ℕ) (xs : List Kind) (y : Kind) → one y ≡ 0 → tally one (xs ++ y ∷ []) ≡ tally one xs
+few-more one xs y none = let more = tally-push one xs y in omega (arith, more, none)
+
+-- The sender's side of the line grows: by a calm frame that is no enquiry,
+pub there-calm : (s r : ℕ) (b q : Bool) (ln lm : List Kind) (y : Kind) → Calm y → one_enquiry y ≡ 0 → Flow s r b q ln lm → Flow s r b q (ln ++ y ∷ []) lm
+there-calm s r b q ln lm y calm none h =
+    let same : tally one_enquiry (ln ++ y ∷ []) ≡ tally one_enquiry ln = few-more one_enquiry ln y none in
+    let asked = h.asked in
+    record {
+      order = order-push q r s s ln y (omega arith) (calm-comes s s y calm) h.order;
+      one = h.one;
+      rejected = λ some. let j = h.rejected some in record { is = j.is; below = j.below; beyond = every-push (Beyond r) ln y j.beyond (calm-beyond r y calm); says = j.says };
+      asked = omega (arith, asked);
+      last = λ some. behind-push one_enquiry Calm ln y calm (h.last (omega (arith, some)));
+      answered = λ some. let j = h.answered some in record { calm = every-push Calm ln y j.calm calm; says = j.says; behind = j.behind };
+    }
+
+-- by an enquiry, if none is open,
+pub there-enquiry : (s r : ℕ) (b q : Bool) (ln lm : List Kind) → tally one_enquiry ln ≡ 0 → tally one_answer lm ≡ 0 → Flow s r b q ln lm
+    → Flow s r true q (ln ++ enquiry ∷ []) lm
+there-enquiry s r b q ln lm none none' h =
+    let more : tally one_enquiry (ln ++ enquiry ∷ []) ≡ tally one_enquiry ln + 1 = tally-push one_enquiry ln enquiry in
+    record {
+      order = order-push q r s s ln enquiry (omega arith) tt h.order;
+      one = h.one;
+      rejected = λ some. let j = h.rejected some in record { is = j.is; below = j.below; beyond = every-push (Beyond r) ln enquiry j.beyond tt; says = j.says };
+      asked = omega (arith, none, none');
+      last = λ some. behind-first one_enquiry Calm ln enquiry none;
+      answered = λ some. absurd (omega (arith, some, none'));
+    }
+
+pub there-unasked : (s r : ℕ) (b q : Bool) (ln lm : List Kind) → tally one_enquiry ln ≡ 0 → tally one_answer lm ≡ 0 → Flow s r b q ln lm → Flow s r true q ln lm
+there-unasked s r b q ln lm none none' h =
+    record { order = h.order; one = h.one; rejected = h.rejected; asked = omega (arith, none, none'); last = h.last; answered = h.answered }
+
+-- by an I-frame in state 7.
+pub there-information : (s r : ℕ) (q : Bool) (ln lm : List Kind) → s ≤ r + 127 → Flow s r false q ln lm
+    → Flow (s + 1) r false q (ln ++ numbered (seq s) ∷ []) lm
+there-information s r q ln lm near h =
+    let same : tally one_enquiry (ln ++ numbered (seq s) ∷ []) ≡ tally one_enquiry ln = few-more one_enquiry ln (numbered (seq s)) refl in
+    let asked : tally one_enquiry ln + tally one_answer lm ≤ 0 = h.asked in
+    record {
+      order = order-push q r s (s + 1) ln (numbered (seq s)) (omega arith) (s, refl, omega arith, omega arith) h.order;
+      one = h.one;
+      rejected = λ some.
+          let j = h.rejected some in
+          let below : r < s = j.below in
+          record { is = j.is; below = omega arith; beyond = every-push (Beyond r) ln (numbered (seq s)) j.beyond (s, refl, below, near); says = j.says };
+      asked = omega arith;
+      last = λ some. absurd (omega (arith, some));
+      answered = λ some. absurd (omega (arith, some));
+    }
+
+-- Its first frame goes: lost, or heard without an effect on V(R).
+pub there-tail : (s r : ℕ) (b q : Bool) (x : Kind) (ln lm : List Kind) → Flow s r b q (x ∷ ln) lm → Flow s r b q ln lm
+there-tail s r b q x ln lm h =
+    let asked : (one_enquiry x + tally one_enquiry ln) + tally one_answer lm ≤ most b = h.asked in
+    record {
+      order = order-tail q r s x ln h.order;
+      one = h.one;
+      rejected = λ some. let j = h.rejected some in record { is = j.is; below = j.below; beyond = j.beyond.1; says = j.says };
+      asked = omega arith;
+      last = λ some. (h.last (omega (arith, some))).1;
+      answered = λ some. let j = h.answered some in record { calm = j.calm.1; says = j.says; behind = j.behind };
+    }
+
+-- The receiver's side grows: by a frame that is neither an answer nor REJ,
+pub back-other : (s r : ℕ) (b q : Bool) (ln lm : List Kind) (y : Kind) → one_answer y ≡ 0 → one_rejection y ≡ 0 → RejectsAt r y → AnswersAt r y
+    → Flow s r b q ln lm → Flow s r b q ln (lm ++ y ∷ [])
+back-other s r b q ln lm y none none' says says' h =
+    let same : tally one_answer (lm ++ y ∷ []) ≡ tally one_answer lm = few-more one_answer lm y none in
+    let same' : tally one_rejection (lm ++ y ∷ []) ≡ tally one_rejection lm = few-more one_rejection lm y none' in
+    let one = h.one in
+    let asked = h.asked in
+    record {
+      order = h.order;
+      one = omega (arith, one);
+      rejected = λ some.
+          let j = h.rejected (omega (arith, some)) in
+          record { is = j.is; below = j.below; beyond = j.beyond; says = every-push (RejectsAt r) lm y j.says says };
+      asked = omega (arith, asked);
+      last = h.last;
+      answered = λ some.
+          let j = h.answered (omega (arith, some)) in
+          record { calm = j.calm; says = every-push (AnswersAt r) lm y j.says says'; behind = behind-push one_answer IsNoRejection lm y none' j.behind };
+    }
+
+-- and its first frame goes.
+pub back-tail : (s r : ℕ) (b q : Bool) (x : Kind) (ln lm : List Kind) → Flow s r b q ln (x ∷ lm) → Flow s r b q ln lm
+back-tail s r b q x ln lm h =
+    let one : one_rejection x + tally one_rejection lm ≤ 1 = h.one in
+    let asked : tally one_enquiry ln + (one_answer x + tally one_answer lm) ≤ most b = h.asked in
+    record {
+      order = h.order;
+      one = omega arith;
+      rejected = λ some. let j = h.rejected (omega (arith, some)) in record { is = j.is; below = j.below; beyond = j.beyond; says = j.says.1 };
+      asked = omega arith;
+      last = h.last;
+      answered = λ some. let j = h.answered (omega (arith, some)) in record { calm = j.calm; says = j.says.1; behind = j.behind.1 };
+    }

@@ -1,0 +1,159 @@
+-- The first I-frame out of sequence is answered by REJ, and a delivery ends the wait for what REJ asked for.
+use Rattle.std.proofs.Common.{◌≡◌, ℕ, ◌+◌, ◌≤◌, Bool, true, false, cond, IsTrue, List, [], ◌∷◌, ◌++◌, length, Option, None, Some, refl, sym, ap, subst, ◌∙◌, ◌⊎◌, inl, inr, true≢false, arith}
+use Rattle.std.specs.Prelude.{nat_lt}
+use Rattle.std.proofs.lemmas.Bool.{lt-ltb, le-ltb}
+use Rattle.std.proofs.lemmas.Option.{none-some}
+use Rattle.lapd_seq.specs.declared.numbers.Seq.{Seq}
+use Rattle.lapd_seq.specs.Numbers.{seq}
+use Rattle.lapd_seq.specs.Circle.{named}
+use Rattle.lapd_frame.specs.declared.addresses.Address.{Address}
+use Rattle.lapd_frame.specs.declared.controls.Control.{Control}
+use Rattle.lapd_frame.specs.declared.controls.Control.TheVariants.{Information, ReceiveReady, ReceiveNotReady, Reject, Sabme, Disc, Ui, Ua, Dm, Frmr, Xid}
+use Rattle.lapd_frame.specs.declared.notes.ErrorCode.TheVariants as code
+use Rattle.model_link.specs.declared.states.State.{State}
+use Rattle.model_link.specs.declared.states.State.TheVariants.{TeiAssigned, AwaitingEstablishment, AwaitingRelease, Established, TimerRecovery}
+use Rattle.model_link.specs.declared.timers.LinkTimer.{LinkTimer}
+use Rattle.model_link.specs.declared.frames.ControlFrame.{ControlFrame}
+use Rattle.model_link.specs.declared.terms.Terms.{Terms}
+use Rattle.model_link.specs.Link.{Link, is_multiple_frame}
+use Rattle.model_link.specs.Deliveries.{Arrived, information_of, eligible, eligible_of}
+use Rattle.model_link.specs.Events
+use Rattle.model_link.specs.Steps.{Course, begun, Step, ◌then◌, by_bit}
+use Rattle.model_link.specs.Words
+use Rattle.model_link.specs.MultipleFrame
+use Rattle.model_link.specs.Established
+use Rattle.model_link.specs.Machine
+use Rattle.model_link.proofs.Leads.{Leads, keeping_then, nothing_leads, depending_leads}
+use Rattle.model_link.proofs.Numbering.{delivered-at_once}
+use Rattle.laws_link.specs.two.Polls.{IsValidAt}
+use Rattle.laws_link.specs.two.Gaps.{i_frame, IsFirstGap}
+use Rattle.laws_link.proofs.OfTwo.Answering.{Waits, information_7_waits, acknowledge_waits}
+
+-- the third branch
+third : (a b c : Bool) (u v w x : Course) → a ≡ false → b ≡ false → c ≡ false → cond a u (cond b v (cond c w x)) ≡ x
+third a b c u v w x e f g = rw e (rw f (rw g refl))
+
+module _ (t : Terms) (l : Link) (room : length l.waiting + 1 ≤ t.control) where
+  -- what waits once REJ does
+  rejection : Bool → List ControlFrame
+  rejection p = l.waiting ++ Words.response (Reject (seq l.r) p) ∷ []
+
+  abbrev rejected : Bool → Course
+  rejected p = (Words.rejecting_is true then Words.reject t p) (begun l)
+
+  put : (p : Bool) → (rejected p).link.waiting ≡ rejection p
+  unfolding rejection
+  put p = ap (λ b. cond b (l.waiting ++ Words.response (Reject (seq l.r) p) ∷ []) l.waiting) (lt-ltb (length l.waiting) t.control (omega (arith, room)))
+
+  contents : (ns nr : Seq) (p : Bool) (octets : List ℕ) → IsFirstGap t l ns nr octets
+      → MultipleFrame.contents_in_7_8 t ns p octets (begun l) ≡ rejected p
+  contents ns nr p octets h = third l.own_busy (MultipleFrame.is_next ns l) l.rejecting _ _ _ _ h.free h.gap h.first
+
+  -- the effect of what an N(R) names
+  abbrev effect : (ℕ → Step) → Course → Option ℕ → Course
+  effect f c o = elim o [ None ↦ (Words.error t code.J then Words.re_establish t) c | Some n ↦ f n c ]
+
+  numbered : (nr : Seq) (p : Bool) (f : ℕ → Step) → ((ws : List ControlFrame) (r n : ℕ) → Leads (Waits ws r) (f n) (Waits ws r)) → IsValidAt l nr
+      → (Words.by_number t nr f (rejected p)).link.waiting ≡ rejection p
+  numbered nr p f x (n, valid) =
+      subst (λ o. (effect f (rejected p) o).link.waiting ≡ rejection p) (sym valid)
+      (((x (rejection p) l.r n).leads (rejected p) (record { waits = put p; number = refl })).waits)
+
+  information : (ns nr : Seq) (p : Bool) (octets : List ℕ) (f : ℕ → Step) → ((ws : List ControlFrame) (r n : ℕ) → Leads (Waits ws r) (f n) (Waits ws r))
+      → IsFirstGap t l ns nr octets → (MultipleFrame.information_in_7_8 t ns nr p octets f (begun l)).link.waiting ≡ rejection p
+  information ns nr p octets f x h =
+      subst (λ b. (cond b (MultipleFrame.failed t code.O (begun l)) ((MultipleFrame.contents_in_7_8 t ns p octets then Words.by_number t nr f) (begun l))).link.waiting ≡ rejection p)
+      (sym (le-ltb t.n201 (length octets) h.size))
+      (subst (λ c. (Words.by_number t nr f c).link.waiting ≡ rejection p) (sym (contents ns nr p octets h)) (numbered nr p f x h.valid))
+
+  in-state : (here : State) → IsTrue (is_multiple_frame here) → (command : Bool) (ns nr : Seq) (p : Bool) (octets : List ℕ) → IsFirstGap t l ns nr octets
+      → (Machine.frame_in here t command octets (Information ns nr p) (begun l)).link.waiting ≡ rejection p
+  in-state TeiAssigned up command ns nr p octets h = absurd (true≢false (sym up))
+  in-state AwaitingEstablishment up command ns nr p octets h = absurd (true≢false (sym up))
+  in-state AwaitingRelease up command ns nr p octets h = absurd (true≢false (sym up))
+  in-state Established up command ns nr p octets h = information ns nr p octets Established.acknowledged_by_information_in_7 information_7_waits h
+  in-state TimerRecovery up command ns nr p octets h = information ns nr p octets Words.acknowledge acknowledge_waits h
+
+  pub gap-rejected : (address : Address) (ns nr : Seq) (p : Bool) (octets : List ℕ) → IsFirstGap t l ns nr octets
+      → (Machine.after t (Events.received (Events.frame (i_frame address ns nr p octets))) l).waiting ≡ l.waiting ++ Words.response (Reject (seq l.r) p) ∷ []
+  unfolding rejection
+  gap-rejected address ns nr p octets h = in-state l.state h.up address.command ns nr p octets h
+
+-- Nothing is delivered, or REJ is answered.
+abbrev Ended : Course → Type 0
+Ended c = (c.delivered ≡ None) ⊎ (c.link.rejecting ≡ false)
+
+-- what a valid N(R) does leaves it
+acknowledge_ends : (n : ℕ) → Leads Ended (Words.acknowledge n) Ended
+acknowledge_ends n = record { leads = λ c h. h }
+
+start_ends : (timer : LinkTimer) → Leads Ended (Words.start timer) Ended
+start_ends timer = record { leads = λ c h. h }
+
+in_7_ends : (n : ℕ) → Leads Ended (Established.acknowledged_by_information_in_7 n) Ended
+in_7_ends n = search (keeping_then, nothing_leads, depending_leads, acknowledge_ends, start_ends) depth 12 fits 4000
+
+module _ (t : Terms) (l : Link) where
+  branch : (b : Bool) (u v : Course) → Ended u → Ended v → Ended (cond b u v)
+  branch true u v x y = x
+  branch false u v x y = y
+
+  delivering : (ns : Seq) (p : Bool) (octets : List ℕ) → Ended (MultipleFrame.contents_in_7_8 t ns p octets (begun l))
+  delivering ns p octets =
+      branch l.own_busy _ _ (branch p _ _ (inl refl) (inl refl))
+      (branch (MultipleFrame.is_next ns l) _ _ (branch p _ _ (inr refl) (inr refl))
+      (branch l.rejecting _ _ (branch p _ _ (inl refl) (inl refl)) (inl refl)))
+
+  by-number : (f : ℕ → Step) → ((n : ℕ) → Leads Ended (f n) Ended) → (c : Course) → Ended c → (o : Option ℕ)
+      → Ended (elim o [ None ↦ (Words.error t code.J then Words.re_establish t) c | Some n ↦ f n c ])
+  by-number f x c h None = inr refl
+  by-number f x c h (Some n) = (x n).leads c h
+
+  row : (ns nr : Seq) (p : Bool) (octets : List ℕ) (f : ℕ → Step) → ((n : ℕ) → Leads Ended (f n) Ended) → (b : Bool)
+      → Ended (by_bit b (MultipleFrame.failed t code.O) (MultipleFrame.contents_in_7_8 t ns p octets then Words.by_number t nr f) (begun l))
+  row ns nr p octets f x true = inl refl
+  row ns nr p octets f x false =
+      let c = MultipleFrame.contents_in_7_8 t ns p octets (begun l) in
+      by-number f x c (delivering ns p octets) (named c.link.a c.link.s nr)
+
+  by-state : (here : State) (command : Bool) (ns nr : Seq) (p : Bool) (octets : List ℕ)
+      → Ended (Machine.frame_in here t command octets (Information ns nr p) (begun l))
+  by-state TeiAssigned command ns nr p octets = inl refl
+  by-state AwaitingEstablishment command ns nr p octets = inl refl
+  by-state AwaitingRelease command ns nr p octets = inl refl
+  by-state Established command ns nr p octets = row ns nr p octets Established.acknowledged_by_information_in_7 in_7_ends (nat_lt t.n201 (length octets))
+  by-state TimerRecovery command ns nr p octets = row ns nr p octets Words.acknowledge acknowledge_ends (nat_lt t.n201 (length octets))
+
+  -- only an I-frame is eligible
+  by-frame : (command : Bool) (octets : List ℕ) (control : Control) (i : Arrived) → eligible_of t l (information_of control octets) ≡ Some i
+      → Ended (Machine.frame_step t command octets control (begun l))
+  by-frame command octets (Information ns nr p) i e = by-state l.state command ns nr p octets
+  by-frame command octets (ReceiveReady nr pf) i e = absurd (none-some i e)
+  by-frame command octets (ReceiveNotReady nr pf) i e = absurd (none-some i e)
+  by-frame command octets (Reject nr pf) i e = absurd (none-some i e)
+  by-frame command octets (Sabme p) i e = absurd (none-some i e)
+  by-frame command octets (Disc p) i e = absurd (none-some i e)
+  by-frame command octets (Ui p) i e = absurd (none-some i e)
+  by-frame command octets (Ua f) i e = absurd (none-some i e)
+  by-frame command octets (Dm f) i e = absurd (none-some i e)
+  by-frame command octets (Frmr f) i e = absurd (none-some i e)
+  by-frame command octets (Xid pf) i e = absurd (none-some i e)
+
+  by-event : (e : Events.Event) (i : Arrived) → eligible t e l ≡ Some i → Ended (Machine.course t e l)
+  by-event (Events.received (Events.frame f)) i e = by-frame f.address.command f.info f.control i e
+  by-event (Events.received Events.undefined) i e = absurd (none-some i e)
+  by-event (Events.received Events.wrong_size) i e = absurd (none-some i e)
+  by-event (Events.received Events.overlong) i e = absurd (none-some i e)
+  by-event (Events.expired timer) i e = absurd (none-some i e)
+  by-event (Events.requested request full) i e = absurd (none-some i e)
+  by-event Events.offer i e = absurd (none-some i e)
+  by-event Events.cleared i e = absurd (none-some i e)
+
+  after-delivery : (c : Course) (octets : List ℕ) → c.delivered ≡ Some octets → Ended c → c.link.rejecting ≡ false
+  after-delivery c octets d (inl none) = absurd (none-some octets (sym none ∙ d))
+  after-delivery c octets d (inr e) = e
+
+  pub told-again : (e : Events.Event) (octets : List ℕ) → (Machine.told t e l).delivered ≡ Some octets → (Machine.after t e l).rejecting ≡ false
+  told-again e octets d =
+      let x = delivered-at_once t e l octets d in
+      after-delivery (Machine.course t e l) octets d (by-event e x.0 x.1)

@@ -1,0 +1,25 @@
+-- A link that meets what the law of a gap asks, and the REJ that the law gives.
+use Rattle.std.proofs.Common.{◌≡◌, ◌+◌, ◌≤◌, false, [], ◌∷◌, ◌++◌, length, refl, arith}
+use Rattle.lapd_seq.specs.Numbers.{seq}
+use Rattle.lapd_seq.specs.Circle.{distance_of, named}
+use Rattle.lapd_frame.specs.declared.addresses.Address.{Address}
+use Rattle.lapd_frame.specs.declared.controls.Control.TheVariants.{Reject}
+use Rattle.lapd_frame.specs.Reading.{supervisory_of, unnumbered_of, control_of, header_of, reading}
+use Rattle.model_link.specs.Events.{frame, received}
+use Rattle.model_link.specs.Machine.{after, after_all}
+use Rattle.model_link.specs.Words.{response}
+use Rattle.laws_link.specs.Samples.{usual, up}
+use Rattle.laws_link.specs.two.Gaps.{i_frame, IsFirstGap}
+use Rattle.laws_link.proofs.OfTwo.Gapping.{gap-rejected}
+
+-- I-frame 1 comes, with N(R) = 0, to a link in state 7 that awaits number 0
+first-gap : IsFirstGap usual up (seq 1) (seq 0) (0x41 ∷ [])
+unfolding seq distance_of named reading header_of control_of unnumbered_of supervisory_of after_all
+first-gap = record { up = refl; free = refl; first = refl; gap = refl; valid = (0, refl); size = omega arith }
+
+room : length up.waiting + 1 ≤ usual.control
+unfolding seq distance_of named reading header_of control_of unnumbered_of supervisory_of after_all
+room = omega arith
+
+pub is-rejected : (address : Address) → (after usual (received (frame (i_frame address (seq 1) (seq 0) false (0x41 ∷ [])))) up).waiting ≡ up.waiting ++ response (Reject (seq up.r) false) ∷ []
+is-rejected address = gap-rejected usual up room address (seq 1) (seq 0) false (0x41 ∷ []) first-gap

@@ -1,0 +1,216 @@
+-- What requests, expiries and offers do to a link that stays in states 7 and 8, and to what is on its line.
+use Rattle.std.proofs.Common.{◌≡◌, ◌+◌, ◌-◌, Bool, true, false, cond, not, ◌&&◌, IsTrue, List, [], ◌∷◌, ◌++◌, Option, None, Some, refl, sym, ap, subst, ◌∙◌, append_assoc, append-nil, ◌⊎◌, inl, inr, true≢false}
+use Rattle.std.specs.Prelude.{nat_lt, length, slice_get, unwrap_or}
+use Rattle.std.proofs.lemmas.Bool.{and_parts}
+use Rattle.lapd_seq.specs.Numbers.{seq}
+use Rattle.lapd_frame.specs.declared.controls.Control.TheVariants.{ReceiveReady, ReceiveNotReady}
+use Rattle.lapd_frame.specs.declared.notes.ErrorCode.TheVariants as code
+use Rattle.lapd_frame.specs.declared.refusals.Refusal.{Refusal}
+use Rattle.lapd_frame.specs.declared.refusals.Refusal.TheVariants.{WrongState}
+use Rattle.lapd_frame.specs.Grammar.{Parts}
+use Rattle.model_link.specs.declared.states.State.{State}
+use Rattle.model_link.specs.declared.states.State.TheVariants.{TeiAssigned, AwaitingEstablishment, AwaitingRelease, Established, TimerRecovery}
+use Rattle.model_link.specs.declared.timers.LinkTimer.{LinkTimer}
+use Rattle.model_link.specs.declared.timers.LinkTimer.TheVariants.{T200, T203}
+use Rattle.model_link.specs.declared.frames.ControlFrame.{ControlFrame}
+use Rattle.model_link.specs.declared.terms.Terms.{Terms}
+use Rattle.model_link.specs.Link.{Link, is_multiple_frame, frame_of, may_repeat}
+use Rattle.model_link.specs.Events.{Request, Establish, Release, Data, SetBusy, ClearBusy, expired, requested, offer}
+use Rattle.model_link.specs.Steps.{Course, begun}
+use Rattle.model_link.specs.Words
+use Rattle.model_link.specs.MultipleFrame
+use Rattle.model_link.specs.Requests
+use Rattle.model_link.specs.Offers
+use Rattle.model_link.specs.Machine
+use Rattle.model_link.specs.TwoEnds.{frame_given}
+use Rattle.model_link.proofs.Direction.{frames_of}
+use Rattle.laws_link.specs.two.Ahead.{IsMildRequest}
+use Rattle.laws_link.proofs.OfTwo.Staying.{refused}
+use Rattle.laws_link.proofs.OfTwo.Trains.{Kind, numbered, enquiry, report, kind_of, kinds_of, kinds-append}
+use Rattle.laws_link.proofs.OfTwo.Effects.{Grown, grows, Kept, Went, unchanged}
+use Rattle.laws_link.proofs.OfTwo.Meeting.{line}
+
+abbrev IsUpIn : Course → Type 0
+IsUpIn c = IsTrue (is_multiple_frame c.link.state)
+
+abbrev pub WentIn : Kind → Link → Course → Type 0
+WentIn k l c = Went k l c.link
+
+-- An enquiry waits, if there was room, and the state is 8.
+pub record Asked (l l' : Link) : Type 0 where
+  pub state : l'.state ≡ TimerRecovery
+  pub s : l'.s ≡ l.s
+  pub r : l'.r ≡ l.r
+  pub rejecting : l'.rejecting ≡ l.rejecting
+  pub waiting : Grown l.waiting l'.waiting enquiry
+
+-- What an offer gives, as the line sees it: no frame more, a report, or the next I-frame.
+abbrev pub Gives : Terms → Link → Course → Type 0
+Gives t l c =
+    ((c.link.s ≡ l.s) × ((way : List Parts) → kinds_of ((way ++ frame_given t (Machine.given_of t l c c.sent)) ++ frames_of t c.link.waiting) ≡ line t way l.waiting))
+    ⊎ ((c.link.s ≡ l.s) × ((way : List Parts) → kinds_of ((way ++ frame_given t (Machine.given_of t l c c.sent)) ++ frames_of t c.link.waiting) ≡ line t way l.waiting ++ report ∷ []))
+    ⊎ ((l.state ≡ Established) × (c.link.s ≡ l.s + 1) × ((way : List Parts) → kinds_of ((way ++ frame_given t (Machine.given_of t l c c.sent)) ++ frames_of t c.link.waiting) ≡ line t way l.waiting ++ numbered (seq l.s) ∷ []))
+
+pub record Offered (t : Terms) (l : Link) (c : Course) : Type 0 where
+  pub state : c.link.state ≡ l.state
+  pub r : c.link.r ≡ l.r
+  pub rejecting : c.link.rejecting ≡ l.rejecting
+  pub gives : Gives t l c
+
+is-established : (here : State) → Offers.is_established here ≡ true → here ≡ Established
+is-established TeiAssigned e = absurd (true≢false (sym e))
+is-established AwaitingEstablishment e = absurd (true≢false (sym e))
+is-established AwaitingRelease e = absurd (true≢false (sym e))
+is-established Established e = refl
+is-established TimerRecovery e = absurd (true≢false (sym e))
+
+module _ (t : Terms) (l : Link) where
+  nothing-new : Went report l l
+  nothing-new = record { state = refl; s = refl; r = refl; rejecting = refl; waiting = inl refl }
+
+  by-refusal : (request : Request) (o : Option Refusal) → WentIn report l (Requests.granted t request (begun l))
+      → WentIn report l (elim o [ None ↦ Requests.granted t request (begun l) | Some _ ↦ begun l ])
+  by-refusal request None x = x
+  by-refusal request (Some w) x = nothing-new
+
+  refuses : (o : Option Refusal) → o ≡ Some WrongState → WentIn report l (elim o [ None ↦ Requests.granted t Establish (begun l) | Some _ ↦ begun l ])
+  refuses None e = absurd (cc)
+  refuses (Some w) e = nothing-new
+
+  either : (b : Bool) (u v : Course) → WentIn report l u → WentIn report l v → WentIn report l (cond b u v)
+  either true u v x y = x
+  either false u v x y = y
+
+  reports : (l' : Link) (f : ControlFrame) → l'.state ≡ l.state → l'.s ≡ l.s → l'.r ≡ l.r → l'.rejecting ≡ l.rejecting
+      → l'.waiting ≡ cond (Words.has_room t l) (l.waiting ++ f ∷ []) l.waiting → kind_of f.command f.control ≡ report → Went report l l'
+  reports l' f state s r rejecting waiting is =
+      record {
+        state = state;
+        s = s;
+        r = r;
+        rejecting = rejecting;
+        waiting = subst (λ ws. Grown l.waiting ws report) (sym waiting) (grows (Words.has_room t l) l.waiting f report is);
+      }
+
+  pub asks-went : IsTrue (is_multiple_frame l.state) → (request : Request) (full : Bool) → IsMildRequest request → WentIn report l (Machine.course t (requested request full) l)
+  asks-went up Establish full mild = refuses (Requests.refusal t l full Establish) (refused t l up l.state refl up full)
+  asks-went up Release full mild = absurd mild
+  asks-went up (Data octets) full mild =
+      by-refusal (Data octets) (Requests.refusal t l full (Data octets)) (record { state = refl; s = refl; r = refl; rejecting = refl; waiting = inl refl })
+  asks-went up SetBusy full mild =
+      by-refusal SetBusy (Requests.refusal t l full SetBusy)
+      (either l.own_busy _ _ nothing-new (reports _ (Words.response (ReceiveNotReady (seq l.r) false)) refl refl refl refl refl refl))
+  asks-went up ClearBusy full mild =
+      by-refusal ClearBusy (Requests.refusal t l full ClearBusy)
+      (either l.own_busy _ _ (reports _ (Words.response (ReceiveReady (seq l.r) false)) refl refl refl refl refl refl) nothing-new)
+
+  -- An expiry: the timer does not run, or an enquiry waits.
+  kind-of-enquiry : (own : Bool) → kind_of true (cond own (ReceiveNotReady (seq l.r) true) (ReceiveReady (seq l.r) true)) ≡ enquiry
+  kind-of-enquiry true = refl
+  kind-of-enquiry false = refl
+
+  enquires : (l' : Link) → l'.state ≡ TimerRecovery → l'.s ≡ l.s → l'.r ≡ l.r → l'.rejecting ≡ l.rejecting
+      → l'.waiting ≡ cond (Words.has_room t l) (l.waiting ++ Words.command (Words.ready_to_receive true l) ∷ []) l.waiting → Asked l l'
+  enquires l' state s r rejecting waiting =
+      record {
+        state = state;
+        s = s;
+        r = r;
+        rejecting = rejecting;
+        waiting =
+            subst (λ ws. Grown l.waiting ws enquiry) (sym waiting)
+            (grows (Words.has_room t l) l.waiting (Words.command (Words.ready_to_receive true l)) enquiry (kind-of-enquiry l.own_busy));
+      }
+
+  again : l.state ≡ TimerRecovery → (b : Bool) → IsUpIn (cond b (Words.start T200 (Words.repeated (Words.enquire t (begun l)))) (MultipleFrame.failed t code.I (begun l)))
+      → Asked l (cond b (Words.start T200 (Words.repeated (Words.enquire t (begun l)))) (MultipleFrame.failed t code.I (begun l))).link
+  again here true up = enquires _ here refl refl refl refl
+  again here false up = absurd (true≢false (sym up))
+
+  abbrev pub Expires : Course → Type 0
+  Expires c = Kept l c.link ⊎ Asked l c.link
+
+  expires-in : (here : State) → l.state ≡ here → IsTrue (is_multiple_frame here) → (timer : LinkTimer) → IsUpIn (Machine.expired_in here timer t (begun l))
+      → Expires (Machine.expired_in here timer t (begun l))
+  expires-in TeiAssigned e before timer up = absurd (true≢false (sym before))
+  expires-in AwaitingEstablishment e before timer up = absurd (true≢false (sym before))
+  expires-in AwaitingRelease e before timer up = absurd (true≢false (sym before))
+  expires-in Established e before timer up = inr (enquires _ refl refl refl refl refl)
+  expires-in TimerRecovery e before T200 up = inr (again e (may_repeat t l) up)
+  expires-in TimerRecovery e before T203 up = inl (unchanged t l)
+
+  abbrev pub RanOut : LinkTimer → Course → Type 0
+  RanOut timer c = Kept l c.link ⊎ ((Machine.is_running timer l ≡ true) × Asked l c.link)
+
+  running : (timer : LinkTimer) (c : Course) → Machine.is_running timer l ≡ true → Expires c → RanOut timer c
+  running timer c run (inl k) = inl k
+  running timer c run (inr a) = inr (run, a)
+
+  ran : (timer : LinkTimer) (b : Bool) (u : Course) → Machine.is_running timer l ≡ b → (IsUpIn u → Expires u) → IsUpIn (cond b u (begun l)) → RanOut timer (cond b u (begun l))
+  ran timer true u e x up = running timer u e (x up)
+  ran timer false u e x up = inl (unchanged t l)
+
+  pub expires-goes : IsTrue (is_multiple_frame l.state) → (timer : LinkTimer) → IsUpIn (Machine.course t (expired timer) l) → RanOut timer (Machine.course t (expired timer) l)
+  expires-goes before timer up = ran timer (Machine.is_running timer l) (Machine.expire_running timer t (begun l)) refl (expires-in l.state refl before timer) up
+
+  -- An offer.
+  at-end : (way : List Parts) (f : Parts) (ws : List ControlFrame) → ws ≡ [] → kinds_of ((way ++ f ∷ []) ++ frames_of t ws) ≡ line t way ws ++ kind_of f.address.command f.control ∷ []
+  at-end way f [] e =
+      ap kinds_of (append-nil (way ++ f ∷ [])) ∙ kinds-append way (f ∷ []) ∙ sym (ap (λ xs. kinds_of xs ++ kind_of f.address.command f.control ∷ []) (append-nil way))
+  at-end way f (w ∷ ws) e = absurd (cc)
+
+  waited : (f : ControlFrame) (fs : List ControlFrame) → l.waiting ≡ f ∷ fs → Offered t l (Offers.give_waiting f fs (begun l))
+  waited f fs e =
+      record {
+        state = refl;
+        r = refl;
+        rejecting = refl;
+        gives = inl (refl, λ way. ap kinds_of (append_assoc way (frame_of t f ∷ []) (frames_of t fs)) ∙ ap (λ ws. line t way ws) (sym e));
+      }
+
+  idle : Offered t l (begun l)
+  idle = record { state = refl; r = refl; rejecting = refl; gives = inl (refl, λ way. ap (λ xs. kinds_of (xs ++ frames_of t l.waiting)) (append-nil way)) }
+
+  acknowledges : l.waiting ≡ [] → Offered t l (Offers.send_acknowledgement (begun l))
+  acknowledges e =
+      record {
+        state = refl;
+        r = refl;
+        rejecting = refl;
+        gives = inr (inl (refl, λ way. at-end way (frame_of t (Words.response (ReceiveReady (seq l.r) false))) l.waiting e));
+      }
+
+  informs : (c : Course) → Offers.may_send_information t l ≡ true → l.waiting ≡ [] → c.link.state ≡ l.state → c.link.s ≡ l.s + 1 → c.link.r ≡ l.r → c.link.rejecting ≡ l.rejecting
+      → c.link.waiting ≡ l.waiting → frame_given t (Machine.given_of t l c c.sent) ≡ record (frame_of t (Offers.next_information l)) { info = unwrap_or (slice_get l.contents l.s) [] } ∷ []
+      → Offered t l c
+  informs c may e state s r rejecting waits gives =
+      let parts = and_parts (Offers.is_established l.state && not l.peer_busy && nat_lt (l.s - l.a) t.k) (nat_lt l.s (length l.contents)) may in
+      let inner = and_parts (Offers.is_established l.state && not l.peer_busy) (nat_lt (l.s - l.a) t.k) parts.0 in
+      let here = and_parts (Offers.is_established l.state) (not l.peer_busy) inner.0 in
+      let f : Parts = record (frame_of t (Offers.next_information l)) { info = unwrap_or (slice_get l.contents l.s) [] } in
+      record {
+        state = state;
+        r = r;
+        rejecting = rejecting;
+        gives =
+            inr (inr (
+              is-established l.state here.0,
+              s,
+              λ way. ap (λ xs. kinds_of ((way ++ xs) ++ frames_of t c.link.waiting)) gives ∙ ap (λ ws. kinds_of ((way ++ f ∷ []) ++ frames_of t ws)) waits
+                  ∙ at-end way f l.waiting e,
+            ));
+      }
+
+  branch : (b : Bool) (u v : Course) → (b ≡ true → Offered t l u) → Offered t l v → Offered t l (cond b u v)
+  branch true u v x y = x refl
+  branch false u v x y = y
+
+  offers : (ws : List ControlFrame) → l.waiting ≡ ws → Offered t l (Offers.offer_among t ws (begun l))
+  offers (f ∷ fs) e = waited f fs e
+  offers [] e =
+      branch (Offers.may_send_information t l) _ _
+      (λ may. branch (Offers.is_awaiting_acknowledgement (Offers.with_one_sent l)) _ _ (λ run. informs _ may e refl refl refl refl refl refl) (informs _ may e refl refl refl refl refl refl))
+      (branch l.pending _ _ (λ owed. acknowledges e) idle)
+
+  pub offer-goes : Offered t l (Machine.course t offer l)
+  offer-goes = offers l.waiting refl

@@ -1,0 +1,216 @@
+-- Half a round: one end gives its next frame, and the other receives it.
+use Rattle.std.proofs.Common.{◌≡◌, ℕ, zero, suc, ◌+◌, ◌-◌, ◌<◌, ◌≤◌, Bool, true, false, cond, ◌==◌, List, [], ◌∷◌, ◌++◌, length, take, None, Some, refl, sym, ap, subst, ◌∙◌, ◌⊎◌, inl, inr, append-nil, eq-eqb, true≢false, arith}
+use Rattle.std.specs.Prelude.{All, nat_lt, nat_le, slice_get, unwrap_or}
+use Rattle.std.proofs.lemmas.Bool.{ltb-true, ltb-false, le-ltb, le-leb, and_parts}
+use Rattle.std.proofs.lemmas.List.Elements.{All-head, All-tail}
+use Rattle.lapd_seq.specs.Numbers.{seq}
+use Rattle.lapd_seq.specs.Circle.{named}
+use Rattle.lapd_seq.proofs.Callers.{distance-plain}
+use Rattle.lapd_frame.specs.Grammar.{Parts}
+use Rattle.model_link.specs.declared.states.State.TheVariants as state
+use Rattle.model_link.specs.Events.{frame, received, offer}
+use Rattle.model_link.specs.Offers
+use Rattle.model_link.specs.Sound.{IsInRange, IsSound}
+use Rattle.model_link.specs.TwoEnds.{End, with_link, with_sent, with_first_lost, with_first_of}
+use Rattle.model_link.proofs.SoundEvents.{sound-after}
+use Rattle.laws_link.specs.two.Rounds.{IsReady, IsTaken}
+use Rattle.laws_link.proofs.OfTwo.Plain.{plain, is_plain, information_frame, acknowledgement_frame, with_information, with_acknowledgement, with_taken, with_all_acknowledged, gives-information, gives-acknowledgement, gives-nothing, takes-information, takes-acknowledgement}
+
+-- an N(R) names the number that it means, if that lies between V(A) and V(S)
+pub named-number : (a s v : ℕ) → a ≤ v → v ≤ s → s ≤ a + 127 → named a s (seq v) ≡ Some v
+unfolding named
+named-number a s v low high near =
+    subst (λ n. cond (nat_le n s) (Some n) None ≡ Some v) (sym (distance-plain (seq a) (seq v) a v (record { ordered = low; within = omega (arith, high, near); acknowledged = refl; sent = refl })))
+    (ap (λ b. cond b (Some v) None) (le-leb v s high))
+
+-- contents at a place
+pub fits-at : (n : ℕ) (contents : List (List ℕ)) (i : ℕ) → All (λ octets. length octets ≤ n) contents → length (unwrap_or (slice_get contents i) []) ≤ n
+fits-at n [] i h = omega arith
+fits-at n (x ∷ xs) zero h = All-head (λ octets. length octets ≤ n) x xs h
+fits-at n (x ∷ xs) (suc i) h = fits-at n xs i (All-tail (λ octets. length octets ≤ n) x xs h)
+
+pub take-one : (contents : List (List ℕ)) (i : ℕ) → i < length contents → take i contents ++ unwrap_or (slice_get contents i) [] ∷ [] ≡ take (suc i) contents
+take-one [] i h = absurd (omega (arith, h))
+take-one (x ∷ xs) zero h = cc
+take-one (x ∷ xs) (suc i) h = ap (λ ys. x ∷ ys) (take-one xs i (omega (arith, h)))
+
+-- What becomes of the number of I-frames.
+pub record One (n m n' m' : End) : Type 0 where
+  pub unsent : n.link.s < length n.link.contents
+  pub sent : n'.link.s ≡ n.link.s + 1
+  pub received : m'.link.r ≡ m.link.r + 1
+  pub pending : m'.link.pending ≡ true
+  pub delivered : m'.delivered ≡ m.delivered ++ unwrap_or (slice_get n.link.contents n.link.s) [] ∷ []
+
+pub record Nothing (n m n' m' : End) : Type 0 where
+  pub may : Offers.may_send_information n.terms (plain n.link) ≡ false
+  pub sent : n'.link.s ≡ n.link.s
+  pub received : m'.link.r ≡ m.link.r
+  pub pending : m'.link.pending ≡ m.link.pending
+  pub delivered : m'.delivered ≡ m.delivered
+
+-- The end that gives, and the end that receives.
+pub record Giver (n n' : End) : Type 0 where
+  pub terms : n'.terms ≡ n.terms
+  pub contents : n'.link.contents ≡ n.link.contents
+  pub a : n'.link.a ≡ n.link.a
+  pub r : n'.link.r ≡ n.link.r
+  pub delivered : n'.delivered ≡ n.delivered
+  pub pending : n'.link.pending ≡ false
+  pub state : n'.link.state ≡ state.Established
+  pub peer_busy : n'.link.peer_busy ≡ false
+  pub own_busy : n'.link.own_busy ≡ false
+  pub waiting : n'.link.waiting ≡ []
+  pub way : n'.way ≡ []
+
+pub record Taker (m m' : End) : Type 0 where
+  pub terms : m'.terms ≡ m.terms
+  pub contents : m'.link.contents ≡ m.link.contents
+  pub a : m'.link.a ≡ m.link.s
+  pub s : m'.link.s ≡ m.link.s
+  pub state : m'.link.state ≡ state.Established
+  pub peer_busy : m'.link.peer_busy ≡ false
+  pub own_busy : m'.link.own_busy ≡ false
+  pub waiting : m'.link.waiting ≡ []
+  pub way : m'.way ≡ []
+
+pub record Moved (n m n' m' : End) : Type 0 where
+  pub giver : Giver n n'
+  pub taker : Taker m m'
+  pub moved : One n m n' m' ⊎ Nothing n m n' m'
+
+-- with no acknowledgement owed nothing is outstanding
+pub all-acknowledged : (a s : ℕ) (p b : Bool) → nat_lt a s ≡ b → p ≡ false → a ≤ s → (a < s → p ≡ true) → a ≡ s
+all-acknowledged a s p true e off low h = absurd (true≢false (sym (h (ltb-true a s e)) ∙ off))
+all-acknowledged a s p false e off low h = let high : s ≤ a = ltb-false a s e in omega arith
+
+abbrev pub giver_of : End → End
+giver_of n = with_first_lost (with_sent n)
+
+abbrev pub taker_of : End → End → End
+taker_of n m = with_first_of (with_sent n).way m
+
+module _ (n m : End) (hn : IsReady n) (hm : IsReady m) (there : IsTaken n m) (back : IsTaken m n) where
+  names : named m.link.a m.link.s (seq n.link.r) ≡ Some m.link.s
+  names =
+      let from : n.link.r ≡ m.link.s = back.received in
+      let low : m.link.a ≤ m.link.s = hm.sound.ordered in
+      let within : m.link.s ≤ m.link.a + m.terms.k = hm.sound.within in
+      let small : m.terms.k ≤ 127 = hm.ranges.k_high in
+      subst (λ w. named m.link.a m.link.s (seq w) ≡ Some m.link.s) (sym from) (named-number m.link.a m.link.s m.link.s low (omega arith) (omega arith))
+
+  same : (m.link.s == m.link.s) ≡ true
+  same = eq-eqb m.link.s m.link.s refl
+
+  giver-information : Giver n (record n { link = with_information n.link; way = [] })
+  giver-information =
+      record { terms = refl; contents = refl; a = refl; r = refl; delivered = refl; pending = refl; state = refl; peer_busy = refl; own_busy = refl; waiting = refl; way = refl }
+
+  giver-acknowledgement : Giver n (record n { link = with_acknowledgement n.link; way = [] })
+  giver-acknowledgement =
+      record { terms = refl; contents = refl; a = refl; r = refl; delivered = refl; pending = refl; state = refl; peer_busy = refl; own_busy = refl; waiting = refl; way = refl }
+
+  -- an I-frame goes
+  one : Offers.may_send_information n.terms (plain n.link) ≡ true → Moved n m (giver_of n) (taker_of n m)
+  one may =
+      let parts = and_parts (nat_lt (n.link.s - n.link.a) n.terms.k) (nat_lt n.link.s (length n.link.contents)) may in
+      let gives : with_sent n ≡ record n { link = with_information n.link; way = information_frame n.terms n.link ∷ [] } = ap with_sent (is_plain n hn) ∙ gives-information false false n may in
+      let next : m.link.r ≡ n.link.s = there.received in
+      let takes : with_link (received (frame (information_frame n.terms n.link))) m ≡ record m { link = with_taken m.link; way = []; delivered = m.delivered ++ unwrap_or (slice_get n.link.contents n.link.s) [] ∷ [] } =
+      ap (with_link (received (frame (information_frame n.terms n.link)))) (is_plain m hm)
+      ∙ takes-information m same n.terms n.link (le-ltb m.terms.n201 (length (unwrap_or (slice_get n.link.contents n.link.s) [])) (fits-at m.terms.n201 n.link.contents n.link.s there.sizes))
+      (eq-eqb (seq n.link.s).value (seq m.link.r).value (ap (λ i. (seq i).value) (sym next))) names in
+      subst (λ x. Moved n m (with_first_lost x) (with_first_of x.way m)) (sym gives)
+      (subst (λ y. Moved n m (record n { link = with_information n.link; way = [] }) y) (sym takes)
+      (record {
+        giver = giver-information;
+        taker = record { terms = refl; contents = refl; a = refl; s = refl; state = refl; peer_busy = refl; own_busy = refl; waiting = refl; way = refl };
+        moved = inl (record { unsent = ltb-true n.link.s (length n.link.contents) parts.1; sent = refl; received = refl; pending = refl; delivered = refl });
+      }))
+
+  -- an acknowledgement goes
+  acknowledges : Offers.may_send_information n.terms (plain n.link) ≡ false → n.link.pending ≡ true → Moved n m (giver_of n) (taker_of n m)
+  acknowledges may owed =
+      let gives : with_sent n ≡ record n { link = with_acknowledgement n.link; way = acknowledgement_frame n.terms n.link ∷ [] } = ap with_sent (is_plain n hn) ∙ gives-acknowledgement false false n may owed in
+      let takes : with_link (received (frame (acknowledgement_frame n.terms n.link))) m ≡ record m { link = with_all_acknowledged m.link; way = []; delivered = m.delivered ++ [] } =
+      ap (with_link (received (frame (acknowledgement_frame n.terms n.link)))) (is_plain m hm) ∙ takes-acknowledgement m same n.terms n.link names in
+      subst (λ x. Moved n m (with_first_lost x) (with_first_of x.way m)) (sym gives)
+      (subst (λ y. Moved n m (record n { link = with_acknowledgement n.link; way = [] }) y) (sym takes)
+      (record {
+        giver = giver-acknowledgement;
+        taker = record { terms = refl; contents = refl; a = refl; s = refl; state = refl; peer_busy = refl; own_busy = refl; waiting = refl; way = refl };
+        moved = inr (record { may = may; sent = refl; received = refl; pending = refl; delivered = append-nil m.delivered });
+      }))
+
+  -- nothing goes: then nothing is outstanding at the other end
+  rests : Offers.may_send_information n.terms (plain n.link) ≡ false → n.link.pending ≡ false → Moved n m (giver_of n) (taker_of n m)
+  rests may owed =
+      let gives : with_sent n ≡ record n { link = with_acknowledgement n.link; way = [] } = ap with_sent (is_plain n hn) ∙ gives-nothing false false n may owed in
+      subst (λ x. Moved n m (with_first_lost x) (with_first_of x.way m)) (sym gives)
+      (record {
+        giver = giver-acknowledgement;
+        taker = record { terms = refl; contents = refl; a = all-acknowledged m.link.a m.link.s n.link.pending (nat_lt m.link.a m.link.s) refl owed hm.sound.ordered back.owed; s = refl; state = hm.state; peer_busy = hm.peer_busy; own_busy = hm.own_busy; waiting = hm.waiting; way = hm.way };
+        moved = inr (record { may = may; sent = refl; received = refl; pending = refl; delivered = refl });
+      })
+
+  by-flags : (may owed : Bool) → Offers.may_send_information n.terms (plain n.link) ≡ may → n.link.pending ≡ owed → Moved n m (giver_of n) (taker_of n m)
+  by-flags true owed e p = one e
+  by-flags false true e p = acknowledges e p
+  by-flags false false e p = rests e p
+
+  pub moves : Moved n m (giver_of n) (taker_of n m)
+  moves = by-flags (Offers.may_send_information n.terms (plain n.link)) n.link.pending refl refl
+
+  -- both ends stay sound
+  sound-taker : (way : List Parts) → IsSound (with_first_of way m).terms (with_first_of way m).link
+  sound-taker [] = hm.sound
+  sound-taker (f ∷ fs) = sound-after m.terms hm.ranges (received (frame f)) m.link hm.sound
+
+  pub ready-giver : IsReady (giver_of n)
+  ready-giver =
+      let h = moves.giver in
+      record { ranges = hn.ranges; sound = sound-after n.terms hn.ranges offer n.link hn.sound; state = h.state; peer_busy = h.peer_busy; own_busy = h.own_busy; waiting = h.waiting; way = h.way }
+
+  pub ready-taker : IsReady (taker_of n m)
+  ready-taker =
+      let h = moves.taker in
+      record { ranges = subst (λ t. IsInRange t) (sym h.terms) hm.ranges; sound = sound-taker (with_sent n).way; state = h.state; peer_busy = h.peer_busy; own_busy = h.own_busy; waiting = h.waiting; way = h.way }
+
+  -- what was sent is taken, both ways
+  taken-there : One n m (giver_of n) (taker_of n m) ⊎ Nothing n m (giver_of n) (taker_of n m) → IsTaken (giver_of n) (taker_of n m)
+  taken-there (inl x) =
+      let g = moves.giver in
+      let k = moves.taker in
+      let from : m.link.r ≡ n.link.s = there.received in
+      let up : suc n.link.s ≡ (taker_of n m).link.r = omega (arith, x.received, from) in
+      record {
+        received = x.received ∙ ap (λ i. i + 1) from ∙ sym x.sent;
+        delivered =
+            x.delivered ∙ ap (λ ds. ds ++ unwrap_or (slice_get n.link.contents n.link.s) [] ∷ []) (there.delivered ∙ ap (λ i. take i n.link.contents) from)
+            ∙ take-one n.link.contents n.link.s x.unsent ∙ ap (λ i. take i n.link.contents) up ∙ ap (λ cs. take (taker_of n m).link.r cs) (sym g.contents);
+        owed = λ less. x.pending;
+        sizes = subst (λ t. All (λ octets. length octets ≤ t.n201) (giver_of n).link.contents) (sym k.terms) (subst (λ cs. All (λ octets. length octets ≤ m.terms.n201) cs) (sym g.contents) there.sizes);
+      }
+  taken-there (inr x) =
+      let g = moves.giver in
+      let k = moves.taker in
+      record {
+        received = x.received ∙ there.received ∙ sym x.sent;
+        delivered = x.delivered ∙ there.delivered ∙ ap (λ i. take i n.link.contents) (sym x.received) ∙ ap (λ cs. take (taker_of n m).link.r cs) (sym g.contents);
+        owed = λ less. x.pending ∙ there.owed (subst (λ i. i < n.link.s) g.a (subst (λ i. (giver_of n).link.a < i) x.sent less));
+        sizes = subst (λ t. All (λ octets. length octets ≤ t.n201) (giver_of n).link.contents) (sym k.terms) (subst (λ cs. All (λ octets. length octets ≤ m.terms.n201) cs) (sym g.contents) there.sizes);
+      }
+
+  pub takes : IsTaken (giver_of n) (taker_of n m)
+  takes = taken-there moves.moved
+
+  pub taken : IsTaken (taker_of n m) (giver_of n)
+  taken =
+      let g = moves.giver in
+      let k = moves.taker in
+      record {
+        received = g.r ∙ back.received ∙ sym k.s;
+        delivered = g.delivered ∙ back.delivered ∙ ap (λ i. take i m.link.contents) (sym g.r) ∙ ap (λ cs. take (giver_of n).link.r cs) (sym k.contents);
+        owed = λ less. absurd (omega (arith, less, k.a, k.s));
+        sizes = subst (λ cs. All (λ octets. length octets ≤ n.terms.n201) cs) (sym k.contents) back.sizes;
+      }

@@ -1,0 +1,381 @@
+-- Where T200 runs while the terminal is taken for busy: each word, and each row.
+use Rattle.std.proofs.Common.{◌≡◌, ℕ, Bool, true, false, cond, IsTrue, List, Option, None, Some, refl, sym, subst, true≢false}
+use Rattle.lapd_seq.specs.declared.numbers.Seq.{Seq}
+use Rattle.lapd_seq.specs.Circle.{named}
+use Rattle.lapd_frame.specs.declared.controls.Control.{Control}
+use Rattle.lapd_frame.specs.declared.controls.Control.TheVariants.{Information, ReceiveReady, ReceiveNotReady, Reject, Sabme, Disc, Ui, Ua, Dm, Frmr, Xid}
+use Rattle.lapd_frame.specs.declared.notes.Note.{Note}
+use Rattle.lapd_frame.specs.declared.notes.ErrorCode.TheVariants as code
+use Rattle.model_link.specs.declared.states.State.{State}
+use Rattle.model_link.specs.declared.states.State.TheVariants.{TeiAssigned, AwaitingEstablishment, AwaitingRelease, Established, TimerRecovery}
+use Rattle.model_link.specs.declared.timers.LinkTimer.{LinkTimer}
+use Rattle.model_link.specs.declared.timers.LinkTimer.TheVariants.{T200, T203}
+use Rattle.model_link.specs.declared.frames.ControlFrame.{ControlFrame}
+use Rattle.model_link.specs.declared.terms.Terms.{Terms}
+use Rattle.model_link.specs.Steps.{Course, Step, ◌then◌}
+use Rattle.model_link.specs.Words
+use Rattle.model_link.specs.TeiAssigned.{frame_in_4, establish_in_4}
+use Rattle.model_link.specs.AwaitingEstablishment.{frame_in_5, t200_in_5}
+use Rattle.model_link.specs.AwaitingRelease.{frame_in_6, t200_in_6}
+use Rattle.model_link.specs.MultipleFrame
+use Rattle.model_link.specs.Established
+use Rattle.model_link.specs.TimerRecovery
+use Rattle.model_link.proofs.Leads.{Leads, then_leads, keeping_then, nothing_leads, depending_leads, bit_leads, to_less}
+use Rattle.laws_link.specs.two.Heeds.{HeedsIn}
+
+-- A claim on the state, on whether the terminal is taken for busy, and on the timer that runs.
+abbrev pub Claim : Type 1
+Claim = State → Bool → Option LinkTimer → Type 0
+
+pub record On (P : Claim) (c : Course) : Type 0 where
+  pub holds : P c.link.state c.link.peer_busy c.link.running
+
+module _ (P : Claim) where
+  pub note_on : (x : Note) → Leads (On P) (Words.note x) (On P)
+  note_on x = record { leads = λ c h. record { holds = h.holds } }
+
+  pub deliver_on : (t : Terms) (octets : List ℕ) → Leads (On P) (Words.deliver t octets) (On P)
+  deliver_on t octets = record { leads = λ c h. record { holds = h.holds } }
+
+  pub deliver_unit_on : (t : Terms) (octets : List ℕ) → Leads (On P) (Words.deliver_unit t octets) (On P)
+  deliver_unit_on t octets = record { leads = λ c h. record { holds = h.holds } }
+
+  pub refuse_on : Leads (On P) Words.leave_unserved (On P)
+  refuse_on = record { leads = λ c h. record { holds = h.holds } }
+
+  pub own_busy_on : (b : Bool) → Leads (On P) (Words.own_busy_is b) (On P)
+  own_busy_on b = record { leads = λ c h. record { holds = h.holds } }
+
+  pub rejecting_on : (b : Bool) → Leads (On P) (Words.rejecting_is b) (On P)
+  rejecting_on b = record { leads = λ c h. record { holds = h.holds } }
+
+  pub pending_on : (b : Bool) → Leads (On P) (Words.pending_is b) (On P)
+  pending_on b = record { leads = λ c h. record { holds = h.holds } }
+
+  pub asked_on : (b : Bool) → Leads (On P) (Words.asked_is b) (On P)
+  asked_on b = record { leads = λ c h. record { holds = h.holds } }
+
+  pub repeats_on : (m : ℕ) → Leads (On P) (Words.repeats_are m) (On P)
+  repeats_on m = record { leads = λ c h. record { holds = h.holds } }
+
+  pub repeated_on : Leads (On P) Words.repeated (On P)
+  repeated_on = record { leads = λ c h. record { holds = h.holds } }
+
+  pub zero_on : Leads (On P) Words.zero_numbers (On P)
+  zero_on = record { leads = λ c h. record { holds = h.holds } }
+
+  pub count_on : Leads (On P) Words.count_received (On P)
+  count_on = record { leads = λ c h. record { holds = h.holds } }
+
+  pub discard_on : Leads (On P) Words.discard (On P)
+  discard_on = record { leads = λ c h. record { holds = h.holds } }
+
+  pub acknowledge_on : (m : ℕ) → Leads (On P) (Words.acknowledge m) (On P)
+  acknowledge_on m = record { leads = λ c h. record { holds = h.holds } }
+
+  pub again_on : (m : ℕ) → Leads (On P) (Words.send_again_from m) (On P)
+  again_on m = record { leads = λ c h. record { holds = h.holds } }
+
+  pub send_on : (t : Terms) (f : ControlFrame) → Leads (On P) (Words.send t f) (On P)
+  send_on t f = record { leads = λ c h. record { holds = h.holds } }
+
+  pub enquire_on : (t : Terms) → Leads (On P) (Words.enquire t) (On P)
+  enquire_on t = record { leads = λ c h. record { holds = h.holds } }
+
+  pub answer_on : (t : Terms) → Leads (On P) (Words.answer t) (On P)
+  answer_on t = record { leads = λ c h. record { holds = h.holds } }
+
+  pub report_on : (t : Terms) → Leads (On P) (Words.report_ready t) (On P)
+  report_on t = record { leads = λ c h. record { holds = h.holds } }
+
+  pub reject_on : (t : Terms) (f : Bool) → Leads (On P) (Words.reject t f) (On P)
+  reject_on t f = record { leads = λ c h. record { holds = h.holds } }
+
+pub ruleset words = (keeping_then, nothing_leads, depending_leads, bit_leads, note_on, deliver_on, deliver_unit_on, refuse_on, own_busy_on, rejecting_on, pending_on, asked_on, repeats_on, repeated_on, zero_on, count_on, discard_on, acknowledge_on, again_on, send_on, enquire_on, answer_on, report_on, reject_on)
+
+-- The claims: the end; a state; a state in which the terminal is not taken for busy; any state in which it is not; a
+-- state in which T200 runs; T200 runs; state 7 as it is between events.
+abbrev pub heeding : Claim
+heeding state busy running = HeedsIn state busy running
+
+abbrev pub at_state : State → Claim
+at_state here state busy running = state ≡ here
+
+abbrev pub calm_at : State → Claim
+calm_at here state busy running = (state ≡ here) × (busy ≡ false)
+
+abbrev pub calm : Claim
+calm state busy running = busy ≡ false
+
+abbrev pub awake_at : State → Claim
+awake_at here state busy running = (state ≡ here) × (running ≡ Some T200)
+
+abbrev pub awake : Claim
+awake state busy running = running ≡ Some T200
+
+abbrev pub heeding_in_7 : Claim
+heeding_in_7 state busy running = (state ≡ Established) × (IsTrue busy → running ≡ Some T200)
+
+abbrev pub calm_in_8 : Claim
+calm_in_8 state busy running = (state ≡ TimerRecovery) × (running ≡ Some T200) × (busy ≡ false)
+
+-- from a claim to the end
+down_heeds : (here state : State) (busy : Bool) (running : Option LinkTimer) → state ≡ here → HeedsIn here busy running → HeedsIn state busy running
+down_heeds here state busy running e h = subst (λ s. HeedsIn s busy running) (sym e) h
+
+not-busy : (busy : Bool) (running : Option LinkTimer) → busy ≡ false → IsTrue busy → running ≡ Some T200
+not-busy true running e h = absurd (true≢false e)
+not-busy false running e h = absurd (true≢false (sym h))
+
+module _ (f : Step) where
+  pub as_4 : Leads (On (at_state TeiAssigned)) f (On (at_state TeiAssigned)) → Leads (On (at_state TeiAssigned)) f (On heeding)
+  as_4 x = to_less (λ c h. record { holds = down_heeds TeiAssigned c.link.state c.link.peer_busy c.link.running h.holds tt }) x
+
+  pub as_5 : Leads (On (calm_at AwaitingEstablishment)) f (On (calm_at AwaitingEstablishment)) → Leads (On (calm_at AwaitingEstablishment)) f (On heeding)
+  as_5 x = to_less (λ c h. record { holds = down_heeds AwaitingEstablishment c.link.state c.link.peer_busy c.link.running h.holds.0 h.holds.1 }) x
+
+  pub as_6 : Leads (On (at_state AwaitingRelease)) f (On (at_state AwaitingRelease)) → Leads (On (at_state AwaitingRelease)) f (On heeding)
+  as_6 x = to_less (λ c h. record { holds = down_heeds AwaitingRelease c.link.state c.link.peer_busy c.link.running h.holds tt }) x
+
+  pub as_7 : {P : Claim} → Leads (On P) f (On heeding_in_7) → Leads (On P) f (On heeding)
+  as_7 x = to_less (λ c h. record { holds = down_heeds Established c.link.state c.link.peer_busy c.link.running h.holds.0 h.holds.1 }) x
+
+  pub as_calm_7 : {P : Claim} → Leads (On P) f (On (calm_at Established)) → Leads (On P) f (On heeding)
+  as_calm_7 x = to_less (λ c h. record { holds = down_heeds Established c.link.state c.link.peer_busy c.link.running h.holds.0 (not-busy c.link.peer_busy c.link.running h.holds.1) }) x
+
+  pub as_awake_7 : {P : Claim} → Leads (On P) f (On (awake_at Established)) → Leads (On P) f (On heeding)
+  as_awake_7 x = to_less (λ c h. record { holds = down_heeds Established c.link.state c.link.peer_busy c.link.running h.holds.0 (λ b. h.holds.1) }) x
+
+  pub as_8 : {P : Claim} → Leads (On P) f (On (awake_at TimerRecovery)) → Leads (On P) f (On heeding)
+  as_8 x = to_less (λ c h. record { holds = down_heeds TimerRecovery c.link.state c.link.peer_busy c.link.running h.holds.0 h.holds.1 }) x
+
+-- the words that change what is claimed
+module _ {g : Step} {R : Course → Type 0} where
+  pub flags_then : {P : Claim} → Leads (On calm) g R → Leads (On P) (Words.clear_flags then g) R
+  flags_then x = record { leads = λ c h. x.leads (Words.clear_flags c) (record { holds = refl }) }
+
+  pub t200_then : {P : Claim} → Leads (On awake) g R → Leads (On P) (Words.start T200 then g) R
+  t200_then x = record { leads = λ c h. x.leads (Words.start T200 c) (record { holds = refl }) }
+
+  pub start_then : (timer : LinkTimer) → Leads (On calm) g R → Leads (On calm) (Words.start timer then g) R
+  start_then timer x = record { leads = λ c h. x.leads (Words.start timer c) (record { holds = h.holds }) }
+
+  pub start_from_8_then : (timer : LinkTimer) → Leads (On calm) g R → Leads (On calm_in_8) (Words.start timer then g) R
+  start_from_8_then timer x = record { leads = λ c h. x.leads (Words.start timer c) (record { holds = h.holds.2 }) }
+
+  pub calm_then : (here : State) {P : Claim} → ((state : State) (busy : Bool) (running : Option LinkTimer) → P state busy running → state ≡ here)
+      → Leads (On (calm_at here)) g R → Leads (On P) (Words.peer_busy_is false then g) R
+  calm_then here w x = record { leads = λ c h. x.leads (Words.peer_busy_is false c) (record { holds = (w c.link.state c.link.peer_busy c.link.running h.holds, refl) }) }
+
+pub enter_7_calm : Leads (On calm) (Words.enter Established) (On heeding)
+enter_7_calm = record { leads = λ c h. record { holds = not-busy c.link.peer_busy c.link.running h.holds } }
+
+pub enter_7_awake : Leads (On awake) (Words.enter Established) (On heeding)
+enter_7_awake = record { leads = λ c h. record { holds = λ b. h.holds } }
+
+pub enter_5_calm : Leads (On calm) (Words.enter AwaitingEstablishment) (On heeding)
+enter_5_calm = record { leads = λ c h. record { holds = h.holds } }
+
+pub enter_8_awake : Leads (On awake) (Words.enter TimerRecovery) (On heeding)
+enter_8_awake = record { leads = λ c h. record { holds = h.holds } }
+
+-- whatever was claimed
+any : Claim
+any state busy running = Unit {0}
+
+module _ {P : Claim} (t : Terms) where
+  pub re_establish_heeds : (x : Note) → Leads (On P) (Words.note x then Words.re_establish t) (On heeding)
+  re_establish_heeds x = record { leads = λ c h. record { holds = refl } }
+
+  pub enter_4_heeds : Leads (On P) (Words.enter TeiAssigned) (On heeding)
+  enter_4_heeds = record { leads = λ c h. record { holds = tt } }
+
+  pub enter_6_heeds : Leads (On P) (Words.enter AwaitingRelease) (On heeding)
+  enter_6_heeds = record { leads = λ c h. record { holds = tt } }
+
+  by-number : (nr : Seq) (f : ℕ → Step) → ((m : ℕ) → Leads (On P) (f m) (On heeding)) → (c : Course) → On P c → (o : Option ℕ)
+      → On heeding (elim o [ None ↦ (Words.error t code.J then Words.re_establish t) c | Some m ↦ f m c ])
+  by-number nr f x c h None = record { holds = refl }
+  by-number nr f x c h (Some m) = (x m).leads c h
+
+  pub number_heeds : (nr : Seq) {f : ℕ → Step} → ((m : ℕ) → Leads (On P) (f m) (On heeding)) → Leads (On P) (Words.by_number t nr f) (On heeding)
+  number_heeds nr {f} x = record { leads = λ c h. by-number nr f x c h (named c.link.a c.link.s nr) }
+
+  -- a last word that may stop a timer: into state 4
+  pub no_timer_then_4 : Leads (On P) (Words.no_timer then Words.enter TeiAssigned) (On heeding)
+  no_timer_then_4 = record { leads = λ c h. record { holds = tt } }
+
+  pub start_then_6 : (timer : LinkTimer) → Leads (On P) (Words.start timer then Words.enter AwaitingRelease) (On heeding)
+  start_then_6 timer = record { leads = λ c h. record { holds = tt } }
+
+pub ruleset rows = (words, flags_then, enter_7_calm, enter_7_awake, enter_5_calm, enter_8_awake, re_establish_heeds, enter_4_heeds, enter_6_heeds, number_heeds, no_timer_then_4, start_then_6)
+
+-- State 4.
+module _ (t : Terms) where
+  pub in_4 : (octets : List ℕ) (control : Control) → Leads (On (at_state TeiAssigned)) (frame_in_4 t octets control) (On heeding)
+  in_4 octets (Sabme p) = search (rows, start_then) depth 14 fits 6000
+  in_4 octets (Disc p) = search (words, as_4) depth 12 fits 4000
+  in_4 octets (Ua true) = search (words, as_4) depth 12 fits 4000
+  in_4 octets (Ua false) = search (words, as_4) depth 12 fits 4000
+  in_4 octets (Information ns nr p) = search (words, as_4) depth 12 fits 4000
+  in_4 octets (ReceiveReady nr pf) = search (words, as_4) depth 12 fits 4000
+  in_4 octets (ReceiveNotReady nr pf) = search (words, as_4) depth 12 fits 4000
+  in_4 octets (Reject nr pf) = search (words, as_4) depth 12 fits 4000
+  in_4 octets (Ui p) = search (words, as_4) depth 12 fits 4000
+  in_4 octets (Dm f) = search (words, as_4) depth 12 fits 4000
+  in_4 octets (Frmr f) = search (words, as_4) depth 12 fits 4000
+  in_4 octets (Xid pf) = search (words, as_4) depth 12 fits 4000
+
+  pub establishes : Leads (On (at_state TeiAssigned)) (establish_in_4 t) (On heeding)
+  establishes = record { leads = λ c h. record { holds = refl } }
+
+  pub releases_4 : Leads (On (at_state TeiAssigned)) (Words.release_confirm t) (On heeding)
+  releases_4 = search (words, as_4) depth 12 fits 4000
+
+-- State 5.
+weaken-5 : (c : Course) → On (calm_at AwaitingEstablishment) c → On calm c
+weaken-5 c h = record { holds = h.holds.1 }
+
+module _ (t : Terms) where
+  pub in_5 : (octets : List ℕ) (control : Control) → Leads (On (calm_at AwaitingEstablishment)) (frame_in_5 t octets control) (On heeding)
+  in_5 octets (Sabme p) = search (words, as_5) depth 12 fits 4000
+  in_5 octets (Disc p) = search (words, as_5) depth 12 fits 4000
+  in_5 octets (Ua true) = record { leads = λ c h. (established).leads c (weaken-5 c h) }
+    where
+      established : Leads (On calm) (frame_in_5 t octets (Ua true)) (On heeding)
+      established = search (rows, start_then) depth 14 fits 6000
+  in_5 octets (Ua false) = search (words, as_5) depth 12 fits 4000
+  in_5 octets (Information ns nr p) = search (words, as_5) depth 12 fits 4000
+  in_5 octets (ReceiveReady nr pf) = search (words, as_5) depth 12 fits 4000
+  in_5 octets (ReceiveNotReady nr pf) = search (words, as_5) depth 12 fits 4000
+  in_5 octets (Reject nr pf) = search (words, as_5) depth 12 fits 4000
+  in_5 octets (Ui p) = search (words, as_5) depth 12 fits 4000
+  in_5 octets (Dm true) = search rows depth 14 fits 6000
+  in_5 octets (Dm false) = search (words, as_5) depth 12 fits 4000
+  in_5 octets (Frmr f) = search (words, as_5) depth 12 fits 4000
+  in_5 octets (Xid pf) = search (words, as_5) depth 12 fits 4000
+
+  start_last_5 : (timer : LinkTimer) → Leads (On (calm_at AwaitingEstablishment)) (Words.start timer) (On heeding)
+  start_last_5 timer = record { leads = λ c h. record { holds = down_heeds AwaitingEstablishment c.link.state c.link.peer_busy (Some timer) h.holds.0 h.holds.1 } }
+
+  pub t200_5 : Leads (On (calm_at AwaitingEstablishment)) (t200_in_5 t) (On heeding)
+  t200_5 = search (rows, start_last_5) depth 14 fits 6000
+
+-- State 6.
+module _ (t : Terms) where
+  pub in_6 : (octets : List ℕ) (control : Control) → Leads (On (at_state AwaitingRelease)) (frame_in_6 t octets control) (On heeding)
+  in_6 octets (Sabme p) = search (words, as_6) depth 12 fits 4000
+  in_6 octets (Disc p) = search (words, as_6) depth 12 fits 4000
+  in_6 octets (Ua true) = search rows depth 14 fits 6000
+  in_6 octets (Ua false) = search (words, as_6) depth 12 fits 4000
+  in_6 octets (Information ns nr p) = search (words, as_6) depth 12 fits 4000
+  in_6 octets (ReceiveReady nr pf) = search (words, as_6) depth 12 fits 4000
+  in_6 octets (ReceiveNotReady nr pf) = search (words, as_6) depth 12 fits 4000
+  in_6 octets (Reject nr pf) = search (words, as_6) depth 12 fits 4000
+  in_6 octets (Ui p) = search (words, as_6) depth 12 fits 4000
+  in_6 octets (Dm true) = search rows depth 14 fits 6000
+  in_6 octets (Dm false) = search (words, as_6) depth 12 fits 4000
+  in_6 octets (Frmr f) = search (words, as_6) depth 12 fits 4000
+  in_6 octets (Xid pf) = search (words, as_6) depth 12 fits 4000
+
+  start_last_6 : (timer : LinkTimer) → Leads (On (at_state AwaitingRelease)) (Words.start timer) (On heeding)
+  start_last_6 timer = record { leads = λ c h. record { holds = down_heeds AwaitingRelease c.link.state c.link.peer_busy (Some timer) h.holds tt } }
+
+  pub t200_6 : Leads (On (at_state AwaitingRelease)) (t200_in_6 t) (On heeding)
+  t200_6 = search (rows, start_last_6) depth 14 fits 6000
+
+-- State 7.
+calm_7_start : (timer : LinkTimer) → Leads (On (calm_at Established)) (Words.start timer) (On (calm_at Established))
+calm_7_start timer = record { leads = λ c h. record { holds = h.holds } }
+
+awake_7_start : Leads (On (at_state Established)) (Words.start T200) (On (awake_at Established))
+awake_7_start = record { leads = λ c h. record { holds = (h.holds, refl) } }
+
+calm_7_then : {g : Step} → Leads (On (calm_at Established)) g (On heeding) → Leads (On heeding_in_7) (Words.peer_busy_is false then g) (On heeding)
+calm_7_then x = calm_then Established (λ state busy running h. h.0) x
+
+busy_7_then : {g : Step} → Leads (On (at_state Established)) g (On heeding) → Leads (On heeding_in_7) (Words.peer_busy_is true then g) (On heeding)
+busy_7_then x = record { leads = λ c h. x.leads (Words.peer_busy_is true c) (record { holds = h.holds.0 }) }
+
+in_7_calm : (n : ℕ) → Leads (On (calm_at Established)) (Established.acknowledged_in_7 n) (On heeding)
+in_7_calm n = as_calm_7 _ (search (words, calm_7_start) depth 12 fits 4000)
+
+rnr_7 : (n : ℕ) → Leads (On (at_state Established)) (Established.acknowledged_by_rnr_in_7 n) (On heeding)
+rnr_7 n = as_awake_7 _ (keeping_then (acknowledge_on (at_state Established) n) awake_7_start)
+
+rej_7 : (n : ℕ) → Leads (On (calm_at Established)) (Established.acknowledged_by_rej_in_7 n) (On heeding)
+rej_7 n = as_calm_7 _ (search (words, calm_7_start) depth 12 fits 4000)
+
+-- an I-frame's N(R), by whether the terminal is taken for busy
+information-by : (n : ℕ) (c : Course) → On heeding_in_7 c → (b : Bool) → c.link.peer_busy ≡ b
+    → On heeding (cond b (Words.acknowledge n c) (Established.acknowledged_in_7 n c))
+information-by n c h true e = (as_7 (Words.acknowledge n) (acknowledge_on heeding_in_7 n)).leads c h
+information-by n c h false e = (in_7_calm n).leads c (record { holds = (h.holds.0, e) })
+
+information_7 : (n : ℕ) → Leads (On heeding_in_7) (Established.acknowledged_by_information_in_7 n) (On heeding)
+information_7 n = record { leads = λ c h. information-by n c h c.link.peer_busy refl }
+
+ruleset rows_7 = (rows, calm_7_then, busy_7_then, in_7_calm, rnr_7, rej_7, information_7)
+
+module _ (t : Terms) where
+  pub in_7 : (b : Bool) (octets : List ℕ) (control : Control) → Leads (On heeding_in_7) (Established.frame_in_7 t b octets control) (On heeding)
+  in_7 b octets (Information ns nr p) = search rows_7 depth 14 fits 6000
+  in_7 b octets (ReceiveReady nr pf) = search rows_7 depth 14 fits 6000
+  in_7 b octets (ReceiveNotReady nr pf) = search rows_7 depth 14 fits 6000
+  in_7 b octets (Reject nr pf) = search rows_7 depth 14 fits 6000
+  in_7 b octets (Sabme p) = search (rows, start_then) depth 14 fits 6000
+  in_7 b octets (Disc p) = search rows depth 14 fits 6000
+  in_7 b octets (Ua f) = search (words, as_7) depth 14 fits 6000
+  in_7 b octets (Dm true) = search (words, as_7) depth 14 fits 6000
+  in_7 b octets (Dm false) = re_establish_heeds t _
+  in_7 b octets (Frmr f) = re_establish_heeds t _
+  in_7 b octets (Ui p) = search (words, as_7) depth 14 fits 6000
+  in_7 b octets (Xid pf) = search (words, as_7) depth 14 fits 6000
+
+  pub timer_7 : Leads (On heeding_in_7) (Established.timer_in_7 t) (On heeding)
+  timer_7 = search (rows, t200_then) depth 14 fits 6000
+
+  pub release_7_8 : {P : Claim} → Leads (On P) (MultipleFrame.release_in_7_8 t) (On heeding)
+  release_7_8 = search rows depth 14 fits 6000
+
+-- State 8.
+calm_8_then : {g : Step} → Leads (On calm_in_8) g (On heeding) → Leads (On (awake_at TimerRecovery)) (Words.peer_busy_is false then g) (On heeding)
+calm_8_then x = record { leads = λ c h. x.leads (Words.peer_busy_is false c) (record { holds = (h.holds.0, h.holds.1, refl) }) }
+
+busy_8_then : {g : Step} → Leads (On (awake_at TimerRecovery)) g (On heeding) → Leads (On (awake_at TimerRecovery)) (Words.peer_busy_is true then g) (On heeding)
+busy_8_then x = record { leads = λ c h. x.leads (Words.peer_busy_is true c) (record { holds = h.holds }) }
+
+calm_8 : {f : Step} → Leads (On calm_in_8) f (On calm_in_8) → Leads (On calm_in_8) f (On heeding)
+calm_8 x = to_less (λ c h. record { holds = down_heeds TimerRecovery c.link.state c.link.peer_busy c.link.running h.holds.0 h.holds.1 }) x
+
+acknowledged_8 : (b : Bool) (n : ℕ) → Leads (On calm_in_8) (TimerRecovery.acknowledged_in_8 T203 b n) (On heeding)
+acknowledged_8 b n = search (rows, start_from_8_then, calm_8) depth 14 fits 6000
+
+rnr_8 : (b : Bool) (n : ℕ) → Leads (On (awake_at TimerRecovery)) (TimerRecovery.acknowledged_in_8 T200 b n) (On heeding)
+rnr_8 b n = search (rows, t200_then, as_8) depth 14 fits 6000
+
+acknowledge_8 : (n : ℕ) → Leads (On (awake_at TimerRecovery)) (Words.acknowledge n) (On heeding)
+acknowledge_8 n = as_8 (Words.acknowledge n) (acknowledge_on (awake_at TimerRecovery) n)
+
+ruleset rows_8 = (rows, calm_8_then, busy_8_then, acknowledged_8, rnr_8, acknowledge_8)
+
+module _ (t : Terms) where
+  pub in_8 : (b : Bool) (octets : List ℕ) (control : Control) → Leads (On (awake_at TimerRecovery)) (TimerRecovery.frame_in_8 t b octets control) (On heeding)
+  in_8 b octets (Information ns nr p) = search rows_8 depth 14 fits 6000
+  in_8 b octets (ReceiveReady nr pf) = search rows_8 depth 14 fits 6000
+  in_8 b octets (ReceiveNotReady nr pf) = search rows_8 depth 14 fits 6000
+  in_8 b octets (Reject nr pf) = search rows_8 depth 14 fits 6000
+  in_8 b octets (Sabme p) = search (rows, start_then) depth 14 fits 6000
+  in_8 b octets (Disc p) = search rows depth 14 fits 6000
+  in_8 b octets (Ua f) = search (words, as_8) depth 14 fits 6000
+  in_8 b octets (Dm true) = re_establish_heeds t _
+  in_8 b octets (Dm false) = re_establish_heeds t _
+  in_8 b octets (Frmr f) = re_establish_heeds t _
+  in_8 b octets (Ui p) = search (words, as_8) depth 14 fits 6000
+  in_8 b octets (Xid pf) = search (words, as_8) depth 14 fits 6000
+
+  start_last_8 : Leads (On (awake_at TimerRecovery)) (Words.start T200) (On heeding)
+  start_last_8 = record { leads = λ c h. record { holds = down_heeds TimerRecovery c.link.state c.link.peer_busy (Some T200) h.holds.0 refl } }
+
+  pub t200_8 : Leads (On (awake_at TimerRecovery)) (TimerRecovery.t200_in_8 t) (On heeding)
+  t200_8 = search (rows, start_last_8) depth 14 fits 6000

@@ -1,0 +1,132 @@
+-- T200 runs while the terminal is taken for busy: every event.
+use Rattle.std.proofs.Common.{◌≡◌, ℕ, Bool, true, false, cond, ◌&&◌, not, List, [], ◌∷◌, Option, None, Some, refl, sym, subst, true≢false}
+use Rattle.lapd_frame.specs.declared.controls.Control.{Control}
+use Rattle.lapd_frame.specs.declared.notes.ErrorCode.{ErrorCode}
+use Rattle.lapd_frame.specs.declared.refusals.Refusal.{Refusal}
+use Rattle.model_link.specs.declared.states.State.{State}
+use Rattle.model_link.specs.declared.states.State.TheVariants.{TeiAssigned, AwaitingEstablishment, AwaitingRelease, Established, TimerRecovery}
+use Rattle.model_link.specs.declared.timers.LinkTimer.{LinkTimer}
+use Rattle.model_link.specs.declared.timers.LinkTimer.TheVariants.{T200, T203}
+use Rattle.model_link.specs.declared.frames.ControlFrame.{ControlFrame}
+use Rattle.model_link.specs.declared.terms.Terms.{Terms}
+use Rattle.model_link.specs.Link.{Link, fresh}
+use Rattle.model_link.specs.Events.{frame, undefined, wrong_size, overlong, Request, Establish, Release, Data, SetBusy, ClearBusy, Event, received, expired, requested, offer, cleared}
+use Rattle.model_link.specs.Steps.{Course, begun}
+use Rattle.model_link.specs.Requests
+use Rattle.model_link.specs.Offers
+use Rattle.model_link.specs.Machine
+use Rattle.laws_link.specs.two.Heeds.{HeedsIn, Heeds}
+use Rattle.laws_link.proofs.OfTwo.Heeding
+
+abbrev Ends : Course → Type 0
+Ends c = Heeding.On Heeding.heeding c
+
+module _ (t : Terms) (l : Link) where
+  -- a link as an event begins, by its state
+  at-4 : l.state ≡ TeiAssigned → Heeding.On (Heeding.at_state TeiAssigned) (begun l)
+  at-4 e = record { holds = e }
+
+  at-5 : l.state ≡ AwaitingEstablishment → HeedsIn AwaitingEstablishment l.peer_busy l.running → Heeding.On (Heeding.calm_at AwaitingEstablishment) (begun l)
+  at-5 e h = record { holds = (e, h) }
+
+  at-6 : l.state ≡ AwaitingRelease → Heeding.On (Heeding.at_state AwaitingRelease) (begun l)
+  at-6 e = record { holds = e }
+
+  at-7 : l.state ≡ Established → HeedsIn Established l.peer_busy l.running → Heeding.On Heeding.heeding_in_7 (begun l)
+  at-7 e h = record { holds = (e, h) }
+
+  at-8 : l.state ≡ TimerRecovery → HeedsIn TimerRecovery l.peer_busy l.running → Heeding.On (Heeding.awake_at TimerRecovery) (begun l)
+  at-8 e h = record { holds = (e, h) }
+
+  -- nothing happens
+  idle : (here : State) → l.state ≡ here → HeedsIn here l.peer_busy l.running → Ends (begun l)
+  idle here e h = record { holds = subst (λ s. HeedsIn s l.peer_busy l.running) (sym e) h }
+
+  frames-in : (here : State) → l.state ≡ here → HeedsIn here l.peer_busy l.running → (b : Bool) (octets : List ℕ) (control : Control)
+      → Ends (Machine.frame_in here t b octets control (begun l))
+  frames-in TeiAssigned e h b octets control = (Heeding.in_4 t octets control).leads (begun l) (at-4 e)
+  frames-in AwaitingEstablishment e h b octets control = (Heeding.in_5 t octets control).leads (begun l) (at-5 e h)
+  frames-in AwaitingRelease e h b octets control = (Heeding.in_6 t octets control).leads (begun l) (at-6 e)
+  frames-in Established e h b octets control = (Heeding.in_7 t b octets control).leads (begun l) (at-7 e h)
+  frames-in TimerRecovery e h b octets control = (Heeding.in_8 t b octets control).leads (begun l) (at-8 e h)
+
+  branch : (b : Bool) (u v : Course) → Ends u → Ends v → Ends (cond b u v)
+  branch true u v x y = x
+  branch false u v x y = y
+
+  frames : Heeds l → (b : Bool) (octets : List ℕ) (control : Control) → Ends (Machine.frame_step t b octets control (begun l))
+  frames h b octets control = frames-in l.state refl h.heeds b octets control
+
+  malformed : (e : ErrorCode) (here : State) → l.state ≡ here → HeedsIn here l.peer_busy l.running → Ends (Machine.malformed_in here t e (begun l))
+  malformed e TeiAssigned s h = record { holds = subst (λ x. HeedsIn x l.peer_busy l.running) (sym s) h }
+  malformed e AwaitingEstablishment s h = record { holds = subst (λ x. HeedsIn x l.peer_busy l.running) (sym s) h }
+  malformed e AwaitingRelease s h = record { holds = subst (λ x. HeedsIn x l.peer_busy l.running) (sym s) h }
+  malformed e Established s h = record { holds = refl }
+  malformed e TimerRecovery s h = record { holds = refl }
+
+  expiries : (here : State) → l.state ≡ here → HeedsIn here l.peer_busy l.running → (timer : LinkTimer) → Ends (Machine.expired_in here timer t (begun l))
+  expiries TeiAssigned e h timer = idle TeiAssigned e h
+  expiries AwaitingEstablishment e h T200 = (Heeding.t200_5 t).leads (begun l) (at-5 e h)
+  expiries AwaitingEstablishment e h T203 = idle AwaitingEstablishment e h
+  expiries AwaitingRelease e h T200 = (Heeding.t200_6 t).leads (begun l) (at-6 e)
+  expiries AwaitingRelease e h T203 = idle AwaitingRelease e h
+  expiries Established e h timer = (Heeding.timer_7 t).leads (begun l) (at-7 e h)
+  expiries TimerRecovery e h T200 = (Heeding.t200_8 t).leads (begun l) (at-8 e h)
+  expiries TimerRecovery e h T203 = idle TimerRecovery e h
+
+  releases : (here : State) → l.state ≡ here → HeedsIn here l.peer_busy l.running → Ends (Requests.release_in here t (begun l))
+  releases TeiAssigned e h = (Heeding.releases_4 t).leads (begun l) (at-4 e)
+  releases AwaitingEstablishment e h = idle AwaitingEstablishment e h
+  releases AwaitingRelease e h = idle AwaitingRelease e h
+  releases Established e h = (Heeding.release_7_8 t).leads (begun l) (at-7 e h)
+  releases TimerRecovery e h = (Heeding.release_7_8 t).leads (begun l) (at-8 e h)
+
+  grants : Heeds l → (request : Request) → Ends (Requests.granted t request (begun l))
+  grants h Establish = record { holds = refl }
+  grants h Release = releases l.state refl h.heeds
+  grants h (Data octets) = record { holds = h.heeds }
+  grants h SetBusy = branch l.own_busy _ _ (record { holds = h.heeds }) (record { holds = h.heeds })
+  grants h ClearBusy = branch l.own_busy _ _ (record { holds = h.heeds }) (record { holds = h.heeds })
+
+  asked : Heeds l → (request : Request) (o : Option Refusal) → Ends (elim o [ None ↦ Requests.granted t request (begun l) | Some _ ↦ begun l ])
+  asked h request None = grants h request
+  asked h request (Some w) = record { holds = h.heeds }
+
+  -- an I-frame goes in state 7 alone, and only while the terminal is not busy
+  free : (state : State) (busy x y : Bool) → (Offers.is_established state && not busy && x && y) ≡ true → (running : Option LinkTimer) → HeedsIn state busy running
+  free TeiAssigned busy x y e running = tt
+  free AwaitingEstablishment busy x y e running = absurd (true≢false (sym e))
+  free AwaitingRelease busy x y e running = tt
+  free Established true x y e running = absurd (true≢false (sym e))
+  free Established false x y e running = λ b. absurd (true≢false (sym b))
+  free TimerRecovery busy x y e running = absurd (true≢false (sym e))
+
+  told : (b : Bool) (u v : Course) → (b ≡ true → Ends u) → Ends v → Ends (cond b u v)
+  told true u v x y = x refl
+  told false u v x y = y
+
+  offers : Heeds l → (ws : List ControlFrame) → Ends (Offers.offer_among t ws (begun l))
+  offers h (f ∷ fs) = record { holds = h.heeds }
+  offers h [] =
+      told (Offers.may_send_information t l) _ _
+      (λ e. branch (Offers.is_awaiting_acknowledgement (Offers.with_one_sent l)) _ _
+      (record { holds = free l.state l.peer_busy _ _ e l.running }) (record { holds = free l.state l.peer_busy _ _ e (Some T200) }))
+      (branch l.pending _ _ (record { holds = h.heeds }) (record { holds = h.heeds }))
+
+pub heeds-after : (t : Terms) (e : Event) (l : Link) → Heeds l → Heeds (Machine.after t e l)
+heeds-after t (received (frame f)) l h = record { heeds = (frames t l h f.address.command f.info f.control).holds }
+heeds-after t (received undefined) l h = record { heeds = (malformed t l _ l.state refl h.heeds).holds }
+heeds-after t (received wrong_size) l h = record { heeds = (malformed t l _ l.state refl h.heeds).holds }
+heeds-after t (received overlong) l h = record { heeds = (malformed t l _ l.state refl h.heeds).holds }
+heeds-after t (expired timer) l h = record { heeds = (branch t l (Machine.is_running timer l) _ _ (expiries t l l.state refl h.heeds timer) (record { holds = h.heeds })).holds }
+heeds-after t (requested request full) l h = record { heeds = (asked t l h request (Requests.refusal t l full request)).holds }
+heeds-after t offer l h = record { heeds = (offers t l h l.waiting).holds }
+heeds-after t cleared l h = record { heeds = tt }
+
+pub heeds-fresh : Heeds fresh
+heeds-fresh = record { heeds = tt }
+
+pub heeds-all : (t : Terms) (es : List Event) (l : Link) → Heeds l → Heeds (Machine.after_all t es l)
+unfolding Machine.after_all
+heeds-all t [] l h = h
+heeds-all t (e ∷ es) l h = heeds-all t es (Machine.after t e l) (heeds-after t e l h)

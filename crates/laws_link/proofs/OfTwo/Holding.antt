@@ -1,0 +1,57 @@
+-- The contents of two links that face each other are those of their histories.
+use Rattle.std.proofs.Common.{ℕ, List, [], ◌∷◌}
+use Rattle.lapd_frame.specs.Grammar.{Parts}
+use Rattle.model_link.specs.Events.{frame, Event, received, requested, expired, offer}
+use Rattle.model_link.specs.Machine.{after}
+use Rattle.model_link.specs.Sound.{IsInRange, IsSound}
+use Rattle.model_link.specs.TwoEnds.{End, Ends, Act, asks, expires, sends, receives, loses, Doing, at_near, at_far, turned, acting, with_first_of, doing, doing_all}
+use Rattle.model_link.proofs.SoundEvents.{sound-after}
+use Rattle.laws_link.specs.History.{History, share, with_share, IsCounted}
+use Rattle.laws_link.specs.two.Holding.{by_frame, by_act, near_history, far_history}
+use Rattle.laws_link.proofs.Counted.{counted-after}
+
+-- an end whose terms are in range, whose link is sound, and whose contents are those of a history
+pub record Stands (n : End) (h : History) : Type 0 where
+  pub ranges : IsInRange n.terms
+  pub sound : IsSound n.terms n.link
+  pub counted : IsCounted h n.link
+
+-- an event of its link
+by-event : (e : Event) (n : End) (h : History) (way : List Parts) (delivered : List (List ℕ)) → Stands n h
+    → Stands (record { terms = n.terms; link = after n.terms e n.link; way = way; delivered = delivered }) (with_share h (share n.terms e n.link))
+by-event e n h way delivered s = record {
+  ranges = s.ranges;
+  sound = sound-after n.terms s.ranges e n.link s.sound;
+  counted = counted-after n.terms e n.link h s.sound s.counted;
+}
+
+by-first : (fs : List Parts) (n : End) (h : History) → Stands n h → Stands (with_first_of fs n) (by_frame n fs h)
+by-first [] n h s = s
+by-first (f ∷ fs) n h s = by-event (received (frame f)) n h _ _ s
+
+-- what happens at the near end, for it and for the other
+near-acts : (act : Act) (e : Ends) (h : History) → Stands e.near h → Stands (acting act e).near (by_act act e h)
+near-acts (asks request full) e h s = by-event (requested request full) e.near h _ _ s
+near-acts (expires timer) e h s = by-event (expired timer) e.near h _ _ s
+near-acts sends e h s = by-event offer e.near h _ _ s
+near-acts receives e h s = by-first e.far.way e.near h s
+near-acts loses e h s = record { ranges = s.ranges; sound = s.sound; counted = s.counted }
+
+far-waits : (act : Act) (e : Ends) (h : History) → Stands e.far h → Stands (acting act e).far h
+far-waits (asks request full) e h s = s
+far-waits (expires timer) e h s = s
+far-waits sends e h s = s
+far-waits receives e h s = record { ranges = s.ranges; sound = s.sound; counted = s.counted }
+far-waits loses e h s = s
+
+pub near-all : (ds : List Doing) (e : Ends) (h : History) → Stands e.near h → IsCounted (near_history ds e h) (doing_all ds e).near.link
+unfolding near_history doing_all
+near-all [] e h s = s.counted
+near-all (at_near act ∷ ds) e h s = near-all ds (doing (at_near act) e) (by_act act e h) (near-acts act e h s)
+near-all (at_far act ∷ ds) e h s = near-all ds (doing (at_far act) e) h (far-waits act (turned e) h s)
+
+pub far-all : (ds : List Doing) (e : Ends) (h : History) → Stands e.far h → IsCounted (far_history ds e h) (doing_all ds e).far.link
+unfolding far_history doing_all
+far-all [] e h s = s.counted
+far-all (at_near act ∷ ds) e h s = far-all ds (doing (at_near act) e) h (far-waits act e h s)
+far-all (at_far act ∷ ds) e h s = far-all ds (doing (at_far act) e) (by_act act (turned e) h) (near-acts act (turned e) h s)

@@ -1,0 +1,152 @@
+-- A link runs the timer that it needs: from what each event keeps.
+use Rattle.std.proofs.Common.{◌≡◌, ◌≢◌, ◌⊎◌, inl, inr, ℕ, ◌≤◌, ◌==◌, Bool, true, false, not, cond, ◌||◌, IsTrue, Option, None, Some, refl, sym, ap, ◌∙◌, arith, true≢false, eqb-true, eq-eqb}
+use Rattle.model_link.specs.declared.states.State.{State}
+use Rattle.model_link.specs.declared.states.State.TheVariants.{TeiAssigned, AwaitingEstablishment, AwaitingRelease, Established, TimerRecovery}
+use Rattle.model_link.specs.declared.timers.LinkTimer.{LinkTimer}
+use Rattle.model_link.specs.declared.timers.LinkTimer.TheVariants.{T200, T203}
+use Rattle.model_link.specs.declared.terms.Terms.{Terms}
+use Rattle.model_link.specs.Link.{Link, fresh}
+use Rattle.model_link.specs.Events.{Event}
+use Rattle.model_link.specs.Machine.{after}
+use Rattle.model_link.specs.Sound.{IsSound}
+use Rattle.laws_link.specs.Timed.{IsTimedIn, IsTimed}
+use Rattle.model_link.specs.Told.{runs}
+use Rattle.laws_link.proofs.TimedRows.{timed-after}
+use Rattle.laws_link.specs.two.Heeds.{HeedsIn}
+use Rattle.laws_link.specs.two.Needed.{needed_in, IsCalmIn, HasItsTimer}
+use Rattle.laws_link.proofs.OfTwo.Awaiting.{Awaits, event-awaits}
+use Rattle.laws_link.proofs.OfTwo.HeedingEvents.{heeds-after}
+
+-- What is needed, by what it speaks of.
+abbrev need : State → Bool → ℕ → ℕ → Option LinkTimer
+need TeiAssigned busy a s = None
+need AwaitingEstablishment busy a s = Some T200
+need AwaitingRelease busy a s = Some T200
+need Established busy a s = cond (not (s == a) || busy) (Some T200) (Some T203)
+need TimerRecovery busy a s = Some T200
+
+abbrev calm : State → Bool → Type 0
+calm TeiAssigned busy = Unit {0}
+calm AwaitingEstablishment busy = busy ≡ false
+calm AwaitingRelease busy = Unit {0}
+calm Established busy = Unit {0}
+calm TimerRecovery busy = Unit {0}
+
+needs : (here : State) (l : Link) → needed_in here l ≡ need here l.peer_busy l.a l.s
+needs TeiAssigned l = refl
+needs AwaitingEstablishment l = refl
+needs AwaitingRelease l = refl
+needs Established l = refl
+needs TimerRecovery l = refl
+
+t203-is-not : Some T203 ≡ Some T200 → ⊥
+t203-is-not e = true≢false (sym (ap (runs T200) e))
+
+-- state 7 with T203 alone: nothing is outstanding, and the terminal is not busy
+not-outstanding : (a s : ℕ) → not (s == a) ≡ false → s ≤ a
+not-outstanding a s e = go (s == a) refl e
+  where
+    go : (b : Bool) → (s == a) ≡ b → not b ≡ false → s ≤ a
+    go true is e = omega (arith, eqb-true s a is)
+    go false is e = absurd (true≢false e)
+
+neither : (x y : Bool) → (x || y) ≡ false → (x ≡ false) × (y ≡ false)
+neither true y e = absurd (true≢false e)
+neither false y e = (refl, e)
+
+timed-7 : (running : Option LinkTimer) (busy : Bool) (a s : ℕ) → running ≡ need Established busy a s → (running ≡ Some T200) ⊎ ((running ≡ Some T203) × (s ≤ a))
+timed-7 running busy a s e = go (not (s == a) || busy) refl e
+  where
+    go : (b : Bool) → (not (s == a) || busy) ≡ b → running ≡ cond b (Some T200) (Some T203) → (running ≡ Some T200) ⊎ ((running ≡ Some T203) × (s ≤ a))
+    go true is e = inl e
+    go false is e = inr (e, not-outstanding a s (neither (not (s == a)) busy is).0)
+
+to-timed : (here : State) (l : Link) → l.running ≡ need here l.peer_busy l.a l.s → IsTimedIn here l
+to-timed TeiAssigned l e = e
+to-timed AwaitingEstablishment l e = e
+to-timed AwaitingRelease l e = e
+to-timed Established l e = timed-7 l.running l.peer_busy l.a l.s e
+to-timed TimerRecovery l e = e
+
+or-true : (x : Bool) → (x || true) ≡ true
+or-true true = refl
+or-true false = refl
+
+busy-needs : (busy : Bool) (a s : ℕ) → IsTrue busy → need Established busy a s ≡ Some T200
+busy-needs true a s h = ap (λ b. cond b (Some T200) (Some T203)) (or-true (not (s == a)))
+busy-needs false a s h = absurd (true≢false (sym h))
+
+to-heeds : (here : State) (busy : Bool) (running : Option LinkTimer) (a s : ℕ) → running ≡ need here busy a s → calm here busy → HeedsIn here busy running
+to-heeds TeiAssigned busy running a s e h = tt
+to-heeds AwaitingEstablishment busy running a s e h = h
+to-heeds AwaitingRelease busy running a s e h = tt
+to-heeds Established busy running a s e h = λ b. e ∙ busy-needs busy a s b
+to-heeds TimerRecovery busy running a s e h = e
+
+to-awaits : (here : State) (busy : Bool) (running : Option LinkTimer) (a s : ℕ) → running ≡ need here busy a s → Awaits here running busy a s
+to-awaits here busy running a s e is timer = by (not (s == a)) refl busy refl
+  where
+    now : Some T200 ≡ need Established busy a s
+    now = sym timer ∙ e ∙ ap (λ x. need x busy a s) is
+
+    by : (x : Bool) → not (s == a) ≡ x → (y : Bool) → busy ≡ y → (busy ≡ true) ⊎ (a ≢ s)
+    by x e true h = inl h
+    by true e false h = inr (λ same. true≢false (sym e ∙ ap (λ b. not b) (eq-eqb s a (sym same))))
+    by false e false h = absurd (t203-is-not (sym (now ∙ ap (λ b. cond b (Some T200) (Some T203)) (ap (λ b. b || busy) e ∙ h))))
+
+-- and the other way round
+from-7 : (running : Option LinkTimer) (busy : Bool) (a s : ℕ) → (running ≡ Some T200) ⊎ ((running ≡ Some T203) × (s ≤ a)) → (IsTrue busy → running ≡ Some T200)
+    → (running ≡ Some T200 → (busy ≡ true) ⊎ (a ≢ s)) → a ≤ s → running ≡ need Established busy a s
+from-7 running busy a s (inl timer) heeds awaits ordered = go (awaits timer)
+  where
+    go : (busy ≡ true) ⊎ (a ≢ s) → running ≡ need Established busy a s
+    go (inl b) = timer ∙ sym (busy-needs busy a s b)
+    go (inr apart) = timer ∙ sym (ap (λ b. cond (not b || busy) (Some T200) (Some T203)) (other (s == a) refl))
+      where
+        other : (b : Bool) → (s == a) ≡ b → (s == a) ≡ false
+        other true e = absurd (apart (sym (eqb-true s a e)))
+        other false e = e
+from-7 running busy a s (inr timer) heeds awaits ordered =
+    let same : s ≡ a = omega (arith, timer.1, ordered) in
+    timer.0 ∙ sym (ap (λ b. cond (not b || busy) (Some T200) (Some T203)) (eq-eqb s a same) ∙ go busy refl)
+  where
+    go : (b : Bool) → busy ≡ b → cond (false || busy) (Some T200) (Some T203) ≡ Some T203
+    go true e = absurd (t203-is-not (sym timer.0 ∙ heeds e))
+    go false e = ap (λ b. cond b (Some T200) (Some T203)) e
+
+from-timed : (here : State) (l : Link) → IsTimedIn here l → HeedsIn here l.peer_busy l.running → (here ≡ Established → l.running ≡ Some T200 → (l.peer_busy ≡ true) ⊎ (l.a ≢ l.s)) → l.a ≤ l.s
+    → l.running ≡ needed_in here l
+from-timed TeiAssigned l timed heeds awaits ordered = timed
+from-timed AwaitingEstablishment l timed heeds awaits ordered = timed
+from-timed AwaitingRelease l timed heeds awaits ordered = timed
+from-timed Established l timed heeds awaits ordered = from-7 l.running l.peer_busy l.a l.s timed heeds (awaits refl) ordered
+from-timed TimerRecovery l timed heeds awaits ordered = timed
+
+to-calm : (here : State) (l : Link) → IsCalmIn here l → calm here l.peer_busy
+to-calm TeiAssigned l h = tt
+to-calm AwaitingEstablishment l h = h
+to-calm AwaitingRelease l h = tt
+to-calm Established l h = tt
+to-calm TimerRecovery l h = tt
+
+from-heeds : (here : State) (l : Link) → HeedsIn here l.peer_busy l.running → IsCalmIn here l
+from-heeds TeiAssigned l h = tt
+from-heeds AwaitingEstablishment l h = h
+from-heeds AwaitingRelease l h = tt
+from-heeds Established l h = tt
+from-heeds TimerRecovery l h = tt
+
+pub is-timed : (l : Link) → HasItsTimer l → IsTimed l
+is-timed l h = record { timer = to-timed l.state l (h.running ∙ needs l.state l) }
+
+pub timely-after : (t : Terms) (e : Event) (l : Link) → IsSound t l → IsSound t (after t e l) → HasItsTimer l → HasItsTimer (after t e l)
+timely-after t e l s sound h =
+    let is = h.running ∙ needs l.state l in
+    let x = after t e l in
+    let timed = timed-after t e l (is-timed l h) in
+    let heeds = heeds-after t e l (record { heeds = to-heeds l.state l.peer_busy l.running l.a l.s is (to-calm l.state l h.calm) }) in
+    let awaits = (event-awaits t l (to-awaits l.state l.peer_busy l.running l.a l.s is) s.ordered e).holds in
+    record { running = from-timed x.state x timed.timer heeds.heeds awaits sound.ordered; calm = from-heeds x.state x heeds.heeds }
+
+pub timely-fresh : HasItsTimer fresh
+timely-fresh = record { running = refl; calm = tt }

@@ -1,0 +1,145 @@
+-- An end in state 7 with nothing waiting: what it gives, and, with neither side busy, what it makes of what it receives.
+use Rattle.std.proofs.Common.{◌≡◌, ℕ, ◌+◌, Bool, true, false, cond, ◌==◌, [], ◌∷◌, ◌++◌, length, Option, None, Some, refl, ap, ◌∙◌}
+use Rattle.std.specs.Prelude.{nat_lt, slice_get, unwrap_or, option_to_list}
+use Rattle.lapd_seq.specs.declared.numbers.Seq.{Seq}
+use Rattle.lapd_seq.specs.Numbers.{seq}
+use Rattle.lapd_seq.specs.Circle.{named}
+use Rattle.lapd_frame.specs.declared.controls.Control.TheVariants.{Information, ReceiveReady}
+use Rattle.lapd_frame.specs.declared.notes.ErrorCode.TheVariants as code
+use Rattle.lapd_frame.specs.Grammar.{Parts}
+use Rattle.model_link.specs.declared.states.State.TheVariants as state
+use Rattle.model_link.specs.declared.timers.LinkTimer.TheVariants.{T200, T203}
+use Rattle.model_link.specs.declared.terms.Terms.{Terms}
+use Rattle.model_link.specs.Link.{Link, frame_of, address_at}
+use Rattle.model_link.specs.Told.{runs}
+use Rattle.model_link.specs.Events.{frame, received}
+use Rattle.model_link.specs.Steps.{Course, Step, begun, ◌then◌, changed}
+use Rattle.model_link.specs.Words
+use Rattle.model_link.specs.MultipleFrame
+use Rattle.model_link.specs.Established
+use Rattle.model_link.specs.Machine.{given_of}
+use Rattle.model_link.specs.Offers
+use Rattle.model_link.specs.TwoEnds.{End, with_link, with_sent, frame_given}
+use Rattle.laws_link.specs.two.Rounds.{IsReady}
+
+-- with own busy, and the other end taken for busy, as the bits say
+abbrev pub plain_with : Bool → Bool → Link → Link
+plain_with own busy l = record l { state = state.Established; peer_busy = busy; own_busy = own; waiting = [] }
+
+abbrev pub plain : Link → Link
+plain l = plain_with false false l
+
+abbrev pub plain_end_with : Bool → Bool → End → End
+plain_end_with own busy n = record n { link = plain_with own busy n.link; way = [] }
+
+abbrev pub plain_end : End → End
+plain_end n = plain_end_with false false n
+
+pub is_plain : (n : End) → IsReady n → n ≡ plain_end n
+is_plain n h =
+    λ i. record n {
+      link = record n.link { state = h.state i; peer_busy = h.peer_busy i; own_busy = h.own_busy i; waiting = h.waiting i };
+      way = h.way i;
+    }
+
+-- An I-frame, as a sender's end gives it; and the acknowledgement.
+abbrev pub information_frame : Terms → Link → Parts
+information_frame t l = record { address = address_at t true; control = Information (seq l.s) (seq l.r) false; info = unwrap_or (slice_get l.contents l.s) [] }
+
+abbrev pub acknowledgement_frame : Terms → Link → Parts
+acknowledgement_frame t l = frame_of t (Words.response (ReceiveReady (seq l.r) false))
+
+-- What the end is after each offer.
+abbrev pub with_information_with : Bool → Bool → Link → Link
+with_information_with own busy l = record (plain_with own busy l) { s = l.s + 1; pending = false; running = cond (runs T200 l.running) l.running (Some T200) }
+
+abbrev pub with_information : Link → Link
+with_information l = with_information_with false false l
+
+abbrev pub with_acknowledgement_with : Bool → Bool → Link → Link
+with_acknowledgement_with own busy l = record (plain_with own busy l) { pending = false }
+
+abbrev pub with_acknowledgement : Link → Link
+with_acknowledgement l = with_acknowledgement_with false false l
+
+module _ (own busy : Bool) (n : End) where
+  abbrev first : Course
+  first = begun (plain_with own busy n.link)
+
+  -- the end that has given to its way what its link gave
+  abbrev giving : Course → End
+  giving c = record n { link = c.link; way = [] ++ frame_given n.terms (given_of n.terms (plain_with own busy n.link) c c.sent) }
+
+  abbrev informing : Course
+  informing = (Offers.give_information then changed Offers.with_one_sent then Words.pending_is false) first
+
+  abbrev otherwise : Course
+  otherwise = cond n.link.pending (Offers.send_acknowledgement first) first
+
+  timed : (a : Bool) → runs T200 n.link.running ≡ a
+      → giving (cond a informing (Words.start T200 informing)) ≡ record n { link = record (plain_with own busy n.link) { s = n.link.s + 1; pending = false; running = cond a n.link.running (Some T200) }; way = information_frame n.terms n.link ∷ [] }
+  timed true e = refl
+  timed false e = refl
+
+  pub gives-information : Offers.may_send_information n.terms (plain_with own busy n.link) ≡ true
+      → with_sent (plain_end_with own busy n) ≡ record n { link = with_information_with own busy n.link; way = information_frame n.terms n.link ∷ [] }
+  gives-information may =
+      ap (λ b. giving (cond b (cond (runs T200 n.link.running) informing (Words.start T200 informing)) otherwise)) may ∙ timed (runs T200 n.link.running) refl
+
+  pub gives-acknowledgement : Offers.may_send_information n.terms (plain_with own busy n.link) ≡ false → n.link.pending ≡ true
+      → with_sent (plain_end_with own busy n) ≡ record n { link = with_acknowledgement_with own busy n.link; way = acknowledgement_frame n.terms n.link ∷ [] }
+  gives-acknowledgement may owed =
+      ap (λ b. giving (cond b (Offers.send_information first) otherwise)) may ∙ ap (λ b. giving (cond b (Offers.send_acknowledgement first) first)) owed
+
+  pub gives-nothing : Offers.may_send_information n.terms (plain_with own busy n.link) ≡ false → n.link.pending ≡ false
+      → with_sent (plain_end_with own busy n) ≡ record n { link = with_acknowledgement_with own busy n.link; way = [] }
+  gives-nothing may owed =
+      ap (λ b. giving (cond b (Offers.send_information first) otherwise)) may ∙ ap (λ b. giving (cond b (Offers.send_acknowledgement first) first)) owed
+      ∙ ap (λ b. record n { link = record (plain_with own busy n.link) { pending = b }; way = [] }) owed
+
+-- What it is after each frame that acknowledges all.
+abbrev pub with_taken : Link → Link
+with_taken l = record (plain l) { r = l.r + 1; rejecting = false; pending = true; a = l.s; running = Some T203 }
+
+abbrev pub with_all_acknowledged : Link → Link
+with_all_acknowledged l = record (plain l) { a = l.s; running = Some T203 }
+
+module _ (m : End) (same : (m.link.s == m.link.s) ≡ true) where
+  abbrev here : Course
+  here = begun (plain m.link)
+
+  abbrev having : Course → End
+  having c = record m { link = c.link; way = []; delivered = m.delivered ++ option_to_list c.delivered }
+
+  -- the effect of an N(R)
+  abbrev effect : Seq → (ℕ → Step) → Course → Option ℕ → Course
+  effect nr f c o = elim o [ None ↦ (Words.error m.terms code.J then Words.re_establish m.terms) c | Some x ↦ f x c ]
+
+  acknowledged : (nr : Seq) (c : Course) → named c.link.a c.link.s nr ≡ Some c.link.s → (c.link.s == c.link.s) ≡ true
+      → Words.by_number m.terms nr Established.acknowledged_in_7 c ≡ (Words.acknowledge c.link.s then Words.start T203) c
+  acknowledged nr c all test =
+      ap (effect nr Established.acknowledged_in_7 c) all
+      ∙ ap (λ b. cond b ((Words.acknowledge c.link.s then Words.start T203) c) (cond (nat_lt c.link.a c.link.s) ((Words.acknowledge c.link.s then Words.start T200) c) c)) test
+
+  by-information : (nr : Seq) (c : Course) → c.link.peer_busy ≡ false → named c.link.a c.link.s nr ≡ Some c.link.s → (c.link.s == c.link.s) ≡ true
+      → Words.by_number m.terms nr Established.acknowledged_by_information_in_7 c ≡ (Words.acknowledge c.link.s then Words.start T203) c
+  by-information nr c free all test =
+      ap (effect nr Established.acknowledged_by_information_in_7 c) all
+      ∙ ap (λ b. cond b (Words.acknowledge c.link.s c) (Established.acknowledged_in_7 c.link.s c)) free
+      ∙ ap (λ b. cond b ((Words.acknowledge c.link.s then Words.start T203) c) (cond (nat_lt c.link.a c.link.s) ((Words.acknowledge c.link.s then Words.start T200) c) c)) test
+
+  pub takes-information : (t : Terms) (l : Link) → nat_lt m.terms.n201 (length (unwrap_or (slice_get l.contents l.s) [])) ≡ false
+      → ((seq l.s).value == (seq m.link.r).value) ≡ true → named m.link.a m.link.s (seq l.r) ≡ Some m.link.s
+      → with_link (received (frame (information_frame t l))) (plain_end m)
+      ≡ record m { link = with_taken m.link; way = []; delivered = m.delivered ++ unwrap_or (slice_get l.contents l.s) [] ∷ [] }
+  takes-information t l fits next all =
+      let octets = unwrap_or (slice_get l.contents l.s) [] in
+      let number = Words.by_number m.terms (seq l.r) Established.acknowledged_by_information_in_7 in
+      ap (λ b. having (cond b (MultipleFrame.failed m.terms code.O here) (number (MultipleFrame.contents_in_7_8 m.terms (seq l.s) false octets here)))) fits
+      ∙ ap (λ b. having (number (cond b (MultipleFrame.in_sequence m.terms false octets here) (MultipleFrame.out_of_sequence m.terms false here)))) next
+      ∙ ap having (by-information (seq l.r) (MultipleFrame.in_sequence m.terms false octets here) refl all same)
+
+  pub takes-acknowledgement : (t : Terms) (l : Link) → named m.link.a m.link.s (seq l.r) ≡ Some m.link.s
+      → with_link (received (frame (acknowledgement_frame t l))) (plain_end m)
+      ≡ record m { link = with_all_acknowledged m.link; way = []; delivered = m.delivered ++ [] }
+  takes-acknowledgement t l all = ap having (acknowledged (seq l.r) here all same)

@@ -1,0 +1,67 @@
+-- The premises on two ends are met: two links that the terminal established, through the loss of a frame and its
+-- recovery.
+use Rattle.std.proofs.Common.{◌≡◌, Bool, true, ◌&&◌, List, [], ◌∷◌, refl, arith}
+use Rattle.std.proofs.lemmas.Bool.{and_parts}
+use Rattle.lapd_seq.specs.Numbers.{seq}
+use Rattle.lapd_seq.specs.Circle.{distance_of, named}
+use Rattle.lapd_frame.specs.Reading.{supervisory_of, unnumbered_of, control_of, header_of, reading}
+use Rattle.model_link.specs.Link.{fresh, is_multiple_frame}
+use Rattle.model_link.specs.Events.{offer}
+use Rattle.model_link.specs.Machine.{after_all}
+use Rattle.model_link.specs.Sound.{IsInRange}
+use Rattle.model_link.specs.TwoEnds.{Ends, Doing, doing, Begins, StayUp}
+use Rattle.laws_link.specs.Samples.{usual, sabme}
+use Rattle.laws_link.specs.two.WorkedEnds.{both, mended}
+use Rattle.model_link.proofs.SoundEvents.{sound-fresh, sound-all}
+
+in-range : IsInRange usual
+in-range =
+    record {
+      tei = omega arith;
+      k_low = omega arith;
+      k_high = omega arith;
+      n201_low = omega arith;
+      n201_high = omega arith;
+      n200 = omega arith;
+      queue_low = omega arith;
+      queue_high = omega arith;
+      control_low = omega arith;
+      control_high = omega arith;
+    }
+
+pub begins : Begins both.near
+unfolding seq distance_of named reading header_of control_of unnumbered_of supervisory_of after_all
+begins =
+    record {
+      ranges = in-range;
+      sound = sound-all usual in-range (sabme ∷ offer ∷ []) fresh (sound-fresh usual in-range);
+      state = refl;
+      a = refl;
+      s = refl;
+      r = refl;
+      peer_busy = refl;
+      own_busy = refl;
+      rejecting = refl;
+      pending = refl;
+      waiting = refl;
+      way = refl;
+      delivered = refl;
+    }
+
+are_up : Ends → Bool
+are_up e = is_multiple_frame e.near.link.state && is_multiple_frame e.far.link.state
+
+stay_up : List Doing → Ends → Bool
+stay_up [] e = true
+stay_up (d ∷ ds) e = are_up (doing d e) && stay_up ds (doing d e)
+
+by-test : (ds : List Doing) (e : Ends) → stay_up ds e ≡ true → StayUp ds e
+unfolding StayUp stay_up are_up
+by-test [] e h = tt
+by-test (d ∷ ds) e h =
+    let parts = and_parts (are_up (doing d e)) (stay_up ds (doing d e)) h in
+    (and_parts (is_multiple_frame (doing d e).near.link.state) (is_multiple_frame (doing d e).far.link.state) parts.0, by-test ds (doing d e) parts.1)
+
+pub stays : StayUp mended both
+unfolding seq distance_of named reading header_of control_of unnumbered_of supervisory_of after_all stay_up are_up
+stays = by-test mended both refl

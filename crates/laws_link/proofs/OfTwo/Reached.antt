@@ -1,0 +1,112 @@
+-- What holds of two links that came from an establishment, and stayed up: all that recovery asks but silence.
+use Rattle.std.proofs.Common.{◌≡◌, ℕ, ◌+◌, ◌≤◌, Bool, false, List, [], ◌∷◌, length, sym, subst, ◌∙◌, true≢false}
+use Rattle.std.specs.Prelude.{All}
+use Rattle.lapd_frame.specs.Grammar.{Parts}
+use Rattle.model_link.specs.Link.{Link}
+use Rattle.model_link.specs.Events.{frame, received, expired, requested, offer}
+use Rattle.laws_link.specs.Timed.{IsTimed}
+use Rattle.model_link.specs.TwoEnds.{End, Ends, Act, asks, expires, sends, receives, loses, Doing, at_near, at_far, with_first_of, acting, turned, doing, doing_all, Begins, StayUp, Agree}
+use Rattle.laws_link.proofs.TimedRows.{timed-after}
+use Rattle.model_link.proofs.Joined.{Joined, joined-first, done-at, ends-agree}
+use Rattle.laws_link.specs.two.Heeds.{HeedsIn, Heeds}
+use Rattle.laws_link.specs.two.Rounds.{rounds}
+use Rattle.laws_link.specs.two.CutOff.{IsCutOffWith, IsSilent, IsSilentWith, HasMissing, with_t200_expired}
+use Rattle.laws_link.proofs.OfTwo.HeedingEvents.{heeds-after}
+use Rattle.laws_link.proofs.OfTwo.Arriving.{Arrived}
+use Rattle.laws_link.proofs.OfTwo.Recovery.{all-recovered}
+use Rattle.laws_link.proofs.OfTwo.Together.{same-after}
+
+-- of one link
+pub record Sane (l : Link) : Type 0 where
+  pub timed : IsTimed l
+  pub heeds : Heeds l
+
+abbrev pub BothSane : Ends → Type 0
+BothSane e = Sane e.near.link × Sane e.far.link
+
+sane-first : (way : List Parts) (n : End) → Sane n.link → Sane (with_first_of way n).link
+sane-first [] n h = h
+sane-first (f ∷ fs) n h = record { timed = timed-after n.terms (received (frame f)) n.link h.timed; heeds = heeds-after n.terms (received (frame f)) n.link h.heeds }
+
+sane-acting : (act : Act) (e : Ends) → BothSane e → BothSane (acting act e)
+sane-acting (asks request full) e h =
+    (record { timed = timed-after e.near.terms (requested request full) e.near.link h.0.timed; heeds = heeds-after e.near.terms (requested request full) e.near.link h.0.heeds }, h.1)
+sane-acting (expires timer) e h =
+    (record { timed = timed-after e.near.terms (expired timer) e.near.link h.0.timed; heeds = heeds-after e.near.terms (expired timer) e.near.link h.0.heeds }, h.1)
+sane-acting sends e h =
+    (record { timed = timed-after e.near.terms offer e.near.link h.0.timed; heeds = heeds-after e.near.terms offer e.near.link h.0.heeds }, h.1)
+sane-acting receives e h = (sane-first e.far.way e.near h.0, h.1)
+sane-acting loses e h = h
+
+pub sane-doing : (d : Doing) (e : Ends) → BothSane e → BothSane (doing d e)
+sane-doing (at_near act) e h = sane-acting act e h
+sane-doing (at_far act) e h = let x = sane-acting act (turned e) (h.1, h.0) in (x.1, x.0)
+
+pub record Whole (e : Ends) : Type 0 where
+  joined : Joined e.near e.far
+  sane : BothSane e
+  same : e.near.terms.n201 ≡ e.far.terms.n201
+
+all-whole : (ds : List Doing) (e : Ends) → StayUp ds e → Whole e → Whole (doing_all ds e)
+unfolding doing_all StayUp
+all-whole [] e up h = h
+all-whole (d ∷ ds) e up h =
+    all-whole ds (doing d e) up.1 (record { joined = done-at d e up.0 h.joined; sane = sane-doing d e h.sane; same = same-after d e h.same })
+
+begins-sane : (n : End) → Begins n → IsTimed n.link → Sane n.link
+begins-sane n b timed =
+    record {
+      timed = timed;
+      heeds = record { heeds = subst (λ s. HeedsIn s n.link.peer_busy n.link.running) (sym b.state) (λ busy. absurd (true≢false (sym busy ∙ b.peer_busy))) };
+    }
+
+pub cut-off : (own : Bool) (e : Ends) → Whole e → Agree e.far e.near → IsSilentWith own e.near e.far → IsCutOffWith own e.near e.far
+cut-off own e h agree silent =
+    record {
+      ranges = h.joined.near_ranges;
+      sound = h.joined.near_sound;
+      timed = h.sane.0.timed;
+      heeds = h.sane.0.heeds;
+      up = h.joined.near_up;
+      repeats = silent.repeats;
+      own_busy = silent.own_busy;
+      waiting = silent.waiting;
+      way = silent.way;
+      low = agree.acknowledged;
+      high = silent.high;
+      delivered = agree.delivered;
+      sizes = subst (λ i. All (λ octets. length octets ≤ i) e.near.link.contents) h.same h.joined.near_sound.sizes;
+    }
+
+pub cut-off-far : (own : Bool) (e : Ends) → Whole e → Agree e.near e.far → IsSilentWith own e.far e.near → IsCutOffWith own e.far e.near
+cut-off-far own e h agree silent =
+    record {
+      ranges = h.joined.far_ranges;
+      sound = h.joined.far_sound;
+      timed = h.sane.1.timed;
+      heeds = h.sane.1.heeds;
+      up = h.joined.far_up;
+      repeats = silent.repeats;
+      own_busy = silent.own_busy;
+      waiting = silent.waiting;
+      way = silent.way;
+      low = agree.acknowledged;
+      high = silent.high;
+      delivered = agree.delivered;
+      sizes = subst (λ i. All (λ octets. length octets ≤ i) e.far.link.contents) (sym h.same) h.joined.far_sound.sizes;
+    }
+
+pub whole-first : (ds : List Doing) (e : Ends) → Begins e.near → Begins e.far → IsTimed e.near.link → IsTimed e.far.link → e.near.terms.n201 ≡ e.far.terms.n201 → StayUp ds e
+    → Whole (doing_all ds e)
+whole-first ds e b c tb tc same up =
+    all-whole ds e up (record { joined = joined-first e.near e.far b c; sane = (begins-sane e.near b tb, begins-sane e.far c tc); same = same })
+
+pub reached : (ds : List Doing) (u : ℕ) (e : Ends) → Begins e.near → Begins e.far → IsTimed e.near.link → IsTimed e.far.link
+    → e.near.terms.n201 ≡ e.far.terms.n201 → StayUp ds e
+    → IsSilent (doing_all ds e).near (doing_all ds e).far → IsSilent (doing_all ds e).far (doing_all ds e).near
+    → HasMissing u (doing_all ds e).near (doing_all ds e).far → HasMissing u (doing_all ds e).far (doing_all ds e).near
+    → Arrived (doing_all ds e).near.link.contents (doing_all ds e).far.link.contents (rounds (u + 3) (with_t200_expired (doing_all ds e)))
+reached ds u e b c tb tc same up sn sf un uf =
+    let h = whole-first ds e b c tb tc same up in
+    let agree = ends-agree ds e b c up in
+    all-recovered u (doing_all ds e) (cut-off false (doing_all ds e) h agree.1 sn) (cut-off-far false (doing_all ds e) h agree.0 sf) un uf

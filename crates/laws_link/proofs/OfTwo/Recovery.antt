@@ -1,0 +1,133 @@
+-- Losses are recovered, from the expiry of T200 on.
+use Rattle.std.proofs.Common.{◌≡◌, ℕ, suc, ◌+◌, ◌≤◌, Bool, false, List, [], ◌∷◌, refl, sym, subst, ◌∙◌, ◌⊎◌, inl, inr, arith}
+use Rattle.model_link.specs.declared.timers.LinkTimer.TheVariants.{T200}
+use Rattle.model_link.specs.Events.{expired}
+use Rattle.model_link.specs.TwoEnds.{End, Ends}
+use Rattle.model_link.proofs.SoundEvents.{sound-after}
+use Rattle.laws_link.specs.two.Rounds.{rounds}
+use Rattle.laws_link.specs.two.CutOff.{IsCutOff, IsCutOffWith, HasMissing, with_t200_expired}
+use Rattle.laws_link.proofs.OfTwo.Arriving.{Arrived, near_moves, far_moves, all-arrived}
+use Rattle.laws_link.proofs.OfTwo.Shapes.{enquiry, in_8, in_7}
+use Rattle.laws_link.proofs.OfTwo.Expiring.{Asking, Resting, with_count, expires-one}
+use Rattle.laws_link.proofs.OfTwo.Recovering.{Sounds, Between, Recovered, both-recover, near-recovers, far-recovers, ready-7}
+
+pub between : (own : Bool) (u v : ℕ) (n m : End) (b c : ℕ) → IsCutOffWith own n m → HasMissing u n m → u ≤ v → Between v n.link.contents (with_count b n) (with_count c m)
+between own u v n m b c h missing le =
+    let small : n.terms.k ≤ 127 = h.ranges.k_high in
+    let within : n.link.s ≤ n.link.a + n.terms.k = h.sound.within in
+    record {
+      ranges = h.ranges;
+      kept = refl;
+      low = h.low;
+      high = h.high;
+      near = omega arith;
+      delivered = h.delivered;
+      sizes = h.sizes;
+      left = omega (arith, missing, le);
+    }
+
+finish : (u : ℕ) (cn cm : List (List ℕ)) (e : Ends) → Recovered u cn cm e → Arrived cn cm (rounds (u + 1) e)
+finish u cn cm e h =
+    subst (λ cs. Arrived cs cm (rounds (u + 1) e)) h.near_kept
+    (subst (λ cs. Arrived e.near.link.contents cs (rounds (u + 1) e)) h.far_kept (all-arrived u e h.near h.far h.there h.back h.near_left h.far_left))
+
+pub after-round : (u : ℕ) (e : Ends) → rounds (suc u) e ≡ rounds u (far_moves (near_moves e))
+unfolding rounds
+after-round u e = refl
+
+module _ (u : ℕ) (e : Ends) (hn : IsCutOff e.near e.far) (hm : IsCutOff e.far e.near) (un : HasMissing u e.near e.far) (um : HasMissing u e.far e.near) where
+  abbrev cn : List (List ℕ)
+  cn = e.near.link.contents
+
+  abbrev cm : List (List ℕ)
+  cm = e.far.link.contents
+
+  sounds : Sounds (with_t200_expired e)
+  sounds =
+      record {
+        near_ranges = hn.ranges;
+        far_ranges = hm.ranges;
+        near = sound-after e.near.terms hn.ranges (expired T200) e.near.link hn.sound;
+        far = sound-after e.far.terms hm.ranges (expired T200) e.far.link hm.sound;
+      }
+
+  by-two : (e0 : Ends) → with_t200_expired e ≡ e0 → Recovered u cn cm (far_moves (near_moves (far_moves (near_moves e0)))) → Arrived cn cm (rounds (u + 3) (with_t200_expired e))
+  by-two e0 is h =
+      let count : suc (suc (u + 1)) ≡ u + 3 = omega arith in
+      let two : rounds (suc (suc (u + 1))) e0 ≡ rounds (u + 1) (far_moves (near_moves (far_moves (near_moves e0)))) = after-round (suc (u + 1)) e0 ∙ after-round (u + 1) (far_moves (near_moves e0)) in
+      subst (λ e'. Arrived cn cm (rounds (u + 3) e')) (sym is)
+      (subst (λ i. Arrived cn cm (rounds i e0)) count (subst (Arrived cn cm) (sym two) (finish u cn cm _ h)))
+
+  by-one : (e0 : Ends) → with_t200_expired e ≡ e0 → Recovered (u + 1) cn cm (far_moves (near_moves e0)) → Arrived cn cm (rounds (u + 3) (with_t200_expired e))
+  by-one e0 is h =
+      let count : suc ((u + 1) + 1) ≡ u + 3 = omega arith in
+      subst (λ e'. Arrived cn cm (rounds (u + 3) e')) (sym is)
+      (subst (λ i. Arrived cn cm (rounds i e0)) count (subst (Arrived cn cm) (sym (after-round ((u + 1) + 1) e0)) (finish (u + 1) cn cm _ h)))
+
+  at-once : (e0 : Ends) → with_t200_expired e ≡ e0 → Recovered (u + 2) cn cm e0 → Arrived cn cm (rounds (u + 3) (with_t200_expired e))
+  at-once e0 is h =
+      let count : (u + 2) + 1 ≡ u + 3 = omega arith in
+      subst (λ e'. Arrived cn cm (rounds (u + 3) e')) (sym is) (subst (λ i. Arrived cn cm (rounds i e0)) count (finish (u + 2) cn cm e0 h))
+
+  -- what each end is
+  both-ask : (x : Asking false e.near (with_t200_expired e).near) (y : Asking false e.far (with_t200_expired e).far) → Arrived cn cm (rounds (u + 3) (with_t200_expired e))
+  both-ask x y =
+      let n = with_count x.count e.near in
+      let m = with_count y.count e.far in
+      let e0 : Ends = record { near = in_8 n (enquiry n.link.r ∷ []) n.link.peer_busy n.link.a false n.delivered; far = in_8 m (enquiry m.link.r ∷ []) m.link.peer_busy m.link.a false m.delivered } in
+      let is : with_t200_expired e ≡ e0 = λ i. record { near = x.is i; far = y.is i } in
+      by-two e0 is (both-recover u cn cm n m (between false u u e.near e.far x.count y.count hn un (omega arith)) (between false u u e.far e.near y.count x.count hm um (omega arith)) n.link.peer_busy m.link.peer_busy (subst Sounds is sounds))
+
+  near-asks : (x : Asking false e.near (with_t200_expired e).near) (y : Resting false e.far (with_t200_expired e).far) → Arrived cn cm (rounds (u + 3) (with_t200_expired e))
+  near-asks x y =
+      let n = with_count x.count e.near in
+      let m = with_count e.far.link.repeats e.far in
+      let e0 : Ends = record { near = in_8 n (enquiry n.link.r ∷ []) n.link.peer_busy n.link.a false n.delivered; far = in_7 m [] m.link.a m.link.s m.link.pending y.running m.delivered } in
+      let is : with_t200_expired e ≡ e0 = λ i. record { near = x.is i; far = y.is i } in
+      by-one e0 is (near-recovers (u + 1) cn cm n m (between false u (u + 1) e.near e.far x.count e.far.link.repeats hn un (omega arith)) (between false u (u + 1) e.far e.near e.far.link.repeats x.count hm um (omega arith)) n.link.peer_busy m.link.pending y.running y.all (subst Sounds is sounds))
+
+  far-asks : (x : Resting false e.near (with_t200_expired e).near) (y : Asking false e.far (with_t200_expired e).far) → Arrived cn cm (rounds (u + 3) (with_t200_expired e))
+  far-asks x y =
+      let n : End = record e.near { link = record e.near.link { running = x.running } } in
+      let m = with_count y.count e.far in
+      let e0 : Ends = record { near = in_7 e.near [] e.near.link.a e.near.link.s e.near.link.pending x.running e.near.delivered; far = in_8 m (enquiry m.link.r ∷ []) m.link.peer_busy m.link.a false m.delivered } in
+      let is : with_t200_expired e ≡ e0 = λ i. record { near = x.is i; far = y.is i } in
+      let there : Between u cn n m =
+      let b = between false u u e.near e.far e.near.link.repeats y.count hn un (omega arith) in
+      record { ranges = b.ranges; kept = b.kept; low = b.low; high = b.high; near = b.near; delivered = b.delivered; sizes = b.sizes; left = b.left } in
+      let back : Between u cm m n =
+      let b = between false u u e.far e.near y.count e.near.link.repeats hm um (omega arith) in
+      record { ranges = b.ranges; kept = b.kept; low = b.low; high = b.high; near = b.near; delivered = b.delivered; sizes = b.sizes; left = b.left } in
+      by-two e0 is (far-recovers u cn cm n m there back x.all m.link.peer_busy (subst Sounds is sounds))
+
+  none-asks : (x : Resting false e.near (with_t200_expired e).near) (y : Resting false e.far (with_t200_expired e).far) → Arrived cn cm (rounds (u + 3) (with_t200_expired e))
+  none-asks x y =
+      let n = e.near in
+      let m = e.far in
+      let e0 : Ends = record { near = in_7 n [] n.link.a n.link.s n.link.pending x.running n.delivered; far = in_7 m [] m.link.a m.link.s m.link.pending y.running m.delivered } in
+      let is : with_t200_expired e ≡ e0 = λ i. record { near = x.is i; far = y.is i } in
+      let s = subst Sounds is sounds in
+      let nl : n.link.a ≤ m.link.r = hn.low in
+      let nh : m.link.r ≤ n.link.s = hn.high in
+      let ml : m.link.a ≤ n.link.r = hm.low in
+      let mh : n.link.r ≤ m.link.s = hm.high in
+      at-once e0 is (record {
+        near = ready-7 n n.link.a n.link.s n.link.pending x.running n.delivered hn.ranges s.near;
+        far = ready-7 m m.link.a m.link.s m.link.pending y.running m.delivered hm.ranges s.far;
+        there = record { received = omega (arith, x.all); delivered = hn.delivered; owed = λ less. absurd (omega (arith, less, x.all)); sizes = hn.sizes };
+        back = record { received = omega (arith, y.all); delivered = hm.delivered; owed = λ less. absurd (omega (arith, less, y.all)); sizes = hm.sizes };
+        near_left = omega (arith, un);
+        far_left = omega (arith, um);
+        near_kept = refl;
+        far_kept = refl;
+      })
+
+  either : Asking false e.near (with_t200_expired e).near ⊎ Resting false e.near (with_t200_expired e).near → Asking false e.far (with_t200_expired e).far ⊎ Resting false e.far (with_t200_expired e).far
+      → Arrived cn cm (rounds (u + 3) (with_t200_expired e))
+  either (inl x) (inl y) = both-ask x y
+  either (inl x) (inr y) = near-asks x y
+  either (inr x) (inl y) = far-asks x y
+  either (inr x) (inr y) = none-asks x y
+
+  pub all-recovered : Arrived cn cm (rounds (u + 3) (with_t200_expired e))
+  all-recovered = either (expires-one false e.near e.far hn) (expires-one false e.far e.near hm)

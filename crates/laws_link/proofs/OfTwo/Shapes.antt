@@ -1,0 +1,131 @@
+-- An end that asks and one that answers: what each makes of the other's frames.
+use Rattle.std.proofs.Common.{◌≡◌, ℕ, ◌+◌, Bool, true, false, cond, ◌==◌, List, [], ◌∷◌, ◌++◌, length, Option, None, Some, refl, ap, ◌∙◌, append-nil, arith}
+use Rattle.std.specs.Prelude.{nat_lt, slice_get, unwrap_or, option_to_list}
+use Rattle.std.proofs.lemmas.Bool.{le-ltb}
+use Rattle.lapd_seq.specs.declared.numbers.Seq.{Seq}
+use Rattle.lapd_seq.specs.Numbers.{seq}
+use Rattle.lapd_seq.specs.Circle.{named}
+use Rattle.lapd_frame.specs.declared.controls.Control.TheVariants.{ReceiveReady, ReceiveNotReady}
+use Rattle.lapd_frame.specs.declared.notes.ErrorCode.TheVariants as code
+use Rattle.model_link.specs.declared.states.State.TheVariants as state
+use Rattle.model_link.specs.declared.timers.LinkTimer.{LinkTimer}
+use Rattle.model_link.specs.declared.timers.LinkTimer.TheVariants.{T200, T203}
+use Rattle.model_link.specs.declared.frames.ControlFrame.{ControlFrame}
+use Rattle.model_link.specs.declared.terms.Terms.{Terms}
+use Rattle.model_link.specs.Link.{Link, frame_of}
+use Rattle.model_link.specs.Events.{frame, received}
+use Rattle.model_link.specs.Steps.{Course, Step, begun, ◌then◌}
+use Rattle.model_link.specs.Words
+use Rattle.model_link.specs.MultipleFrame
+use Rattle.model_link.specs.Established
+use Rattle.model_link.specs.TimerRecovery
+use Rattle.model_link.specs.TwoEnds.{End, with_link}
+use Rattle.laws_link.proofs.OfTwo.Plain.{information_frame, acknowledgement_frame}
+
+-- The enquiry and the answer.
+abbrev pub enquiry : ℕ → ControlFrame
+enquiry r = Words.command (ReceiveReady (seq r) true)
+
+abbrev pub reply : ℕ → ControlFrame
+reply r = Words.response (ReceiveReady (seq r) true)
+
+-- The same of an end with own busy off or on.
+abbrev pub enquiry_with : Bool → ℕ → ControlFrame
+enquiry_with own r = Words.command (cond own (ReceiveNotReady (seq r) true) (ReceiveReady (seq r) true))
+
+abbrev pub reply_with : Bool → ℕ → ControlFrame
+reply_with own r = Words.response (cond own (ReceiveNotReady (seq r) true) (ReceiveReady (seq r) true))
+
+-- An end in state 8, and one in state 7, with own busy as the first bit says.
+abbrev pub in_8_with : Bool → End → List ControlFrame → Bool → ℕ → Bool → List (List ℕ) → End
+in_8_with own n ws busy a p ds =
+    record n { link = record n.link { state = state.TimerRecovery; own_busy = own; peer_busy = busy; pending = p; waiting = ws; running = Some T200; a = a }; way = []; delivered = ds }
+
+abbrev pub in_8 : End → List ControlFrame → Bool → ℕ → Bool → List (List ℕ) → End
+in_8 n ws busy a p ds = in_8_with false n ws busy a p ds
+
+abbrev pub in_7_with : Bool → Bool → End → List ControlFrame → ℕ → ℕ → Bool → Option LinkTimer → List (List ℕ) → End
+in_7_with own busy n ws a s p running ds =
+    record n { link = record n.link { state = state.Established; own_busy = own; peer_busy = busy; pending = p; waiting = ws; running = running; a = a; s = s }; way = []; delivered = ds }
+
+abbrev pub in_7 : End → List ControlFrame → ℕ → ℕ → Bool → Option LinkTimer → List (List ℕ) → End
+in_7 n ws a s p running ds = in_7_with false false n ws a s p running ds
+
+-- with one I-frame more received
+abbrev pub with_one_more : End → End
+with_one_more m = record m { link = record m.link { r = m.link.r + 1; rejecting = false } }
+
+abbrev pub effect : Terms → Seq → (ℕ → Step) → Course → Option ℕ → Course
+effect t nr f c o = elim o [ None ↦ (Words.error t code.J then Words.re_establish t) c | Some x ↦ f x c ]
+
+module _ (m : End) where
+  abbrev pub having : Course → End
+  having c = record m { link = c.link; way = []; delivered = m.delivered ++ option_to_list c.delivered }
+
+  -- the answer waits, if there is room; the other end is taken for busy from now on, or not
+  abbrev pub replied : Bool → Bool → List ControlFrame → Bool → Course
+  replied own busy ws b =
+      record (begun (record m.link { peer_busy = busy; pending = false; waiting = cond b (ws ++ reply_with own m.link.r ∷ []) ws })) { lost = cond {A = ℕ} b 0 (0 + 1) }
+
+-- an enquiry in state 8
+pub asked-8 : (own : Bool) (n : End) (ws : List ControlFrame) (busy : Bool) (a : ℕ) (p : Bool) (ds : List (List ℕ)) (t : Terms) (w x : ℕ)
+    → nat_lt (length ws) n.terms.control ≡ true → named a n.link.s (seq w) ≡ Some x
+    → with_link (received (frame (frame_of t (enquiry w)))) (in_8_with own n ws busy a p ds) ≡ in_8_with own n (ws ++ reply_with own n.link.r ∷ []) false x false ds
+asked-8 own n ws busy a p ds t w x room names =
+    let e = in_8_with own n ws busy a p ds in
+    ap (λ b. having e (Words.by_number n.terms (seq w) (TimerRecovery.acknowledged_in_8 T203 false) (replied e own false ws b))) room
+    ∙ ap (λ o. having e (effect n.terms (seq w) (TimerRecovery.acknowledged_in_8 T203 false) (replied e own false ws true) o)) names
+    ∙ ap (λ xs. in_8_with own n (ws ++ reply_with own n.link.r ∷ []) false x false xs) (append-nil ds)
+
+-- its answer
+pub answered-8 : (own : Bool) (n : End) (ws : List ControlFrame) (busy : Bool) (a : ℕ) (p : Bool) (ds : List (List ℕ)) (t : Terms) (w x : ℕ)
+    → named a n.link.s (seq w) ≡ Some x
+    → with_link (received (frame (frame_of t (reply w)))) (in_8_with own n ws busy a p ds) ≡ in_7_with own false n ws x x p (Some T203) ds
+answered-8 own n ws busy a p ds t w x names =
+    let e = in_8_with own n ws busy a p ds in
+    ap (λ o. having e (effect n.terms (seq w) (TimerRecovery.acknowledged_in_8 T203 true) (begun (record e.link { peer_busy = false })) o)) names
+    ∙ ap (λ xs. in_7_with own false n ws x x p (Some T203) xs) (append-nil ds)
+
+-- an acknowledgement in state 8
+pub acknowledged-8 : (own : Bool) (n : End) (ws : List ControlFrame) (busy : Bool) (a : ℕ) (p : Bool) (ds : List (List ℕ)) (t : Terms) (l : Link) (x : ℕ)
+    → named a n.link.s (seq l.r) ≡ Some x
+    → with_link (received (frame (acknowledgement_frame t l))) (in_8_with own n ws busy a p ds) ≡ in_8_with own n ws false x p ds
+acknowledged-8 own n ws busy a p ds t l x names =
+    let e = in_8_with own n ws busy a p ds in
+    ap (λ o. having e (effect n.terms (seq l.r) (TimerRecovery.acknowledged_in_8 T203 false) (begun (record e.link { peer_busy = false })) o)) names
+    ∙ ap (λ xs. in_8_with own n ws false x p xs) (append-nil ds)
+
+-- an I-frame in state 8
+pub informed-8 : (m : End) (ws : List ControlFrame) (busy : Bool) (a : ℕ) (p : Bool) (ds : List (List ℕ)) (t : Terms) (l : Link) (x : ℕ)
+    → nat_lt m.terms.n201 (length (unwrap_or (slice_get l.contents l.s) [])) ≡ false
+    → ((seq l.s).value == (seq m.link.r).value) ≡ true → named a m.link.s (seq l.r) ≡ Some x
+    → with_link (received (frame (information_frame t l))) (in_8 m ws busy a p ds)
+    ≡ in_8 (with_one_more m) ws busy x true (ds ++ unwrap_or (slice_get l.contents l.s) [] ∷ [])
+informed-8 m ws busy a p ds t l x fits next names =
+    let e = in_8 m ws busy a p ds in
+    let octets = unwrap_or (slice_get l.contents l.s) [] in
+    let number = Words.by_number m.terms (seq l.r) Words.acknowledge in
+    let here = begun e.link in
+    ap (λ b. having e (cond b (MultipleFrame.failed m.terms code.O here) (number (MultipleFrame.contents_in_7_8 m.terms (seq l.s) false octets here)))) fits
+    ∙ ap (λ b. having e (number (cond b (MultipleFrame.in_sequence m.terms false octets here) (MultipleFrame.out_of_sequence m.terms false here)))) next
+    ∙ ap (λ o. having e (effect m.terms (seq l.r) Words.acknowledge (MultipleFrame.in_sequence m.terms false octets here) o)) names
+
+-- an enquiry in state 7 that acknowledges nothing new
+pub asked-7 : (own : Bool) (n : End) (a s : ℕ) (p : Bool) (running : Option LinkTimer) (ds : List (List ℕ)) (t : Terms) (w : ℕ)
+    → nat_lt 0 n.terms.control ≡ true → named a s (seq w) ≡ Some a
+    → with_link (received (frame (frame_of t (enquiry w)))) (in_7_with own false n [] a s p running ds) ≡ in_7_with own false n (reply_with own n.link.r ∷ []) a s false (cond (a == s) (Some T203) running) ds
+asked-7 own n a s p running ds t w room names =
+    let e = in_7_with own false n [] a s p running ds in
+    let c = replied e own false [] true in
+    ap (λ b. having e (Words.by_number n.terms (seq w) Established.acknowledged_in_7 (replied e own false [] b))) room
+    ∙ ap (λ o. having e (effect n.terms (seq w) Established.acknowledged_in_7 c o)) names
+    ∙ by-test (a == s) refl
+    ∙ ap (λ xs. in_7_with own false n (reply_with own n.link.r ∷ []) a s false (cond (a == s) (Some T203) running) xs) (append-nil ds)
+  where
+    by-test : (b : Bool) → (a == s) ≡ b
+        → having (in_7_with own false n [] a s p running ds) (cond b ((Words.acknowledge a then Words.start T203) (replied (in_7_with own false n [] a s p running ds) own false [] true)) (cond (nat_lt a a) ((Words.acknowledge a then Words.start T200) (replied (in_7_with own false n [] a s p running ds) own false [] true)) (replied (in_7_with own false n [] a s p running ds) own false [] true)))
+        ≡ in_7_with own false n (reply_with own n.link.r ∷ []) a s false (cond b (Some T203) running) (ds ++ [])
+    by-test true e = refl
+    by-test false e =
+        ap (λ b. having (in_7_with own false n [] a s p running ds) (cond b ((Words.acknowledge a then Words.start T200) (replied (in_7_with own false n [] a s p running ds) own false [] true)) (replied (in_7_with own false n [] a s p running ds) own false [] true)))
+        (le-ltb a a (omega arith))

@@ -1,0 +1,256 @@
+-- What keeps a link in states 7 and 8: each word, each row of a frame whose N(R) is valid, and each mild event.
+use Rattle.std.proofs.Common.{◌≡◌, ℕ, ◌<◌, ◌≤◌, Bool, true, false, cond, IsTrue, List, [], ◌∷◌, length, Option, None, Some, refl, sym, ap, subst, ◌∙◌, true≢false}
+use Rattle.std.proofs.lemmas.Bool.{lt-ltb, le-ltb}
+use Rattle.lapd_seq.specs.declared.numbers.Seq.{Seq}
+use Rattle.lapd_seq.specs.Numbers.{seq}
+use Rattle.lapd_seq.specs.Circle.{named}
+use Rattle.lapd_frame.specs.declared.controls.Control.{Control}
+use Rattle.lapd_frame.specs.declared.controls.Control.TheVariants.{Information, ReceiveReady, ReceiveNotReady, Reject, Sabme, Disc, Ui, Ua, Dm, Frmr, Xid}
+use Rattle.lapd_frame.specs.declared.notes.Note.{Note}
+use Rattle.lapd_frame.specs.declared.notes.ErrorCode.TheVariants as code
+use Rattle.lapd_frame.specs.declared.refusals.Refusal.{Refusal}
+use Rattle.lapd_frame.specs.declared.refusals.Refusal.TheVariants.{WrongState}
+use Rattle.model_link.specs.declared.states.State.{State}
+use Rattle.model_link.specs.declared.states.State.TheVariants.{TeiAssigned, AwaitingEstablishment, AwaitingRelease, Established, TimerRecovery}
+use Rattle.model_link.specs.declared.timers.LinkTimer.{LinkTimer}
+use Rattle.model_link.specs.declared.timers.LinkTimer.TheVariants.{T200, T203}
+use Rattle.model_link.specs.declared.frames.ControlFrame.{ControlFrame}
+use Rattle.model_link.specs.declared.terms.Terms.{Terms}
+use Rattle.model_link.specs.Link.{Link, is_multiple_frame}
+use Rattle.model_link.specs.Events.{Request, Establish, Release, Data, SetBusy, ClearBusy, expired, requested, offer}
+use Rattle.model_link.specs.Steps.{Course, begun, Step, ◌then◌}
+use Rattle.model_link.specs.Words
+use Rattle.model_link.specs.MultipleFrame
+use Rattle.model_link.specs.Established
+use Rattle.model_link.specs.TimerRecovery
+use Rattle.model_link.specs.Requests
+use Rattle.model_link.specs.Offers
+use Rattle.model_link.specs.Machine
+use Rattle.model_link.proofs.Leads.{Leads, then_leads, keeping_then, nothing_leads, depending_leads, bit_leads}
+use Rattle.model_link.proofs.Lines.{Means}
+use Rattle.laws_link.specs.two.Ahead.{IsMildRequest}
+
+abbrev IsUpIn : Course → Type 0
+IsUpIn c = IsTrue (is_multiple_frame c.link.state)
+
+-- A link in state 7 or 8, with its V(A) and V(S); and whatever these are.
+pub record Holds (a s : ℕ) (c : Course) : Type 0 where
+  pub up : IsTrue (is_multiple_frame c.link.state)
+  pub low : c.link.a ≡ a
+  pub high : c.link.s ≡ s
+
+pub record Stays (c : Course) : Type 0 where
+  pub up : IsTrue (is_multiple_frame c.link.state)
+
+module _ (a s : ℕ) where
+  pub note_holds : (x : Note) → Leads (Holds a s) (Words.note x) (Holds a s)
+  note_holds x = record { leads = λ c h. record { up = h.up; low = h.low; high = h.high } }
+
+  pub deliver_holds : (t : Terms) (octets : List ℕ) → Leads (Holds a s) (Words.deliver t octets) (Holds a s)
+  deliver_holds t octets = record { leads = λ c h. record { up = h.up; low = h.low; high = h.high } }
+
+  pub peer_busy_holds : (b : Bool) → Leads (Holds a s) (Words.peer_busy_is b) (Holds a s)
+  peer_busy_holds b = record { leads = λ c h. record { up = h.up; low = h.low; high = h.high } }
+
+  pub rejecting_holds : (b : Bool) → Leads (Holds a s) (Words.rejecting_is b) (Holds a s)
+  rejecting_holds b = record { leads = λ c h. record { up = h.up; low = h.low; high = h.high } }
+
+  pub pending_holds : (b : Bool) → Leads (Holds a s) (Words.pending_is b) (Holds a s)
+  pending_holds b = record { leads = λ c h. record { up = h.up; low = h.low; high = h.high } }
+
+  pub count_holds : Leads (Holds a s) Words.count_received (Holds a s)
+  count_holds = record { leads = λ c h. record { up = h.up; low = h.low; high = h.high } }
+
+  pub answer_holds : (t : Terms) → Leads (Holds a s) (Words.answer t) (Holds a s)
+  answer_holds t = record { leads = λ c h. record { up = h.up; low = h.low; high = h.high } }
+
+  pub reject_holds : (t : Terms) (f : Bool) → Leads (Holds a s) (Words.reject t f) (Holds a s)
+  reject_holds t f = record { leads = λ c h. record { up = h.up; low = h.low; high = h.high } }
+
+pub acknowledge_stays : (n : ℕ) → Leads Stays (Words.acknowledge n) Stays
+acknowledge_stays n = record { leads = λ c h. record { up = h.up } }
+
+pub again_stays : (n : ℕ) → Leads Stays (Words.send_again_from n) Stays
+again_stays n = record { leads = λ c h. record { up = h.up } }
+
+pub start_stays : (timer : LinkTimer) → Leads Stays (Words.start timer) Stays
+start_stays timer = record { leads = λ c h. record { up = h.up } }
+
+pub enter_7_stays : Leads Stays (Words.enter Established) Stays
+enter_7_stays = record { leads = λ c h. record { up = refl } }
+
+pub ruleset words = (keeping_then, nothing_leads, depending_leads, bit_leads, note_holds, deliver_holds, peer_busy_holds, rejecting_holds, pending_holds, count_holds, answer_holds, reject_holds)
+
+pub ruleset effects = (keeping_then, nothing_leads, depending_leads, bit_leads, acknowledge_stays, again_stays, start_stays, enter_7_stays)
+
+in_7_stays : (n : ℕ) → Leads Stays (Established.acknowledged_in_7 n) Stays
+in_7_stays n = search effects depth 12 fits 4000
+
+information_7_stays : (n : ℕ) → Leads Stays (Established.acknowledged_by_information_in_7 n) Stays
+information_7_stays n = search effects depth 12 fits 4000
+
+rnr_7_stays : (n : ℕ) → Leads Stays (Established.acknowledged_by_rnr_in_7 n) Stays
+rnr_7_stays n = search effects depth 12 fits 4000
+
+rej_7_stays : (n : ℕ) → Leads Stays (Established.acknowledged_by_rej_in_7 n) Stays
+rej_7_stays n = search effects depth 12 fits 4000
+
+in_8_stays : (timer : LinkTimer) (final : Bool) (n : ℕ) → Leads Stays (TimerRecovery.acknowledged_in_8 timer final n) Stays
+in_8_stays timer final n = search effects depth 12 fits 4000
+
+-- what fits, where it is an I-frame
+abbrev pub Fits : Terms → Control → List ℕ → Type 0
+Fits t (Information ns nr b) octets = length octets ≤ t.n201
+Fits t (ReceiveReady nr pf) octets = Unit {0}
+Fits t (ReceiveNotReady nr pf) octets = Unit {0}
+Fits t (Reject nr pf) octets = Unit {0}
+Fits t (Sabme b) octets = Unit {0}
+Fits t (Disc b) octets = Unit {0}
+Fits t (Ui b) octets = Unit {0}
+Fits t (Ua f) octets = Unit {0}
+Fits t (Dm f) octets = Unit {0}
+Fits t (Frmr f) octets = Unit {0}
+Fits t (Xid pf) octets = Unit {0}
+
+module _ (t : Terms) (l : Link) (up : IsTrue (is_multiple_frame l.state)) (p : ℕ) (valid : named l.a l.s (seq p) ≡ Some p) where
+  first : Holds l.a l.s (begun l)
+  first = record { up = up; low = refl; high = refl }
+
+  abbrev effect : (ℕ → Step) → Course → Option ℕ → Course
+  effect f c o = elim o [ None ↦ (Words.error t code.J then Words.re_establish t) c | Some n ↦ f n c ]
+
+  numbered : (f : ℕ → Step) → ((n : ℕ) → Leads Stays (f n) Stays) → (c : Course) → Holds l.a l.s c → IsUpIn (Words.by_number t (seq p) f c)
+  numbered f x c h =
+      let same : named c.link.a c.link.s (seq p) ≡ Some p = ap (λ a. named a c.link.s (seq p)) h.low ∙ ap (λ s. named l.a s (seq p)) h.high ∙ valid in
+      subst (λ o. IsUpIn (effect f c o)) (sym same) ((x p).leads c (record { up = h.up })).up
+
+  contents : (ns : Seq) (b : Bool) (octets : List ℕ) → Leads (Holds l.a l.s) (MultipleFrame.contents_in_7_8 t ns b octets) (Holds l.a l.s)
+  contents ns b octets = search words depth 14 fits 6000
+
+  information : (ns : Seq) (b : Bool) (octets : List ℕ) (f : ℕ → Step) → ((n : ℕ) → Leads Stays (f n) Stays) → length octets ≤ t.n201
+      → IsUpIn (MultipleFrame.information_in_7_8 t ns (seq p) b octets f (begun l))
+  information ns b octets f x size =
+      subst (λ o. IsUpIn (cond o (MultipleFrame.failed t code.O (begun l)) ((MultipleFrame.contents_in_7_8 t ns b octets then Words.by_number t (seq p) f) (begun l))))
+      (sym (le-ltb t.n201 (length octets) size))
+      (numbered f x (MultipleFrame.contents_in_7_8 t ns b octets (begun l)) ((contents ns b octets).leads (begun l) first))
+
+  supervisory-7 : (busy command pf : Bool) (f : Bool → ℕ → Step) → ((final : Bool) (n : ℕ) → Leads Stays (f final n) Stays)
+      → IsUpIn (MultipleFrame.supervisory t (Established.particulars_in_7 t) busy command pf (seq p) f (begun l))
+  supervisory-7 busy command pf f x =
+      let before : Leads (Holds l.a l.s) (Words.peer_busy_is busy then MultipleFrame.answered t command pf then Established.unsolicited t (MultipleFrame.is_final command pf)) (Holds l.a l.s) = search words depth 14 fits 6000 in
+      numbered (f (MultipleFrame.is_final command pf)) (x (MultipleFrame.is_final command pf)) _ (before.leads (begun l) first)
+
+  supervisory-8 : (busy command pf : Bool) (f : Bool → ℕ → Step) → ((final : Bool) (n : ℕ) → Leads Stays (f final n) Stays)
+      → IsUpIn (MultipleFrame.supervisory t (TimerRecovery.particulars_in_8 t) busy command pf (seq p) f (begun l))
+  supervisory-8 busy command pf f x =
+      let before : Leads (Holds l.a l.s) (Words.peer_busy_is busy then MultipleFrame.answered t command pf) (Holds l.a l.s) = search words depth 14 fits 6000 in
+      numbered (f (MultipleFrame.is_final command pf)) (x (MultipleFrame.is_final command pf)) _ (before.leads (begun l) first)
+
+  in-7 : (b : Bool) (octets : List ℕ) (control : Control) → Means p control → Fits t control octets → IsUpIn (Established.frame_in_7 t b octets control (begun l))
+  in-7 b octets (Information ns nr x) e size =
+      subst (λ n. IsUpIn (MultipleFrame.information_in_7_8 t ns n x octets Established.acknowledged_by_information_in_7 (begun l))) (sym e)
+      (information ns x octets Established.acknowledged_by_information_in_7 information_7_stays size)
+  in-7 b octets (ReceiveReady nr pf) e size =
+      subst (λ n. IsUpIn (MultipleFrame.supervisory t (Established.particulars_in_7 t) false b pf n (Established.particulars_in_7 t).by_rr (begun l))) (sym e)
+      (supervisory-7 false b pf (Established.particulars_in_7 t).by_rr (λ final n. in_7_stays n))
+  in-7 b octets (ReceiveNotReady nr pf) e size =
+      subst (λ n. IsUpIn (MultipleFrame.supervisory t (Established.particulars_in_7 t) true b pf n (Established.particulars_in_7 t).by_rnr (begun l))) (sym e)
+      (supervisory-7 true b pf (Established.particulars_in_7 t).by_rnr (λ final n. rnr_7_stays n))
+  in-7 b octets (Reject nr pf) e size =
+      subst (λ n. IsUpIn (MultipleFrame.supervisory t (Established.particulars_in_7 t) false b pf n (Established.particulars_in_7 t).by_rej (begun l))) (sym e)
+      (supervisory-7 false b pf (Established.particulars_in_7 t).by_rej (λ final n. rej_7_stays n))
+  in-7 b octets (Sabme x) e size = absurd e
+  in-7 b octets (Disc x) e size = absurd e
+  in-7 b octets (Ui x) e size = absurd e
+  in-7 b octets (Ua x) e size = absurd e
+  in-7 b octets (Dm x) e size = absurd e
+  in-7 b octets (Frmr x) e size = absurd e
+  in-7 b octets (Xid x) e size = absurd e
+
+  in-8 : (b : Bool) (octets : List ℕ) (control : Control) → Means p control → Fits t control octets → IsUpIn (TimerRecovery.frame_in_8 t b octets control (begun l))
+  in-8 b octets (Information ns nr x) e size =
+      subst (λ n. IsUpIn (MultipleFrame.information_in_7_8 t ns n x octets Words.acknowledge (begun l))) (sym e)
+      (information ns x octets Words.acknowledge acknowledge_stays size)
+  in-8 b octets (ReceiveReady nr pf) e size =
+      subst (λ n. IsUpIn (MultipleFrame.supervisory t (TimerRecovery.particulars_in_8 t) false b pf n (TimerRecovery.particulars_in_8 t).by_rr (begun l))) (sym e)
+      (supervisory-8 false b pf (TimerRecovery.particulars_in_8 t).by_rr (in_8_stays T203))
+  in-8 b octets (ReceiveNotReady nr pf) e size =
+      subst (λ n. IsUpIn (MultipleFrame.supervisory t (TimerRecovery.particulars_in_8 t) true b pf n (TimerRecovery.particulars_in_8 t).by_rnr (begun l))) (sym e)
+      (supervisory-8 true b pf (TimerRecovery.particulars_in_8 t).by_rnr (in_8_stays T200))
+  in-8 b octets (Reject nr pf) e size =
+      subst (λ n. IsUpIn (MultipleFrame.supervisory t (TimerRecovery.particulars_in_8 t) false b pf n (TimerRecovery.particulars_in_8 t).by_rej (begun l))) (sym e)
+      (supervisory-8 false b pf (TimerRecovery.particulars_in_8 t).by_rej (in_8_stays T203))
+  in-8 b octets (Sabme x) e size = absurd e
+  in-8 b octets (Disc x) e size = absurd e
+  in-8 b octets (Ui x) e size = absurd e
+  in-8 b octets (Ua x) e size = absurd e
+  in-8 b octets (Dm x) e size = absurd e
+  in-8 b octets (Frmr x) e size = absurd e
+  in-8 b octets (Xid x) e size = absurd e
+
+  frames-in : (here : State) → IsTrue (is_multiple_frame here) → (b : Bool) (octets : List ℕ) (control : Control) → Means p control → Fits t control octets
+      → IsUpIn (Machine.frame_in here t b octets control (begun l))
+  frames-in TeiAssigned h b octets control e size = absurd (true≢false (sym h))
+  frames-in AwaitingEstablishment h b octets control e size = absurd (true≢false (sym h))
+  frames-in AwaitingRelease h b octets control e size = absurd (true≢false (sym h))
+  frames-in Established h b octets control e size = in-7 b octets control e size
+  frames-in TimerRecovery h b octets control e size = in-8 b octets control e size
+
+  pub frame-stays : (b : Bool) (octets : List ℕ) (control : Control) → Means p control → Fits t control octets → IsUpIn (Machine.frame_step t b octets control (begun l))
+  frame-stays b octets control e size = frames-in l.state up b octets control e size
+
+-- The other events.
+module _ (t : Terms) (l : Link) (up : IsTrue (is_multiple_frame l.state)) where
+  branch : (b : Bool) (u v : Course) → (b ≡ true → IsUpIn u) → IsUpIn v → IsUpIn (cond b u v)
+  branch true u v x y = x refl
+  branch false u v x y = y
+
+  -- an establishment is refused in states 7 and 8
+  pub refused : (here : State) → l.state ≡ here → IsTrue (is_multiple_frame here) → (full : Bool) → Requests.refusal t l full Establish ≡ Some WrongState
+  refused TeiAssigned e h full = absurd (true≢false (sym h))
+  refused AwaitingEstablishment e h full = absurd (true≢false (sym h))
+  refused AwaitingRelease e h full = absurd (true≢false (sym h))
+  refused Established e h full = ap (λ s. cond (Requests.serves s Establish) None (Some WrongState)) e
+  refused TimerRecovery e h full = ap (λ s. cond (Requests.serves s Establish) None (Some WrongState)) e
+
+  either : (b : Bool) (u v : Course) → IsUpIn u → IsUpIn v → IsUpIn (cond b u v)
+  either true u v x y = x
+  either false u v x y = y
+
+  whatever : (request : Request) (o : Option Refusal) → IsUpIn (Requests.granted t request (begun l)) → IsUpIn (elim o [ None ↦ Requests.granted t request (begun l) | Some _ ↦ begun l ])
+  whatever request None x = x
+  whatever request (Some w) x = up
+
+  refuses : (o : Option Refusal) → o ≡ Some WrongState → IsUpIn (elim o [ None ↦ Requests.granted t Establish (begun l) | Some _ ↦ begun l ])
+  refuses None e = absurd (cc)
+  refuses (Some w) e = up
+
+  pub request-stays : (request : Request) (full : Bool) → IsMildRequest request → IsUpIn (Machine.course t (requested request full) l)
+  request-stays Establish full mild = refuses (Requests.refusal t l full Establish) (refused l.state refl up full)
+  request-stays Release full mild = absurd mild
+  request-stays (Data octets) full mild = whatever (Data octets) (Requests.refusal t l full (Data octets)) up
+  request-stays SetBusy full mild = whatever SetBusy (Requests.refusal t l full SetBusy) (either l.own_busy _ _ up up)
+  request-stays ClearBusy full mild = whatever ClearBusy (Requests.refusal t l full ClearBusy) (either l.own_busy _ _ up up)
+
+  expires-in : (here : State) → l.state ≡ here → IsTrue (is_multiple_frame here) → (timer : LinkTimer) → (here ≡ TimerRecovery → l.repeats < t.n200)
+      → IsUpIn (Machine.expired_in here timer t (begun l))
+  expires-in TeiAssigned e h timer again = absurd (true≢false (sym h))
+  expires-in AwaitingEstablishment e h timer again = absurd (true≢false (sym h))
+  expires-in AwaitingRelease e h timer again = absurd (true≢false (sym h))
+  expires-in Established e h timer again = refl
+  expires-in TimerRecovery e h T200 again =
+      subst (λ b. IsUpIn (cond b (Words.start T200 (Words.repeated (Words.enquire t (begun l)))) (MultipleFrame.failed t code.I (begun l))))
+      (sym (lt-ltb l.repeats t.n200 (again refl))) up
+  expires-in TimerRecovery e h T203 again = up
+
+  pub timer-stays : (timer : LinkTimer) → (l.state ≡ TimerRecovery → Machine.is_running timer l ≡ true → l.repeats < t.n200) → IsUpIn (Machine.course t (expired timer) l)
+  timer-stays timer again = branch (Machine.is_running timer l) _ _ (λ run. expires-in l.state refl up timer (λ e. again e run)) up
+
+  offers : (ws : List ControlFrame) → IsUpIn (Offers.offer_among t ws (begun l))
+  offers (f ∷ fs) = up
+  offers [] =
+      either (Offers.may_send_information t l) _ _ (either (Offers.is_awaiting_acknowledgement (Offers.with_one_sent l)) _ _ up up)
+      (either l.pending _ _ up up)
+
+  pub offer-stays : IsUpIn (Machine.course t offer l)
+  offer-stays = offers l.waiting

@@ -1,0 +1,227 @@
+-- Two links stay up where T200 is timely: what holds in both directions is kept by each act.
+use Rattle.std.proofs.Common.{◌≡◌, ℕ, ◌+◌, ◌≤◌, Bool, true, false, IsTrue, List, [], ◌∷◌, ◌++◌, refl, sym, ap, subst, ◌∙◌, inl, inr, true≢false, arith}
+use Rattle.std.specs.Prelude.{All, drop}
+use Rattle.std.proofs.lemmas.List.Elements.{All-head, All-tail}
+use Rattle.lapd_seq.specs.Numbers.{seq}
+use Rattle.lapd_frame.specs.declared.controls.Control.{Control}
+use Rattle.lapd_frame.specs.declared.controls.Control.TheVariants.{Information, ReceiveReady, ReceiveNotReady, Reject, Sabme, Disc, Ui, Ua, Dm, Frmr, Xid}
+use Rattle.lapd_frame.specs.Grammar.{Parts}
+use Rattle.model_link.specs.declared.states.State.{State}
+use Rattle.model_link.specs.declared.states.State.TheVariants.{TeiAssigned, AwaitingEstablishment, AwaitingRelease, Established, TimerRecovery}
+use Rattle.model_link.specs.declared.timers.LinkTimer.{LinkTimer}
+use Rattle.model_link.specs.declared.frames.ControlFrame.{ControlFrame}
+use Rattle.model_link.specs.declared.terms.Terms.{Terms}
+use Rattle.model_link.specs.Link.{Link, is_multiple_frame}
+use Rattle.model_link.specs.Events.{Request, frame, received, expired, requested, offer}
+use Rattle.model_link.specs.Steps.{Course}
+use Rattle.model_link.specs.Machine
+use Rattle.model_link.specs.TwoEnds.{End, Act, asks, expires, sends, receives, loses, with_link, with_sent, with_first_of, frame_given, acting, IsUp}
+use Rattle.model_link.proofs.Lines.{rising-low}
+use Rattle.model_link.proofs.Direction.{frames_of, line_of}
+use Rattle.model_link.proofs.Joined.{Joined}
+use Rattle.laws_link.specs.two.Ahead.{IsMildRequest}
+use Rattle.laws_link.specs.two.Timely.{is_enquiry, is_answer, IsNoneOpen, IsTimelyAct}
+use Rattle.laws_link.proofs.OfTwo.Trains.{Kind, numbered, enquiry, report, kind_of, kinds_of, tally, one_enquiry, one_answer}
+use Rattle.laws_link.proofs.OfTwo.Flow.{most, Flow, there-calm, there-enquiry, there-unasked, there-information, there-tail, back-other, back-tail}
+use Rattle.laws_link.proofs.OfTwo.Effects.{is_recovering}
+use Rattle.laws_link.proofs.OfTwo.HeardRows.{heard}
+use Rattle.laws_link.proofs.OfTwo.Meeting.{line, Longer, line-longer, flow-at, is-no-alien, sender-kept, sender-went, sender-hears, receiver-kept, receiver-went, receiver-hears}
+use Rattle.laws_link.proofs.OfTwo.Going.{Asked, Gives, Offered, asks-went, RanOut, expires-goes, offer-goes}
+
+-- no enquiry, and no answer, is none among the kinds
+not-enquiry : (b : Bool) (control : Control) → is_enquiry b control ≡ false → one_enquiry (kind_of b control) ≡ 0
+not-enquiry b (Information ns nr true) e = refl
+not-enquiry b (Information ns nr false) e = refl
+not-enquiry true (ReceiveReady nr true) e = absurd (true≢false e)
+not-enquiry true (ReceiveReady nr false) e = refl
+not-enquiry false (ReceiveReady nr true) e = refl
+not-enquiry false (ReceiveReady nr false) e = refl
+not-enquiry true (ReceiveNotReady nr true) e = absurd (true≢false e)
+not-enquiry true (ReceiveNotReady nr false) e = refl
+not-enquiry false (ReceiveNotReady nr true) e = refl
+not-enquiry false (ReceiveNotReady nr false) e = refl
+not-enquiry true (Reject nr pf) e = refl
+not-enquiry false (Reject nr true) e = refl
+not-enquiry false (Reject nr false) e = refl
+not-enquiry b (Sabme p) e = refl
+not-enquiry b (Disc p) e = refl
+not-enquiry b (Ui p) e = refl
+not-enquiry b (Ua f) e = refl
+not-enquiry b (Dm f) e = refl
+not-enquiry b (Frmr f) e = refl
+not-enquiry b (Xid pf) e = refl
+
+not-answer : (b : Bool) (control : Control) → is_answer b control ≡ false → one_answer (kind_of b control) ≡ 0
+not-answer b (Information ns nr true) e = refl
+not-answer b (Information ns nr false) e = refl
+not-answer true (ReceiveReady nr true) e = refl
+not-answer true (ReceiveReady nr false) e = refl
+not-answer false (ReceiveReady nr true) e = absurd (true≢false e)
+not-answer false (ReceiveReady nr false) e = refl
+not-answer true (ReceiveNotReady nr true) e = refl
+not-answer true (ReceiveNotReady nr false) e = refl
+not-answer false (ReceiveNotReady nr true) e = absurd (true≢false e)
+not-answer false (ReceiveNotReady nr false) e = refl
+not-answer true (Reject nr pf) e = refl
+not-answer false (Reject nr true) e = refl
+not-answer false (Reject nr false) e = refl
+not-answer b (Sabme p) e = refl
+not-answer b (Disc p) e = refl
+not-answer b (Ui p) e = refl
+not-answer b (Ua f) e = refl
+not-answer b (Dm f) e = refl
+not-answer b (Frmr f) e = refl
+not-answer b (Xid pf) e = refl
+
+module _ (asked : Bool → Control → Bool) (one : Kind → ℕ) (w : (b : Bool) (control : Control) → asked b control ≡ false → one (kind_of b control) ≡ 0) (t : Terms) where
+  none-waits : (ws : List ControlFrame) → All (λ f. asked f.command f.control ≡ false) ws → tally one (kinds_of (frames_of t ws)) ≡ 0
+  none-waits [] h = refl
+  none-waits (f ∷ fs) h =
+      let here : one (kind_of f.command f.control) ≡ 0 = w f.command f.control (All-head (λ f. asked f.command f.control ≡ false) f fs h) in
+      let more : tally one (kinds_of (frames_of t fs)) ≡ 0 = none-waits fs (All-tail (λ f. asked f.command f.control ≡ false) f fs h) in
+      omega arith
+
+  none-there : (way : List Parts) (ws : List ControlFrame) → All (λ f. asked f.address.command f.control ≡ false) way → All (λ f. asked f.command f.control ≡ false) ws
+      → tally one (line t way ws) ≡ 0
+  none-there [] ws h k = none-waits ws k
+  none-there (f ∷ fs) ws h k =
+      let here : one (kind_of f.address.command f.control) ≡ 0 = w f.address.command f.control (All-head (λ f. asked f.address.command f.control ≡ false) f fs h) in
+      let more : tally one (line t fs ws) ≡ 0 = none-there fs ws (All-tail (λ f. asked f.address.command f.control ≡ false) f fs h) k in
+      omega arith
+
+-- One direction between two ends.
+abbrev pub Flows : End → End → Type 0
+Flows n m = Flow n.link.s m.link.r (is_recovering n.link.state) m.link.rejecting (line n.terms n.way n.link.waiting) (line m.terms m.way m.link.waiting)
+
+module _ (n m : End) (h : Joined n m) (f : Flows n m) (g : Flows m n) where
+  abbrev own : List Kind
+  own = line n.terms n.way n.link.waiting
+
+  abbrev other : List Kind
+  other = line m.terms m.way m.link.waiting
+
+  -- requests
+  asks-flows : (request : Request) (full : Bool) → IsMildRequest request → Flows (with_link (requested request full) n) m × Flows m (with_link (requested request full) n)
+  asks-flows request full mild =
+      let w = asks-went n.terms n.link h.near_up request full mild in
+      let l' = Machine.after n.terms (requested request full) n.link in (
+        sender-went n.terms n.way n.link l' m.link.r m.link.rejecting other (is_recovering n.link.state) report tt refl refl w f,
+        receiver-went n.terms n.way n.link l' m.link.s (is_recovering m.link.state) other report refl refl tt tt w.r w.rejecting w.waiting g,
+      )
+
+  -- expiries
+  none-open : (here : State) → n.link.state ≡ here → (n.link.state ≡ TimerRecovery → IsNoneOpen n m) → IsTrue (is_multiple_frame here)
+      → (tally one_enquiry own ≡ 0) × (tally one_answer other ≡ 0)
+  none-open TeiAssigned e x up = absurd (true≢false (sym up))
+  none-open AwaitingEstablishment e x up = absurd (true≢false (sym up))
+  none-open AwaitingRelease e x up = absurd (true≢false (sym up))
+  none-open Established e x up =
+      let asked : tally one_enquiry own + tally one_answer other ≤ 0 = subst (λ s. tally one_enquiry own + tally one_answer other ≤ most (is_recovering s)) e f.asked in
+      (omega arith, omega arith)
+  none-open TimerRecovery e x up =
+      let o = x e in (
+        none-there is_enquiry one_enquiry not-enquiry n.terms n.way n.link.waiting o.enquiries.way o.enquiries.waiting,
+        none-there is_answer one_answer not-answer m.terms m.way m.link.waiting o.answers.way o.answers.waiting,
+      )
+
+  asked-flows : (l' : Link) → Asked n.link l' → Longer own (line n.terms n.way l'.waiting) enquiry → (tally one_enquiry own ≡ 0) × (tally one_answer other ≡ 0)
+      → Flow l'.s m.link.r (is_recovering l'.state) m.link.rejecting (line n.terms n.way l'.waiting) other
+  asked-flows l' a (inl e) none =
+      flow-at a.s refl (ap is_recovering a.state) refl e refl (there-unasked n.link.s m.link.r (is_recovering n.link.state) m.link.rejecting own other none.0 none.1 f)
+  asked-flows l' a (inr e) none =
+      flow-at a.s refl (ap is_recovering a.state) refl e refl (there-enquiry n.link.s m.link.r (is_recovering n.link.state) m.link.rejecting own other none.0 none.1 f)
+
+  ran-flows : (timer : LinkTimer) (c : Course) → (n.link.state ≡ TimerRecovery → Machine.is_running timer n.link ≡ true → IsNoneOpen n m) → RanOut n.terms n.link timer c
+      → Flow c.link.s m.link.r (is_recovering c.link.state) m.link.rejecting (line n.terms n.way c.link.waiting) other
+      × Flow m.link.s c.link.r (is_recovering m.link.state) c.link.rejecting other (line n.terms n.way c.link.waiting)
+  ran-flows timer c x (inl k) = (
+    sender-kept n.terms n.way n.link c.link m.link.r m.link.rejecting other (is_recovering n.link.state) refl k f,
+    receiver-kept n.terms n.way n.link c.link m.link.s (is_recovering m.link.state) other k.r k.rejecting k.waiting g,
+  )
+  ran-flows timer c x (inr a) = (
+    asked-flows c.link a.1 (line-longer n.terms n.way n.link.waiting c.link.waiting enquiry a.1.waiting) (none-open n.link.state refl (λ e. x e a.0) h.near_up),
+    receiver-went n.terms n.way n.link c.link m.link.s (is_recovering m.link.state) other enquiry refl refl tt tt a.1.r a.1.rejecting a.1.waiting g,
+  )
+
+  expires-flows : (timer : LinkTimer) → (n.link.state ≡ TimerRecovery → Machine.is_running timer n.link ≡ true → IsNoneOpen n m) → IsTrue (is_multiple_frame (with_link (expired timer) n).link.state)
+      → Flows (with_link (expired timer) n) m × Flows m (with_link (expired timer) n)
+  expires-flows timer x up = ran-flows timer (Machine.course n.terms (expired timer) n.link) x (expires-goes n.terms n.link h.near_up timer up)
+
+  -- V(S) is at most 127 beyond the other's V(R)
+  near : n.link.s ≤ m.link.r + 127
+  near =
+      let low : n.link.a ≤ m.link.r = rising-low n.link.a m.link.r (line_of m) h.there.rising in
+      let within : n.link.s ≤ n.link.a + n.terms.k = h.near_sound.within in
+      let small : n.terms.k ≤ 127 = h.near_ranges.k_high in
+      omega arith
+
+  near-back : m.link.s ≤ n.link.r + 127
+  near-back =
+      let low : m.link.a ≤ n.link.r = rising-low m.link.a n.link.r (line_of n) h.back.rising in
+      let within : m.link.s ≤ m.link.a + m.terms.k = h.far_sound.within in
+      let small : m.terms.k ≤ 127 = h.far_ranges.k_high in
+      omega arith
+
+  -- offers
+  gives-flows : (c : Course) → Offered n.terms n.link c → Gives n.terms n.link c
+      → let way = n.way ++ frame_given n.terms (Machine.given_of n.terms n.link c c.sent) in
+      Flow c.link.s m.link.r (is_recovering c.link.state) m.link.rejecting (line n.terms way c.link.waiting) other
+      × Flow m.link.s c.link.r (is_recovering m.link.state) c.link.rejecting other (line n.terms way c.link.waiting)
+  gives-flows c o (inl x) =
+      (flow-at x.0 refl (ap is_recovering o.state) refl (x.1 n.way) refl f, flow-at refl o.r refl o.rejecting refl (x.1 n.way) g)
+  gives-flows c o (inr (inl x)) = (
+    flow-at x.0 refl (ap is_recovering o.state) refl (x.1 n.way) refl (there-calm n.link.s m.link.r (is_recovering n.link.state) m.link.rejecting own other report tt refl f),
+    flow-at refl o.r refl o.rejecting refl (x.1 n.way) (back-other m.link.s n.link.r (is_recovering m.link.state) n.link.rejecting other own report refl refl tt tt g),
+  )
+  gives-flows c o (inr (inr x)) = (
+    flow-at x.1 refl (ap is_recovering (o.state ∙ x.0)) refl (x.2 n.way) refl
+        (there-information n.link.s m.link.r m.link.rejecting own other near (flow-at refl refl (sym (ap is_recovering x.0)) refl refl refl f)),
+    flow-at refl o.r refl o.rejecting refl (x.2 n.way) (back-other m.link.s n.link.r (is_recovering m.link.state) n.link.rejecting other own (numbered (seq n.link.s)) refl refl tt tt g),
+  )
+
+  sends-flows : Flows (with_sent n) m × Flows m (with_sent n)
+  sends-flows = let o = offer-goes n.terms n.link in gives-flows (Machine.course n.terms offer n.link) o o.gives
+
+  -- frames
+  hears-flows : (p : Parts) (fs : List Parts) → m.way ≡ p ∷ fs → IsTrue (is_multiple_frame (with_link (received (frame p)) n).link.state)
+      → Flows (with_link (received (frame p)) n) (record m { way = fs }) × Flows (record m { way = fs }) (with_link (received (frame p)) n)
+  hears-flows p fs first up =
+      let l' = Machine.after n.terms (received (frame p)) n.link in
+      let x = kind_of p.address.command p.control in
+      let rest = line m.terms fs m.link.waiting in
+      let f' : Flow n.link.s m.link.r (is_recovering n.link.state) m.link.rejecting own (x ∷ rest) =
+      subst (λ way. Flow n.link.s m.link.r (is_recovering n.link.state) m.link.rejecting own (line m.terms way m.link.waiting)) first f in
+      let g' : Flow m.link.s n.link.r (is_recovering m.link.state) n.link.rejecting (x ∷ rest) own =
+      subst (λ way. Flow m.link.s n.link.r (is_recovering m.link.state) n.link.rejecting (line m.terms way m.link.waiting) own) first g in
+      let k = heard n.terms n.link h.near_up p.address.command p.info p.control up in
+      let low : n.link.a ≤ m.link.r = rising-low n.link.a m.link.r (line_of m) h.there.rising in
+      let within : n.link.s ≤ n.link.a + n.terms.k = h.near_sound.within in
+      let small : n.terms.k ≤ 127 = h.near_ranges.k_high in
+      let known = is-no-alien m.link.s n.link.r (is_recovering m.link.state) n.link.rejecting x rest own g' in (
+        sender-hears n.terms n.way n.link l' m.link.r m.link.rejecting x rest (is_recovering n.link.state) known low (omega arith) refl k f',
+        receiver-hears n.terms n.way n.link l' m.link.s (is_recovering m.link.state) x rest (is_recovering n.link.state) near-back k g',
+      )
+
+  first-flows : (way : List Parts) → m.way ≡ way → IsTrue (is_multiple_frame (with_first_of way n).link.state)
+      → Flows (with_first_of way n) (record m { way = drop 1 way }) × Flows (record m { way = drop 1 way }) (with_first_of way n)
+  first-flows [] e up = (subst (λ way. Flows n (record m { way = way })) e f, subst (λ way. Flows (record m { way = way }) n) e g)
+  first-flows (p ∷ fs) e up = hears-flows p fs e up
+
+  -- losses
+  lost-flows : (way : List Parts) → n.way ≡ way → Flows (record n { way = drop 1 way }) m × Flows m (record n { way = drop 1 way })
+  lost-flows [] e = (subst (λ way. Flows (record n { way = way }) m) e f, subst (λ way. Flows m (record n { way = way })) e g)
+  lost-flows (p ∷ fs) e =
+      let x = kind_of p.address.command p.control in
+      let rest = line n.terms fs n.link.waiting in (
+        there-tail n.link.s m.link.r (is_recovering n.link.state) m.link.rejecting x rest other (subst (λ way. Flow n.link.s m.link.r (is_recovering n.link.state) m.link.rejecting (line n.terms way n.link.waiting) other) e f),
+        back-tail m.link.s n.link.r (is_recovering m.link.state) n.link.rejecting x other rest (subst (λ way. Flow m.link.s n.link.r (is_recovering m.link.state) n.link.rejecting other (line n.terms way n.link.waiting)) e g),
+      )
+
+  pub acted-flows : (act : Act) → IsTimelyAct act n m → IsUp (acting act (record { near = n; far = m }))
+      → Flows (acting act (record { near = n; far = m })).near (acting act (record { near = n; far = m })).far
+      × Flows (acting act (record { near = n; far = m })).far (acting act (record { near = n; far = m })).near
+  acted-flows (asks request full) x up = asks-flows request full x
+  acted-flows (expires timer) x up = expires-flows timer x.1 up.0
+  acted-flows sends x up = sends-flows
+  acted-flows receives x up = first-flows m.way refl up.0
+  acted-flows loses x up = lost-flows n.way refl

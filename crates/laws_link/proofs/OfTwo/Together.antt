@@ -1,0 +1,97 @@
+-- Two links stay up while neither's V(S) is below the other's V(R).
+use Rattle.std.proofs.Common.{◌≡◌, ℕ, zero, suc, ◌+◌, ◌≤◌, IsTrue, List, [], ◌∷◌, ◌++◌, length, Some, refl, sym, ap, subst, ◌∙◌, arith}
+use Rattle.std.specs.Prelude.{All, slice_get}
+use Rattle.std.proofs.lemmas.List.Elements.{All-head, All-tail}
+use Rattle.lapd_seq.specs.Numbers.{seq}
+use Rattle.lapd_seq.specs.Circle.{named}
+use Rattle.lapd_frame.specs.declared.controls.Control.{Control}
+use Rattle.lapd_frame.specs.declared.controls.Control.TheVariants.{Information, ReceiveReady, ReceiveNotReady, Reject, Sabme, Disc, Ui, Ua, Dm, Frmr, Xid}
+use Rattle.lapd_frame.specs.Grammar.{Parts}
+use Rattle.model_link.specs.declared.terms.Terms.{Terms}
+use Rattle.model_link.specs.Link.{is_multiple_frame}
+use Rattle.model_link.specs.Events.{frame, received}
+use Rattle.model_link.specs.TwoEnds.{End, Ends, Act, asks, expires, sends, receives, loses, Doing, at_near, at_far, with_link, with_first_of, acting, turned, doing, Begins, IsUp, StayUp}
+use Rattle.model_link.proofs.Lines.{Piece, Carried, Rising, rising-low}
+use Rattle.model_link.proofs.Direction.{frames_of}
+use Rattle.model_link.proofs.Joined.{Joined, joined-turned, joined-first, done-at}
+use Rattle.laws_link.specs.two.Ahead.{IsAhead, IsMild, IsMildAct, StayAhead}
+use Rattle.laws_link.proofs.OfTwo.Halves.{named-number}
+use Rattle.laws_link.proofs.OfTwo.Staying.{Fits, frame-stays, request-stays, timer-stays, offer-stays}
+
+-- contents that were accepted fit
+at-place : (n : ℕ) (contents : List (List ℕ)) (i : ℕ) (x : List ℕ) → All (λ octets. length octets ≤ n) contents → slice_get contents i ≡ Some x → length x ≤ n
+at-place n [] i x h e = absurd (cc)
+at-place n (y ∷ ys) zero x h e = subst (λ z. length z ≤ n) (let same : Some y ≡ Some x = e in cc) (All-head (λ octets. length octets ≤ n) y ys h)
+at-place n (y ∷ ys) (suc i) x h e = at-place n ys i x (All-tail (λ octets. length octets ≤ n) y ys h) e
+
+fits-of : (t : Terms) (contents : List (List ℕ)) (high r top : ℕ) (octets : List ℕ) (control : Control) → All (λ octets. length octets ≤ t.n201) contents
+    → Piece contents high r top octets control → Fits t control octets
+fits-of t contents high r top octets (Information ns nr p) sizes h = at-place t.n201 contents h.number octets sizes h.same
+fits-of t contents high r top octets (ReceiveReady nr pf) sizes h = tt
+fits-of t contents high r top octets (ReceiveNotReady nr pf) sizes h = tt
+fits-of t contents high r top octets (Reject nr pf) sizes h = tt
+fits-of t contents high r top octets (Sabme p) sizes h = tt
+fits-of t contents high r top octets (Disc p) sizes h = tt
+fits-of t contents high r top octets (Ui p) sizes h = tt
+fits-of t contents high r top octets (Ua f) sizes h = tt
+fits-of t contents high r top octets (Dm f) sizes h = tt
+fits-of t contents high r top octets (Frmr f) sizes h = tt
+fits-of t contents high r top octets (Xid pf) sizes h = tt
+
+module _ (n m : End) (h : Joined n m) (same : n.terms.n201 ≡ m.terms.n201) (ahead : m.link.r ≤ n.link.s) where
+  hears : (f : Parts) (fs : List Parts) → m.way ≡ f ∷ fs → IsTrue (is_multiple_frame (with_link (received (frame f)) n).link.state)
+  hears f fs first =
+      let rising : Rising n.link.a m.link.r (f ∷ fs ++ frames_of m.terms m.link.waiting) = subst (λ way. Rising n.link.a m.link.r (way ++ frames_of m.terms m.link.waiting)) first h.there.rising in
+      let carried : Carried m.link.contents (m.link.a + m.terms.k) n.link.r (f ∷ fs ++ frames_of m.terms m.link.waiting) = subst (λ way. Carried m.link.contents (m.link.a + m.terms.k) n.link.r (way ++ frames_of m.terms m.link.waiting)) first h.back.carried in
+      let p = rising.0 in
+      let low : n.link.a ≤ p = rising.1 in
+      let below : p ≤ m.link.r = rising-low p m.link.r (fs ++ frames_of m.terms m.link.waiting) rising.3 in
+      let within : n.link.s ≤ n.link.a + n.terms.k = h.near_sound.within in
+      let small : n.terms.k ≤ 127 = h.near_ranges.k_high in
+      let valid : named n.link.a n.link.s (seq p) ≡ Some p = named-number n.link.a n.link.s p low (omega (arith, below, ahead)) (omega arith) in
+      frame-stays n.terms n.link h.near_up p valid f.address.command f.info f.control rising.2
+      (fits-of n.terms m.link.contents (m.link.a + m.terms.k) n.link.r carried.0 f.info f.control
+      (subst (λ i. All (λ octets. length octets ≤ i) m.link.contents) (sym same) h.far_sound.sizes) carried.2)
+
+  first-of : (way : List Parts) → m.way ≡ way → IsTrue (is_multiple_frame (with_first_of way n).link.state)
+  first-of [] e = h.near_up
+  first-of (f ∷ fs) e = hears f fs e
+
+  acted-up : (act : Act) → IsMildAct act n → IsUp (acting act (record { near = n; far = m }))
+  acted-up (asks request full) mild = (request-stays n.terms n.link h.near_up request full mild, h.far_up)
+  acted-up (expires timer) mild = (timer-stays n.terms n.link h.near_up timer mild, h.far_up)
+  acted-up sends mild = (offer-stays n.terms n.link h.near_up, h.far_up)
+  acted-up receives mild = (first-of m.way refl, h.far_up)
+  acted-up loses mild = (h.near_up, h.far_up)
+
+pub done-up : (d : Doing) (e : Ends) → Joined e.near e.far → e.near.terms.n201 ≡ e.far.terms.n201 → IsAhead e → IsMild d e → IsUp (doing d e)
+done-up (at_near act) e h same ahead mild = acted-up e.near e.far h same ahead.0 act mild
+done-up (at_far act) e h same ahead mild =
+    let up = acted-up e.far e.near (joined-turned e.near e.far h) (sym same) ahead.1 act mild in
+    (up.1, up.0)
+
+-- the ends keep their terms
+first-terms : (way : List Parts) (n : End) → (with_first_of way n).terms ≡ n.terms
+first-terms [] n = refl
+first-terms (f ∷ fs) n = refl
+
+acting-terms : (act : Act) (e : Ends) → ((acting act e).near.terms ≡ e.near.terms) × ((acting act e).far.terms ≡ e.far.terms)
+acting-terms (asks request full) e = (refl, refl)
+acting-terms (expires timer) e = (refl, refl)
+acting-terms sends e = (refl, refl)
+acting-terms receives e = (first-terms e.far.way e.near, refl)
+acting-terms loses e = (refl, refl)
+
+pub same-after : (d : Doing) (e : Ends) → e.near.terms.n201 ≡ e.far.terms.n201 → (doing d e).near.terms.n201 ≡ (doing d e).far.terms.n201
+same-after (at_near act) e same = let x = acting-terms act e in ap (λ t. t.n201) x.0 ∙ same ∙ sym (ap (λ t. t.n201) x.1)
+same-after (at_far act) e same = let x = acting-terms act (turned e) in ap (λ t. t.n201) x.1 ∙ same ∙ sym (ap (λ t. t.n201) x.0)
+
+stay-up : (ds : List Doing) (e : Ends) → Joined e.near e.far → e.near.terms.n201 ≡ e.far.terms.n201 → StayAhead ds e → StayUp ds e
+unfolding StayUp StayAhead
+stay-up [] e h same x = tt
+stay-up (d ∷ ds) e h same x =
+    let up = done-up d e h same x.0 x.1 in
+    (up, stay-up ds (doing d e) (done-at d e up h) (same-after d e same) x.2)
+
+pub all-stay_up : (ds : List Doing) (e : Ends) → Begins e.near → Begins e.far → e.near.terms.n201 ≡ e.far.terms.n201 → StayAhead ds e → StayUp ds e
+all-stay_up ds e b c same x = stay-up ds e (joined-first e.near e.far b c) same x

@@ -1,0 +1,184 @@
+-- An answer that finds no room is told as lost.
+use Rattle.std.proofs.Common.{◌≡◌, ℕ, ◌+◌, ◌≤◌, Bool, true, false, cond, IsTrue, List, length, Option, None, Some, is_some, sym, subst, true≢false, arith}
+use Rattle.std.specs.Prelude.{nat_lt}
+use Rattle.std.proofs.lemmas.Bool.{le-ltb}
+use Rattle.lapd_seq.specs.declared.numbers.Seq.{Seq}
+use Rattle.lapd_seq.specs.Circle.{named}
+use Rattle.lapd_frame.specs.declared.controls.Control.{Control}
+use Rattle.lapd_frame.specs.declared.controls.Control.TheVariants.{Information, ReceiveReady, ReceiveNotReady, Reject, Sabme, Disc, Ui, Ua, Dm, Frmr, Xid}
+use Rattle.lapd_frame.specs.declared.notes.ErrorCode.TheVariants as code
+use Rattle.lapd_frame.specs.declared.notes.Note.{Note}
+use Rattle.lapd_frame.specs.Grammar.{Parts}
+use Rattle.model_link.specs.declared.states.State.{State}
+use Rattle.model_link.specs.declared.states.State.TheVariants.{TeiAssigned, AwaitingEstablishment, AwaitingRelease, Established, TimerRecovery}
+use Rattle.model_link.specs.declared.timers.LinkTimer.{LinkTimer}
+use Rattle.model_link.specs.declared.timers.LinkTimer.TheVariants.{T200, T203}
+use Rattle.model_link.specs.declared.terms.Terms.{Terms}
+use Rattle.model_link.specs.Link.{Link, is_multiple_frame}
+use Rattle.model_link.specs.Events.{frame, received}
+use Rattle.model_link.specs.Steps.{Course, begun, Step, ◌then◌}
+use Rattle.model_link.specs.Words
+use Rattle.model_link.specs.MultipleFrame
+use Rattle.model_link.specs.Established
+use Rattle.model_link.specs.TimerRecovery
+use Rattle.model_link.specs.Machine
+use Rattle.model_link.proofs.Leads.{Leads, keeping_then, nothing_leads, depending_leads, bit_leads}
+use Rattle.laws_link.specs.two.Polls.{IsPollWith, asked_of}
+
+-- What is counted as lost stays counted.
+abbrev Lost : Course → Type 0
+Lost c = 1 ≤ c.lost
+
+more : (b : Bool) (n : ℕ) → 1 ≤ n → 1 ≤ cond {A = ℕ} b n (n + 1)
+more true n h = h
+more false n h = omega (arith, h)
+
+note_lost : (n : Note) → Leads Lost (Words.note n) Lost
+note_lost n = record { leads = λ c h. h }
+
+acknowledge_lost : (n : ℕ) → Leads Lost (Words.acknowledge n) Lost
+acknowledge_lost n = record { leads = λ c h. h }
+
+again_lost : (n : ℕ) → Leads Lost (Words.send_again_from n) Lost
+again_lost n = record { leads = λ c h. h }
+
+start_lost : (timer : LinkTimer) → Leads Lost (Words.start timer) Lost
+start_lost timer = record { leads = λ c h. h }
+
+enter_lost : (state : State) → Leads Lost (Words.enter state) Lost
+enter_lost state = record { leads = λ c h. h }
+
+begun_again_lost : (t : Terms) → Leads Lost (Words.re_establish t) Lost
+begun_again_lost t = record { leads = λ c h. more (Words.has_room t (Words.without_flags c.link)) c.lost h }
+
+number_lost : (t : Terms) (nr : Seq) {f : ℕ → Step} → ((n : ℕ) → Leads Lost (f n) Lost) → Leads Lost (Words.by_number t nr f) Lost
+number_lost t nr {f} x = record { leads = λ c h. go c h (named c.link.a c.link.s nr) }
+  where
+    go : (c : Course) → Lost c → (o : Option ℕ) → Lost (elim o [ None ↦ (Words.error t code.J then Words.re_establish t) c | Some n ↦ f n c ])
+    go c h None = (begun_again_lost t).leads (Words.error t code.J c) h
+    go c h (Some n) = (x n).leads c h
+
+ruleset words = (keeping_then, nothing_leads, depending_leads, bit_leads, note_lost, acknowledge_lost, again_lost, start_lost, enter_lost, begun_again_lost, number_lost)
+
+in_7_lost : (n : ℕ) → Leads Lost (Established.acknowledged_in_7 n) Lost
+in_7_lost n = search words depth 12 fits 4000
+
+information_7_lost : (n : ℕ) → Leads Lost (Established.acknowledged_by_information_in_7 n) Lost
+information_7_lost n = search words depth 12 fits 4000
+
+rnr_7_lost : (n : ℕ) → Leads Lost (Established.acknowledged_by_rnr_in_7 n) Lost
+rnr_7_lost n = search words depth 12 fits 4000
+
+rej_7_lost : (n : ℕ) → Leads Lost (Established.acknowledged_by_rej_in_7 n) Lost
+rej_7_lost n = search words depth 12 fits 4000
+
+in_8_lost : (timer : LinkTimer) (final : Bool) (n : ℕ) → Leads Lost (TimerRecovery.acknowledged_in_8 timer final n) Lost
+in_8_lost timer final n = search words depth 12 fits 4000
+
+module _ (t : Terms) (l : Link) (full : t.control ≤ length l.waiting) where
+  no-room : nat_lt (length l.waiting) t.control ≡ false
+  no-room = le-ltb (length l.waiting) t.control full
+
+  put : 1 ≤ cond {A = ℕ} (nat_lt (length l.waiting) t.control) 0 (0 + 1)
+  put = subst (λ b. 1 ≤ cond {A = ℕ} b 0 (0 + 1)) (sym no-room) (omega arith)
+
+  branch : (b : Bool) (u v : Course) → Lost u → Lost v → Lost (cond b u v)
+  branch true u v x y = x
+  branch false u v x y = y
+
+  contents : (ns : Seq) (octets : List ℕ) → Lost (MultipleFrame.contents_in_7_8 t ns true octets (begun l))
+  contents ns octets = branch l.own_busy _ _ put (branch (MultipleFrame.is_next ns l) _ _ put (branch l.rejecting _ _ put put))
+
+  information : (ns nr : Seq) (octets : List ℕ) (f : ℕ → Step) → length octets ≤ t.n201 → ((n : ℕ) → Leads Lost (f n) Lost)
+      → Lost (MultipleFrame.information_in_7_8 t ns nr true octets f (begun l))
+  information ns nr octets f size x =
+      subst (λ b. Lost (cond b (MultipleFrame.failed t code.O (begun l)) ((MultipleFrame.contents_in_7_8 t ns true octets then Words.by_number t nr f) (begun l))))
+      (sym (le-ltb t.n201 (length octets) size))
+      ((number_lost t nr x).leads (MultipleFrame.contents_in_7_8 t ns true octets (begun l)) (contents ns octets))
+
+  supervisory : (b : Bool) (nr : Seq) (f : ℕ → Step) → ((n : ℕ) → Leads Lost (f n) Lost)
+      → Lost ((Words.peer_busy_is b then Words.answer t then Words.by_number t nr f) (begun l))
+  supervisory b nr f x = (number_lost t nr x).leads (Words.answer t (Words.peer_busy_is b (begun l))) put
+
+  in-7 : (command : Bool) (octets : List ℕ) (control : Control) → IsPollWith t l command octets control
+      → Lost (Established.frame_in_7 t command octets control (begun l))
+  in-7 command octets (Information ns nr true) h = information ns nr octets Established.acknowledged_by_information_in_7 h.1 information_7_lost
+  in-7 command octets (Information ns nr false) h = absurd (true≢false (sym h.0))
+  in-7 true octets (ReceiveReady nr true) h = supervisory false nr Established.acknowledged_in_7 in_7_lost
+  in-7 true octets (ReceiveReady nr false) h = absurd (true≢false (sym h.1))
+  in-7 false octets (ReceiveReady nr p) h = absurd (true≢false (sym h.0))
+  in-7 true octets (ReceiveNotReady nr true) h = supervisory true nr Established.acknowledged_by_rnr_in_7 rnr_7_lost
+  in-7 true octets (ReceiveNotReady nr false) h = absurd (true≢false (sym h.1))
+  in-7 false octets (ReceiveNotReady nr p) h = absurd (true≢false (sym h.0))
+  in-7 true octets (Reject nr true) h = supervisory false nr Established.acknowledged_by_rej_in_7 rej_7_lost
+  in-7 true octets (Reject nr false) h = absurd (true≢false (sym h.1))
+  in-7 false octets (Reject nr p) h = absurd (true≢false (sym h.0))
+  in-7 command octets (Sabme p) h = absurd h
+  in-7 command octets (Disc p) h = absurd h
+  in-7 command octets (Ui p) h = absurd h
+  in-7 command octets (Ua f) h = absurd h
+  in-7 command octets (Dm f) h = absurd h
+  in-7 command octets (Frmr f) h = absurd h
+  in-7 command octets (Xid pf) h = absurd h
+
+  in-8 : (command : Bool) (octets : List ℕ) (control : Control) → IsPollWith t l command octets control
+      → Lost (TimerRecovery.frame_in_8 t command octets control (begun l))
+  in-8 command octets (Information ns nr true) h = information ns nr octets Words.acknowledge h.1 acknowledge_lost
+  in-8 command octets (Information ns nr false) h = absurd (true≢false (sym h.0))
+  in-8 true octets (ReceiveReady nr true) h = supervisory false nr (TimerRecovery.acknowledged_in_8 T203 false) (in_8_lost T203 false)
+  in-8 true octets (ReceiveReady nr false) h = absurd (true≢false (sym h.1))
+  in-8 false octets (ReceiveReady nr p) h = absurd (true≢false (sym h.0))
+  in-8 true octets (ReceiveNotReady nr true) h = supervisory true nr (TimerRecovery.acknowledged_in_8 T200 false) (in_8_lost T200 false)
+  in-8 true octets (ReceiveNotReady nr false) h = absurd (true≢false (sym h.1))
+  in-8 false octets (ReceiveNotReady nr p) h = absurd (true≢false (sym h.0))
+  in-8 true octets (Reject nr true) h = supervisory false nr (TimerRecovery.acknowledged_in_8 T203 false) (in_8_lost T203 false)
+  in-8 true octets (Reject nr false) h = absurd (true≢false (sym h.1))
+  in-8 false octets (Reject nr p) h = absurd (true≢false (sym h.0))
+  in-8 command octets (Sabme p) h = absurd h
+  in-8 command octets (Disc p) h = absurd h
+  in-8 command octets (Ui p) h = absurd h
+  in-8 command octets (Ua f) h = absurd h
+  in-8 command octets (Dm f) h = absurd h
+  in-8 command octets (Frmr f) h = absurd h
+  in-8 command octets (Xid pf) h = absurd h
+
+  frames-in : (here : State) → IsTrue (is_multiple_frame here) → (command : Bool) (octets : List ℕ) (control : Control)
+      → IsPollWith t l command octets control → Lost (Machine.frame_in here t command octets control (begun l))
+  frames-in TeiAssigned up command octets control h = absurd (true≢false (sym up))
+  frames-in AwaitingEstablishment up command octets control h = absurd (true≢false (sym up))
+  frames-in AwaitingRelease up command octets control h = absurd (true≢false (sym up))
+  frames-in Established up command octets control h = in-7 command octets control h
+  frames-in TimerRecovery up command octets control h = in-8 command octets control h
+
+  pub poll-lost : (f : Parts) → IsTrue (is_multiple_frame l.state) → IsPollWith t l f.address.command f.info f.control
+      → 1 ≤ (Machine.told t (received (frame f)) l).lost
+  poll-lost f up h = frames-in l.state up f.address.command f.info f.control h
+
+  -- SABME and DISC
+  sabme-in : (here : State) (command : Bool) (octets : List ℕ) (p : Bool) → Lost (Machine.frame_in here t command octets (Sabme p) (begun l))
+  sabme-in TeiAssigned command octets p = put
+  sabme-in AwaitingEstablishment command octets p = put
+  sabme-in AwaitingRelease command octets p = put
+  sabme-in Established command octets p = branch _ _ _ put put
+  sabme-in TimerRecovery command octets p = branch _ _ _ put put
+
+  disc-in : (here : State) (command : Bool) (octets : List ℕ) (p : Bool) → Lost (Machine.frame_in here t command octets (Disc p) (begun l))
+  disc-in TeiAssigned command octets p = put
+  disc-in AwaitingEstablishment command octets p = put
+  disc-in AwaitingRelease command octets p = put
+  disc-in Established command octets p = put
+  disc-in TimerRecovery command octets p = put
+
+  pub unnumbered-lost : (command : Bool) (octets : List ℕ) (control : Control) → is_some (asked_of l.state control) ≡ true
+      → Lost (Machine.frame_step t command octets control (begun l))
+  unnumbered-lost command octets (Sabme p) e = sabme-in l.state command octets p
+  unnumbered-lost command octets (Disc p) e = disc-in l.state command octets p
+  unnumbered-lost command octets (Information ns nr p) e = absurd (true≢false (sym e))
+  unnumbered-lost command octets (ReceiveReady nr pf) e = absurd (true≢false (sym e))
+  unnumbered-lost command octets (ReceiveNotReady nr pf) e = absurd (true≢false (sym e))
+  unnumbered-lost command octets (Reject nr pf) e = absurd (true≢false (sym e))
+  unnumbered-lost command octets (Ui p) e = absurd (true≢false (sym e))
+  unnumbered-lost command octets (Ua f) e = absurd (true≢false (sym e))
+  unnumbered-lost command octets (Dm f) e = absurd (true≢false (sym e))
+  unnumbered-lost command octets (Frmr f) e = absurd (true≢false (sym e))
+  unnumbered-lost command octets (Xid pf) e = absurd (true≢false (sym e))

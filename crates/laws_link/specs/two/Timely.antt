@@ -1,0 +1,61 @@
+-- A T200 that is long enough: it expires in state 8 only where no enquiry of this end is open (Q.921 clause 5.6.7).
+use Rattle.std.specs.Prelude.{◌≡◌, ◌<◌, Bool, true, false, ◌&&◌, not, List, [], ◌∷◌, All}
+use Rattle.lapd_frame.specs.declared.controls.Control.{Control}
+use Rattle.lapd_frame.specs.declared.controls.Control.TheVariants.{ReceiveReady, ReceiveNotReady, Reject}
+use Rattle.model_link.specs.declared.states.State.TheVariants.{TimerRecovery}
+use Rattle.model_link.specs.declared.timers.LinkTimer.{LinkTimer}
+use Rattle.model_link.specs.Machine.{is_running}
+use Rattle.model_link.specs.TwoEnds.{End, Ends, Act, asks, expires, sends, receives, loses, Doing, at_near, at_far, doing}
+use Rattle.laws_link.specs.two.Ahead.{IsMildRequest, CanRepeat}
+
+-- The P or F bit of a supervisory frame.
+abbrev pub supervisory_bit : Control → Bool
+supervisory_bit (ReceiveReady nr pf) = pf
+supervisory_bit (ReceiveNotReady nr pf) = pf
+supervisory_bit (Reject nr pf) = pf
+supervisory_bit other = false
+
+-- A supervisory command with P=1 is an enquiry, and a supervisory response with F=1 an answer.
+abbrev pub is_enquiry : Bool → Control → Bool
+is_enquiry command control = command && supervisory_bit control
+
+abbrev pub is_answer : Bool → Control → Bool
+is_answer command control = not command && supervisory_bit control
+
+-- None waits, and none is on its way.
+pub record HasNo (asked : Bool → Control → Bool) (n : End) : Type 0 where
+  pub waiting : All (λ f. asked f.command f.control ≡ false) n.link.waiting
+  pub way : All (λ f. asked f.address.command f.control ≡ false) n.way
+
+-- No enquiry of the first end, and no answer of the second.
+pub record IsNoneOpen (n m : End) : Type 0 where
+  pub enquiries : HasNo is_enquiry n
+  pub answers : HasNo is_answer m
+
+abbrev pub IsTimely : LinkTimer → End → End → Type 0
+IsTimely timer n m = n.link.state ≡ TimerRecovery → is_running timer n.link ≡ true → IsNoneOpen n m
+
+-- Layer 3 does not release the link; a timer expires in time, and an enquiry can be repeated.
+abbrev pub IsTimelyAct : Act → End → End → Type 0
+IsTimelyAct (asks request full) n m = IsMildRequest request
+IsTimelyAct (expires timer) n m = CanRepeat timer n × IsTimely timer n m
+IsTimelyAct sends n m = Unit {0}
+IsTimelyAct receives n m = Unit {0}
+IsTimelyAct loses n m = Unit {0}
+
+abbrev pub IsTimelyDoing : Doing → Ends → Type 0
+IsTimelyDoing (at_near act) e = IsTimelyAct act e.near e.far
+IsTimelyDoing (at_far act) e = IsTimelyAct act e.far e.near
+
+-- So it is at each step.
+unfoldable pub StayTimely : List Doing → Ends → Type 0
+StayTimely [] e = Unit {0}
+StayTimely (d ∷ ds) e = IsTimelyDoing d e × StayTimely ds (doing d e)
+
+-- What is asked of such links for the law of recovery: an enquiry can be repeated, own busy is off, and nothing waits or is
+-- on its way.
+pub record IsHushed (n : End) : Type 0 where
+  pub repeats : n.link.state ≡ TimerRecovery → n.link.repeats < n.terms.n200
+  pub own_busy : n.link.own_busy ≡ false
+  pub waiting : n.link.waiting ≡ []
+  pub way : n.way ≡ []

@@ -1,0 +1,239 @@
+-- Where no frame comes in so many beats, no turn was left before them.
+use Rattle.std.proofs.Common.{◌≡◌, ℕ, ◌+◌, ◌*◌, ◌≤◌, ◌<◌, ◌⊎◌, inl, inr, Bool, true, false, List, [], ◌∷◌, ◌++◌, length, Option, None, Some, option_map, refl, sym, ap, ◌∙◌, subst, arith, append-nil, length-append}
+use Rattle.lapd_frame.specs.declared.services.Service.{Service}
+use Rattle.model_bits.specs.Stream as stream
+use Rattle.model_bits.specs.Stream.{heard_in}
+use Rattle.model_bits.specs.Sent.{Item}
+use Rattle.model_line.specs.declared.config.Config.{Config}
+use Rattle.model_line.specs.Event.{NextFrame, gave}
+use Rattle.model_line.specs.Taken.{taken, next_of}
+use Rattle.model_card.specs.Card.{line_at}
+use Rattle.model_card.specs.ports.Codec.{frames_among}
+use Rattle.model_card.specs.ports.Port.{left_of}
+use Rattle.model_card.specs.ports.Pulls.{longest_text}
+use Rattle.laws_wire.specs.Wire as wire
+use Rattle.laws_wire.specs.Wire.{Wire, IsStill}
+use Rattle.laws_wire.proofs.Answered.{gives-taken}
+use Rattle.laws_order.specs.circuit.Beats.{longest}
+use Rattle.laws_order.specs.circuit.Circuit.{Termination, port_of, Circuit, doing_all}
+use Rattle.laws_order.proofs.OfCircuit.AsFrames.{as_station}
+use Rattle.laws_order.proofs.OfCircuit.Coming.{Kept, from-near, from-far, frames_of, Puts, putting, GoesOn, going, all-out, Hears, hearing, length-framed, IsBehind}
+use Rattle.laws_order.proofs.OfCircuit.AtPort.{next_of_card}
+use Rattle.laws_order.proofs.OfCircuit.Mute.{one_pull, all-talk, count_near, count_far}
+use Rattle.laws_order.proofs.OfCircuit.OneWay.{Carries, framed, heard-beyond}
+use Rattle.laws_order.proofs.OfCircuit.Onward.{meant-append, many, many-append, many-mute, pulls-near, pulls-far, hearings-near, hearings-far, many-stay}
+use Rattle.laws_order.proofs.OfCircuit.Projected.{as_wire, doings_meant, Fits, Follows, all-done}
+use Rattle.laws_order.proofs.OfCircuit.Ran.{Ran, few-left}
+use Rattle.laws_order.proofs.OfCircuit.Takings.{takings, takings-append}
+
+-- ---- the front of what was heard
+
+record IsFront (short long : List ℕ) : Type 0 where
+  rest : List ℕ
+  is : long ≡ short ++ rest
+
+front-of : (short u long v : List ℕ) → short ++ u ≡ long ++ v → length short ≤ length long → IsFront short long
+front-of [] u long v e few = record { rest = long; is = refl }
+front-of (x ∷ short) u [] v e few = absurd (omega (arith, few))
+front-of (x ∷ short) u (y ∷ long) v e few =
+    let head : x ≡ y = cc e in
+    let tail : short ++ u ≡ long ++ v = cc e in
+    let f = front-of short u long v tail (omega (arith, few)) in
+    record { rest = f.rest; is = ap (λ z. z ∷ long) (sym head) ∙ ap (λ l. x ∷ l) f.is }
+
+all-come : (way first received heard : ℕ) → way ≤ heard → (first + heard ≤ received + way) ⊎ (first ≤ received) → first ≤ received
+all-come way first received heard enough (inl few) = omega (arith, few, enough)
+all-come way first received heard enough (inr all) = all
+
+-- ---- from either end
+
+abbrev sender : Bool → Circuit → Termination
+sender false w = w.near
+sender true w = w.far
+
+abbrev receiver : Bool → Circuit → Termination
+receiver false w = w.far
+receiver true w = w.near
+
+abbrev its_config : Bool → Config → Config → Config
+its_config false c d = c
+its_config true c d = d
+
+abbrev its_frames : Bool → List (List ℕ) → List (List ℕ) → List (List ℕ)
+its_frames false there back = there
+its_frames true there back = back
+
+module _ (n201 way : ℕ) where
+  pub record IsShort (w : Circuit) : Type 0 where
+    pub near : length w.near.way ≤ way
+    pub far : length w.far.way ≤ way
+
+  pub still-short : (n : ℕ) (w : Circuit) → IsShort w → IsShort (doing_all (many n) w)
+  still-short n w h = let x = many-stay n w in record { near = (let a = x.near in let few = h.near in omega (arith, a, few)); far = (let b = x.far in let few = h.far in omega (arith, b, few)) }
+
+  its-way : (b : Bool) (w : Circuit) → IsShort w → length (sender b w).way ≤ way
+  its-way false w h = h.near
+  its-way true w h = h.far
+
+  -- for a frame that has begun, for one that waits, and for the way
+  abbrev pub block : ℕ
+  block = longest n201 + (longest n201 + way)
+
+  -- the takings of one run of beats after another
+  pub takings-many : (m n : ℕ) (w : Circuit) (f : Wire)
+      → takings (doings_meant (many (m + n)) w) f ≡ takings (doings_meant (many m) w) f + takings (doings_meant (many n) (doing_all (many m) w)) (wire.doing_all (doings_meant (many m) w) f)
+  takings-many m n w f =
+      ap (λ ds. takings (doings_meant ds w) f) (many-append m n) ∙ ap (λ ds. takings ds f) (meant-append (many m) (many n) w)
+      ∙ takings-append (doings_meant (many m) w) (doings_meant (many n) (doing_all (many m) w)) f
+
+  module _ (service : Service) (tei : ℕ) (c d : Config) (fits : Fits n201 c) (fits_far : Fits n201 d) where
+    its-fits : (b : Bool) → Fits n201 (its_config b c d)
+    its-fits false = fits
+    its-fits true = fits_far
+
+    its-ran : (b : Bool) (w : Circuit) (there back : List (List ℕ)) → Follows n201 c d w there back → Ran (its_config b c d) (sender b w)
+    its-ran false w there back h = h.near
+    its-ran true w there back h = h.far
+
+    its-carries : (b : Bool) (w : Circuit) (there back : List (List ℕ)) → Follows n201 c d w there back
+        → Carries n201 (port_of (sender b w)) (sender b w).way (port_of (receiver b w)).received (its_frames b there back)
+    its-carries false w there back h = h.goes
+    its-carries true w there back h = h.comes
+
+    from-none : (x n : ℕ) → x ≡ n → 0 + x ≡ n
+    from-none x n e = omega (arith, e)
+
+    from : (b : Bool) (R : Termination → Termination → ℕ → ℕ → Type 0) → Kept n201 R → (n : ℕ) (w : Circuit) (there back : List (List ℕ)) → Follows n201 c d w there back
+        → takings (doings_meant (many n) w) (as_wire there back w) ≡ 0 → R (sender b w) (receiver b w) 0 0 → R (sender b (doing_all (many n) w)) (receiver b (doing_all (many n) w)) n n
+    from false R kept n w there back h none p =
+        let x = from-near n201 R kept service tei c d fits fits_far (many n) (many-mute n) w there back h none p in
+        let w' = doing_all (many n) w in
+        subst (λ a. R w'.near w'.far a n) (from-none _ n (pulls-near n)) (subst (λ b. R w'.near w'.far (0 + count_near one_pull (many n)) b) (from-none _ n (hearings-far n)) x)
+    from true R kept n w there back h none p =
+        let x = from-far n201 R kept service tei c d fits fits_far (many n) (many-mute n) w there back h none p in
+        let w' = doing_all (many n) w in
+        subst (λ a. R w'.far w'.near a n) (from-none _ n (pulls-far n)) (subst (λ b. R w'.far w'.near (0 + count_far one_pull (many n)) b) (from-none _ n (hearings-near n)) x)
+
+    few-bits : (b : Bool) (w : Circuit) (there back : List (List ℕ)) → Follows n201 c d w there back → length (left_of (port_of (sender b w))) ≤ longest_text n201
+    few-bits b w there back h =
+        subst (λ n. length (left_of (port_of (sender b w))) ≤ longest_text n) (its-fits b).size (few-left (its_config b c d) (its-fits b).ranged (sender b w) (its-ran b w there back h))
+
+    -- as many beats as the longest frame is long
+    behind-then : (items now : List Item) (left : ℕ) → IsBehind n201 items (longest_text n201) now ⊎ ((now ≡ items) × (left + 8 * longest n201 ≤ longest_text n201)) → IsBehind n201 items (longest_text n201) now
+    behind-then items now left (inl behind) = behind
+    behind-then items now left (inr (same, few)) = absurd (omega (arith, few))
+
+    more-then : (A : Type 0) (n m left low : ℕ) → (n < m) ⊎ (A × (left + 8 * longest n201 ≤ longest_text n201) × (low ≤ m)) → n < m
+    more-then A n m left low (inl more) = more
+    more-then A n m left low (inr (waits, few, least)) = absurd (omega (arith, few))
+
+    no-more : (long heard had given beyond : ℕ) → had ≡ given + beyond → long ≤ given → heard ≡ had → heard < long → ⊥
+    no-more long heard had given beyond sum low same more = omega (arith, sum, low, same, more)
+
+    heard_by : Bool → Circuit → List stream.Event
+    heard_by b w = heard_in n201 (port_of (receiver b w)).received
+
+    -- a frame on its way comes
+    pub comes : (b : Bool) (w : Circuit) (there back : List (List ℕ)) → Follows n201 c d w there back → IsShort w → length (heard_in n201 (port_of (receiver b w)).received) < length (frames_of n201 (sender b w))
+        → takings (doings_meant (many (longest n201 + way)) w) (as_wire there back w) ≡ 0 → ⊥
+    comes b w there back h short more none =
+        let L = longest n201 in
+        let most = longest_text n201 in
+        let f0 = as_wire there back w in
+        let w1 = doing_all (many L) w in
+        let w2 = doing_all (many way) w1 in
+        let events = heard_in n201 (port_of (receiver b w)).received in
+        let items = (port_of (sender b w)).items in
+        let parts = takings-many L way w f0 in
+        let one : takings (doings_meant (many L) w) f0 ≡ 0 = omega (arith, parts, none) in
+        let rest : takings (doings_meant (many way) w1) (wire.doing_all (doings_meant (many L) w) f0) ≡ 0 = omega (arith, parts, none) in
+        let first = all-done n201 service tei c d fits fits_far (many L) (all-talk service tei (many L) (many-mute L)) w there back h in
+        let later = subst (λ f. takings (doings_meant (many way) w1) f ≡ 0) first.same rest in
+        let few = few-bits b w there back h in
+        let x1 = from b (λ s r a b. GoesOn n201 items most s a × (heard_in n201 (port_of r).received ≡ events)) (going n201 items most events) L w there back h one (inr (refl, omega (arith, few)), refl) in
+        let s1 = sender b w1 in
+        let its = its_config b c d in
+        let ran1 = its-ran b w1 first.there' first.back' first.follows in
+        let carries1 = its-carries b w1 first.there' first.back' first.follows in
+        let behind = behind-then items (port_of s1).items (length (left_of (port_of s1))) x1.0 in
+        let out = all-out n201 its (its-fits b) s1 ran1 (port_of (receiver b w1)).received (its_frames b first.there' first.back') carries1 items most behind in
+        let given = (port_of s1).given in
+        let sum1 = ap length carries1.given ∙ length-append (port_of (receiver b w1)).received s1.way in
+        let short1 = its-way b w1 (still-short L w short) in
+        let second = all-done n201 service tei c d fits fits_far (many way) (all-talk service tei (many way) (many-mute way)) w1 first.there' first.back' first.follows in
+        let x2 =
+        from b (Hears n201 given way events) (hearing n201 given way events) way w1 first.there' first.back' first.follows later (([], sym (append-nil given)), inl (omega (arith, sum1, short1)), x1.1) in
+        let received = (port_of (receiver b w2)).received in
+        let all = all-come way (length given) (length received) way (omega arith) x2.1 in
+        let carries2 = its-carries b w2 second.there' second.back' second.follows in
+        let front = front-of given x2.0.0 received (sender b w2).way (sym x2.0.1 ∙ carries2.given) all in
+        let beyond = heard-beyond n201 given front.rest in
+        no-more (length (frames_among items)) (length events) (length (heard_in n201 received)) (length (heard_in n201 given)) (length beyond.0)
+        (ap (λ l. length (heard_in n201 l)) front.is ∙ ap length beyond.1 ∙ length-append (heard_in n201 given) beyond.0) out (ap length (sym x2.2)) more
+
+    -- what is among the items of a port is heard, or on its way
+    carried-so : (b : Bool) (w : Circuit) (there back : List (List ℕ)) → Follows n201 c d w there back
+        → length (frames_of n201 (sender b w)) ≡ length (heard_in n201 (port_of (receiver b w)).received) + length (its_frames b there back)
+    carried-so b w there back h =
+        let carries = its-carries b w there back h in
+        let heard = heard_in n201 (port_of (receiver b w)).received in
+        let frames = its_frames b there back in
+        let sum = sym (length-framed n201 (frames_of n201 (sender b w))) ∙ ap length carries.are ∙ length-append heard (framed frames) in
+        let last = length-framed n201 frames in
+        omega (arith, sum, last)
+
+    -- ---- so nothing was left
+
+    none-on_way : (b : Bool) (w : Circuit) (there back : List (List ℕ)) → Follows n201 c d w there back → IsShort w → takings (doings_meant (many block) w) (as_wire there back w) ≡ 0 → its_frames b there back ≡ []
+    none-on_way b w there back h short none = go (its_frames b there back) refl
+      where
+        go : (frames : List (List ℕ)) → its_frames b there back ≡ frames → its_frames b there back ≡ []
+        go [] e = e
+        go (x ∷ xs) e =
+            let n = longest n201 + way in
+            let turn : longest n201 + n ≡ n + longest n201 = omega arith in
+            let parts = ap (λ k. takings (doings_meant (many k) w) (as_wire there back w)) turn ∙ takings-many n (longest n201) w (as_wire there back w) in
+            let sum = carried-so b w there back h in
+            let some = ap length e in
+            absurd (comes b w there back h short (omega (arith, sum, some)) (omega (arith, parts, none)))
+
+    none-waits : (b : Bool) (w : Circuit) (there back : List (List ℕ)) → Follows n201 c d w there back → IsShort w → takings (doings_meant (many block) w) (as_wire there back w) ≡ 0 → (f : NextFrame)
+        → next_of_card (sender b w).line (sender b w).card.card ≡ gave (Some f) → ⊥
+    none-waits b w there back h short none f waits =
+        let L = longest n201 in
+        let most = longest_text n201 in
+        let f0 = as_wire there back w in
+        let w1 = doing_all (many L) w in
+        let events = heard_in n201 (port_of (receiver b w)).received in
+        let parts = takings-many L (L + way) w f0 in
+        let one : takings (doings_meant (many L) w) f0 ≡ 0 = omega (arith, parts, none) in
+        let rest : takings (doings_meant (many (L + way)) w1) (wire.doing_all (doings_meant (many L) w) f0) ≡ 0 = omega (arith, parts, none) in
+        let first = all-done n201 service tei c d fits fits_far (many L) (all-talk service tei (many L) (many-mute L)) w there back h in
+        let later = subst (λ f. takings (doings_meant (many (L + way)) w1) f ≡ 0) first.same rest in
+        let few = few-bits b w there back h in
+        let sum = carried-so b w there back h in
+        let x1 =
+        from b (λ s r a b. Puts n201 f most (length events) s a × (heard_in n201 (port_of r).received ≡ events)) (putting n201 f most (length events) events) L w there back h one
+        (inr (waits, omega (arith, few), omega (arith, sum)), refl) in
+        let s1 = sender b w1 in
+        let more = more-then (next_of_card s1.line s1.card.card ≡ gave (Some f)) (length events) (length (frames_of n201 s1)) (length (left_of (port_of s1))) (length events) x1.0 in
+        comes b w1 first.there' first.back' first.follows (still-short L w short) (subst (λ es. length es < length (frames_of n201 s1)) (sym x1.1) more) later
+
+    gives-none : (b : Bool) (way : List (List ℕ)) (w : Circuit) → ((f : NextFrame) → next_of_card (sender b w).line (sender b w).card.card ≡ gave (Some f) → ⊥)
+        → next_of_card (sender b w).line (sender b w).card.card ≡ gave None
+    gives-none b way w never = go (option_map next_of (taken s.card.card.config (line_at s.line s.card.card))) (gives-taken (as_station way s))
+      where
+        s : Termination
+        s = sender b w
+
+        go : (o : Option NextFrame) → next_of_card s.line s.card.card ≡ gave o → next_of_card s.line s.card.card ≡ gave None
+        go None e = e
+        go (Some f) e = absurd (never f e)
+
+    pub still-before : (w : Circuit) (there back : List (List ℕ)) → Follows n201 c d w there back → IsShort w → takings (doings_meant (many block) w) (as_wire there back w) ≡ 0 → IsStill (as_wire there back w)
+    still-before w there back h short none = record {
+      near = gives-none false there w (none-waits false w there back h short none);
+      far = gives-none true back w (none-waits true w there back h short none);
+      near_way = none-on_way false w there back h short none;
+      far_way = none-on_way true w there back h short none;
+    }

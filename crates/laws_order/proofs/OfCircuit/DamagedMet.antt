@@ -1,0 +1,183 @@
+-- The premises of the law on damaged octets are met by the worked run.
+use Rattle.std.proofs.Common.{◌≡◌, ℕ, ◌<◌, ◌&&◌, ◌==◌, Bool, true, false, IsTrue, List, [], ◌∷◌, ◌++◌, Option, None, Some, eqb-true, refl, arith, sym, ap, ◌∙◌, subst}
+use Rattle.std.proofs.lemmas.Bool.{and_parts}
+use Rattle.lapd_frame.specs.declared.services.Service.TheVariants.{Call}
+use Rattle.lapd_frame.specs.Grammar.{Parts, other_side}
+use Rattle.lapd_frame.specs.Reading.{reading, header_of, control_of, unnumbered_of, supervisory_of}
+use Rattle.lapd_seq.specs.Circle.{distance_of, named}
+use Rattle.lapd_seq.specs.Numbers.{seq}
+use Rattle.lapd_tei.specs.Events as teis
+use Rattle.model_bits.specs.Bits.{low_bits}
+use Rattle.model_bits.specs.Stream as stream
+use Rattle.model_link.specs.Link.{is_multiple_frame}
+use Rattle.model_line.specs.declared.config.Config.{Config}
+use Rattle.model_line.specs.Event as line
+use Rattle.model_line.specs.Heard.{heard_side}
+use Rattle.model_line.specs.Machine as lines
+use Rattle.model_card.specs.ports.Card as ports
+use Rattle.model_card.specs.ports.Port as port
+use Rattle.laws_trace.specs.Trace.{IsFront}
+use Rattle.laws_wire.specs.Worked.{user, network}
+use Rattle.laws_wire.specs.Wire.{Station}
+use Rattle.laws_order.specs.Happenings.{of_link_at}
+use Rattle.laws_order.specs.Order.{data_noted, data_granted, link_here, HasReceivedOf, FaceAtRest, kept_by}
+use Rattle.laws_order.specs.circuit.Circuit.{Circuit, doing_all}
+use Rattle.laws_order.specs.circuit.Damaged.{Noisy, Deed, happens, completes, elsewhere, loses, meaning, IsOther, IsFirst, IsPossibleAt, turned, Happening, by_near, by_far, happening, as_station, as_wire, seen_near, seen_far}
+unfoldable use Rattle.laws_order.specs.circuit.Damaged.{ArePossible}
+use Rattle.laws_order.specs.circuit.WorkedCall as call
+use Rattle.laws_order.specs.circuit.WorkedCall.{establishes}
+use Rattle.laws_order.specs.circuit.WorkedDamaged.{begins, goes_again, far_stays}
+use Rattle.laws_order.proofs.OfCircuit.Damaged.{delivered-though-damaged}
+use Rattle.laws_order.proofs.OfCircuit.PremisesMet.{can, by-mutes}
+use Rattle.laws_order.proofs.OfCircuit.Ran as ran
+use Rattle.laws_order.proofs.OfCircuit.Ran.{Ran}
+use Rattle.laws_order.proofs.OfCircuit.Through as through
+
+-- ---- what happens is possible, as is computed
+
+abbrev same_octets : List ℕ → List ℕ → Bool
+same_octets [] [] = true
+same_octets [] (y ∷ ys) = false
+same_octets (x ∷ xs) [] = false
+same_octets (x ∷ xs) (y ∷ ys) = (x == y) && same_octets xs ys
+
+same-octets : (xs ys : List ℕ) → same_octets xs ys ≡ true → xs ≡ ys
+same-octets [] [] e = refl
+same-octets [] (y ∷ ys) e = absurd (cc e)
+same-octets (x ∷ xs) [] e = absurd (cc e)
+same-octets (x ∷ xs) (y ∷ ys) e =
+    let both = and_parts (x == y) (same_octets xs ys) e in
+    let first : x ≡ y = eqb-true x y both.0 in
+    let others : xs ≡ ys = same-octets xs ys both.1 in
+    λ i. first i ∷ others i
+
+abbrev is_none : List Parts → Bool
+is_none [] = true
+is_none (f ∷ fs) = false
+
+abbrev is_other : Config → Option line.Event → Bool
+is_other c (Some (line.hears (stream.frame octets))) = is_none (of_link_at Call 0 (heard_side c) octets)
+is_other c other = true
+
+abbrev is_head : List ℕ → List (List ℕ) → Bool
+is_head octets [] = false
+is_head octets (f ∷ fs) = same_octets f octets
+
+abbrev is_first : Option line.Event → List (List ℕ) → Bool
+is_first (Some (line.hears (stream.frame octets))) way = is_head octets way
+is_first other way = false
+
+abbrev is_possible_at : Deed → Noisy → Bool
+is_possible_at (happens what) w = is_other w.near.card.card.config (meaning what w.near)
+is_possible_at (completes value) w = is_first (meaning (port.octet value) w.near) w.far.way
+is_possible_at (elsewhere e) w = false
+is_possible_at loses w = true
+
+abbrev is_possible : Happening → Noisy → Bool
+is_possible (by_near deed) w = is_possible_at deed w
+is_possible (by_far deed) w = is_possible_at deed (turned w)
+
+unfoldable are_possible : List Happening → Noisy → Bool
+are_possible [] w = true
+are_possible (h ∷ hs) w = is_possible h w && are_possible hs (happening h w)
+
+none-so : (fs : List Parts) → is_none fs ≡ true → fs ≡ []
+none-so [] e = refl
+none-so (f ∷ fs) e = absurd (cc e)
+
+other-so : (c : Config) (o : Option line.Event) → is_other c o ≡ true → IsOther Call 0 c o
+other-so c None e = tt
+other-so c (Some (line.hears (stream.frame octets))) e = none-so (of_link_at Call 0 (heard_side c) octets) e
+other-so c (Some (line.hears (stream.overlong octets))) e = tt
+other-so c (Some (line.hears (stream.dropped cause))) e = tt
+other-so c (Some (line.expiry timer)) e = tt
+other-so c (Some (line.request r)) e = tt
+other-so c (Some line.next) e = tt
+
+head-so : (octets : List ℕ) (way : List (List ℕ)) → is_head octets way ≡ true → (rest : List (List ℕ)) × (way ≡ octets ∷ rest)
+head-so octets [] e = absurd (cc e)
+head-so octets (f ∷ fs) e = (fs, ap (λ x. x ∷ fs) (same-octets f octets e))
+
+first-so : (o : Option line.Event) (way : List (List ℕ)) → is_first o way ≡ true → IsFirst o way
+first-so None way e = absurd (cc e)
+first-so (Some (line.hears (stream.frame octets))) way e = head-so octets way e
+first-so (Some (line.hears (stream.overlong octets))) way e = absurd (cc e)
+first-so (Some (line.hears (stream.dropped cause))) way e = absurd (cc e)
+first-so (Some (line.expiry timer)) way e = absurd (cc e)
+first-so (Some (line.request r)) way e = absurd (cc e)
+first-so (Some line.next) way e = absurd (cc e)
+
+at-so : (deed : Deed) (w : Noisy) → is_possible_at deed w ≡ true → IsPossibleAt Call 0 deed w
+at-so (happens what) w e = other-so w.near.card.card.config (meaning what w.near) e
+at-so (completes value) w e = first-so (meaning (port.octet value) w.near) w.far.way e
+at-so (elsewhere other) w e = absurd (cc e)
+at-so loses w e = tt
+
+all-so : (hs : List Happening) (w : Noisy) → are_possible hs w ≡ true → ArePossible Call 0 hs w
+unfolding ArePossible are_possible
+all-so [] w e = tt
+all-so (by_near deed ∷ hs) w e =
+    let both = and_parts (is_possible_at deed w) (are_possible hs (happening (by_near deed) w)) e in (at-so deed w both.0, all-so hs (happening (by_near deed) w) both.1)
+all-so (by_far deed ∷ hs) w e =
+    let both = and_parts (is_possible_at deed (turned w)) (are_possible hs (happening (by_far deed) w)) e in (at-so deed (turned w) both.0, all-so hs (happening (by_far deed) w) both.1)
+
+computed : are_possible goes_again begins ≡ true
+unfolding lines.after lines.answer lines.takes_slot reading header_of control_of unnumbered_of supervisory_of teis.course teis.refusal seq distance_of named low_bits ports.after ports.answer ports.meant doing_all are_possible
+computed = refl
+
+-- ---- the two ends are at rest
+
+abbrev established : Circuit
+established = doing_all establishes call.begins
+
+near-ran : Ran user established.near
+near-ran = (through.done Call user network 0 0 0 establishes can (by-mutes establishes refl)).follows.near
+
+far-ran : Ran network established.far
+far-ran = (through.done Call user network 0 0 0 establishes can (by-mutes establishes refl)).follows.far
+
+-- What of it computes.
+record Looks : Type 0 where
+  near_up : IsTrue (is_multiple_frame (link_here Call 0 (as_station begins.near)).state)
+  far_up : IsTrue (is_multiple_frame (link_here Call 0 (as_station begins.far)).state)
+  near_waiting : (link_here Call 0 (as_station begins.near)).waiting ≡ []
+  far_waiting : (link_here Call 0 (as_station begins.far)).waiting ≡ []
+  near_a : (link_here Call 0 (as_station begins.near)).a ≡ 0
+  near_r : (link_here Call 0 (as_station begins.near)).r ≡ 0
+  far_a : (link_here Call 0 (as_station begins.far)).a ≡ 0
+  far_r : (link_here Call 0 (as_station begins.far)).r ≡ 0
+
+looks : Looks
+unfolding lines.after lines.answer lines.takes_slot reading header_of control_of unnumbered_of supervisory_of teis.course teis.refusal seq distance_of named low_bits ports.after ports.answer ports.meant doing_all
+looks = record { near_up = refl; far_up = refl; near_waiting = refl; far_waiting = refl; near_a = refl; near_r = refl; far_a = refl; far_r = refl }
+
+received : (s u : Station) → (link_here Call 0 s).a ≡ 0 → (link_here Call 0 u).r ≡ 0 → HasReceivedOf Call 0 s u
+received s u a r = record { acknowledged = omega (arith, a, r); kept = omega (arith, r); window = omega (arith, r) }
+
+rests : FaceAtRest Call 0 (as_wire begins)
+rests =
+    let near : established.near.card.card.config ≡ user = ran.config user can.near established.near near-ran in
+    let far : established.far.card.card.config ≡ network = ran.config network can.far established.far far-ran in
+    record {
+      near = record {
+        sound = (ran.sound user can.near established.near near-ran).card;
+        within = subst (λ (x : Config). established.near.line < x.lines) (sym near) near-ran.within;
+        up = looks.near_up;
+        waiting = looks.near_waiting;
+        way = refl;
+      };
+      far = record {
+        sound = (ran.sound network can.far established.far far-ran).card;
+        within = subst (λ (x : Config). established.far.line < x.lines) (sym far) far-ran.within;
+        up = looks.far_up;
+        waiting = looks.far_waiting;
+        way = refl;
+      };
+      sides = ap (λ (x : Config). x.side) far ∙ can.sides ∙ ap (λ (x : Config). other_side x.side) (sym near);
+      there = received (as_station begins.near) (as_station begins.far) looks.near_a looks.far_r;
+      back = received (as_station begins.far) (as_station begins.near) looks.far_a looks.near_r;
+    }
+
+-- so the law says what the worked values show
+pub in-order : IsFront (data_noted Call 0 (seen_far goes_again begins)) (kept_by Call 0 (as_station begins.near) (as_station begins.far) ++ data_granted Call 0 (seen_near goes_again begins))
+in-order = (delivered-though-damaged Call 0 begins goes_again rests (all-so goes_again begins computed)).1 far_stays

@@ -1,0 +1,179 @@
+-- One direction of a circuit: the octets that an end gave, those of them that the other has heard, and the frames on their way.
+use Rattle.std.proofs.Common.{◌≡◌, ℕ, ◌+◌, ◌≤◌, ◌⊎◌, ◌%◌, ◌&&◌, ◌||◌, inl, inr, false, cond, not, nat_eq, nat_lt, List, [], ◌∷◌, ◌++◌, length, map, take, slice_index, None, Some, option_to_list, refl, sym, ap, ◌∙◌, subst, arith, append-nil, append_assoc}
+use Rattle.std.specs.Prelude.{All}
+use Rattle.std.proofs.lemmas.Bool.{le-ltb, ne_eqb}
+use Rattle.std.proofs.lemmas.List.{append_cancel_left, map-append}
+use Rattle.std.proofs.lemmas.List.Elements.{All-append, All-cons, All-head, All-nil, All-tail}
+use Rattle.model_bits.specs.Framer.{item_octets}
+use Rattle.model_bits.specs.Sent.{Item, idle, frame}
+use Rattle.model_bits.specs.Stream as stream
+use Rattle.model_bits.specs.Stream.{heard_in}
+use Rattle.model_bits.specs.StuffingLaws.{AreOctets}
+use Rattle.model_bits.specs.declared.heard.Cause.TheVariants as cause
+use Rattle.model_line.specs.Came.{came}
+use Rattle.model_line.proofs.NotShort.{IsNotShort}
+use Rattle.model_card.specs.ports.Codec.{frames_among}
+use Rattle.model_card.specs.ports.GoingOut.{GoOut}
+use Rattle.model_card.specs.ports.Port.{Port, gained, left_of}
+use Rattle.model_card.specs.ports.Sound.{IsSoundPort}
+use Rattle.model_card.proofs.OfPorts.AsOctets.{sent, same_text, frames_sent, cut_sent, heard_whole, all_exact}
+use Rattle.model_card.proofs.OfPorts.Gains.{heard_with}
+use Rattle.model_card.proofs.OfPorts.LastItem.{IsLongItem, IsOnItsWay}
+use Rattle.model_card.proofs.OfPorts.LineHeard.{go_out, all_out}
+use Rattle.laws_line.proofs.OfCard.Wherever.{all-right}
+
+-- ---- a frame comes as it is
+
+not-three : (n : ℕ) → 4 ≤ n → nat_eq n 3 ≡ false
+not-three n h = ne_eqb n 3 (λ e. absurd (omega (arith, e, h)))
+
+by-length : (n rest : ℕ) → (4 ≤ n) ⊎ ((n ≡ 3) × (rest ≡ 3)) → (nat_lt n 3 || (nat_eq n 3 && not (nat_eq rest 3))) ≡ false
+by-length n rest (inl long) = ap (λ b. b || (nat_eq n 3 && not (nat_eq rest 3))) (le-ltb n 3 (omega (arith, long))) ∙ ap (λ b. b && not (nat_eq rest 3)) (not-three n long)
+by-length n rest (inr h) = ap (λ n. nat_lt n 3 || (nat_eq n 3 && not (nat_eq rest 3))) h.0 ∙ ap (λ r. not (nat_eq r 3)) h.1
+
+abbrev IsWhole : ℕ → List ℕ → Type 0
+IsWhole n201 octets = came n201 octets ≡ stream.frame octets
+
+came-whole : (n201 : ℕ) (octets : List ℕ) → IsNotShort octets → length octets ≤ n201 + 4 → IsWhole n201 octets
+came-whole n201 octets long few =
+    ap (λ b. cond b (stream.dropped cause.Short) (cond (nat_lt (n201 + 4) (length octets)) (stream.overlong (take 4 octets)) (stream.frame octets)))
+    (by-length (length octets) (slice_index octets 2 % 4) long)
+    ∙ ap (λ b. cond b (stream.overlong (take 4 octets)) (stream.frame octets)) (le-ltb (n201 + 4) (length octets) few)
+
+all-whole : (n201 : ℕ) (items : List Item) → All IsLongItem items → All (λ item. item_octets item ≤ n201 + 4) items → All (IsWhole n201) (frames_among items)
+all-whole n201 [] long short = All-nil (IsWhole n201)
+all-whole n201 (idle ∷ items) long short =
+    all-whole n201 items (All-tail IsLongItem idle items long) (All-tail (λ item. item_octets item ≤ n201 + 4) idle items short)
+all-whole n201 (frame octets ∷ items) long short =
+    All-cons (IsWhole n201) octets (frames_among items)
+    (came-whole n201 octets (All-head IsLongItem (frame octets) items long) (All-head (λ item. item_octets item ≤ n201 + 4) (frame octets) items short))
+    (all-whole n201 items (All-tail IsLongItem (frame octets) items long) (All-tail (λ item. item_octets item ≤ n201 + 4) (frame octets) items short))
+
+-- the same of what is heard
+abbrev pub framed : List (List ℕ) → List stream.Event
+framed frames = map (λ octets. stream.frame octets) frames
+
+abbrev IsWholeEvent : ℕ → stream.Event → Type 0
+IsWholeEvent n201 (stream.frame octets) = IsWhole n201 octets
+IsWholeEvent n201 (stream.overlong octets) = Unit {0}
+IsWholeEvent n201 (stream.dropped cause) = Unit {0}
+
+whole-framed : (n201 : ℕ) (frames : List (List ℕ)) → All (IsWhole n201) frames → All (IsWholeEvent n201) (framed frames)
+whole-framed n201 [] h = All-nil (IsWholeEvent n201)
+whole-framed n201 (f ∷ fs) h =
+    All-cons (IsWholeEvent n201) (stream.frame f) (framed fs) (All-head (IsWhole n201) f fs h) (whole-framed n201 fs (All-tail (IsWhole n201) f fs h))
+
+-- ---- what is heard goes on
+
+pub heard-beyond : (n201 : ℕ) (a b : List ℕ) → (rest : List stream.Event) × (heard_in n201 (a ++ b) ≡ heard_in n201 a ++ rest)
+heard-beyond n201 a [] = ([], ap (heard_in n201) (append-nil a) ∙ sym (append-nil (heard_in n201 a)))
+heard-beyond n201 a (v ∷ b) =
+    let now = option_to_list (gained n201 a v) in
+    let later = heard-beyond n201 (a ++ v ∷ []) b in (
+      now ++ later.0,
+      ap (heard_in n201) (sym (append_assoc a (v ∷ []) b)) ∙ later.1 ∙ ap (λ l. l ++ later.0) (heard_with n201 a v) ∙ append_assoc (heard_in n201 a) now later.0,
+    )
+
+pub frames_among-append : (xs ys : List Item) → frames_among (xs ++ ys) ≡ frames_among xs ++ frames_among ys
+frames_among-append [] ys = refl
+frames_among-append (idle ∷ xs) ys = frames_among-append xs ys
+frames_among-append (frame octets ∷ xs) ys = ap (λ fs. octets ∷ fs) (frames_among-append xs ys)
+
+-- ---- one direction
+
+pub record Carries (n201 : ℕ) (p : Port) (way received : List ℕ) (frames : List (List ℕ)) : Type 0 where
+  pub given : p.given ≡ received ++ way
+  pub are : framed (frames_among p.items) ≡ heard_in n201 received ++ framed frames
+  pub octets : All AreOctets (frames_among p.items)
+
+module _ (n201 : ℕ) (p : Port) (way received : List ℕ) (frames : List (List ℕ)) (h : Carries n201 p way received frames) where
+  -- an octet goes on its way
+  pub one-given : (value : ℕ) → Carries n201 (record p { given = p.given ++ value ∷ [] }) (way ++ value ∷ []) received frames
+  one-given value = record { given = ap (λ l. l ++ value ∷ []) h.given ∙ append_assoc received way (value ∷ []); are = h.are; octets = h.octets }
+
+  -- an item is put on the line
+  pub one-put : (item : Item) → All AreOctets (frames_among (item ∷ [])) → Carries n201 (record p { items = p.items ++ item ∷ [] }) way received (frames ++ frames_among (item ∷ []))
+  one-put item octets =
+      let new = frames_among (item ∷ []) in
+      let all : frames_among (p.items ++ item ∷ []) ≡ frames_among p.items ++ new = frames_among-append p.items (item ∷ []) in
+      record {
+        given = h.given;
+        are =
+            ap framed all ∙ map-append stream.frame (frames_among p.items) new ∙ ap (λ l. l ++ framed new) h.are
+            ∙ append_assoc (heard_in n201 received) (framed frames) (framed new) ∙ ap (λ l. heard_in n201 received ++ l) (sym (map-append stream.frame frames new));
+        octets = subst (All AreOctets) (sym all) (All-append AreOctets (frames_among p.items) new h.octets octets);
+      }
+
+  -- the first octet on the way is heard, and ends nothing
+  pub none-heard : (value : ℕ) (more : List ℕ) → way ≡ value ∷ more → gained n201 received value ≡ None → Carries n201 p more (received ++ value ∷ []) frames
+  none-heard value more is none = record {
+    given = h.given ∙ ap (λ l. received ++ l) is ∙ sym (append_assoc received (value ∷ []) more);
+    are = h.are ∙ ap (λ l. l ++ framed frames) (sym (heard_with n201 received value ∙ ap (λ o. heard_in n201 received ++ option_to_list o) none ∙ append-nil (heard_in n201 received)));
+    octets = h.octets;
+  }
+
+  module _ (sound : IsSoundPort n201 p) (on : IsOnItsWay p) where
+    abbrev sent_items : List Item
+    sent_items = map sent p.items
+
+    exact : frames_among sent_items ≡ frames_among p.items
+    exact = frames_sent p.items ∙ all_exact (frames_among p.items) h.octets
+
+    pub out : GoOut n201 p.given (frames_among p.items)
+    out =
+        subst (GoOut n201 p.given) exact
+        (go_out n201 sent_items p.given (left_of p) (same_text p.items ∙ sound.text.text) (heard_whole n201 p.items on.long sound.sizes) (cut_sent p.items p.given on.cut))
+
+    -- behind a flag all is heard in what was given
+    pub all-given : (front : List Item) → p.items ≡ front ++ idle ∷ [] → framed (frames_among p.items) ≡ heard_in n201 p.given
+    all-given front is =
+        subst (λ frames. framed frames ≡ heard_in n201 p.given) exact
+        (all_out n201 sent_items p.given (left_of p) (same_text p.items ∙ sound.text.text) (heard_whole n201 p.items on.long sound.sizes)
+        (map sent front) (ap (map sent) is ∙ map-append sent front (idle ∷ [])) (cut_sent p.items p.given on.cut))
+
+    -- the first octet on the way is heard, and ends a frame: the first on the way
+    pub record OneHeard (value : ℕ) (more : List ℕ) (e : stream.Event) : Type 0 where
+      pub first : List ℕ
+      pub rest : List (List ℕ)
+      pub frames_are : frames ≡ first ∷ rest
+      pub event : e ≡ stream.frame first
+      pub whole : came n201 first ≡ stream.frame first
+      pub carries : Carries n201 p more (received ++ value ∷ []) rest
+
+    first-is : (fs : List (List ℕ)) (e : stream.Event) (behind : List stream.Event) → e ∷ behind ≡ framed fs
+        → (first : List ℕ) × (rest : List (List ℕ)) × (fs ≡ first ∷ rest) × (e ≡ stream.frame first)
+    first-is [] e behind is = absurd (cc is)
+    first-is (f ∷ fs) e behind is = (f, fs, refl, cc is)
+
+    pub one-heard : (value : ℕ) (more : List ℕ) (e : stream.Event) → way ≡ value ∷ more → gained n201 received value ≡ Some e → OneHeard value more e
+    one-heard value more e is some =
+        let heard = heard_in n201 received in
+        let now = received ++ value ∷ [] in
+        let given : p.given ≡ now ++ more = h.given ∙ ap (λ l. received ++ l) is ∙ sym (append_assoc received (value ∷ []) more) in
+        let with-it : heard_in n201 now ≡ heard ++ e ∷ [] = heard_with n201 received value ∙ ap (λ o. heard ++ option_to_list o) some in
+        let beyond = heard-beyond n201 now more in
+        let behind = beyond.0 ++ framed out.on_its_way in
+        let long : heard ++ (e ∷ behind) ≡ heard ++ framed frames =
+        sym (append_assoc heard (e ∷ []) behind) ∙ ap (λ l. l ++ behind) (sym with-it) ∙ sym (append_assoc (heard_in n201 now) beyond.0 (framed out.on_its_way))
+        ∙ ap (λ l. l ++ framed out.on_its_way) (sym beyond.1 ∙ ap (heard_in n201) (sym given)) ∙ sym out.heard ∙ h.are in
+        let x = first-is frames e behind (append_cancel_left heard (e ∷ behind) (framed frames) long) in
+        let first = x.0 in
+        let rest = x.1 in
+        let are : frames ≡ first ∷ rest = x.2 in
+        let same : e ≡ stream.frame first = x.3 in
+        let all-heard : framed (frames_among p.items) ≡ heard ++ framed (first ∷ rest) = h.are ∙ ap (λ fs. heard ++ framed fs) are in
+        record {
+          first = first;
+          rest = rest;
+          frames_are = are;
+          event = same;
+          whole =
+              All-head (IsWholeEvent n201) (stream.frame first) (framed rest)
+              (all-right (IsWholeEvent n201) heard (framed (first ∷ rest))
+              (subst (All (IsWholeEvent n201)) all-heard (whole-framed n201 (frames_among p.items) (all-whole n201 p.items on.long sound.sizes))));
+          carries = record {
+            given = given;
+            are = all-heard ∙ sym (append_assoc heard (stream.frame first ∷ []) (framed rest)) ∙ ap (λ l. l ++ framed rest) (sym (with-it ∙ ap (λ e. heard ++ e ∷ []) same));
+            octets = h.octets;
+          };
+        }

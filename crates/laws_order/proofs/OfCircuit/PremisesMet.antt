@@ -1,0 +1,120 @@
+-- The premises of the laws are met by the worked call: all has gone behind it, so layer 3 of each was told all.
+use Rattle.std.proofs.Common.{◌≡◌, Bool, true, false, List, [], ◌∷◌, ◌++◌, ◌&&◌, ◌<◌, None, refl, ap, arith}
+use Rattle.std.specs.Prelude.{All}
+use Rattle.std.proofs.lemmas.Bool.{and_parts}
+use Rattle.std.proofs.lemmas.List.Elements.{All-append, All-cons, All-nil}
+use Rattle.lapd_frame.specs.declared.services.Service.TheVariants.{Call}
+use Rattle.lapd_frame.specs.Reading.{reading, header_of, control_of, unnumbered_of, supervisory_of}
+use Rattle.lapd_seq.specs.Circle.{distance_of, named}
+use Rattle.lapd_seq.specs.Numbers.{seq}
+use Rattle.lapd_tei.specs.Events as teis
+use Rattle.model_bits.specs.Bits.{low_bits}
+use Rattle.model_bits.specs.Sent.{Item, idle, frame}
+use Rattle.model_bits.specs.StuffingLaws.{AreOctets}
+use Rattle.model_line.specs.Event.{next, gave}
+use Rattle.model_line.specs.Machine as lines
+use Rattle.model_line.specs.Request.{Data}
+use Rattle.model_card.specs.Event as frames
+use Rattle.model_card.specs.Machine as machine
+use Rattle.model_card.specs.ports.Card as ports
+use Rattle.laws_wire.specs.Call.{CanCall}
+use Rattle.laws_wire.specs.Worked.{user, network}
+use Rattle.laws_order.specs.circuit.Circuit.{Circuit, OctetAct, asks, pulls, hears, OctetDoing, at_near, at_far, doing_all, port_of}
+use Rattle.laws_order.specs.circuit.Through.{IsTalkOf, IsTalk, both_call, HasAllGone, IsToldAll}
+use Rattle.laws_order.specs.circuit.WorkedCall.{begins, establishes, goes_on, sends}
+use Rattle.laws_order.proofs.OfCircuit.Through.{calls-come-through-in-octets}
+
+pub can : CanCall user 0 network 0 0
+can = record { near = refl; far = refl; sides = refl; n201 = refl; near_line = omega arith; far_line = omega arith; terminal = omega arith }
+
+abbrev after_it : Circuit
+after_it = doing_all sends begins
+
+-- an idle flag is the last item
+abbrev is_flag : Bool → List Item → Bool
+is_flag b [] = b
+is_flag b (idle ∷ items) = is_flag true items
+is_flag b (frame octets ∷ items) = is_flag false items
+
+record EndsInFlag (items : List Item) : Type 0 where
+  front : List Item
+  flag : items ≡ front ++ idle ∷ []
+
+behind : (i : Item) (items : List Item) → EndsInFlag items → EndsInFlag (i ∷ items)
+behind i items h = record { front = i ∷ h.front; flag = ap (λ l. i ∷ l) h.flag }
+
+ends-in-flag : (items : List Item) → is_flag false items ≡ true → EndsInFlag items
+ends-in-flag [] e = absurd (cc e)
+ends-in-flag (idle ∷ []) e = record { front = []; flag = refl }
+ends-in-flag (idle ∷ idle ∷ items) e = behind idle (idle ∷ items) (ends-in-flag (idle ∷ items) e)
+ends-in-flag (idle ∷ frame octets ∷ items) e = behind idle (frame octets ∷ items) (ends-in-flag (frame octets ∷ items) e)
+ends-in-flag (frame octets ∷ items) e = behind (frame octets) items (ends-in-flag items e)
+
+near-flag : is_flag false (port_of after_it.near).items ≡ true
+unfolding lines.after lines.answer lines.takes_slot reading header_of control_of unnumbered_of supervisory_of teis.course teis.refusal seq distance_of named low_bits ports.after ports.answer ports.meant doing_all
+near-flag = refl
+
+far-flag : is_flag false (port_of after_it.far).items ≡ true
+unfolding lines.after lines.answer lines.takes_slot reading header_of control_of unnumbered_of supervisory_of teis.course teis.refusal seq distance_of named low_bits ports.after ports.answer ports.meant doing_all
+far-flag = refl
+
+near-none : machine.answer (frames.at after_it.near.line next) after_it.near.card.card ≡ gave None
+unfolding lines.after lines.answer lines.takes_slot reading header_of control_of unnumbered_of supervisory_of teis.course teis.refusal seq distance_of named low_bits ports.after ports.answer ports.meant doing_all
+near-none = refl
+
+far-none : machine.answer (frames.at after_it.far.line next) after_it.far.card.card ≡ gave None
+unfolding lines.after lines.answer lines.takes_slot reading header_of control_of unnumbered_of supervisory_of teis.course teis.refusal seq distance_of named low_bits ports.after ports.answer ports.meant doing_all
+far-none = refl
+
+near-heard : after_it.near.way ≡ []
+unfolding lines.after lines.answer lines.takes_slot reading header_of control_of unnumbered_of supervisory_of teis.course teis.refusal seq distance_of named low_bits ports.after ports.answer ports.meant doing_all
+near-heard = refl
+
+far-heard : after_it.far.way ≡ []
+unfolding lines.after lines.answer lines.takes_slot reading header_of control_of unnumbered_of supervisory_of teis.course teis.refusal seq distance_of named low_bits ports.after ports.answer ports.meant doing_all
+far-heard = refl
+
+pub gone : HasAllGone after_it
+gone =
+    let near = ends-in-flag (port_of after_it.near).items near-flag in
+    let far = ends-in-flag (port_of after_it.far).items far-flag in
+    record {
+      near = record { none = near-none; front = near.front; flag = near.flag; heard = near-heard };
+      far = record { none = far-none; front = far.front; flag = far.flag; heard = far-heard };
+    }
+
+-- what is done in it
+abbrev mute : OctetAct → Bool
+mute (asks r) = false
+mute pulls = true
+mute hears = true
+
+abbrev are_mute : List OctetDoing → Bool
+are_mute [] = true
+are_mute (at_near act ∷ ds) = mute act && are_mute ds
+are_mute (at_far act ∷ ds) = mute act && are_mute ds
+
+mute-talk : (act : OctetAct) → mute act ≡ true → IsTalkOf Call 0 act
+mute-talk (asks r) e = absurd (cc e)
+mute-talk pulls e = tt
+mute-talk hears e = tt
+
+pub by-mutes : (ds : List OctetDoing) → are_mute ds ≡ true → All (IsTalk Call 0) ds
+by-mutes [] e = All-nil (IsTalk Call 0)
+by-mutes (at_near act ∷ ds) e =
+    let both = and_parts (mute act) (are_mute ds) e in All-cons (IsTalk Call 0) (at_near act) ds (mute-talk act both.0) (by-mutes ds both.1)
+by-mutes (at_far act ∷ ds) e =
+    let both = and_parts (mute act) (are_mute ds) e in All-cons (IsTalk Call 0) (at_far act) ds (mute-talk act both.0) (by-mutes ds both.1)
+
+is-octet : AreOctets (0xAB ∷ [])
+is-octet = let few : 0xAB < 256 = omega arith in All-cons (λ octet. octet < 256) 0xAB [] few (All-nil (λ octet. octet < 256))
+
+pub talk : All (IsTalk Call 0) sends
+talk =
+    let asked : IsTalk Call 0 (at_near (asks (Data Call 0 (0xAB ∷ [])))) = (refl, refl, is-octet) in
+    All-append (IsTalk Call 0) establishes (at_near (asks (Data Call 0 (0xAB ∷ []))) ∷ goes_on) (by-mutes establishes refl)
+    (All-cons (IsTalk Call 0) (at_near (asks (Data Call 0 (0xAB ∷ [])))) goes_on asked (by-mutes goes_on refl))
+
+-- so each was told all
+pub told : IsToldAll Call 0 (both_call sends begins) after_it
+told = (calls-come-through-in-octets Call user network 0 0 0 sends can talk).all gone

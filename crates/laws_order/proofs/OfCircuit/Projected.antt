@@ -1,0 +1,396 @@
+-- What is done on a circuit of octets is, at the cards of frames inside, done on a wire of frames.
+use Rattle.std.proofs.Common.{◌≡◌, ℕ, ◌<◌, Bool, true, false, cond, List, [], ◌∷◌, ◌++◌, length, drop, Option, None, Some, is_some, option_map, option_to_list, refl, sym, ap, ◌∙◌, subst, append-nil}
+use Rattle.std.specs.Prelude.{All}
+use Rattle.std.specs.Option.{option_map_or}
+use Rattle.std.proofs.lemmas.List.{get_or-set_same}
+use Rattle.std.proofs.lemmas.List.Elements.{All-append, All-cons, All-head, All-nil, All-tail}
+use Rattle.lapd_frame.specs.declared.services.Service.{Service}
+use Rattle.model_bits.specs.Stream as stream
+use Rattle.model_bits.specs.StuffingLaws.{AreOctets}
+use Rattle.model_line.specs.declared.config.Config.{Config}
+use Rattle.model_line.specs.Came.{came}
+use Rattle.model_line.specs.Event as line
+use Rattle.model_line.specs.Event.{NextFrame}
+unfoldable use Rattle.model_line.specs.Machine.{answer as line_answer, takes_slot}
+use Rattle.model_line.specs.Request as asked
+use Rattle.model_line.specs.Request.{Request}
+use Rattle.model_line.specs.Sound.{IsInRange}
+use Rattle.model_card.specs.Event as frames
+use Rattle.model_card.specs.Machine as machine
+use Rattle.model_card.specs.ports.Card.{said, answer_to}
+unfoldable use Rattle.model_card.specs.ports.Card.{after, answer, meant}
+use Rattle.model_card.specs.ports.Codec.{frames_among, octet_pulled}
+use Rattle.model_card.specs.ports.Event.{at}
+use Rattle.model_card.specs.ports.Port as port
+use Rattle.model_card.specs.ports.Port.{Port, fresh_port, answer_of, gained, given_in, is_due, item_of, next_octet, with_item, with_octet}
+use Rattle.model_card.specs.ports.Sound.{IsSoundPort}
+use Rattle.laws_trace.specs.FramesAreRead.{contents_given}
+use Rattle.laws_wire.specs.Call as call
+use Rattle.laws_wire.specs.Wire as wire
+use Rattle.laws_wire.specs.Wire.{Station, Wire}
+unfoldable use Rattle.laws_wire.specs.Wire.{doing_all as frames_done}
+use Rattle.laws_wire.proofs.RestedRounds.{doing-append}
+use Rattle.laws_order.specs.circuit.Circuit.{Termination, port_of, happens, with_first_of, Circuit, OctetAct, asks, pulls, hears, OctetDoing, at_near, at_far, acting, turned, doing}
+unfoldable use Rattle.laws_order.specs.circuit.Circuit.{doing_all}
+use Rattle.laws_order.specs.circuit.Through.{IsTalkOf, IsTalk, IsAsked}
+use Rattle.laws_order.proofs.OfCircuit.AsFrames.{as_station, meaning, if_meant, heard-as, asked-as, pulled-as}
+use Rattle.laws_order.proofs.OfCircuit.OneWay.{Carries, one-given, one-put, none-heard, one-heard}
+use Rattle.laws_order.proofs.OfCircuit.Ran.{Ran, goes-on, on-way, config, within-ports, sound-port, on-line, gives-octets}
+
+-- ---- what is meant
+
+-- A circuit as a wire, with the frames on their way.
+abbrev pub as_wire : List (List ℕ) → List (List ℕ) → Circuit → Wire
+as_wire there back w = record { near = as_station there w.near; far = as_station back w.far }
+
+-- A request is a request; a pull gives a frame where an item is due; an octet that ends something brings a frame.
+abbrev pub hearing_means : List ℕ → Termination → Option wire.Act
+hearing_means [] s = None
+hearing_means (value ∷ more) s = cond (is_some (gained s.card.card.config.n201 (port_of s).received value)) (Some wire.takes) None
+
+abbrev pub act_meant : OctetAct → Circuit → Option wire.Act
+act_meant (asks r) w = Some (wire.requests r)
+act_meant pulls w = cond (is_due (port_of w.near)) (Some wire.gives) None
+act_meant hears w = hearing_means w.far.way w.near
+
+abbrev pub doing_meant : OctetDoing → Circuit → Option wire.Doing
+doing_meant (at_near act) w = option_map wire.at_near (act_meant act w)
+doing_meant (at_far act) w = option_map wire.at_far (act_meant act (turned w))
+
+unfoldable pub doings_meant : List OctetDoing → Circuit → List wire.Doing
+doings_meant [] w = []
+doings_meant (d ∷ ds) w = option_to_list (doing_meant d w) ++ doings_meant ds (doing d w)
+
+abbrev pub if_acted : Option wire.Act → Wire → Wire
+if_acted None f = f
+if_acted (Some act) f = wire.acting act f
+
+-- ---- a port after an event
+
+pub port-after : (s : Termination) (what : port.Event) → s.line < length s.card.ports → port_of (happens what s) ≡ port.after what (said (at s.line what) s.card) (port_of s)
+unfolding after
+port-after s what within = get_or-set_same s.card.ports s.line (port.after what (said (at s.line what) s.card) (port_of s)) fresh_port within
+
+none-pulled : (o : Option line.Answer) → octet_pulled (option_map_or answer_of o (port.told line.nothing)) ≡ []
+none-pulled None = refl
+none-pulled (Some (line.told t)) = refl
+none-pulled (Some (line.refused why)) = refl
+none-pulled (Some (line.gave next)) = refl
+
+same-way : (way : List ℕ) (o : Option line.Answer) → way ++ octet_pulled (option_map_or answer_of o (port.told line.nothing)) ≡ way
+same-way way o = ap (λ l. way ++ l) (none-pulled o) ∙ append-nil way
+
+pub asked-way : (r : Request) (s : Termination) → (happens (port.request r) s).way ≡ s.way
+unfolding answer
+asked-way r s = same-way s.way (said (at s.line (port.request r)) s.card)
+
+pub heard-way : (value : ℕ) (s : Termination) → (happens (port.octet value) s).way ≡ s.way
+unfolding answer
+heard-way value s = same-way s.way (said (at s.line (port.octet value)) s.card)
+
+same-received : (o : Option line.Answer) (p : Port) → (with_octet (with_item o p)).received ≡ p.received
+same-received None p = refl
+same-received (Some a) p = refl
+
+-- ---- what layer 3 asks
+
+asked-octets : (service : Service) (tei : ℕ) (r : Request) → IsAsked service tei r → AreOctets (contents_given r)
+asked-octets service tei (asked.Data s t contents) is = is.2
+asked-octets service tei (asked.Establish s t) is = All-nil (λ octet. octet < 256)
+asked-octets service tei (asked.Release s t) is = absurd is
+asked-octets service tei (asked.Unit s t contents) is = absurd is
+asked-octets service tei (asked.Assign t) is = absurd is
+asked-octets service tei (asked.Remove t) is = absurd is
+asked-octets service tei (asked.Check t) is = absurd is
+asked-octets service tei (asked.SetBusy s t) is = absurd is
+asked-octets service tei (asked.ClearBusy s t) is = absurd is
+asked-octets service tei (asked.Deactivate s t) is = absurd is
+
+asked-there : (service : Service) (tei : ℕ) (r : Request) → IsAsked service tei r → call.IsCallOf service tei (wire.requests r)
+asked-there service tei (asked.Data s t contents) is = (is.0, is.1)
+asked-there service tei (asked.Establish s t) is = is
+asked-there service tei (asked.Release s t) is = absurd is
+asked-there service tei (asked.Unit s t contents) is = absurd is
+asked-there service tei (asked.Assign t) is = absurd is
+asked-there service tei (asked.Remove t) is = absurd is
+asked-there service tei (asked.Check t) is = absurd is
+asked-there service tei (asked.SetBusy s t) is = absurd is
+asked-there service tei (asked.ClearBusy s t) is = absurd is
+asked-there service tei (asked.Deactivate s t) is = absurd is
+
+abbrev AreTalks : Service → ℕ → List wire.Act → Type 0
+AreTalks service tei acts = All (call.IsCallOf service tei) acts
+
+acts-talk : (service : Service) (tei : ℕ) (act : OctetAct) (w : Circuit) → IsTalkOf service tei act → AreTalks service tei (option_to_list (act_meant act w))
+acts-talk service tei (asks r) w is = All-cons (call.IsCallOf service tei) (wire.requests r) [] (asked-there service tei r is) (All-nil (call.IsCallOf service tei))
+acts-talk service tei pulls w is = go (is_due (port_of w.near))
+  where
+    go : (due : Bool) → AreTalks service tei (option_to_list (cond due (Some wire.gives) None))
+    go true = All-cons (call.IsCallOf service tei) wire.gives [] tt (All-nil (call.IsCallOf service tei))
+    go false = All-nil (call.IsCallOf service tei)
+acts-talk service tei hears w is = go w.far.way
+  where
+    by : (ends : Bool) → AreTalks service tei (option_to_list (cond ends (Some wire.takes) None))
+    by true = All-cons (call.IsCallOf service tei) wire.takes [] tt (All-nil (call.IsCallOf service tei))
+    by false = All-nil (call.IsCallOf service tei)
+
+    go : (way : List ℕ) → AreTalks service tei (option_to_list (hearing_means way w.near))
+    go [] = All-nil (call.IsCallOf service tei)
+    go (value ∷ more) = by (is_some (gained w.near.card.card.config.n201 (port_of w.near).received value))
+
+near-of : (service : Service) (tei : ℕ) (o : Option wire.Act) → AreTalks service tei (option_to_list o) → All (call.IsCall service tei) (option_to_list (option_map wire.at_near o))
+near-of service tei None h = All-nil (call.IsCall service tei)
+near-of service tei (Some act) h = All-cons (call.IsCall service tei) (wire.at_near act) [] (All-head (call.IsCallOf service tei) act [] h) (All-nil (call.IsCall service tei))
+
+far-of : (service : Service) (tei : ℕ) (o : Option wire.Act) → AreTalks service tei (option_to_list o) → All (call.IsCall service tei) (option_to_list (option_map wire.at_far o))
+far-of service tei None h = All-nil (call.IsCall service tei)
+far-of service tei (Some act) h = All-cons (call.IsCall service tei) (wire.at_far act) [] (All-head (call.IsCallOf service tei) act [] h) (All-nil (call.IsCall service tei))
+
+-- ---- one way, where ports stay in part
+
+module _ (n201 : ℕ) where
+  moved : (p q : Port) (way way' received received' : List ℕ) (frames : List (List ℕ)) → p ≡ q → way ≡ way' → received ≡ received' → Carries n201 q way' received' frames → Carries n201 p way received frames
+  moved p q way way' received received' frames same way-same received-same h =
+      subst (λ p. Carries n201 p way received frames) (sym same)
+      (subst (λ way. Carries n201 q way received frames) (sym way-same) (subst (λ received. Carries n201 q way' received frames) (sym received-same) h))
+
+  with-received : (p : Port) (way received now : List ℕ) (frames : List (List ℕ)) → Carries n201 p way received frames → Carries n201 (record p { received = now }) way received frames
+  with-received p way received now frames h = record { given = h.given; are = h.are; octets = h.octets }
+
+  -- what a call for the next frame puts on the line
+  frame-put : (g : Option NextFrame) → frames_among (item_of g ∷ []) ≡ wire.frames_by (line.gave g)
+  frame-put None = refl
+  frame-put (Some f) = refl
+
+  octets-put : (g : Option NextFrame) → ((f : NextFrame) → g ≡ Some f → AreOctets f.octets) → All AreOctets (frames_among (item_of g ∷ []))
+  octets-put None h = All-nil AreOctets
+  octets-put (Some f) h = All-cons AreOctets f.octets [] (h f refl) (All-nil AreOctets)
+
+  pub record Fits (c : Config) : Type 0 where
+    pub ranged : IsInRange c
+    pub size : c.n201 ≡ n201
+
+  -- Two ends that ran, and what is on its way between them.
+  pub record Follows (c d : Config) (w : Circuit) (there back : List (List ℕ)) : Type 0 where
+    pub near : Ran c w.near
+    pub far : Ran d w.far
+    pub goes : Carries n201 (port_of w.near) w.near.way (port_of w.far).received there
+    pub comes : Carries n201 (port_of w.far) w.far.way (port_of w.near).received back
+
+  pub other-way : (c d : Config) (w : Circuit) (there back : List (List ℕ)) → Follows c d w there back → Follows d c (turned w) back there
+  other-way c d w there back h = record { near = h.far; far = h.near; goes = h.comes; comes = h.goes }
+
+  -- ---- one act at an end
+
+  module _ (c d : Config) (fits : Fits c) (fits_far : Fits d) (w : Circuit) (there back : List (List ℕ)) (h : Follows c d w there back) where
+    pub record Acted (act : Option wire.Act) (w' : Circuit) : Type 0 where
+      pub there' : List (List ℕ)
+      pub back' : List (List ℕ)
+      pub follows : Follows c d w' there' back'
+      pub same : if_acted act (as_wire there back w) ≡ as_wire there' back' w'
+
+    abbrev near : Termination
+    near = w.near
+
+    abbrev far : Termination
+    far = w.far
+
+    inside : near.line < length near.card.ports
+    inside = within-ports c fits.ranged near h.near
+
+    n201-is : near.card.card.config.n201 ≡ n201
+    n201-is = ap (λ (x : Config). x.n201) (config c fits.ranged near h.near) ∙ fits.size
+
+    abbrev with_ends : Station → Station → Wire
+    with_ends x y = record { near = x; far = y }
+
+    abbrev with-near : Station → Wire
+    with-near x = with_ends x (as_station back far)
+
+    asked-one : (r : Request) → AreOctets (contents_given r) → Acted (Some (wire.requests r)) (acting (asks r) w)
+    asked-one r octets =
+        let s = happens (port.request r) near in
+        let same = port-after near (port.request r) inside in
+        record {
+          there' = there;
+          back' = back;
+          follows = record {
+            near = goes-on c near (port.request r) octets h.near;
+            far = h.far;
+            goes = moved (port_of s) (port_of near) s.way near.way (port_of far).received (port_of far).received there same (asked-way r near) refl h.goes;
+            comes = moved (port_of far) (port_of far) far.way far.way (port_of s).received (port_of near).received back refl refl (ap (λ (p : Port). p.received) same) h.comes;
+          };
+          same = ap with-near (sym (asked-as r near there));
+        }
+
+    -- ---- a pull
+
+    pulled-meant : (due : Bool) → if_acted (cond due (Some wire.gives) None) (as_wire there back w) ≡ with-near (if_meant (cond due (Some line.next) None) (as_station there near))
+    pulled-meant true = refl
+    pulled-meant false = refl
+
+    pulled-goes : (due : Bool) → let o : Option line.Event = cond due (Some line.next) None in
+        let q = with_item (option_map (answer_to near.card.card) (option_map (frames.at near.line) o)) (port_of near) in
+        Carries n201 (with_octet q) (near.way ++ next_octet q ∷ []) (port_of far).received (if_meant o (as_station there near)).way
+    unfolding line_answer takes_slot
+    pulled-goes true =
+        let g = given_in (machine.answer (frames.at near.line line.next) near.card.card) in
+        let q : Port = record (port_of near) { items = (port_of near).items ++ item_of g ∷ [] } in
+        subst (λ frames. Carries n201 (with_octet q) (near.way ++ next_octet q ∷ []) (port_of far).received (there ++ frames)) (frame-put g)
+        (one-given n201 q near.way (port_of far).received (there ++ frames_among (item_of g ∷ []))
+        (one-put n201 (port_of near) near.way (port_of far).received there h.goes (item_of g)
+        (octets-put g (λ f is. gives-octets c fits.ranged near h.near f (ap line.gave is))))
+        (next_octet q))
+    pulled-goes false = one-given n201 (port_of near) near.way (port_of far).received there h.goes (next_octet (port_of near))
+
+    pulled-one : Acted (act_meant pulls w) (acting pulls w)
+    unfolding answer meant
+    pulled-one =
+        let s = happens port.pull near in
+        let x = if_meant (meaning port.pull near) (as_station there near) in
+        let after-it = port-after near port.pull inside in
+        record {
+          there' = x.way;
+          back' = back;
+          follows = record {
+            near = goes-on c near port.pull tt h.near;
+            far = h.far;
+            goes = subst (λ p. Carries n201 p s.way (port_of far).received x.way) (sym after-it) (pulled-goes (is_due (port_of near)));
+            comes =
+                moved (port_of far) (port_of far) far.way far.way (port_of s).received (port_of near).received back refl refl
+                (ap (λ (p : Port). p.received) after-it ∙ same-received (said (at near.line port.pull) near.card) (port_of near)) h.comes;
+          };
+          same = pulled-meant (is_due (port_of near)) ∙ ap with-near (sym (pulled-as near there));
+        }
+
+    -- ---- an octet is heard
+
+    abbrev hearing : List ℕ → Circuit
+    hearing way = record { near = with_first_of way near; far = record far { way = drop 1 way } }
+
+    heard-none : far.way ≡ [] → Acted None (hearing [])
+    heard-none empty = record {
+      there' = there;
+      back' = back;
+      follows = record {
+        near = h.near;
+        far = on-way d far [] h.far;
+        goes = h.goes;
+        comes = subst (λ way. Carries n201 (port_of far) way (port_of near).received back) empty h.comes;
+      };
+      same = refl;
+    }
+
+    heard-one : (value : ℕ) (more : List ℕ) (o : Option stream.Event) → far.way ≡ value ∷ more → gained n201 (port_of near).received value ≡ o
+        → Acted (cond (is_some o) (Some wire.takes) None) (hearing (value ∷ more))
+    heard-one value more o is what = go o what
+      where
+        s : Termination
+        s = happens (port.octet value) near
+
+        after-it : port_of s ≡ record (port_of near) { received = (port_of near).received ++ value ∷ [] }
+        after-it = port-after near (port.octet value) inside
+
+        ran : Ran c s
+        ran = goes-on c near (port.octet value) tt h.near
+
+        as-heard : (o : Option stream.Event) → gained n201 (port_of near).received value ≡ o → as_station there s ≡ if_meant (option_map line.hears o) (as_station there near)
+        as-heard o e =
+            heard-as value near there
+            ∙ ap (λ o. if_meant (option_map line.hears o) (as_station there near)) (ap (λ n. gained n (port_of near).received value) n201-is ∙ e)
+
+        goes : Carries n201 (port_of s) s.way (port_of far).received there
+        goes =
+            moved (port_of s) (record (port_of near) { received = (port_of near).received ++ value ∷ [] }) s.way near.way (port_of far).received (port_of far).received there after-it (heard-way value near) refl
+            (with-received (port_of near) near.way (port_of far).received ((port_of near).received ++ value ∷ []) there h.goes)
+
+        comes : (frames : List (List ℕ)) → Carries n201 (port_of far) more ((port_of near).received ++ value ∷ []) frames → Carries n201 (port_of far) more (port_of s).received frames
+        comes frames x = subst (λ received. Carries n201 (port_of far) more received frames) (sym (ap (λ (p : Port). p.received) after-it)) x
+
+        go : (o : Option stream.Event) → gained n201 (port_of near).received value ≡ o → Acted (cond (is_some o) (Some wire.takes) None) (hearing (value ∷ more))
+        go None e = record {
+          there' = there;
+          back' = back;
+          follows = record {
+            near = ran;
+            far = on-way d far more h.far;
+            goes = goes;
+            comes = comes back (none-heard n201 (port_of far) far.way (port_of near).received back h.comes value more is e);
+          };
+          same = ap with-near (sym (as-heard None e));
+        }
+        go (Some event) e =
+            let x =
+            one-heard n201 (port_of far) far.way (port_of near).received back h.comes (subst (λ n. IsSoundPort n (port_of far)) fits_far.size (sound-port d fits_far.ranged far h.far))
+            (on-line d fits_far.ranged far h.far) value more event is e in
+            let lost = λ (fs : List (List ℕ)). as_station (drop 1 fs) far in
+            record {
+              there' = there;
+              back' = x.rest;
+              follows = record { near = ran; far = on-way d far more h.far; goes = goes; comes = comes x.rest x.carries };
+              same =
+                  ap (λ fs. with_ends (wire.with_first_of fs (as_station there near)) (lost fs)) x.frames_are
+                  ∙ ap (λ e. with_ends (wire.happens (line.hears e) (as_station there near)) (as_station x.rest far)) (ap (λ n. came n x.first) n201-is ∙ x.whole ∙ sym x.event)
+                  ∙ ap (λ s. with_ends s (as_station x.rest far)) (sym (as-heard (Some event) e));
+            }
+
+    heard-first : (way : List ℕ) → far.way ≡ way → Acted (hearing_means way near) (hearing way)
+    heard-first [] is = heard-none is
+    heard-first (value ∷ more) is =
+        subst (λ n. Acted (cond (is_some (gained n (port_of near).received value)) (Some wire.takes) None) (hearing (value ∷ more))) (sym n201-is)
+        (heard-one value more (gained n201 (port_of near).received value) is refl)
+
+    pub one-act : (service : Service) (tei : ℕ) (act : OctetAct) → IsTalkOf service tei act → Acted (act_meant act w) (acting act w)
+    one-act service tei (asks r) is = asked-one r (asked-octets service tei r is)
+    one-act service tei pulls is = pulled-one
+    one-act service tei hears is = heard-first far.way refl
+
+  -- ---- all that is done
+
+  module _ (service : Service) (tei : ℕ) (c d : Config) (fits : Fits c) (fits_far : Fits d) where
+    pub record Done (ds : List wire.Doing) (w : Circuit) (there back : List (List ℕ)) (w' : Circuit) : Type 0 where
+      pub there' : List (List ℕ)
+      pub back' : List (List ℕ)
+      pub follows : Follows c d w' there' back'
+      pub same : wire.doing_all ds (as_wire there back w) ≡ as_wire there' back' w'
+      pub talk : All (call.IsCall service tei) ds
+
+    by-near : (o : Option wire.Act) (f : Wire) → wire.doing_all (option_to_list (option_map wire.at_near o)) f ≡ if_acted o f
+    unfolding frames_done
+    by-near None f = refl
+    by-near (Some act) f = refl
+
+    by-far : (o : Option wire.Act) (f : Wire) → wire.doing_all (option_to_list (option_map wire.at_far o)) f ≡ wire.turned (if_acted o (wire.turned f))
+    unfolding frames_done
+    by-far None f = refl
+    by-far (Some act) f = refl
+
+    pub one-done : (x : OctetDoing) → IsTalk service tei x → (w : Circuit) (there back : List (List ℕ)) → Follows c d w there back → Done (option_to_list (doing_meant x w)) w there back (doing x w)
+    one-done (at_near act) is w there back h =
+        let one = one-act c d fits fits_far w there back h service tei act is in
+        record { there' = one.there'; back' = one.back'; follows = one.follows; same = by-near (act_meant act w) (as_wire there back w) ∙ one.same; talk = near-of service tei (act_meant act w) (acts-talk service tei act w is) }
+    one-done (at_far act) is w there back h =
+        let one = one-act d c fits_far fits (turned w) back there (other-way c d w there back h) service tei act is in
+        record {
+          there' = one.back';
+          back' = one.there';
+          follows = other-way d c (acting act (turned w)) one.there' one.back' one.follows;
+          same = by-far (act_meant act (turned w)) (as_wire there back w) ∙ ap wire.turned one.same;
+          talk = far-of service tei (act_meant act (turned w)) (acts-talk service tei act (turned w) is);
+        }
+
+    pub all-done : (ds : List OctetDoing) → All (IsTalk service tei) ds → (w : Circuit) (there back : List (List ℕ)) → Follows c d w there back → Done (doings_meant ds w) w there back (doing_all ds w)
+    unfolding doing_all doings_meant frames_done
+    all-done [] all w there back h = record { there' = there; back' = back; follows = h; same = refl; talk = All-nil (call.IsCall service tei) }
+    all-done (x ∷ ds) all w there back h =
+        let one = one-done x (All-head (IsTalk service tei) x ds all) w there back h in
+        let rest = all-done ds (All-tail (IsTalk service tei) x ds all) (doing x w) one.there' one.back' one.follows in
+        let first = option_to_list (doing_meant x w) in
+        let others = doings_meant ds (doing x w) in
+        record {
+          there' = rest.there';
+          back' = rest.back';
+          follows = rest.follows;
+          same = doing-append first others (as_wire there back w) ∙ ap (wire.doing_all others) one.same ∙ rest.same;
+          talk = All-append (call.IsCall service tei) first others one.talk rest.talk;
+        }

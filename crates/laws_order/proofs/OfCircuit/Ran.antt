@@ -1,0 +1,211 @@
+-- What a run keeps at one end of a circuit.
+use Rattle.std.proofs.Common.{◌≡◌, ℕ, ◌<◌, ◌≤◌, ◌==◌, Bool, true, false, cond, List, [], ◌∷◌, ◌++◌, length, append_assoc, Option, None, Some, option_map, option_to_list, refl, sym, ap, ◌∙◌, subst, arith, append-nil, eq-eqb}
+use Rattle.std.specs.Prelude.{All}
+use Rattle.std.proofs.lemmas.Grind.{flat_map-append}
+use Rattle.std.proofs.lemmas.List.Elements.{All-append, All-cons, All-head, All-nil}
+use Rattle.model_bits.specs.Stream as stream
+use Rattle.model_bits.specs.StuffingLaws.{AreOctets}
+use Rattle.model_line.specs.declared.config.Config.{Config}
+use Rattle.model_line.specs.Event as line
+use Rattle.model_line.specs.Event.{NextFrame}
+use Rattle.model_line.specs.Request as asked
+use Rattle.model_line.specs.Sound.{IsInRange}
+use Rattle.model_card.specs.Card as cards
+use Rattle.model_card.specs.Event as frames
+use Rattle.model_card.specs.Machine as machine
+use Rattle.model_card.specs.Run as runs
+unfoldable use Rattle.model_card.specs.Run.{after_all as frames_after, moments as frame_moments}
+use Rattle.model_card.specs.ports.Card.{OctetCard, fresh, port_at}
+unfoldable use Rattle.model_card.specs.ports.Card.{after, meant}
+use Rattle.model_card.specs.ports.Event.{Event, at}
+use Rattle.model_card.specs.ports.HeardOctets as ports
+use Rattle.model_card.specs.ports.Port as port
+use Rattle.model_card.specs.ports.Port.{gained, is_due, left_of}
+use Rattle.model_card.specs.ports.Pulls.{longest_text}
+use Rattle.model_card.specs.ports.Run.{IsAtLine, AreAtLines}
+unfoldable use Rattle.model_card.specs.ports.Run.{after_all, meant_all}
+use Rattle.model_card.specs.ports.Sound.{IsSound, IsSoundPort}
+use Rattle.model_card.proofs.OfPorts.Codec.{meant_at_lines, refined_card}
+use Rattle.model_card.proofs.OfPorts.GoingOut.{on_its_way}
+use Rattle.model_card.proofs.OfPorts.HeardOctets.{heard_frames_are_octets}
+use Rattle.model_card.proofs.OfPorts.LastItem.{IsOnItsWay}
+use Rattle.model_card.proofs.OfPorts.Pulls.{pulls_are_takes}
+use Rattle.model_card.proofs.OfPorts.Sound.{always_sound, fresh_octets_sound, port_sound}
+use Rattle.model_card.proofs.OfPorts.Steps.{config_stays, moments-append}
+use Rattle.laws_line.proofs.OfCard.Wherever.{all-right}
+use Rattle.laws_trace.specs.FramesAreRead.{contents_given, HasOctets, GivesOctets}
+use Rattle.laws_trace.specs.Trace as traces
+use Rattle.laws_trace.specs.Trace.{begun, seen, seen_told, trace, trace_of, frames_begun}
+use Rattle.laws_trace.proofs.OctetsBegin.{frames-are-octets}
+use Rattle.laws_order.specs.circuit.Circuit.{Termination, port_of, happens}
+
+-- ---- one event more
+
+after-more : (m : OctetCard) (events : List Event) (e : Event) → after_all m (events ++ e ∷ []) ≡ after e (after_all m events)
+unfolding after_all
+after-more m [] e = refl
+after-more m (x ∷ events) e = after-more (after x m) events e
+
+meant-more : (m : OctetCard) (events : List Event) (e : Event) → meant_all m (events ++ e ∷ []) ≡ meant_all m events ++ option_to_list (meant e (after_all m events))
+unfolding after_all meant_all
+meant-more m [] e = append-nil (option_to_list (meant e m))
+meant-more m (x ∷ events) e =
+    ap (λ l. option_to_list (meant x m) ++ l) (meant-more (after x m) events e)
+    ∙ sym (append_assoc (option_to_list (meant x m)) (meant_all (after x m) events) (option_to_list (meant e (after_all (after x m) events))))
+
+trace-more : (c : Config) (fs gs : List frames.Event) (number : ℕ)
+    → trace_of c (fs ++ gs) number ≡ trace_of c fs number ++ trace number (runs.moments (runs.after_all (cards.fresh c) fs) gs)
+trace-more c fs gs number =
+    ap (trace number) (moments-append (cards.fresh c) fs gs)
+    ∙ flat_map-append (traces.seen_in number) (runs.moments (cards.fresh c) fs) (runs.moments (runs.after_all (cards.fresh c) fs) gs)
+
+-- ---- what is seen are octets
+
+-- What layer 3 asks to send are octets; and what a line hears, too.
+abbrev pub AsksOctets : port.Event → Type 0
+AsksOctets (port.octet value) = Unit {0}
+AsksOctets (port.expiry timer) = Unit {0}
+AsksOctets (port.request r) = AreOctets (contents_given r)
+AsksOctets port.pull = Unit {0}
+
+abbrev IsExact : line.Event → Type 0
+IsExact (line.hears e) = HasOctets e
+IsExact (line.expiry timer) = Unit {0}
+IsExact (line.request r) = AreOctets (contents_given r)
+IsExact line.next = Unit {0}
+
+same-octets : (e : stream.Event) → ports.HasOctets e → HasOctets e
+same-octets (stream.frame octets) h = h
+same-octets (stream.overlong octets) h = tt
+same-octets (stream.dropped cause) h = tt
+
+heard-exact : (number : ℕ) (o : Option stream.Event) → All (λ (e : frames.Event). ports.HearsOctets e.what) (option_to_list (option_map (frames.at number) (option_map line.hears o)) ++ [])
+    → All IsExact (option_to_list (option_map line.hears o))
+heard-exact number None h = All-nil IsExact
+heard-exact number (Some e) h =
+    All-cons IsExact (line.hears e) [] (same-octets e (All-head (λ (e : frames.Event). ports.HearsOctets e.what) (frames.at number (line.hears e)) [] h)) (All-nil IsExact)
+
+next-exact : (due : Bool) → All IsExact (option_to_list (cond due (Some line.next) None))
+next-exact true = All-cons IsExact line.next [] tt (All-nil IsExact)
+next-exact false = All-nil IsExact
+
+meaning-exact : (m : OctetCard) (number : ℕ) (what : port.Event) → AsksOctets what → All IsExact (option_to_list (port.meant m.card.config.n201 what (port_at number m)))
+unfolding meant meant_all
+meaning-exact m number (port.octet value) h =
+    heard-exact number (gained m.card.config.n201 (port_at number m).received value) (heard_frames_are_octets m (at number (port.octet value) ∷ []))
+meaning-exact m number (port.expiry timer) h = All-cons IsExact (line.expiry timer) [] tt (All-nil IsExact)
+meaning-exact m number (port.request r) h = All-cons IsExact (line.request r) [] h (All-nil IsExact)
+meaning-exact m number port.pull h = next-exact (is_due (port_at number m))
+
+told-exact : (a : line.Answer) → All GivesOctets (seen_told a)
+told-exact (line.told t) = All-cons GivesOctets (traces.noted t.notes t.contents) (traces.lost t.lost ∷ []) tt (All-cons GivesOctets (traces.lost t.lost) [] tt (All-nil GivesOctets))
+told-exact (line.refused why) = All-nil GivesOctets
+told-exact (line.gave given) = All-nil GivesOctets
+
+granted-exact : (r : asked.Request) (a : line.Answer) → AreOctets (contents_given r) → All GivesOctets (traces.seen_granted r a)
+granted-exact r (line.told t) h = All-cons GivesOctets (traces.granted r) [] h (All-nil GivesOctets)
+granted-exact r (line.refused why) h = All-nil GivesOctets
+granted-exact r (line.gave given) h = All-nil GivesOctets
+
+begun-exact : (a : line.Answer) → All GivesOctets (seen line.next a)
+begun-exact (line.told t) = All-nil GivesOctets
+begun-exact (line.refused why) = All-nil GivesOctets
+begun-exact (line.gave None) = All-nil GivesOctets
+begun-exact (line.gave (Some f)) = All-cons GivesOctets (begun f.octets) [] tt (All-nil GivesOctets)
+
+seen-exact : (f : line.Event) (a : line.Answer) → IsExact f → All GivesOctets (seen f a)
+seen-exact (line.hears e) a h = All-cons GivesOctets (traces.heard e) (seen_told a) h (told-exact a)
+seen-exact (line.expiry timer) a h = told-exact a
+seen-exact (line.request r) a h = All-append GivesOctets (traces.seen_granted r a) (seen_told a) (granted-exact r a h) (told-exact a)
+seen-exact line.next a h = begun-exact a
+
+moment-exact : (card : cards.Card) (number : ℕ) (o : Option line.Event) → All IsExact (option_to_list o)
+    → All GivesOctets (trace number (runs.moments card (option_to_list (option_map (frames.at number) o))))
+unfolding frame_moments
+moment-exact card number None h = All-nil GivesOctets
+moment-exact card number (Some f) h = go (number == number)
+  where
+    go : (b : Bool) → All GivesOctets (cond b (seen f (machine.answer (frames.at number f) card)) [] ++ [])
+    go true = subst (All GivesOctets) (sym (append-nil (seen f (machine.answer (frames.at number f) card)))) (seen-exact f (machine.answer (frames.at number f) card) (All-head IsExact f [] h))
+    go false = All-nil GivesOctets
+
+-- ---- an end that came about by events at lines of a card that had just begun, and octets alone were asked to be sent there
+
+pub record Ran (c : Config) (s : Termination) : Type 0 where
+  pub within : s.line < c.lines
+  pub events : List Event
+  pub at_lines : AreAtLines (fresh c) events
+  pub is : s.card ≡ after_all (fresh c) events
+  pub exact : All GivesOctets (trace_of c (meant_all (fresh c) events) s.line)
+
+pub goes-on : (c : Config) (s : Termination) (what : port.Event) → AsksOctets what → Ran c s → Ran c (happens what s)
+unfolding meant
+goes-on c s what asks h =
+    let m = after_all (fresh c) h.events in
+    let e = at s.line what in
+    let fs = meant_all (fresh c) h.events in
+    let card : m.card ≡ runs.after_all (cards.fresh c) fs = refined_card (fresh c) h.events in
+    let new : All GivesOctets (trace s.line (runs.moments (runs.after_all (cards.fresh c) fs) (option_to_list (meant e m)))) =
+    subst (λ x. All GivesOctets (trace s.line (runs.moments x (option_to_list (meant e m))))) card
+    (moment-exact m.card s.line (port.meant m.card.config.n201 what (port_at s.line m)) (meaning-exact m s.line what asks)) in
+    record {
+      within = h.within;
+      events = h.events ++ e ∷ [];
+      at_lines = All-append (IsAtLine (fresh c)) h.events (e ∷ []) h.at_lines (All-cons (IsAtLine (fresh c)) e [] h.within (All-nil (IsAtLine (fresh c))));
+      is = ap (after e) h.is ∙ sym (after-more (fresh c) h.events e);
+      exact =
+          subst (λ l. All GivesOctets (trace_of c l s.line)) (sym (meant-more (fresh c) h.events e))
+          (subst (All GivesOctets) (sym (trace-more c fs (option_to_list (meant e m)) s.line))
+          (All-append GivesOctets (trace_of c fs s.line) (trace s.line (runs.moments (runs.after_all (cards.fresh c) fs) (option_to_list (meant e m)))) h.exact new));
+    }
+
+-- an octet that has gone or is heard on its way changes nothing
+pub on-way : (c : Config) (s : Termination) (way : List ℕ) → Ran c s → Ran c (record s { way = way })
+on-way c s way h = record { within = h.within; events = h.events; at_lines = h.at_lines; is = h.is; exact = h.exact }
+
+module _ (c : Config) (ranged : IsInRange c) (s : Termination) (h : Ran c s) where
+  pub config : s.card.card.config ≡ c
+  config = ap (λ (m : OctetCard). m.card.config) h.is ∙ config_stays (fresh c) h.events
+
+  pub sound : IsSound s.card
+  sound = subst IsSound (sym h.is) (always_sound (fresh c) h.events (fresh_octets_sound c ranged) h.at_lines)
+
+  pub within-ports : s.line < length s.card.ports
+  within-ports = omega (arith, h.within, sound.count, ap (λ (x : Config). x.lines) config)
+
+  pub sound-port : IsSoundPort c.n201 (port_of s)
+  sound-port =
+      let lines : s.card.card.config.lines ≡ c.lines = ap (λ (x : Config). x.lines) config in
+      subst (λ (x : Config). IsSoundPort x.n201 (port_of s)) config (port_sound s.card s.line sound (omega (arith, h.within, lines)))
+
+  pub on-line : IsOnItsWay (port_of s)
+  on-line = subst (λ (m : OctetCard). IsOnItsWay (port_at s.line m)) (sym h.is) (on_its_way c h.events s.line ranged h.at_lines h.within)
+
+  pub few-left : length (left_of (port_of s)) ≤ longest_text c.n201
+  few-left = subst (λ (m : OctetCard). length (left_of (port_at s.line m)) ≤ longest_text c.n201) (sym h.is) (pulls_are_takes.left c h.events s.line ranged h.at_lines h.within)
+
+  -- the next frame consists of octets
+  pub gives-octets : (f : NextFrame) → machine.answer (frames.at s.line line.next) s.card.card ≡ line.gave (Some f) → AreOctets f.octets
+  unfolding frame_moments
+  gives-octets f gives =
+      let number = s.line in
+      let fs = meant_all (fresh c) h.events in
+      let call = frames.at number line.next in
+      let card : runs.after_all (cards.fresh c) fs ≡ s.card.card = sym (refined_card (fresh c) h.events) ∙ ap (λ (m : OctetCard). m.card) (sym h.is) in
+      let exact : All GivesOctets (trace number (runs.moments (runs.after_all (cards.fresh c) fs) (call ∷ []))) =
+      moment-exact (runs.after_all (cards.fresh c) fs) number (Some line.next) (All-cons IsExact line.next [] tt (All-nil IsExact)) in
+      let all : All AreOctets (frames_begun (trace_of c (fs ++ call ∷ []) number)) =
+      frames-are-octets c (fs ++ call ∷ []) number ranged
+      (All-append (runs.IsAtLine (cards.fresh c)) fs (call ∷ []) (meant_at_lines (fresh c) h.events h.at_lines)
+      (All-cons (runs.IsAtLine (cards.fresh c)) call [] h.within (All-nil (runs.IsAtLine (cards.fresh c)))))
+      h.within
+      (subst (All GivesOctets) (sym (trace-more c fs (call ∷ []) number))
+      (All-append GivesOctets (trace_of c fs number) (trace number (runs.moments (runs.after_all (cards.fresh c) fs) (call ∷ []))) h.exact exact)) in
+      let last : All AreOctets (frames_begun (trace number (runs.moments s.card.card (call ∷ [])))) =
+      subst (λ (x : cards.Card). All AreOctets (frames_begun (trace number (runs.moments x (call ∷ []))))) card
+      (all-right AreOctets (frames_begun (trace_of c fs number)) (frames_begun (trace number (runs.moments (runs.after_all (cards.fresh c) fs) (call ∷ []))))
+      (subst (All AreOctets) (ap frames_begun (trace-more c fs (call ∷ []) number)
+      ∙ flat_map-append traces.frame_begun (trace_of c fs number) (trace number (runs.moments (runs.after_all (cards.fresh c) fs) (call ∷ [])))) all)) in
+      let seen-then : All AreOctets (frames_begun (seen line.next (machine.answer call s.card.card) ++ [])) =
+      subst (λ b. All AreOctets (frames_begun (cond b (seen line.next (machine.answer call s.card.card)) [] ++ []))) (eq-eqb number number refl) last in
+      All-head AreOctets f.octets [] (subst (λ a. All AreOctets (frames_begun (seen line.next a ++ []))) gives seen-then)

@@ -1,0 +1,169 @@
+-- A call by octets is a call of frames.
+use Rattle.std.proofs.Common.{◌≡◌, ℕ, ◌<◌, List, [], ◌∷◌, ◌++◌, refl, sym, ap, ◌∙◌, subst, append-nil}
+use Rattle.std.specs.Prelude.{All}
+use Rattle.std.proofs.lemmas.List.{append_cancel_left}
+use Rattle.std.proofs.lemmas.List.Elements.{All-nil}
+use Rattle.lapd_frame.specs.declared.services.Service.{Service}
+use Rattle.model_bits.specs.Sent.{Item, idle}
+use Rattle.model_bits.specs.Stream.{heard_in}
+use Rattle.model_bits.specs.StuffingLaws.{AreOctets}
+use Rattle.model_line.specs.declared.config.Config.{Config}
+use Rattle.model_line.specs.Event as line_event
+use Rattle.model_line.specs.Request.{Request, Establish, Assign}
+use Rattle.model_line.specs.Sound.{IsInRange}
+unfoldable use Rattle.model_card.specs.Run.{moments as frame_moments}
+use Rattle.model_card.specs.ports.Card.{fresh}
+use Rattle.model_card.specs.ports.Codec.{frames_among}
+use Rattle.model_card.specs.ports.Port as port
+use Rattle.model_card.specs.ports.Port.{Port, fresh_port}
+unfoldable use Rattle.model_card.specs.ports.Run.{after_all, meant_all}
+use Rattle.model_card.specs.ports.Run.{IsAtLine}
+use Rattle.model_card.specs.ports.Sound.{IsSoundPort}
+use Rattle.model_card.proofs.OfPorts.GoingOut.{fresh_at}
+use Rattle.laws_trace.specs.FramesAreRead.{GivesOctets}
+use Rattle.laws_wire.specs.Call as call
+use Rattle.laws_wire.specs.Call.{CanCall}
+use Rattle.laws_wire.specs.Wire as wire
+use Rattle.laws_wire.specs.Wire.{Wire, IsStill}
+use Rattle.laws_wire.proofs.Run.{calls-come-through}
+use Rattle.laws_order.specs.circuit.Circuit.{Termination, port_of, happens, Circuit, OctetDoing, doing_all}
+use Rattle.laws_order.specs.circuit.Through.{termination, assigned, calling, IsTalk, both_call, HasGone, HasAllGone, ComesThrough, CallsComeThroughInOctets}
+use Rattle.laws_order.proofs.OfCircuit.AsFrames.{asked-as}
+use Rattle.laws_order.proofs.OfCircuit.OneWay.{Carries, all-given, framed}
+use Rattle.laws_order.proofs.OfCircuit.Projected.{as_wire, doings_meant, port-after, asked-way, Fits, Follows, Done, all-done}
+use Rattle.laws_order.proofs.OfCircuit.WhoCalls.{same-calls}
+use Rattle.laws_order.proofs.OfCircuit.Ran.{Ran, goes-on, within-ports, sound-port, on-line}
+
+-- ---- as it begins
+
+ran-fresh : (c : Config) (number : ℕ) → number < c.lines → Ran c (termination c number)
+unfolding after_all meant_all frame_moments
+ran-fresh c number within = record { within = within; events = []; at_lines = All-nil (IsAtLine (fresh c)); is = refl; exact = All-nil GivesOctets }
+
+ran-assigned : (c : Config) (number tei : ℕ) → number < c.lines → Ran c (assigned c number tei)
+ran-assigned c number tei within = goes-on c (termination c number) (port.request (Assign tei)) (All-nil (λ octet. octet < 256)) (ran-fresh c number within)
+
+ran-asked : (service : Service) (c : Config) (number tei : ℕ) → number < c.lines → Ran c (happens (port.request (Establish service tei)) (assigned c number tei))
+ran-asked service c number tei within =
+    goes-on c (assigned c number tei) (port.request (Establish service tei)) (All-nil (λ octet. octet < 256)) (ran-assigned c number tei within)
+
+carries-none : (n201 : ℕ) → Carries n201 fresh_port [] [] []
+carries-none n201 = record { given = refl; are = refl; octets = All-nil AreOctets }
+
+-- the port of an end at which only requests were made
+record IsUnused (s : Termination) : Type 0 where
+  port : port_of s ≡ fresh_port
+  way : s.way ≡ []
+
+module _ (c : Config) (ranged : IsInRange c) where
+  still-unused : (s : Termination) (r : Request) → Ran c s → IsUnused s → IsUnused (happens (port.request r) s)
+  still-unused s r ran h = record { port = port-after s (port.request r) (within-ports c ranged s ran) ∙ h.port; way = asked-way r s ∙ h.way }
+
+  unused-assigned : (number tei : ℕ) → number < c.lines → IsUnused (assigned c number tei)
+  unused-assigned number tei within =
+      still-unused (termination c number) (Assign tei) (ran-fresh c number within) (record { port = fresh_at c number within; way = refl })
+
+  unused-asked : (service : Service) (number tei : ℕ) → number < c.lines → IsUnused (happens (port.request (Establish service tei)) (assigned c number tei))
+  unused-asked service number tei within =
+      still-unused (assigned c number tei) (Establish service tei) (ran-assigned c number tei within) (unused-assigned number tei within)
+
+carries-unused : (n201 : ℕ) (s r : Termination) → IsUnused s → IsUnused r → Carries n201 (port_of s) s.way (port_of r).received []
+carries-unused n201 s r h k =
+    subst (λ p. Carries n201 p s.way (port_of r).received []) (sym h.port)
+    (subst (λ way. Carries n201 fresh_port way (port_of r).received []) (sym h.way)
+    (subst (λ (p : Port). Carries n201 fresh_port [] p.received []) (sym k.port) (carries-none n201)))
+
+-- ---- where all has gone no frame is on its way
+
+none-framed : (frames : List (List ℕ)) → framed frames ≡ [] → frames ≡ []
+none-framed [] e = refl
+none-framed (f ∷ fs) e = absurd (cc e)
+
+pub all-heard : (n201 : ℕ) (p : Port) (received : List ℕ) (frames : List (List ℕ)) → framed (frames_among p.items) ≡ heard_in n201 received
+    → framed (frames_among p.items) ≡ heard_in n201 received ++ framed frames → frames ≡ []
+all-heard n201 p received frames all are =
+    none-framed frames (append_cancel_left (heard_in n201 received) (framed frames) [] (sym are ∙ all ∙ sym (append-nil (heard_in n201 received))))
+
+module _ (n201 : ℕ) (c : Config) (fits : Fits n201 c) (s : Termination) (ran : Ran c s) (received : List ℕ) (frames : List (List ℕ)) (h : Carries n201 (port_of s) s.way received frames) where
+  pub flag-ends : (front : List Item) → (port_of s).items ≡ front ++ idle ∷ [] → framed (frames_among (port_of s).items) ≡ heard_in n201 (port_of s).given
+  flag-ends front is =
+      all-given n201 (port_of s) s.way received frames h (subst (λ n. IsSoundPort n (port_of s)) fits.size (sound-port c fits.ranged s ran)) (on-line c fits.ranged s ran) front is
+
+  gone-way : HasGone s → frames ≡ []
+  gone-way gone =
+      let given : (port_of s).given ≡ received = h.given ∙ ap (λ way. received ++ way) gone.heard ∙ append-nil received in
+      all-heard n201 (port_of s) received frames (flag-ends gone.front gone.flag ∙ ap (heard_in n201) given) h.are
+
+-- ---- a call
+
+module _ (service : Service) (c d : Config) (line other tei : ℕ) (ds : List OctetDoing) (can : CanCall c line d other tei) (talk : All (IsTalk service tei) ds) where
+  abbrev pub size : ℕ
+  size = c.n201
+
+  pub fits : Fits size c
+  fits = record { ranged = can.near; size = refl }
+
+  pub fits-far : Fits size d
+  fits-far = record { ranged = can.far; size = sym can.n201 }
+
+  abbrev pub begun : Circuit
+  begun = calling service tei c line d other
+
+  abbrev pub last : Circuit
+  last = doing_all ds begun
+
+  follows : Follows size c d begun [] []
+  follows =
+      let near = unused-asked c can.near service line tei can.near_line in
+      let far = unused-assigned d can.far other tei can.far_line in
+      record {
+        near = ran-asked service c line tei can.near_line;
+        far = ran-assigned d other tei can.far_line;
+        goes = carries-unused size begun.near begun.far near far;
+        comes = carries-unused size begun.far begun.near far near;
+      }
+
+  pub done : Done size service tei c d fits fits-far (doings_meant ds begun) begun [] [] last
+  done = all-done size service tei c d fits fits-far ds talk begun [] [] follows
+
+  abbrev pub wire_begun : Wire
+  wire_begun = call.calling service tei c line d other
+
+  begins : as_wire [] [] begun ≡ wire_begun
+  begins =
+      let near =
+      asked-as (Establish service tei) (assigned c line tei) [] ∙ ap (wire.happens (line_event.request (Establish service tei))) (asked-as (Assign tei) (termination c line) []) in
+      let far = asked-as (Assign tei) (termination d other) [] in
+      λ i. record { near = near i; far = far i }
+
+  pub led : wire.doing_all (doings_meant ds begun) wire_begun ≡ as_wire done.there' done.back' last
+  led = ap (wire.doing_all (doings_meant ds begun)) (sym begins) ∙ done.same
+
+  pub same-both : call.both_call (doings_meant ds begun) wire_begun ≡ both_call ds begun
+  same-both = ap (call.both_call (doings_meant ds begun)) (sym begins) ∙ same-calls size service tei c d fits fits-far ds talk begun [] [] follows
+
+  pub on-wire : call.ComesThrough service tei (wire.turns (doings_meant ds begun) wire_begun) (both_call ds begun) (as_wire done.there' done.back' last)
+  on-wire =
+      subst (λ both. call.ComesThrough service tei (wire.turns (doings_meant ds begun) wire_begun) both (as_wire done.there' done.back' last)) same-both
+      (subst (call.ComesThrough service tei (wire.turns (doings_meant ds begun) wire_begun) (call.both_call (doings_meant ds begun) wire_begun)) led
+      (calls-come-through service c d line other tei (doings_meant ds begun) can done.talk))
+
+  pub still : HasAllGone last → IsStill (as_wire done.there' done.back' last)
+  still gone =
+      let f = done.follows in
+      record {
+        near = gone.near.none;
+        far = gone.far.none;
+        near_way = gone-way size c fits last.near f.near (port_of last.far).received done.there' f.goes gone.near;
+        far_way = gone-way size d fits-far last.far f.far (port_of last.near).received done.back' f.comes gone.far;
+      }
+
+  comes-through : ComesThrough service tei (both_call ds begun) last
+  comes-through = record {
+    near_so_far = on-wire.near_so_far;
+    far_so_far = on-wire.far_so_far;
+    all = λ gone. record { near = on-wire.near (still gone); far = on-wire.far (still gone) };
+  }
+
+pub calls-come-through-in-octets : CallsComeThroughInOctets
+calls-come-through-in-octets service c d line other tei ds can talk = comes-through service c d line other tei ds can talk

@@ -1,0 +1,39 @@
+-- How many octets a call takes: each end's line runs at the same rate, an octet a beat.
+use Rattle.std.specs.Prelude.{◌≤◌, ℕ, zero, suc, ◌+◌, ◌*◌, ◌/◌, Bool, List, [], ◌∷◌, length, All, if◌then◌else◌}
+use Rattle.lapd_frame.specs.declared.services.Service.{Service}
+use Rattle.model_line.specs.declared.config.Config.{Config}
+use Rattle.model_card.specs.ports.Pulls.{longest_text}
+use Rattle.laws_wire.specs.Call.{CanCall}
+use Rattle.laws_order.specs.circuit.Circuit.{Circuit, pulls, hears, OctetDoing, at_near, at_far, doing_all}
+use Rattle.laws_order.specs.circuit.Through.{calling, IsTalk, both_call, IsToldAll}
+
+-- A beat: each end's next octet is pulled, and then the first octet on the way to each end is heard.
+abbrev pub beat : List OctetDoing
+beat = at_near pulls ∷ at_far pulls ∷ at_near hears ∷ at_far hears ∷ []
+
+unfoldable pub beats : ℕ → Circuit → Circuit
+beats zero w = w
+beats (suc n) w = beats n (doing_all beat w)
+
+-- The octets in which the longest frame of a configuration goes, wherever it begins: with its check, a 0 stuffed after every
+-- fifth bit, a closing flag, and an octet cut at either end (Q.921 clauses 2.2, 2.6, 2.7 and 5.9.3).
+abbrev pub longest : ℕ → ℕ
+longest n201 = longest_text n201 / 8 + 1
+
+-- So many beats are enough behind the last request, where at most so many octets are on their way at a time, one end calls or
+-- both, and so much data was granted: for each frame that is given and heard, of which there are two for each end that calls and
+-- two for each request, the longest frame before it, the frame itself, and the way.
+abbrev pub enough_beats : ℕ → ℕ → Bool → ℕ → ℕ
+enough_beats n201 way both granted = ((if both then 4 else 2) + 2 * granted) * (longest n201 + (longest n201 + way))
+
+-- What was granted in the whole call.
+abbrev pub granted_of : Circuit → ℕ
+granted_of w = length w.near.granted + length w.far.granted
+
+-- Then each layer 3 was told all.
+abbrev pub AllIsToldInBeats : Type 0
+AllIsToldInBeats =
+    (service : Service) (c d : Config) (line other tei way n : ℕ) (ds : List OctetDoing) → CanCall c line d other tei → All (IsTalk service tei) ds →
+    let w = doing_all ds (calling service tei c line d other) in let both = both_call ds (calling service tei c line d other) in
+    length w.near.way ≤ way → length w.far.way ≤ way → enough_beats c.n201 way both (granted_of w) ≤ n →
+    IsToldAll service tei both (beats n w)

@@ -1,0 +1,87 @@
+-- A call between two cards for octets: what layer 3 of each asks for, and what it is told.
+use Rattle.std.specs.Prelude.{◌≡◌, ℕ, Bool, true, false, ◌||◌, List, [], ◌∷◌, ◌++◌, map, All, None}
+use Rattle.lapd_frame.specs.declared.services.Service.{Service}
+use Rattle.model_bits.specs.Sent.{Item, idle}
+use Rattle.model_bits.specs.StuffingLaws.{AreOctets}
+use Rattle.model_line.specs.declared.config.Config.{Config}
+use Rattle.model_line.specs.Event.{LineTold, next, gave}
+use Rattle.model_line.specs.Request.{Request, Establish, Data, Assign}
+use Rattle.model_card.specs.Event as frames
+use Rattle.model_card.specs.Machine as machine
+use Rattle.model_card.specs.ports.Card.{fresh}
+use Rattle.model_card.specs.ports.Port as port
+use Rattle.model_card.specs.ports.Port.{request, Answer}
+use Rattle.laws_wire.specs.Call.{CanCall, IsBeginningOf, confirmed, told_first, data_told}
+use Rattle.laws_order.specs.circuit.Circuit.{Termination, port_of, Circuit, happens, answered, OctetAct, asks, pulls, hears, OctetDoing, at_near, at_far, doing, doing_all}
+
+-- A card that has just begun, at one of its lines; it has the TEI assigned; and two such, of which one is asked to establish.
+abbrev pub termination : Config → ℕ → Termination
+termination c line = record { card = fresh c; line = line; way = []; granted = []; told = [] }
+
+abbrev pub assigned : Config → ℕ → ℕ → Termination
+assigned c line tei = happens (request (Assign tei)) (termination c line)
+
+abbrev pub calling : Service → ℕ → Config → ℕ → Config → ℕ → Circuit
+calling service tei c line d other =
+    record { near = happens (request (Establish service tei)) (assigned c line tei); far = assigned d other tei }
+
+-- What is done in a call: either layer 3 asks to establish the link, or to send octets as data, and is granted or refused; and
+-- octets are pulled and heard.
+abbrev pub IsAsked : Service → ℕ → Request → Type 0
+IsAsked service tei (Establish s t) = (s ≡ service) × (t ≡ tei)
+IsAsked service tei (Data s t contents) = (s ≡ service) × (t ≡ tei) × AreOctets contents
+IsAsked service tei other = ⊥
+
+abbrev pub IsTalkOf : Service → ℕ → OctetAct → Type 0
+IsTalkOf service tei (asks r) = IsAsked service tei r
+IsTalkOf service tei pulls = Unit {0}
+IsTalkOf service tei hears = Unit {0}
+
+abbrev pub IsTalk : Service → ℕ → OctetDoing → Type 0
+IsTalk service tei (at_near act) = IsTalkOf service tei act
+IsTalk service tei (at_far act) = IsTalkOf service tei act
+
+-- Whether layer 3 of the far end was granted an establishment, too, before SABME came: then both ends call.
+abbrev pub is_granted : Answer → Bool
+is_granted (port.told t) = true
+is_granted (port.refused why) = false
+is_granted (port.pulled value begun orders) = false
+
+abbrev pub calls_back : OctetDoing → Circuit → Bool
+calls_back (at_far (asks (Establish s t))) w = is_granted (answered (request (Establish s t)) w.far)
+calls_back other w = false
+
+unfoldable pub both_call : List OctetDoing → Circuit → Bool
+both_call [] w = false
+both_call (d ∷ ds) w = calls_back d w || both_call ds (doing d w)
+
+-- All that an end had to send has gone: no frame waits, what was put on its line last is an idle flag, and each octet that it
+-- gave was heard.
+pub record HasGone (s : Termination) : Type 0 where
+  pub none : machine.answer (frames.at s.line next) s.card.card ≡ gave None
+  pub front : List Item
+  pub flag : (port_of s).items ≡ front ++ idle ∷ []
+  pub heard : s.way ≡ []
+
+pub record HasAllGone (w : Circuit) : Type 0 where
+  pub near : HasGone w.near
+  pub far : HasGone w.far
+
+-- One establishment, and then the data that the other was granted to send, in order, and nothing else: at any time layer 3 of
+-- each was told a beginning of that, and all of it where all has gone.
+abbrev pub all_told : Service → ℕ → LineTold → Termination → List LineTold
+all_told service tei first other = first ∷ map (data_told service tei) other.granted
+
+pub record IsToldAll (service : Service) (tei : ℕ) (both : Bool) (w : Circuit) : Type 0 where
+  pub near : w.near.told ≡ all_told service tei (confirmed service tei) w.far
+  pub far : w.far.told ≡ all_told service tei (told_first service tei both) w.near
+
+pub record ComesThrough (service : Service) (tei : ℕ) (both : Bool) (w : Circuit) : Type 0 where
+  pub near_so_far : IsBeginningOf (all_told service tei (confirmed service tei) w.far) w.near.told
+  pub far_so_far : IsBeginningOf (all_told service tei (told_first service tei both) w.near) w.far.told
+  pub all : HasAllGone w → IsToldAll service tei both w
+
+abbrev pub CallsComeThroughInOctets : Type 0
+CallsComeThroughInOctets =
+    (service : Service) (c d : Config) (line other tei : ℕ) (ds : List OctetDoing) → CanCall c line d other tei → All (IsTalk service tei) ds →
+    let w = calling service tei c line d other in ComesThrough service tei (both_call ds w) (doing_all ds w)

@@ -1,0 +1,234 @@
+-- Where a line was only pulled, as often as the configuration says, the latest call for its next frame gave none.
+use Rattle.std.proofs.Common.{◌≡◌, ℕ, zero, suc, ◌+◌, ◌<◌, ◌≤◌, ◌==◌, Bool, true, false, cond, List, [], ◌∷◌, ◌++◌, Option, None, option_map, refl, sym, ap, ◌∙◌, subst, arith, append_assoc, eq-eqb}
+use Rattle.std.specs.Prelude.{All, option_to_list}
+use Rattle.std.proofs.lemmas.Bool.{eqb-true}
+use Rattle.std.proofs.lemmas.Grind.{flat_map-append}
+use Rattle.std.proofs.lemmas.List.Elements.{All-nil, All-cons, All-head, All-tail}
+use Rattle.model_line.specs.declared.config.Config.{Config}
+use Rattle.model_line.specs.Event as line
+use Rattle.model_line.specs.Event.{NextFrame}
+use Rattle.model_line.specs.Sound as line_sound
+use Rattle.model_line.specs.Taken.{taken, next_of}
+unfoldable use Rattle.model_line.specs.Machine.{answer as line_answer, takes_slot}
+use Rattle.laws_line.specs.Drains.{most_frames}
+use Rattle.laws_line.specs.Served.{HasNothing}
+use Rattle.model_card.specs.Card as cards
+use Rattle.model_card.specs.Card.{Card, line_at}
+use Rattle.model_card.specs.Event as frames
+use Rattle.model_card.specs.Machine as machine
+use Rattle.model_card.specs.Run as runs
+unfoldable use Rattle.model_card.specs.Run.{moments as frame_moments, after_all as frames_after}
+use Rattle.model_card.proofs.CardSound as card_sound
+use Rattle.laws_line.specs.card.Among.{AreTakesAt, takes_at}
+use Rattle.laws_line.proofs.OfCard.Meanwhile.{card-idles}
+use Rattle.laws_line.proofs.OfCard.Wherever.{all-left, all-right, config-stays}
+use Rattle.laws_trace.proofs.WaitedBegins.{drained}
+use Rattle.model_card.specs.ports.Card.{OctetCard, fresh, port_at}
+unfoldable use Rattle.model_card.specs.ports.Card.{after, meant}
+use Rattle.model_card.specs.ports.Event.{Event}
+use Rattle.model_card.specs.ports.GoingOut.{answer_of_call, call_answered, calls_answered}
+use Rattle.model_card.specs.ports.Promises.{moments_meant}
+use Rattle.model_card.specs.ports.Pulls as pulls
+use Rattle.model_card.specs.ports.Pulls.{pulls_at, pulls_behind}
+use Rattle.model_card.specs.ports.Run.{AreAtLines, IsAtLine}
+unfoldable use Rattle.model_card.specs.ports.Run.{after_all, meant_all}
+use Rattle.model_card.specs.ports.Sound.{IsSound}
+use Rattle.model_card.proofs.OfPorts.Codec.{asked_at, refines}
+use Rattle.model_card.proofs.OfPorts.Pulls.{pulls_are_takes}
+use Rattle.model_card.proofs.OfPorts.Sound.{always_sound, fresh_octets_sound}
+use Rattle.model_card.proofs.OfPorts.Steps as steps
+use Rattle.model_card.proofs.OfPorts.Steps.{moments-append}
+use Rattle.laws_trace.specs.octets.Pulled.{EndsInPulls}
+
+-- what events mean behind others
+meant_both : (m : OctetCard) (front behind : List Event) → meant_all m (front ++ behind) ≡ meant_all m front ++ meant_all (after_all m front) behind
+unfolding after_all meant_all
+meant_both m [] behind = refl
+meant_both m (e ∷ front) behind =
+    let now = option_to_list (meant e m) in
+    ap (λ fs. now ++ fs) (meant_both (after e m) front behind)
+    ∙ sym (append_assoc now (meant_all (after e m) front) (meant_all (after_all (after e m) front) behind))
+
+-- both count calls alike
+same_takes : (number : ℕ) (fs : List frames.Event) → pulls.takes_at number fs ≡ takes_at number fs
+same_takes number [] = refl
+same_takes number (f ∷ fs) = ap (λ n. cond (f.line == number) 1 0 + n) (same_takes number fs)
+
+-- ---- the latest call among events
+
+pub record IsLatest (number : ℕ) (fs : List frames.Event) : Type 0 where
+  pub front : List frames.Event
+  pub back : List frames.Event
+  pub split : fs ≡ front ++ frames.at number line.next ∷ back
+  pub only : AreTakesAt number front
+  pub none : takes_at number back ≡ 0
+  pub count : takes_at number fs ≡ 1 + takes_at number front
+
+abbrev IsTake : ℕ → frames.Event → Type 0
+IsTake number f = f.line ≡ number → f.what ≡ line.next
+
+is_next : (number : ℕ) (f : frames.Event) → IsTake number f → f.line ≡ number → f ≡ frames.at number line.next
+is_next number f h same = let what = h same in λ i. record { line = same i; what = what i }
+
+at_front : (number : ℕ) (f : frames.Event) (fs : List frames.Event) → IsTake number f → takes_at number fs ≡ 0 → 0 < takes_at number (f ∷ fs)
+    → (b : Bool) → (f.line == number) ≡ b → IsLatest number (f ∷ fs)
+at_front number f fs h none some true is = record {
+  front = [];
+  back = fs;
+  split = ap (λ e. e ∷ fs) (is_next number f h (eqb-true f.line number is));
+  only = All-nil (IsTake number);
+  none = none;
+  count = ap (λ b. cond b 1 0 + takes_at number fs) is ∙ ap (λ n. 1 + n) none;
+}
+at_front number f fs h none some false is =
+    let never : 0 < 0 + takes_at number fs = subst (λ b. 0 < cond b 1 0 + takes_at number fs) is some in
+    absurd (omega (arith, never, none))
+
+behind_one : (number : ℕ) (f : frames.Event) (fs : List frames.Event) → IsTake number f → IsLatest number fs → IsLatest number (f ∷ fs)
+behind_one number f fs h x =
+    let counted : takes_at number fs ≡ 1 + takes_at number x.front = x.count in
+    record {
+      front = f ∷ x.front;
+      back = x.back;
+      split = ap (λ es. f ∷ es) x.split;
+      only = All-cons (IsTake number) f x.front h x.only;
+      none = x.none;
+      count = go (f.line == number) counted;
+    }
+  where
+    go : (b : Bool) → takes_at number fs ≡ 1 + takes_at number x.front → cond b 1 0 + takes_at number fs ≡ 1 + (cond b 1 0 + takes_at number x.front)
+    go true counted = omega (arith, counted)
+    go false counted = omega (arith, counted)
+
+latest : (number : ℕ) (fs : List frames.Event) → AreTakesAt number fs → 0 < takes_at number fs → IsLatest number fs
+latest number [] only some = absurd (omega (arith, some))
+latest number (f ∷ fs) only some = by_count (takes_at number fs) refl (latest number fs (All-tail (IsTake number) f fs only))
+  where
+    by_count : (n : ℕ) → takes_at number fs ≡ n → (0 < takes_at number fs → IsLatest number fs) → IsLatest number (f ∷ fs)
+    by_count zero is later = at_front number f fs (All-head (IsTake number) f fs only) is some (f.line == number) refl
+    by_count (suc n) is later = behind_one number f fs (All-head (IsTake number) f fs only) (later (omega (arith, is)))
+
+-- ---- what calls are answered with
+
+is_off : (b : Bool) (n : ℕ) → cond b 1 0 + n ≡ 0 → b ≡ false
+is_off true n h = let more : 1 + n ≡ 0 = h in absurd (omega (arith, more))
+is_off false n h = refl
+
+none_left : (b : Bool) (n : ℕ) → cond b 1 0 + n ≡ 0 → n ≡ 0
+none_left true n h = let more : 1 + n ≡ 0 = h in absurd (omega (arith, more))
+none_left false n h = let less : 0 + n ≡ 0 = h in omega (arith, less)
+
+none_behind : (number : ℕ) (card : Card) (fs : List frames.Event) → takes_at number fs ≡ 0 → calls_answered number (runs.moments card fs) ≡ []
+unfolding frame_moments
+none_behind number card [] none = refl
+none_behind number card (f ∷ fs) none =
+    let rest = calls_answered number (runs.moments (machine.after f card) fs) in
+    ap (λ b. cond b (answer_of_call (machine.answer f card)) [] ++ rest) (is_off (f.line == number) (takes_at number fs) none)
+    ∙ none_behind number (machine.after f card) fs (none_left (f.line == number) (takes_at number fs) none)
+
+gives_none : (card : Card) (number : ℕ) → taken card.config (line_at number card) ≡ None → asked_at card number line.next ≡ line.gave None
+unfolding line_answer takes_slot
+gives_none card number none = ap (λ o. line.gave (option_map next_of o)) none
+
+call_gives_none : (number : ℕ) (card : Card) (back : List frames.Event) → taken card.config (line_at number card) ≡ None → takes_at number back ≡ 0
+    → calls_answered number (runs.moments card (frames.at number line.next ∷ back)) ≡ None ∷ []
+unfolding frame_moments
+call_gives_none number card back nothing none =
+    let rest = calls_answered number (runs.moments (machine.after (frames.at number line.next) card) back) in
+    ap (λ b. cond b (answer_of_call (asked_at card number line.next)) [] ++ rest) (eq-eqb number number refl)
+    ∙ ap (λ a. answer_of_call a ++ rest) (gives_none card number nothing)
+    ∙ ap (λ os. None ∷ os) (none_behind number (machine.after (frames.at number line.next) card) back none)
+
+gave_none : (number : ℕ) (card : Card) (front back : List frames.Event) → let there = runs.after_all card front in
+    taken there.config (line_at number there) ≡ None → takes_at number back ≡ 0
+    → calls_answered number (runs.moments card (front ++ frames.at number line.next ∷ back)) ≡ calls_answered number (runs.moments card front) ++ None ∷ []
+gave_none number card front back nothing none =
+    let there = runs.after_all card front in
+    let rest = frames.at number line.next ∷ back in
+    ap (calls_answered number) (moments-append card front rest)
+    ∙ flat_map-append (call_answered number) (runs.moments card front) (runs.moments there rest)
+    ∙ ap (λ os. calls_answered number (runs.moments card front) ++ os) (call_gives_none number there back nothing none)
+
+-- ---- of a line that was only pulled
+
+module _ (c : Config) (events : List Event) (number : ℕ) (ranged : line_sound.IsInRange c) (all : AreAtLines (fresh c) events) (within : number < c.lines) (h : EndsInPulls c events number) where
+  abbrev m : OctetCard
+  m = after_all (fresh c) h.before
+
+  abbrev pub first : List frames.Event
+  first = meant_all (fresh c) h.before
+
+  abbrev pub calls : List frames.Event
+  calls = meant_all m h.pulls
+
+  pub meaning : meant_all (fresh c) events ≡ first ++ calls
+  meaning = ap (meant_all (fresh c)) h.split ∙ meant_both (fresh c) h.before h.pulls
+
+  these : AreAtLines (fresh c) (h.before ++ h.pulls)
+  these = subst (AreAtLines (fresh c)) h.split all
+
+  pub before_lines : AreAtLines (fresh c) h.before
+  before_lines = all-left (IsAtLine (fresh c)) h.before h.pulls these
+
+  same : m.card.config ≡ c
+  same = steps.config_stays (fresh c) h.before
+
+  lines : AreAtLines m h.pulls
+  lines = subst (λ (x : Config). All (λ (e : Event). e.line < x.lines) h.pulls) (sym same) (all-right (IsAtLine (fresh c)) h.before h.pulls these)
+
+  few : number < m.card.config.lines
+  few = subst (λ (x : Config). number < x.lines) (sym same) within
+
+  sound : IsSound m
+  sound = always_sound (fresh c) h.before (fresh_octets_sound c ranged) before_lines
+
+  pub only : AreTakesAt number calls
+  only = pulls_are_takes.only m h.pulls number h.only
+
+  pub many : most_frames c < takes_at number calls
+  many =
+      let most : pulls_behind c.n201 (port_at number m) (most_frames c) ≤ pulls.most_pulls_behind c.n201 (most_frames c) =
+      pulls_are_takes.most c h.before number ranged before_lines within (most_frames c) in
+      let enough : pulls.most_pulls_behind c.n201 (most_frames c) ≤ pulls_at number h.pulls = h.enough in
+      let pulled : pulls_behind m.card.config.n201 (port_at number m) (most_frames c) ≤ pulls_at number h.pulls =
+      subst (λ (x : Config). pulls_behind x.n201 (port_at number m) (most_frames c) ≤ pulls_at number h.pulls) (sym same) (omega (arith, most, enough)) in
+      subst (λ n. most_frames c < n) (same_takes number calls) (pulls_are_takes.enough m h.pulls number (most_frames c) sound lines few h.only pulled)
+
+  pub x : IsLatest number calls
+  x = let some = many in latest number calls only (omega (arith, some))
+
+  abbrev front : List frames.Event
+  front = first ++ x.front
+
+  whole : meant_all (fresh c) events ≡ front ++ frames.at number line.next ∷ x.back
+  whole = meaning ∙ ap (λ fs. first ++ fs) x.split ∙ sym (append_assoc first x.front (frames.at number line.next ∷ x.back))
+
+  front_lines : runs.AreAtLines (cards.fresh c) front
+  front_lines =
+      all-left (runs.IsAtLine (cards.fresh c)) front (frames.at number line.next ∷ x.back)
+      (subst (runs.AreAtLines (cards.fresh c)) whole ((refines (fresh c) events).at_lines all))
+
+  abbrev there : Card
+  there = runs.after_all (cards.fresh c) front
+
+  nothing : HasNothing c (line_at number there)
+  nothing =
+      let counted : takes_at number calls ≡ 1 + takes_at number x.front = x.count in
+      let most : most_frames c < takes_at number calls = many in
+      drained c front number ranged front_lines within first x.front refl x.only (omega (arith, counted, most))
+
+  none : taken there.config (line_at number there) ≡ None
+  unfolding frames_after
+  none =
+      let kept : there.config ≡ c = config-stays (cards.fresh c) front in
+      (card-idles there number [] (card_sound.always_sound (cards.fresh c) front (card_sound.fresh_is_sound c ranged) front_lines)
+      (subst (λ (x : Config). number < x.lines) (sym kept) within) (All-nil (runs.IsAtLine there)) (All-nil (IsTake number))
+      (subst (λ (x : Config). HasNothing x (line_at number there)) (sym kept) nothing)).none
+
+  abbrev pub before_none : List (Option NextFrame)
+  before_none = calls_answered number (runs.moments (cards.fresh c) front)
+
+  pub latest_gave_none : calls_answered number (moments_meant c events) ≡ before_none ++ None ∷ []
+  latest_gave_none =
+      ap (λ fs. calls_answered number (runs.moments (cards.fresh c) fs)) whole
+      ∙ gave_none number (cards.fresh c) front x.back none x.none

@@ -1,0 +1,76 @@
+-- What a receiver hears of a line are frames, and in the end all of them: the laws.
+use Rattle.std.proofs.Common.{◌≡◌, ℕ, ◌<◌, List, [], ◌∷◌, map, sym, subst}
+use Rattle.std.specs.Prelude.{All}
+use Rattle.std.proofs.lemmas.List.Elements.{All-nil, All-cons, All-head, All-tail}
+use Rattle.model_bits.specs.Stream as stream
+use Rattle.model_bits.specs.StuffingLaws.{AreOctets}
+use Rattle.model_line.specs.declared.config.Config.{Config}
+use Rattle.model_line.specs.Sound.{IsInRange}
+use Rattle.model_card.specs.Card as cards
+use Rattle.model_card.specs.Event as frames
+use Rattle.model_card.specs.Run as runs
+use Rattle.laws_line.proofs.OfCard.Wherever.{all-left}
+use Rattle.laws_trace.specs.FramesAreRead.{IsSpelled, contents_given}
+use Rattle.laws_trace.specs.Trace.{Seen, trace_of, frames_begun}
+use Rattle.laws_trace.proofs.OctetsBegin.{frames-are-octets}
+use Rattle.laws_trace.proofs.Spelled.{frames-are-read}
+use Rattle.model_card.specs.ports.Card.{fresh}
+use Rattle.model_card.specs.ports.Event.{Event}
+use Rattle.model_card.specs.ports.GoingOut.{as_octets, octets_given, frames_to_hear, OfEachLine}
+use Rattle.model_card.specs.ports.Run.{AreAtLines, meant_all}
+use Rattle.model_card.proofs.OfPorts.Codec.{refines}
+use Rattle.model_card.proofs.OfPorts.GoingOut.{given_frames_are_heard}
+use Rattle.model_card.proofs.OfPorts.HeardOctets.{heard_frames_are_octets}
+use Rattle.laws_trace.specs.octets.FramesGoOut.{IsReadable, OnlyFramesAreHeard, GivenAreOctets, GoOutAsTheyAre, AllFramesGoOut}
+use Rattle.laws_trace.proofs.OfOctets.AsOctets.{still_spelled}
+use Rattle.laws_trace.proofs.OfOctets.Emptied.{before_none, latest_gave_none}
+use Rattle.laws_trace.proofs.OfOctets.Seen.{begun_given, requests_are, trace_hears, gives}
+
+all_readable : (c : Config) (given : List (List ℕ)) → All (IsSpelled c) given → All (IsReadable c) (map stream.frame (map as_octets given))
+all_readable c [] h = All-nil (IsReadable c)
+all_readable c (octets ∷ given) h =
+    All-cons (IsReadable c) (stream.frame (as_octets octets)) (map stream.frame (map as_octets given))
+    (still_spelled c octets (All-head (IsSpelled c) octets given h)) (all_readable c given (All-tail (IsSpelled c) octets given h))
+
+module _ (c : Config) (events : List Event) (number : ℕ) (ranged : IsInRange c) (all : AreAtLines (fresh c) events) (within : number < c.lines) where
+  abbrev pub meaning : List frames.Event
+  meaning = meant_all (fresh c) events
+
+  abbrev pub t : List Seen
+  t = trace_of c meaning number
+
+  pub lines : runs.AreAtLines (cards.fresh c) meaning
+  lines = (refines (fresh c) events).at_lines all
+
+  pub begun : frames_begun t ≡ frames_to_hear c events number
+  begun = begun_given number (cards.fresh c) meaning
+
+  pub spelled : All (IsSpelled c) (frames_to_hear c events number)
+  spelled = subst (All (IsSpelled c)) begun (frames-are-read c meaning number ranged lines within)
+
+  pub readable : OnlyFramesAreHeard c events number
+  readable =
+      let out = given_frames_are_heard.so_far c events number ranged all within in
+      all-left (IsReadable c) (stream.heard_in c.n201 (octets_given c events number)) (map stream.frame out.on_its_way)
+      (subst (All (IsReadable c)) out.heard (all_readable c (frames_to_hear c events number) spelled))
+
+  pub are_octets : GivenAreOctets c events number
+  are_octets granted =
+      let given = subst (λ rs. All AreOctets (map contents_given rs)) (sym (requests_are number (fresh c) events)) granted in
+      let heard = trace_hears number (cards.fresh c) meaning (heard_frames_are_octets (fresh c) events) in
+      subst (All AreOctets) begun (frames-are-octets c meaning number ranged lines within (gives t heard given))
+
+pub only-frames-are-heard : OfEachLine OnlyFramesAreHeard
+only-frames-are-heard c events number ranged all within = readable c events number ranged all within
+
+pub given-are-octets : OfEachLine GivenAreOctets
+given-are-octets c events number ranged all within granted = are_octets c events number ranged all within granted
+
+pub go-out-as-they-are : OfEachLine GoOutAsTheyAre
+go-out-as-they-are c events number ranged all within granted =
+    given_frames_are_heard.as_they_are c events number ranged all within (are_octets c events number ranged all within granted)
+
+pub all-frames-go-out : OfEachLine AllFramesGoOut
+all-frames-go-out c events number ranged all within h =
+    given_frames_are_heard.all c events number ranged all within (before_none c events number ranged all within h)
+    (latest_gave_none c events number ranged all within h)

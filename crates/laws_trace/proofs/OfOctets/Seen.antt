@@ -1,0 +1,225 @@
+-- What an observer sees of the events of frames that events of octets mean, in the words of ports.
+use Rattle.std.proofs.Common.{◌≡◌, ℕ, ◌==◌, Bool, true, false, cond, List, [], ◌∷◌, ◌++◌, map, Option, None, Some, option_map, refl, sym, ap, ◌∙◌, append-nil}
+use Rattle.std.specs.Prelude.{All, flat_map, option_to_list}
+use Rattle.std.proofs.lemmas.Grind.{flat_map-append}
+use Rattle.std.proofs.lemmas.List.Elements.{All-nil, All-cons, All-head, All-tail, All-append}
+use Rattle.model_bits.specs.Stream as stream
+use Rattle.model_bits.specs.StuffingLaws.{AreOctets}
+use Rattle.lapd_frame.specs.declared.refusals.Refusal.TheVariants.{PoolFull}
+use Rattle.model_line.specs.declared.config.Config.{Config}
+use Rattle.model_line.specs.Event as line
+use Rattle.model_line.specs.Machine as lines
+unfoldable use Rattle.model_line.specs.Machine.{answer as line_answer}
+use Rattle.model_line.specs.Request.{Request}
+use Rattle.model_card.specs.Card.{Card}
+use Rattle.model_card.specs.Event as frames
+use Rattle.model_card.specs.Machine as machine
+use Rattle.model_card.specs.Run as runs
+unfoldable use Rattle.model_card.specs.Run.{moments as frame_moments}
+use Rattle.laws_trace.specs.FramesAreRead as read
+use Rattle.laws_trace.specs.FramesAreRead.{contents_given, GivesOctets}
+use Rattle.laws_trace.specs.Trace as traces
+use Rattle.laws_trace.specs.Trace.{Seen, seen, seen_told, seen_granted, frame_in, seen_in, trace, frames_begun}
+use Rattle.laws_trace.specs.Units.{unit_asked, units_granted}
+use Rattle.laws_trace.proofs.Units.{none-told, none-requested}
+use Rattle.model_card.specs.ports.Card.{OctetCard, port_at, answer_to}
+unfoldable use Rattle.model_card.specs.ports.Card.{after, answer, meant}
+use Rattle.model_card.specs.ports.Codec as codec
+use Rattle.model_card.specs.ports.Codec.{frame_moment, meant_in, frames_given, given_of}
+use Rattle.model_card.specs.ports.Event.{Event}
+use Rattle.model_card.specs.ports.HeardOctets as comes
+use Rattle.model_card.specs.ports.HeardOctets.{HearsOctets}
+use Rattle.model_card.specs.ports.Port as port
+use Rattle.model_card.specs.ports.Port.{Port, gained, given_in, is_due, answer_of}
+use Rattle.model_card.specs.ports.Run.{Moment, meant_all}
+unfoldable use Rattle.model_card.specs.ports.Run.{moments}
+use Rattle.model_card.proofs.OfPorts.Codec.{asked_at, gives_at_next, neither, refines}
+use Rattle.laws_trace.specs.octets.Granted.{if_granted, request_granted, requests_of}
+
+-- ---- the frames that begin are those that the card of frames gives
+
+by_call : (a : line.Answer) → frames_begun (map traces.begun (frame_in a)) ≡ option_to_list (option_map codec.octets_of (given_in a))
+by_call (line.told t) = refl
+by_call (line.refused why) = refl
+by_call (line.gave None) = refl
+by_call (line.gave (Some next)) = refl
+
+by_none : (t : List Seen) (a : line.Answer) → frames_begun t ≡ [] → given_in a ≡ None → frames_begun t ≡ option_to_list (option_map codec.octets_of (given_in a))
+by_none t a none given = none ∙ ap (λ o. option_to_list (option_map codec.octets_of o)) (sym given)
+
+by_event : (card : Card) (n : ℕ) (what : line.Event) → let a = asked_at card n what in frames_begun (seen what a) ≡ option_to_list (option_map codec.octets_of (given_in a))
+by_event card n (line.hears e) =
+    let a = asked_at card n (line.hears e) in by_none (seen (line.hears e) a) a (none-told a) ((gives_at_next card n).hears e)
+by_event card n (line.expiry timer) =
+    let a = asked_at card n (line.expiry timer) in by_none (seen_told a) a (none-told a) ((gives_at_next card n).expiry timer)
+by_event card n (line.request r) =
+    let a = asked_at card n (line.request r) in by_none (seen_granted r a ++ seen_told a) a (none-requested r a) ((gives_at_next card n).request r)
+by_event card n line.next = by_call (asked_at card n line.next)
+
+abbrev there : Card → frames.Event → runs.Moment
+there card f = record { card = card; event = f; answer = machine.answer f card }
+
+by_moment : (number : ℕ) (card : Card) (f : frames.Event) → frames_begun (seen_in number (there card f)) ≡ given_of number (there card f)
+by_moment number card f = go (f.line == number)
+  where
+    go : (b : Bool) → let a = machine.answer f card in
+        frames_begun (cond b (seen f.what a) []) ≡ cond b (option_to_list (option_map codec.octets_of (given_in a))) []
+    go true = by_event card f.line f.what
+    go false = refl
+
+pub begun_given : (number : ℕ) (card : Card) (fs : List frames.Event) → frames_begun (trace number (runs.moments card fs)) ≡ frames_given number (runs.moments card fs)
+unfolding frame_moments
+begun_given number card [] = refl
+begun_given number card (f ∷ fs) =
+    let rest = trace number (runs.moments (machine.after f card) fs) in
+    flat_map-append traces.frame_begun (seen_in number (there card f)) rest
+    ∙ ap (λ given. given ++ frames_begun rest) (by_moment number card f)
+    ∙ ap (λ given. given_of number (there card f) ++ given) (begun_given number (machine.after f card) fs)
+
+-- ---- the requests that are seen to be granted are those whose answers grant them
+
+abbrev pub request_seen : Seen → List Request
+request_seen (traces.granted r) = r ∷ []
+request_seen other = []
+
+abbrev pub requests_seen : List Seen → List Request
+requests_seen t = flat_map request_seen t
+
+abbrev seen_at : ℕ → runs.Moment → List Request
+seen_at number m = requests_seen (seen_in number m)
+
+in_trace : (number : ℕ) (ms : List runs.Moment) → requests_seen (trace number ms) ≡ flat_map (seen_at number) ms
+in_trace number [] = refl
+in_trace number (m ∷ ms) = flat_map-append request_seen (seen_in number m) (trace number ms) ∙ ap (λ rs. seen_at number m ++ rs) (in_trace number ms)
+
+none_asked : (a : line.Answer) → requests_seen (seen_told a) ≡ []
+none_asked (line.told t) = refl
+none_asked (line.refused why) = refl
+none_asked (line.gave next) = refl
+
+none_called : (given : List (List ℕ)) → requests_seen (map traces.begun given) ≡ []
+none_called [] = refl
+none_called (octets ∷ given) = none_called given
+
+-- a request is answered by what it is told, or refused
+by_grant : (r : Request) (full : Bool) (o : Option _) (outcome : _) → let a = cond full (line.refused PoolFull) (lines.unless_refused_told o outcome) in
+    requests_seen (seen_granted r a ++ seen_told a) ≡ if_granted r (answer_of a)
+by_grant r true o outcome = refl
+by_grant r false None outcome = refl
+by_grant r false (Some why) outcome = refl
+
+by_request : (card : Card) (n : ℕ) (r : Request) → let a = asked_at card n (line.request r) in requests_seen (seen_granted r a ++ seen_told a) ≡ if_granted r (answer_of a)
+unfolding line_answer
+by_request card n r = by_grant r (machine.wants_room (frames.at n (line.request r)) card) _ _
+
+at_line : (b : Bool) (t : List Seen) (rs : List Request) → requests_seen t ≡ rs → requests_seen (cond b t []) ++ [] ≡ cond b rs []
+at_line true t rs h = append-nil (requests_seen t) ∙ h
+at_line false t rs h = refl
+
+-- what one event of octets means
+by_meaning : (number n n201 : ℕ) (m : OctetCard) (what : port.Event) (p : Port) → let o = option_map (frames.at n) (port.meant n201 what p) in
+    flat_map (seen_at number) (option_to_list (option_map (frame_moment m) o))
+    ≡ cond (n == number) (request_granted what (port.answer what (option_map (answer_to m.card) o) p)) []
+by_meaning number n n201 m (port.octet value) p = go (gained n201 p.received value)
+  where
+    go : (o : Option stream.Event) → flat_map (seen_at number) (option_to_list (option_map (frame_moment m) (option_map (frames.at n) (option_map line.hears o)))) ≡ cond (n == number) [] []
+    go None = neither (n == number)
+    go (Some e) = let a = asked_at m.card n (line.hears e) in at_line (n == number) (seen (line.hears e) a) [] (none_asked a)
+by_meaning number n n201 m (port.expiry timer) p = let a = asked_at m.card n (line.expiry timer) in at_line (n == number) (seen_told a) [] (none_asked a)
+by_meaning number n n201 m (port.request r) p =
+    let a = asked_at m.card n (line.request r) in at_line (n == number) (seen_granted r a ++ seen_told a) (if_granted r (answer_of a)) (by_request m.card n r)
+by_meaning number n n201 m port.pull p = go (is_due p)
+  where
+    go : (due : Bool) → flat_map (seen_at number) (option_to_list (option_map (frame_moment m) (option_map (frames.at n) (cond due (Some line.next) None)))) ≡ cond (n == number) [] []
+    go false = neither (n == number)
+    go true = let a = asked_at m.card n line.next in at_line (n == number) (seen line.next a) [] (none_called (frame_in a))
+
+abbrev here : OctetCard → Event → Moment
+here m e = record { card = m; event = e; answer = answer e m }
+
+by_octet : (number : ℕ) (m : OctetCard) (e : Event) → flat_map (seen_at number) (meant_in (here m e)) ≡ requests_of number (here m e)
+unfolding meant answer
+by_octet number m e = by_meaning number e.line m.card.config.n201 m e.what (port_at e.line m)
+
+by_octets : (number : ℕ) (m : OctetCard) (events : List Event) → flat_map (seen_at number) (flat_map meant_in (moments m events)) ≡ flat_map (requests_of number) (moments m events)
+unfolding moments
+by_octets number m [] = refl
+by_octets number m (e ∷ events) =
+    let rest = flat_map meant_in (moments (after e m) events) in
+    flat_map-append (seen_at number) (meant_in (here m e)) rest
+    ∙ ap (λ rs. rs ++ flat_map (seen_at number) rest) (by_octet number m e)
+    ∙ ap (λ rs. requests_of number (here m e) ++ rs) (by_octets number (after e m) events)
+
+pub requests_are : (number : ℕ) (m : OctetCard) (events : List Event)
+    → requests_seen (trace number (runs.moments m.card (meant_all m events))) ≡ flat_map (requests_of number) (moments m events)
+requests_are number m events =
+    in_trace number (runs.moments m.card (meant_all m events))
+    ∙ ap (flat_map (seen_at number)) (sym (refines m events).moments)
+    ∙ by_octets number m events
+
+pub units_are : (c : Config) (t : List Seen) → units_granted c t ≡ flat_map (unit_asked c) (requests_seen t)
+units_are c [] = refl
+units_are c (traces.heard e ∷ t) = units_are c t
+units_are c (traces.begun octets ∷ t) = units_are c t
+units_are c (traces.noted notes contents ∷ t) = units_are c t
+units_are c (traces.granted r ∷ t) = ap (λ us. unit_asked c r ++ us) (units_are c t)
+units_are c (traces.lost n ∷ t) = units_are c t
+
+-- ---- what is heard, and the contents that are granted, are octets
+
+abbrev pub HearsIn : Seen → Type 0
+HearsIn (traces.heard e) = read.HasOctets e
+HearsIn other = Unit {0}
+
+same_word : (e : stream.Event) → comes.HasOctets e → read.HasOctets e
+same_word (stream.frame octets) h = h
+same_word (stream.overlong head) h = tt
+same_word (stream.dropped cause) h = tt
+
+told_hears : (a : line.Answer) → All HearsIn (seen_told a)
+told_hears (line.told t) =
+    All-cons HearsIn (traces.noted t.notes t.contents) (traces.lost t.lost ∷ []) tt (All-cons HearsIn (traces.lost t.lost) [] tt (All-nil HearsIn))
+told_hears (line.refused why) = All-nil HearsIn
+told_hears (line.gave next) = All-nil HearsIn
+
+granted_hears : (r : Request) (a : line.Answer) → All HearsIn (seen_granted r a)
+granted_hears r (line.told t) = All-cons HearsIn (traces.granted r) [] tt (All-nil HearsIn)
+granted_hears r (line.refused why) = All-nil HearsIn
+granted_hears r (line.gave next) = All-nil HearsIn
+
+begun_hears : (given : List (List ℕ)) → All HearsIn (map traces.begun given)
+begun_hears [] = All-nil HearsIn
+begun_hears (octets ∷ given) = All-cons HearsIn (traces.begun octets) (map traces.begun given) tt (begun_hears given)
+
+event_hears : (b : Bool) (what : line.Event) (a : line.Answer) → HearsOctets what → All HearsIn (cond b (seen what a) [])
+event_hears false what a h = All-nil HearsIn
+event_hears true (line.hears e) a h = All-cons HearsIn (traces.heard e) (seen_told a) (same_word e h) (told_hears a)
+event_hears true (line.expiry timer) a h = told_hears a
+event_hears true (line.request r) a h = All-append HearsIn (seen_granted r a) (seen_told a) (granted_hears r a) (told_hears a)
+event_hears true line.next a h = begun_hears (frame_in a)
+
+abbrev pub HearsAt : frames.Event → Type 0
+HearsAt f = HearsOctets f.what
+
+pub trace_hears : (number : ℕ) (card : Card) (fs : List frames.Event) → All HearsAt fs → All HearsIn (trace number (runs.moments card fs))
+unfolding frame_moments
+trace_hears number card [] h = All-nil HearsIn
+trace_hears number card (f ∷ fs) h =
+    All-append HearsIn (seen_in number (there card f)) (trace number (runs.moments (machine.after f card) fs))
+    (event_hears (f.line == number) f.what (machine.answer f card) (All-head HearsAt f fs h))
+    (trace_hears number (machine.after f card) fs (All-tail HearsAt f fs h))
+
+pub gives : (t : List Seen) → All HearsIn t → All AreOctets (map contents_given (requests_seen t)) → All GivesOctets t
+gives [] h k = All-nil GivesOctets
+gives (traces.heard e ∷ t) h k =
+    All-cons GivesOctets (traces.heard e) t (All-head HearsIn (traces.heard e) t h) (gives t (All-tail HearsIn (traces.heard e) t h) k)
+gives (traces.begun octets ∷ t) h k =
+    All-cons GivesOctets (traces.begun octets) t tt (gives t (All-tail HearsIn (traces.begun octets) t h) k)
+gives (traces.noted notes contents ∷ t) h k =
+    All-cons GivesOctets (traces.noted notes contents) t tt (gives t (All-tail HearsIn (traces.noted notes contents) t h) k)
+gives (traces.granted r ∷ t) h k =
+    let rest = map contents_given (requests_seen t) in
+    All-cons GivesOctets (traces.granted r) t (All-head AreOctets (contents_given r) rest k)
+    (gives t (All-tail HearsIn (traces.granted r) t h) (All-tail AreOctets (contents_given r) rest k))
+gives (traces.lost n ∷ t) h k =
+    All-cons GivesOctets (traces.lost n) t tt (gives t (All-tail HearsIn (traces.lost n) t h) k)

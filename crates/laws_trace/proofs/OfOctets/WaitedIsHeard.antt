@@ -1,0 +1,92 @@
+-- What waited on a link is heard at the other end: the law.
+use Rattle.std.proofs.Common.{◌≡◌, ℕ, ◌<◌, List, ◌∷◌, ◌++◌, map, sym, ap, ◌∙◌, subst, append_assoc, arith}
+use Rattle.std.proofs.lemmas.Grind.{flat_map-append}
+use Rattle.std.proofs.lemmas.List.{map-append}
+use Rattle.model_bits.specs.Stream as stream
+use Rattle.model_link.specs.declared.frames.ControlFrame.{ControlFrame}
+use Rattle.model_line.specs.declared.config.Config.{Config}
+use Rattle.model_line.specs.Sound.{IsInRange}
+use Rattle.laws_line.specs.Drains.{most_frames, control_text}
+use Rattle.model_card.specs.Card as cards
+use Rattle.model_card.specs.Card.{Card, line_at}
+use Rattle.model_card.specs.Run as runs
+use Rattle.laws_line.specs.card.Among.{takes_at}
+use Rattle.laws_line.specs.card.PromisesOfTakes.{IsWaiting}
+use Rattle.laws_trace.specs.Trace.{IsAmong}
+use Rattle.laws_trace.proofs.WaitedBegins.{all-that-waited-begins}
+use Rattle.model_card.specs.ports.Card.{fresh}
+use Rattle.model_card.specs.ports.Codec.{frames_given, given_of}
+use Rattle.model_card.specs.ports.Event.{Event}
+use Rattle.model_card.specs.ports.GoingOut.{as_octets, octets_given, frames_to_hear, OfEachLine}
+use Rattle.model_card.specs.ports.Run.{AreAtLines, after_all}
+use Rattle.model_card.proofs.OfPorts.Codec.{refined_card}
+use Rattle.model_card.proofs.OfPorts.GoingOut.{given_frames_are_heard}
+use Rattle.model_card.proofs.OfPorts.Steps.{moments-append}
+use Rattle.laws_trace.specs.octets.Pulled.{EndsInPulls}
+use Rattle.laws_trace.specs.octets.WaitedIsHeard.{IsHeardSince, AllThatWaitedIsHeard}
+use Rattle.laws_trace.proofs.OfOctets.Emptied as emptied
+use Rattle.laws_trace.proofs.OfOctets.FramesGoOut.{meaning, lines, all-frames-go-out}
+use Rattle.laws_trace.proofs.OfOctets.Seen.{begun_given}
+
+-- frames as they are heard
+abbrev events_of : List (List ℕ) → List stream.Event
+events_of given = map stream.frame (map as_octets given)
+
+events_of_both : (a b : List (List ℕ)) → events_of (a ++ b) ≡ events_of a ++ events_of b
+events_of_both a b = ap (map stream.frame) (map-append as_octets a b) ∙ map-append stream.frame (map as_octets a) (map as_octets b)
+
+still_among : (octets : List ℕ) (given : List (List ℕ)) (way : List stream.Event) → IsAmong octets given → IsAmong (stream.frame (as_octets octets)) (way ++ events_of given)
+still_among octets given way x = record {
+  front = way ++ events_of x.front;
+  back = events_of x.back;
+  split =
+      ap (λ given. way ++ events_of given) x.split
+      ∙ ap (λ events. way ++ events) (events_of_both x.front (octets ∷ x.back))
+      ∙ sym (append_assoc way (events_of x.front) (stream.frame (as_octets octets) ∷ events_of x.back));
+}
+
+module _ (c : Config) (events : List Event) (number : ℕ) (ranged : IsInRange c) (all : AreAtLines (fresh c) events) (within : number < c.lines) (h : EndsInPulls c events number) where
+  abbrev there : Card
+  there = runs.after_all (cards.fresh c) (emptied.first c events number ranged all within h)
+
+  -- what the pulls began
+  abbrev since : List (List ℕ)
+  since = frames_given number (runs.moments there (emptied.calls c events number ranged all within h))
+
+  both : frames_to_hear c events number ≡ frames_to_hear c h.before number ++ since
+  both =
+      let first = emptied.first c events number ranged all within h in
+      let calls = emptied.calls c events number ranged all within h in
+      ap (λ fs. frames_given number (runs.moments (cards.fresh c) fs)) (emptied.meaning c events number ranged all within h)
+      ∙ ap (frames_given number) (moments-append (cards.fresh c) first calls)
+      ∙ flat_map-append (given_of number) (runs.moments (cards.fresh c) first) (runs.moments there calls)
+
+  waited : (link tei : ℕ) (front : List ControlFrame) (f : ControlFrame) (behind : List ControlFrame) → IsWaiting c (line_at number (after_all (fresh c) h.before).card) link tei front f behind
+      → IsAmong (control_text c link tei f) since
+  waited link tei front f behind waits =
+      let most : most_frames c < takes_at number (emptied.calls c events number ranged all within h) = emptied.many c events number ranged all within h in
+      subst (IsAmong (control_text c link tei f)) (begun_given number there (emptied.calls c events number ranged all within h))
+      (all-that-waited-begins c (meaning c events number ranged all within) number ranged (lines c events number ranged all within) within
+      (emptied.first c events number ranged all within h) (emptied.calls c events number ranged all within h)
+      (emptied.meaning c events number ranged all within h) (emptied.only c events number ranged all within h) (omega (arith, most)) link tei front f behind
+      (subst (λ (card : Card). IsWaiting c (line_at number card) link tei front f behind) (refined_card (fresh c) h.before) waits))
+
+  pub heard : (link tei : ℕ) (front : List ControlFrame) (f : ControlFrame) (behind : List ControlFrame) → IsWaiting c (line_at number (after_all (fresh c) h.before).card) link tei front f behind
+      → IsHeardSince c.n201 (octets_given c h.before number) (octets_given c events number) (as_octets (control_text c link tei f))
+  heard link tei front f behind waits =
+      let out = given_frames_are_heard.so_far c h.before number ranged (emptied.before_lines c events number ranged all within h) within in
+      let way = map stream.frame out.on_its_way in
+      record {
+        more = way ++ events_of since;
+        goes_on =
+            sym (all-frames-go-out c events number ranged all within h)
+            ∙ ap events_of both
+            ∙ events_of_both (frames_to_hear c h.before number) since
+            ∙ ap (λ events. events ++ events_of since) out.heard
+            ∙ append_assoc (stream.heard_in c.n201 (octets_given c h.before number)) way (events_of since);
+        among = still_among (control_text c link tei f) since way (waited link tei front f behind waits);
+      }
+
+pub all-that-waited-is-heard : OfEachLine AllThatWaitedIsHeard
+all-that-waited-is-heard c events number ranged all within h link tei front f behind waits =
+    heard c events number ranged all within h link tei front f behind waits

@@ -1,0 +1,182 @@
+-- The law of the codec.
+use Rattle.model_card.proofs.OfPorts.Vocabulary.{◌≡◌, ◌==◌, ℕ, ◌<◌, Bool, true, false, List, [], ◌∷◌, ◌++◌, length, flat_map, Option, None, Some, option_map, option_to_list, refl, ap, sym, ◌∙◌, subst, cond, arith, flat_map-append, All, All-nil, All-cons, All-head, All-tail, All-append, PoolFull, Config, Card, Event, OctetCard, Port, port_at, given_in, meant, said, answer, after, answer_to, after_all, meant_all, moments, GoesOn, PortGoesOn, Refines, OctetsAreACodec, come_of, frame_moment, frames_given, given_of, heard_by, heard_of, meant_in, octet_come, octet_pulled, octets_come, octets_pulled, pulled_of, AreAtLines}
+use Rattle.model_line.specs.Event as line
+use Rattle.model_line.specs.Machine as lines
+unfoldable use Rattle.model_line.specs.Machine.{answer as line_answer}
+use Rattle.model_card.specs.Event as frames
+use Rattle.model_card.specs.Machine as machine
+use Rattle.model_card.specs.Run as runs
+unfoldable use Rattle.model_card.specs.Run.{after_all as frames_after, moments as frame_moments}
+use Rattle.model_card.proofs.Runs.{after_all-append}
+use Rattle.model_card.specs.ports.Codec as codec
+use Rattle.model_card.specs.ports.Port as port
+use Rattle.model_card.proofs.OfPorts.Answered.{all_asked, all_answered}
+use Rattle.model_card.proofs.OfPorts.Steps.{card_step, config_after, moments-append, ports_after, by_port}
+use Rattle.model_card.proofs.OfPorts.PortGoesOn.{GivesAtNext, heard_in_meaning, frame_given, given_in_meaning, stays, port_goes_on, both_go_on}
+
+-- ---- the run of what events mean
+
+pub stepped : (m : OctetCard) (e : Event) → (after e m).card ≡ runs.after_all m.card (option_to_list (meant e m))
+unfolding after
+stepped m e = card_step m.card (meant e m)
+
+pub refined_card : (m : OctetCard) (events : List Event) → (after_all m events).card ≡ runs.after_all m.card (meant_all m events)
+unfolding after after_all meant_all frames_after
+refined_card m [] = refl
+refined_card m (e ∷ events) =
+    let o = meant e m in
+    let rest = meant_all (after e m) events in
+    refined_card (after e m) events
+    ∙ ap (λ card. runs.after_all card rest) (card_step m.card o)
+    ∙ sym (after_all-append m.card (option_to_list o) rest)
+
+meant_moment : (m : OctetCard) (o : Option frames.Event) → option_to_list (option_map (frame_moment m) o) ≡ runs.moments m.card (option_to_list o)
+unfolding frame_moments
+meant_moment m None = refl
+meant_moment m (Some f) = refl
+
+refined_moments : (m : OctetCard) (events : List Event) → flat_map meant_in (moments m events) ≡ runs.moments m.card (meant_all m events)
+unfolding after moments meant_all frame_moments
+refined_moments m [] = refl
+refined_moments m (e ∷ events) =
+    let o = meant e m in
+    let rest = meant_all (after e m) events in
+    ap (λ l. option_to_list (option_map (frame_moment m) o) ++ l) (refined_moments (after e m) events)
+    ∙ ap (λ l. l ++ runs.moments (after e m).card rest) (meant_moment m o)
+    ∙ ap (λ card. runs.moments m.card (option_to_list o) ++ runs.moments card rest) (card_step m.card o)
+    ∙ sym (moments-append m.card (option_to_list o) rest)
+
+-- lines below a number
+abbrev IsBelow : ℕ → frames.Event → Type 0
+IsBelow n f = f.line < n
+
+meant_below : (n number : ℕ) (o : Option line.Event) → number < n → All (IsBelow n) (option_to_list (option_map (frames.at number) o))
+meant_below n number None few = All-nil (IsBelow n)
+meant_below n number (Some f) few = All-cons (IsBelow n) (frames.at number f) [] few (All-nil (IsBelow n))
+
+pub all_below : (n : ℕ) (m : OctetCard) (events : List Event) → All (λ (e : Event). e.line < n) events → All (IsBelow n) (meant_all m events)
+unfolding meant meant_all
+all_below n m [] all = All-nil (IsBelow n)
+all_below n m (e ∷ events) all =
+    All-append (IsBelow n) (option_to_list (meant e m)) (meant_all (after e m) events)
+    (meant_below n e.line (port.meant m.card.config.n201 e.what (port_at e.line m)) (All-head (λ (x : Event). x.line < n) e events all))
+    (all_below n (after e m) events (All-tail (λ (x : Event). x.line < n) e events all))
+
+pub meant_at_lines : (m : OctetCard) (events : List Event) → AreAtLines m events → runs.AreAtLines m.card (meant_all m events)
+meant_at_lines m events all = all_below m.card.config.lines m events all
+
+pub refines : (m : OctetCard) (events : List Event) → Refines m events
+refines m events = record {
+  card = refined_card m events;
+  moments = refined_moments m events;
+  at_lines = meant_at_lines m events;
+  asked = all_asked m events;
+  answered = all_answered m events;
+}
+
+-- ---- the ports
+
+-- a line of a card gives a frame only where it is called for the next one
+abbrev pub asked_at : Card → ℕ → line.Event → line.Answer
+asked_at card number f = machine.answer (frames.at number f) card
+
+gives_told : (b : Bool) (t : line.LineTold) → given_in (cond b (line.refused PoolFull) (line.told t)) ≡ None
+gives_told true t = refl
+gives_told false t = refl
+
+gives_unless : (b : Bool) (o : Option _) (outcome : _) → given_in (cond b (line.refused PoolFull) (lines.unless_refused_told o outcome)) ≡ None
+gives_unless true o outcome = refl
+gives_unless false None outcome = refl
+gives_unless false (Some why) outcome = refl
+
+pub gives_at_next : (card : Card) (number : ℕ) → GivesAtNext (asked_at card number)
+unfolding line_answer
+gives_at_next card number = record {
+  hears = λ e. gives_told (machine.wants_room (frames.at number (line.hears e)) card) _;
+  expiry = λ timer. gives_told (machine.wants_room (frames.at number (line.expiry timer)) card) _;
+  request = λ r. gives_unless (machine.wants_room (frames.at number (line.request r)) card) _ _;
+}
+
+pub neither : {X : Type 0} (b : Bool) → [] ≡ cond {A = List X} b [] []
+neither true = refl
+neither false = refl
+
+-- what is heard and given at a line, where one event means this
+heard_where : (number n : ℕ) (o : Option line.Event)
+    → codec.heard_at number (option_to_list (option_map (frames.at n) o)) ≡ cond (n == number) (heard_in_meaning o) []
+heard_where number n None = neither (n == number)
+heard_where number n (Some f) = go (n == number)
+  where
+    go : (b : Bool) → cond b (heard_by f) [] ++ [] ≡ cond b (heard_by f ++ []) []
+    go true = refl
+    go false = refl
+
+given_where : (card : Card) (number n : ℕ) (o : Option line.Event)
+    → frames_given number (runs.moments card (option_to_list (option_map (frames.at n) o))) ≡ cond (n == number) (given_in_meaning (asked_at card n) o) []
+unfolding frame_moments
+given_where card number n None = neither (n == number)
+given_where card number n (Some f) = go (n == number)
+  where
+    go : (b : Bool) → cond b (frame_given (asked_at card n) f) [] ++ [] ≡ cond b (frame_given (asked_at card n) f ++ []) []
+    go true = refl
+    go false = refl
+
+-- the same with lists that are equal
+with_lists : {n201 : ℕ} {a b : Port} {os rs : List ℕ} {hs is : List _} {fs gs : List (List ℕ)} → hs ≡ is → fs ≡ gs
+    → GoesOn n201 a b os hs rs fs → GoesOn n201 a b os is rs gs
+with_lists {n201} {a} {b} {os} {rs} {hs} {is} {fs} {gs} h g x =
+    subst (λ l. GoesOn n201 a b os is rs l) g (subst (λ l. GoesOn n201 a b os l rs fs) h x)
+
+-- what the line says to what an event means
+pub said_is : (card : Card) (n : ℕ) (o : Option line.Event) → option_map (answer_to card) (option_map (frames.at n) o) ≡ option_map (asked_at card n) o
+said_is card n None = refl
+said_is card n (Some f) = refl
+
+pub own_port : (m : OctetCard) (e : Event) → let p = port_at e.line m in let o = port.meant m.card.config.n201 e.what p in
+    GoesOn m.card.config.n201 p (port.after e.what (said e m) p) (octet_come e.what) (heard_in_meaning o) (octet_pulled (answer e m)) (given_in_meaning (asked_at m.card e.line) o)
+unfolding meant answer
+own_port m e =
+    let n201 = m.card.config.n201 in
+    let p = port_at e.line m in
+    let o = port.meant n201 e.what p in
+    subst (λ s. GoesOn n201 p (port.after e.what s p) (octet_come e.what) (heard_in_meaning o) (octet_pulled (port.answer e.what s p)) (given_in_meaning (asked_at m.card e.line) o))
+    (sym (said_is m.card e.line o))
+    (port_goes_on n201 e.what p (asked_at m.card e.line) (gives_at_next m.card e.line))
+
+event_goes_on : (m : OctetCard) (e : Event) (number : ℕ) → number < length m.ports
+    → GoesOn m.card.config.n201 (port_at number m) (port_at number (after e m)) (come_of number e) (codec.heard_at number (option_to_list (meant e m)))
+    (pulled_of number (record { card = m; event = e; answer = answer e m })) (frames_given number (runs.moments m.card (option_to_list (meant e m))))
+unfolding meant
+event_goes_on m e number within =
+    let n201 = m.card.config.n201 in
+    let o = port.meant n201 e.what (port_at e.line m) in
+    with_lists (sym (heard_where number e.line o)) (sym (given_where m.card number e.line o))
+    (by_port m e number within
+    (λ b old new. GoesOn n201 old new (cond b (octet_come e.what) []) (cond b (heard_in_meaning o) []) (cond b (octet_pulled (answer e m)) []) (cond b (given_in_meaning (asked_at m.card e.line) o) []))
+    (stays n201 (port_at number m)) (λ is. own_port m e))
+
+pub run_goes_on : (m : OctetCard) (events : List Event) (number : ℕ) → number < length m.ports → PortGoesOn m events number
+unfolding after_all meant_all moments frame_moments
+run_goes_on m [] number within = stays m.card.config.n201 (port_at number m)
+run_goes_on m (e ∷ events) number within =
+    let o = meant e m in
+    let m' = after e m in
+    let n201 = m.card.config.n201 in
+    let rest = meant_all m' events in
+    let same : m'.card.config.n201 ≡ n201 = ap (λ (c : Config). c.n201) (config_after m e) in
+    let later = run_goes_on m' events number (omega (arith, within, ports_after m e)) in
+    let heard = flat_map-append (heard_of number) (option_to_list o) rest in
+    let given : frames_given number (runs.moments m.card (option_to_list o ++ rest)) ≡ frames_given number (runs.moments m.card (option_to_list o)) ++ frames_given number (runs.moments m'.card rest) =
+    ap (frames_given number) (moments-append m.card (option_to_list o) rest)
+    ∙ flat_map-append (given_of number) (runs.moments m.card (option_to_list o)) (runs.moments (runs.after_all m.card (option_to_list o)) rest)
+    ∙ ap (λ card. frames_given number (runs.moments m.card (option_to_list o)) ++ frames_given number (runs.moments card rest)) (sym (stepped m e)) in
+    with_lists (sym heard) (sym given)
+    (both_go_on (event_goes_on m e number within)
+    (subst (λ n. GoesOn n (port_at number m') (port_at number (after_all m' events)) (octets_come number events) (codec.heard_at number rest)
+    (octets_pulled number (moments m' events)) (frames_given number (runs.moments m'.card rest))) same later))
+
+pub octets_are_a_codec : OctetsAreACodec
+octets_are_a_codec m events count = record {
+  run = refines m events;
+  ports = λ number few. run_goes_on m events number (omega (arith, few, count));
+}

@@ -1,0 +1,88 @@
+-- What is heard in bits are octets, and so is what a card of octets hears.
+use Rattle.model_card.proofs.OfPorts.Vocabulary.{◌≡◌, ℕ, ◌<◌, ◌-◌, Bool, true, false, not, ◌&&◌, ◌||◌, cond, nat_lt, List, [], ◌∷◌, ◌++◌, length, drop, reverse, Option, Some, None, option_map, option_and_then, option_to_list, refl, subst, All, All-nil, All-cons, All-append, All-tail, All-head, All-take, bits, octets_sent, octets_are_those_sent, judged_as, AreOctets, Port, after, gained, is_due, meant, meant_all, octet, port_at, pull}
+use Rattle.model_bits.specs.Stream as stream
+use Rattle.model_bits.specs.Stream.{ends_flag, ends_abort, has_abort, since_flag, text_event, gap_event, closed_by_flag, given_up, heard_at, heard_until, heard_in, room_for}
+use Rattle.model_bits.specs.declared.heard.Cause.TheVariants.{Abort}
+use Rattle.model_line.specs.Event as line
+use Rattle.model_card.specs.Event as frames
+use Rattle.model_card.specs.ports.HeardOctets.{HasOctets, HearsOctets, HeardFramesAreOctets}
+use Rattle.model_card.specs.ports.Port as port
+use Rattle.model_card.proofs.OfPorts.Gains.{heard_with}
+
+-- ---- in bits
+
+-- what a text is heard as: the octets of which a sender makes it, less the check
+text_octets : (room : ℕ) (text : List Bool) (o : Option (List ℕ)) → octets_sent text ≡ o → HasOctets (text_event room o)
+text_octets room text None e = tt
+text_octets room text (Some octets) e =
+    let are : AreOctets octets = ((octets_are_those_sent text octets).0 e).1 in
+    judged_as HasOctets room octets (λ cause. tt) (λ five long. tt)
+    (λ five. All-take (λ octet. octet < 256) (length octets - 2) octets are)
+
+-- what a flag closes, and what an abort gives up
+closed_octets : (room : ℕ) (g : List Bool) → All HasOctets (option_to_list (closed_by_flag room g))
+closed_octets room g = go (nat_lt (length g) 8 || has_abort g)
+  where
+    go : (b : Bool) → All HasOctets (option_to_list (cond b None (Some (gap_event room (reverse (drop 7 g))))))
+    go true = All-nil HasOctets
+    go false = All-cons HasOctets _ [] (text_octets room (reverse (drop 7 g)) (octets_sent (reverse (drop 7 g))) refl) (All-nil HasOctets)
+
+given_up_octets : (g : List Bool) → All HasOctets (option_to_list (given_up g))
+given_up_octets g = go (ends_abort g && not (has_abort (drop 1 g)) && nat_lt 7 (length g))
+  where
+    go : (b : Bool) → All HasOctets (option_to_list (cond b (Some (stream.dropped Abort)) None))
+    go true = All-cons HasOctets _ [] tt (All-nil HasOctets)
+    go false = All-nil HasOctets
+
+-- what a bit brings
+at_octets : (room : ℕ) (b : Bool) (flag : Bool) (o : Option (List Bool))
+    → All HasOctets (option_to_list (cond flag (option_and_then (closed_by_flag room) o) (option_and_then (λ g. given_up (b ∷ g)) o)))
+at_octets room b true None = All-nil HasOctets
+at_octets room b true (Some g) = closed_octets room g
+at_octets room b false None = All-nil HasOctets
+at_octets room b false (Some g) = given_up_octets (b ∷ g)
+
+until_octets : (room : ℕ) (past : List Bool) → All HasOctets (heard_until room past)
+until_octets room [] = All-nil HasOctets
+until_octets room (b ∷ past) =
+    All-append HasOctets (heard_until room past) (option_to_list (heard_at room (b ∷ past))) (until_octets room past)
+    (at_octets room b (ends_flag (b ∷ past)) (since_flag past))
+
+-- ---- at a port
+
+-- what stands behind others in a list
+behind : (es fs : List stream.Event) → All HasOctets (es ++ fs) → All HasOctets fs
+behind [] fs all = all
+behind (e ∷ es) fs all = behind es fs (All-tail HasOctets e (es ++ fs) all)
+
+gained_octets : (n201 : ℕ) (received : List ℕ) (value : ℕ) → All HasOctets (option_to_list (gained n201 received value))
+gained_octets n201 received value =
+    behind (heard_in n201 received) (option_to_list (gained n201 received value))
+    (subst (All HasOctets) (heard_with n201 received value) (until_octets (room_for n201) (reverse (bits (received ++ value ∷ [])))))
+
+-- ---- at a card
+
+abbrev Hears : frames.Event → Type 0
+Hears e = HearsOctets e.what
+
+hears_octets : (number : ℕ) (o : Option stream.Event) → All HasOctets (option_to_list o)
+    → All Hears (option_to_list (option_map (frames.at number) (option_map line.hears o)))
+hears_octets number None all = All-nil Hears
+hears_octets number (Some e) all = All-cons Hears (frames.at number (line.hears e)) [] (All-head HasOctets e [] all) (All-nil Hears)
+
+asks_next : (number : ℕ) (due : Bool) → All Hears (option_to_list (option_map (frames.at number) (cond due (Some line.next) None)))
+asks_next number true = All-cons Hears (frames.at number line.next) [] tt (All-nil Hears)
+asks_next number false = All-nil Hears
+
+meaning_octets : (n201 number : ℕ) (e : port.Event) (p : Port) → All Hears (option_to_list (option_map (frames.at number) (port.meant n201 e p)))
+meaning_octets n201 number (octet value) p = hears_octets number (gained n201 p.received value) (gained_octets n201 p.received value)
+meaning_octets n201 number (port.expiry timer) p = All-cons Hears (frames.at number (line.expiry timer)) [] tt (All-nil Hears)
+meaning_octets n201 number (port.request r) p = All-cons Hears (frames.at number (line.request r)) [] tt (All-nil Hears)
+meaning_octets n201 number pull p = asks_next number (is_due p)
+
+pub heard_frames_are_octets : HeardFramesAreOctets
+unfolding meant meant_all
+heard_frames_are_octets m [] = All-nil Hears
+heard_frames_are_octets m (e ∷ events) =
+    All-append Hears (option_to_list (meant e m)) (meant_all (after e m) events)
+    (meaning_octets m.card.config.n201 e.line e.what (port_at e.line m)) (heard_frames_are_octets (after e m) events)

@@ -1,0 +1,315 @@
+-- Pulls of a line are calls for its next frame, and by them the bits that are left of it run out.
+use Rattle.model_card.proofs.OfPorts.Vocabulary.{◌≡◌, ◌==◌, ◌&&◌, ℕ, ◌+◌, ◌*◌, ◌/◌, ◌<◌, ◌≤◌, ◌⊎◌, Bool, true, false, List, [], ◌∷◌, ◌++◌, length, Option, None, Some, option_map, option_to_list, refl, sym, ap, subst, cond, arith, inl, inr, ⊎_elim, cases_lt, eqb-true, ltb-true, mul-le-mul_right, length-append, length-drop, length-bits, length-check, All, All-nil, All-cons, All-head, All-tail, All-append, bits, check, flag, stuffed, Item, idle, frame, frame_text, item_text, item_octets, Config, Event, IsSound, IsTextOf, IsAtLine, AreAtLines, OctetCard, Port, after, after_all, fresh, fresh_port, gained, given_in, is_due, item_of, left_of, meant, meant_all, octet, port_at, pull, said, with_item, with_octet}
+use Rattle.model_bits.specs.Stream as stream
+use Rattle.model_line.specs.Event as line
+use Rattle.model_card.specs.Event as frames
+use Rattle.model_card.specs.ports.GoingOut.{OfEachLine}
+use Rattle.model_card.specs.ports.Port as port
+use Rattle.model_card.specs.ports.Pulls.{ArePullsAt, pulls_at, is_pull, pulls_of, AreTakesAt, takes_at, is_take, takes_of, longest_text, pulls_behind, HasFewLeft, PullsAreTakes}
+use Rattle.model_card.proofs.OfPorts.Codec.{asked_at, said_is}
+use Rattle.model_card.proofs.OfPorts.GoingOut.{fresh_at}
+use Rattle.model_card.proofs.OfPorts.PortGoesOn.{ready_where}
+use Rattle.model_card.proofs.OfPorts.PortRuns.{IsKept, run_keeps}
+use Rattle.model_card.proofs.OfPorts.Sound.{GivesShort, gives_short, item_short, octets_keep_sound, at_lines_after, fresh_octets_sound, port_sound}
+use Rattle.model_card.proofs.OfPorts.Steps.{by_port, config_after}
+use Rattle.model_card.proofs.OfPorts.TextGoesOn.{IsReady, put_on, one_item, left_with_octet, left_with_item}
+
+-- ---- only calls for the next frame are meant
+
+abbrev IsTake : ℕ → frames.Event → Type 0
+IsTake number f = f.line ≡ number → f.what ≡ line.next
+
+one_take : (number n : ℕ) (f : line.Event) → (n ≡ number → f ≡ line.next) → All (IsTake number) (frames.at n f ∷ [])
+one_take number n f h = All-cons (IsTake number) (frames.at n f) [] h (All-nil (IsTake number))
+
+meaning_takes : (number n n201 : ℕ) (what : port.Event) (p : Port) → (n ≡ number → what ≡ pull) → All (IsTake number) (option_to_list (option_map (frames.at n) (port.meant n201 what p)))
+meaning_takes number n n201 (octet value) p h = go (gained n201 p.received value)
+  where
+    other : n ≡ number → octet value ≡ pull → ⊥
+    other is e = cc e
+
+    go : (o : Option stream.Event) → All (IsTake number) (option_to_list (option_map (frames.at n) (option_map line.hears o)))
+    go None = All-nil (IsTake number)
+    go (Some e) = one_take number n (line.hears e) (λ is. absurd (other is (h is)))
+meaning_takes number n n201 (port.expiry timer) p h = one_take number n (line.expiry timer) (λ is. let e : port.expiry timer ≡ pull = h is in absurd (cc e))
+meaning_takes number n n201 (port.request r) p h = one_take number n (line.request r) (λ is. let e : port.request r ≡ pull = h is in absurd (cc e))
+meaning_takes number n n201 pull p h = go (is_due p)
+  where
+    go : (due : Bool) → All (IsTake number) (option_to_list (option_map (frames.at n) (cond due (Some line.next) None)))
+    go true = one_take number n line.next (λ is. refl)
+    go false = All-nil (IsTake number)
+
+only_takes : (m : OctetCard) (events : List Event) (number : ℕ) → ArePullsAt number events → AreTakesAt number (meant_all m events)
+unfolding meant meant_all
+only_takes m [] number h = All-nil (IsTake number)
+only_takes m (e ∷ events) number h =
+    let IsPull = λ (x : Event). x.line ≡ number → x.what ≡ pull in
+    All-append (IsTake number) (option_to_list (meant e m)) (meant_all (after e m) events)
+    (meaning_takes number e.line m.card.config.n201 e.what (port_at e.line m) (All-head IsPull e events h))
+    (only_takes (after e m) events number (All-tail IsPull e events h))
+
+-- ---- counts
+
+takes-append : (number : ℕ) (a b : List frames.Event) → takes_at number (a ++ b) ≡ takes_at number a + takes_at number b
+takes-append number [] b = omega arith
+takes-append number (f ∷ a) b = omega (arith, takes-append number a b)
+
+-- what is counted of one event that is meant
+abbrev pub meant_count : Option line.Event → ℕ
+meant_count None = 0
+meant_count (Some f) = 1
+
+takes_where : (number n : ℕ) (o : Option line.Event) → takes_at number (option_to_list (option_map (frames.at n) o)) ≡ cond (n == number) (meant_count o) 0
+takes_where number n None = go (n == number)
+  where
+    go : (b : Bool) → 0 ≡ cond {A = ℕ} b 0 0
+    go true = refl
+    go false = refl
+takes_where number n (Some f) = go (n == number)
+  where
+    go : (b : Bool) → cond {A = ℕ} b 1 0 + 0 ≡ cond b 1 0
+    go true = refl
+    go false = refl
+
+one_at_most : (b : Bool) (o : Option line.Event) → cond b (meant_count o) 0 ≤ cond b 1 0
+one_at_most true None = omega arith
+one_at_most true (Some f) = omega arith
+one_at_most false o = omega arith
+
+few_takes : (m : OctetCard) (events : List Event) (number : ℕ) → takes_at number (meant_all m events) ≤ pulls_at number events
+unfolding meant meant_all
+few_takes m [] number = omega arith
+few_takes m (e ∷ events) number =
+    let o = port.meant m.card.config.n201 e.what (port_at e.line m) in
+    omega (
+      arith,
+      takes-append number (option_to_list (option_map (frames.at e.line) o)) (meant_all (after e m) events),
+      takes_where number e.line o,
+      one_at_most (e.line == number) o,
+      few_takes (after e m) events number,
+    )
+
+-- ---- lengths
+
+-- a 0 is stuffed after every fifth bit at most
+stuffed_longest : (b : List Bool) → 5 * length (stuffed b) ≤ 6 * length b
+stuffed_longest [] = omega arith
+stuffed_longest (true ∷ true ∷ true ∷ true ∷ true ∷ b) = let more = stuffed_longest b in omega (arith, more)
+stuffed_longest (x ∷ b) = let more = stuffed_longest b in omega (arith, more)
+
+text_longest : (n201 : ℕ) (item : Item) → item_octets item ≤ n201 + 4 → length (item_text item) ≤ longest_text n201
+text_longest n201 idle few = omega arith
+text_longest n201 (frame octets) few =
+    let text : List Bool = bits octets ++ check (bits octets) in
+    let inner : 5 * length (stuffed text) ≤ 6 * length text = stuffed_longest text in
+    let size : length text ≡ length (bits octets) + length (check (bits octets)) = length-append (bits octets) (check (bits octets)) in
+    let eight : length (bits octets) ≡ 8 * length octets = length-bits octets in
+    let sixteen : length (check (bits octets)) ≡ 16 = length-check (bits octets) in
+    let whole : length (frame_text octets ++ flag) ≡ length (stuffed text) + 8 = length-append (frame_text octets) flag in
+    let short : length octets ≤ n201 + 4 = few in
+    omega (arith, short)
+
+-- ---- a pull
+
+-- It takes eight bits, where it means nothing; else of those that are left, fewer than eight, and of an item's.
+record IsPulled (n201 : ℕ) (before after : Port) (o : Option line.Event) : Type 0 where
+  fewer : length (left_of after) + 8 ≤ length (left_of before) + meant_count o * longest_text n201
+  few : (length (left_of after) ≤ length (left_of before)) ⊎ (length (left_of after) ≤ longest_text n201)
+
+octet_taken : (p : Port) → IsReady p → length (left_of (with_octet p)) + 8 ≡ length (left_of p)
+octet_taken p ready = omega (arith, ap length (left_with_octet p ready), length-drop 8 (left_of p), ready.enough)
+
+pull_is : (n201 : ℕ) (p : Port) (ask : line.Event → line.Answer) → GivesShort n201 ask → IsTextOf p
+    → let o = port.meant n201 pull p in IsPulled n201 p (with_octet (with_item (option_map ask o) p)) o
+pull_is n201 p ask short h = go (is_due p) refl
+  where
+    go : (due : Bool) → is_due p ≡ due → let o : Option line.Event = cond due (Some line.next) None in IsPulled n201 p (with_octet (with_item (option_map ask o) p)) o
+    go false e =
+        let taken = octet_taken p (ready_where p h e) in
+        record { fewer = omega (arith, taken); few = inl (omega (arith, taken)) }
+    go true e =
+        let item = item_of (given_in (ask line.next)) in
+        let low = ltb-true (length (left_of p)) 8 e in
+        let taken = octet_taken (put_on item p) (one_item p item h) in
+        let more = ap length (left_with_item p item h) in
+        let sum = length-append (left_of p) (item_text item) in
+        let long = text_longest n201 item (item_short n201 (given_in (ask line.next)) short) in
+        record { fewer = omega (arith, taken, more, sum, long); few = inr (omega (arith, taken, more, sum, long, low)) }
+
+-- ---- any event
+
+-- a call that is meant
+abbrev take_count : Option line.Event → ℕ
+take_count None = 0
+take_count (Some f) = cond (is_take f) 1 0
+
+call_counts : (due : Bool) → meant_count (cond due (Some line.next) None) ≡ take_count (cond due (Some line.next) None)
+call_counts true = refl
+call_counts false = refl
+
+-- A pull takes eight bits of those that are left and of the item that a call brings; other events take none, and bring none.
+abbrev Spent : ℕ → Port → Port → ℕ → ℕ → Type 0
+Spent n201 before after pulls takes = length (left_of after) + 8 * pulls ≤ length (left_of before) + takes * longest_text n201
+
+port_spends : (n201 : ℕ) (e : port.Event) (p : Port) (ask : line.Event → line.Answer) → GivesShort n201 ask → IsTextOf p
+    → let o = port.meant n201 e p in Spent n201 p (port.after e (option_map ask o) p) (cond (is_pull e) 1 0) (take_count o)
+port_spends n201 (octet value) p ask short h = omega arith
+port_spends n201 (port.expiry timer) p ask short h = omega arith
+port_spends n201 (port.request r) p ask short h = omega arith
+port_spends n201 pull p ask short h =
+    let o = port.meant n201 pull p in
+    subst (λ takes. Spent n201 p (port.after pull (option_map ask o) p) 1 takes) (call_counts (is_due p)) (pull_is n201 p ask short h).fewer
+
+-- at a card
+own_spends : (m : OctetCard) (e : Event) → IsSound m → IsAtLine m e
+    → Spent m.card.config.n201 (port_at e.line m) (port.after e.what (said e m) (port_at e.line m)) (cond (is_pull e.what) 1 0)
+    (take_count (port.meant m.card.config.n201 e.what (port_at e.line m)))
+unfolding meant
+own_spends m e s within =
+    let n201 = m.card.config.n201 in
+    let p = port_at e.line m in
+    let o = port.meant n201 e.what p in
+    subst (λ said. Spent n201 p (port.after e.what said p) (cond (is_pull e.what) 1 0) (take_count o)) (sym (said_is m.card e.line o))
+    (port_spends n201 e.what p (asked_at m.card e.line) (gives_short m.card e.line s.card within) (port_sound m e.line s within).text)
+
+calls-append : (number : ℕ) (a b : List frames.Event) → takes_of number (a ++ b) ≡ takes_of number a + takes_of number b
+calls-append number [] b = omega arith
+calls-append number (f ∷ a) b = omega (arith, calls-append number a b)
+
+calls_where : (number n : ℕ) (o : Option line.Event) → takes_of number (option_to_list (option_map (frames.at n) o)) ≡ cond (n == number) (take_count o) 0
+calls_where number n None = go (n == number)
+  where
+    go : (b : Bool) → 0 ≡ cond {A = ℕ} b 0 0
+    go true = refl
+    go false = refl
+calls_where number n (Some f) = go (n == number)
+  where
+    go : (b : Bool) → cond (b && is_take f) 1 0 + 0 ≡ cond b (cond (is_take f) 1 0) 0
+    go true = omega arith
+    go false = refl
+
+event_spends : (m : OctetCard) (e : Event) (number : ℕ) → IsSound m → IsAtLine m e → number < m.card.config.lines
+    → Spent m.card.config.n201 (port_at number m) (port_at number (after e m)) (cond ((e.line == number) && is_pull e.what) 1 0) (takes_of number (option_to_list (meant e m)))
+unfolding meant
+event_spends m e number s within few =
+    let n201 = m.card.config.n201 in
+    let o = port.meant n201 e.what (port_at e.line m) in
+    subst (λ takes. Spent n201 (port_at number m) (port_at number (after e m)) (cond ((e.line == number) && is_pull e.what) 1 0) takes) (sym (calls_where number e.line o))
+    (by_port m e number (omega (arith, s.count, few)) (λ b old new. Spent n201 old new (cond (b && is_pull e.what) 1 0) (cond b (take_count o) 0)) (omega arith)
+    (λ here. own_spends m e s within))
+
+-- ---- a run
+
+sum_spent : (a b c pulls more takes others longest : ℕ) → b + 8 * pulls ≤ a + takes * longest → c + 8 * more ≤ b + others * longest
+    → c + 8 * (pulls + more) ≤ a + (takes + others) * longest
+sum_spent a b c pulls more takes others longest first later = omega (arith, first, later)
+
+run_spends : (m : OctetCard) (events : List Event) (number : ℕ) → IsSound m → AreAtLines m events → number < m.card.config.lines
+    → Spent m.card.config.n201 (port_at number m) (port_at number (after_all m events)) (pulls_of number events) (takes_of number (meant_all m events))
+unfolding after_all meant_all
+run_spends m [] number s within few = omega arith
+run_spends m (e ∷ events) number s within few =
+    let m' = after e m in
+    let one = option_to_list (meant e m) in
+    let rest = meant_all m' events in
+    let here = All-head (IsAtLine m) e events within in
+    let same : m'.card.config ≡ m.card.config = config_after m e in
+    let later =
+    subst (λ (c : Config). Spent c.n201 (port_at number m') (port_at number (after_all m' events)) (pulls_of number events) (takes_of number rest)) same
+    (run_spends m' events number (octets_keep_sound m e s here) (at_lines_after m e events (All-tail (IsAtLine m) e events within))
+    (subst (λ (c : Config). number < c.lines) (sym same) few)) in
+    subst (λ takes. Spent m.card.config.n201 (port_at number m) (port_at number (after_all m' events)) (pulls_of number (e ∷ events)) takes) (sym (calls-append number one rest))
+    (sum_spent (length (left_of (port_at number m))) (length (left_of (port_at number m'))) (length (left_of (port_at number (after_all m' events))))
+    (cond ((e.line == number) && is_pull e.what) 1 0) (pulls_of number events) (takes_of number one) (takes_of number rest) (longest_text m.card.config.n201)
+    (event_spends m e number s here few) later)
+
+-- more bits than so many calls bring are those of more calls
+more_calls : (left bits n takes longest : ℕ) → left + n * longest < bits → bits ≤ left + takes * longest → n < takes
+more_calls left bits n takes longest enough spent =
+    ⊎_elim (λ less. less)
+    (λ most. let all : takes * longest ≤ n * longest = mul-le-mul_right longest most in absurd (omega (arith, enough, spent, all)))
+    (cases_lt n takes)
+
+enough_meanwhile : (m : OctetCard) (events : List Event) (number n : ℕ) → IsSound m → AreAtLines m events → number < m.card.config.lines
+    → pulls_behind m.card.config.n201 (port_at number m) n ≤ pulls_of number events → n < takes_of number (meant_all m events)
+enough_meanwhile m events number n s within few enough =
+    let longest = longest_text m.card.config.n201 in
+    let left = length (left_of (port_at number m)) in
+    let spent = run_spends m events number s within few in
+    let pulled : (left + n * longest) / 8 + 1 ≤ pulls_of number events = enough in
+    more_calls left (8 * pulls_of number events) n (takes_of number (meant_all m events)) longest (omega (arith, pulled)) (omega (arith, spent))
+
+-- with pulls alone
+only_pulls : (number : ℕ) (events : List Event) → ArePullsAt number events → pulls_of number events ≡ pulls_at number events
+only_pulls number [] h = refl
+only_pulls number (e ∷ events) h =
+    let IsPull = λ (x : Event). x.line ≡ number → x.what ≡ pull in
+    let one = go (e.line == number) refl (All-head IsPull e events h) in
+    let rest = only_pulls number events (All-tail IsPull e events h) in
+    omega (arith, one, rest)
+  where
+    go : (b : Bool) → (e.line == number) ≡ b → (e.line ≡ number → e.what ≡ pull) → cond {A = ℕ} (b && is_pull e.what) 1 0 ≡ cond b 1 0
+    go false other is = refl
+    go true same is = ap (λ what. cond {A = ℕ} (is_pull what) 1 0) (is (eqb-true e.line number same))
+
+calls_few : (number : ℕ) (fs : List frames.Event) → takes_of number fs ≤ takes_at number fs
+calls_few number [] = omega arith
+calls_few number (f ∷ fs) = let rest = calls_few number fs in let one = go (f.line == number) (is_take f.what) in omega (arith, one, rest)
+  where
+    go : (b take : Bool) → cond (b && take) 1 0 ≤ cond b 1 0
+    go true true = omega arith
+    go true false = omega arith
+    go false take = omega arith
+
+enough_pulls : (m : OctetCard) (events : List Event) (number n : ℕ) → IsSound m → AreAtLines m events → number < m.card.config.lines → ArePullsAt number events
+    → pulls_behind m.card.config.n201 (port_at number m) n ≤ pulls_at number events → n < takes_at number (meant_all m events)
+enough_pulls m events number n s within few h enough =
+    let less = enough_meanwhile m events number n s within few (subst (λ k. pulls_behind m.card.config.n201 (port_at number m) n ≤ k) (sym (only_pulls number events h)) enough) in
+    let fewer = calls_few number (meant_all m events) in
+    omega (arith, less, fewer)
+
+-- ---- what is left
+
+abbrev LeavesFew : ℕ → Port → Type 0
+LeavesFew n201 p = length (left_of p) ≤ longest_text n201
+
+few_by : (n201 : ℕ) (before after : Port) (o : Option line.Event) → IsPulled n201 before after o → LeavesFew n201 before → LeavesFew n201 after
+few_by n201 before after o h few =
+    ⊎_elim (λ (less : length (left_of after) ≤ length (left_of before)). omega (arith, less, few)) (λ less. less) h.few
+
+few_after : (n201 : ℕ) (e : port.Event) (p : Port) (ask : line.Event → line.Answer) → GivesShort n201 ask → IsTextOf p → LeavesFew n201 p
+    → LeavesFew n201 (port.after e (option_map ask (port.meant n201 e p)) p)
+few_after n201 (octet value) p ask short h few = few
+few_after n201 (port.expiry timer) p ask short h few = few
+few_after n201 (port.request r) p ask short h few = few
+few_after n201 pull p ask short h few = few_by n201 p _ (port.meant n201 pull p) (pull_is n201 p ask short h) few
+
+few_stay : (c : Config) → IsKept c (LeavesFew c.n201)
+unfolding meant
+few_stay c m e is s within few =
+    let n201 = m.card.config.n201 in
+    let p = port_at e.line m in
+    let o = port.meant n201 e.what p in
+    let same = ap (λ (x : Config). x.n201) is in
+    subst (λ n. LeavesFew n (port.after e.what (said e m) p)) same
+    (subst (λ said. LeavesFew n201 (port.after e.what said p)) (sym (said_is m.card e.line o))
+    (few_after n201 e.what p (asked_at m.card e.line) (gives_short m.card e.line s.card within) (port_sound m e.line s within).text
+    (subst (λ n. LeavesFew n p) (sym same) few)))
+
+few_at_first : (n201 : ℕ) → LeavesFew n201 fresh_port
+few_at_first n201 = let eight : length (left_of fresh_port) ≡ 8 = refl in omega (arith, eight)
+
+few_left : OfEachLine HasFewLeft
+few_left c events number ranged all within =
+    run_keeps c (LeavesFew c.n201) (few_stay c) (fresh c) events number refl (fresh_octets_sound c ranged) all within
+    (subst (LeavesFew c.n201) (sym (fresh_at c number within)) (few_at_first c.n201))
+
+pub pulls_are_takes : PullsAreTakes
+pulls_are_takes = record {
+  only = only_takes;
+  few = few_takes;
+  enough = enough_pulls;
+  meanwhile = enough_meanwhile;
+  left = few_left;
+  most = λ c events number ranged all within n. let few = few_left c events number ranged all within in omega (arith, few);
+}

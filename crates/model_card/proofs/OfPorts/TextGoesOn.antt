@@ -1,0 +1,60 @@
+-- The octets given are a beginning of the text of the items.
+use Rattle.model_card.proofs.OfPorts.Vocabulary.{◌≡◌, ◌≤◌, Bool, List, [], ◌∷◌, ◌++◌, length, take, drop, ap, sym, ◌∙◌, arith, length-append, append_assoc, length-take-le, take-append-drop, drop-append_seam, bits, flag, low_bits, Item, idle, frame, frame_text, item_text, line_text, bits-push, low_bits-number_of_n, line_text-push, Port, left_of, next_octet, with_octet, IsTextOf}
+
+-- The bits of an octet are left.
+pub record IsReady (p : Port) : Type 0 where
+  pub text : line_text p.items ≡ bits p.given ++ left_of p
+  pub enough : 8 ≤ length (left_of p)
+
+-- what is left of a text after its beginning
+pub left_is : (p : Port) (left : List Bool) → line_text p.items ≡ bits p.given ++ left → left_of p ≡ left
+left_is p left e = ap (drop (length (bits p.given))) e ∙ drop-append_seam (bits p.given) left
+
+pub text_of : (p : Port) (left : List Bool) → line_text p.items ≡ bits p.given ++ left → IsTextOf p
+text_of p left e = record { text = e ∙ ap (λ x. bits p.given ++ x) (sym (left_is p left e)) }
+
+-- the bits of an octet that is given
+pub octet_bits : (p : Port) → 8 ≤ length (left_of p) → low_bits 8 (next_octet p) ≡ take 8 (left_of p)
+octet_bits p enough = low_bits-number_of_n 8 (take 8 (left_of p)) (length-take-le 8 (left_of p) enough)
+
+-- an octet is given
+pub text_with_octet : (p : Port) → IsReady p → line_text p.items ≡ bits (with_octet p).given ++ drop 8 (left_of p)
+text_with_octet p ready =
+    let left = left_of p in
+    ready.text
+    ∙ ap (λ x. bits p.given ++ x) (sym (take-append-drop 8 left))
+    ∙ sym (append_assoc (bits p.given) (take 8 left) (drop 8 left))
+    ∙ ap (λ x. (bits p.given ++ x) ++ drop 8 left) (sym (octet_bits p ready.enough))
+    ∙ ap (λ x. x ++ drop 8 left) (sym (bits-push p.given (next_octet p)))
+
+pub one_given : (p : Port) → IsReady p → IsTextOf (with_octet p)
+one_given p ready = text_of (with_octet p) (drop 8 (left_of p)) (text_with_octet p ready)
+
+item_length : (item : Item) → 8 ≤ length (item_text item)
+item_length idle = omega arith
+item_length (frame octets) = omega (arith, length-append (frame_text octets) flag)
+
+abbrev pub put_on : Item → Port → Port
+put_on item p = record p { items = p.items ++ item ∷ [] }
+
+-- an item goes on
+pub text_with_item : (p : Port) (item : Item) → IsTextOf p → line_text (put_on item p).items ≡ bits p.given ++ (left_of p ++ item_text item)
+text_with_item p item h =
+    line_text-push p.items item ∙ ap (λ x. x ++ item_text item) h.text ∙ append_assoc (bits p.given) (left_of p) (item_text item)
+
+-- what is left then
+pub left_with_octet : (p : Port) → IsReady p → left_of (with_octet p) ≡ drop 8 (left_of p)
+left_with_octet p ready = left_is (with_octet p) (drop 8 (left_of p)) (text_with_octet p ready)
+
+pub left_with_item : (p : Port) (item : Item) → IsTextOf p → left_of (put_on item p) ≡ left_of p ++ item_text item
+left_with_item p item h = left_is (put_on item p) (left_of p ++ item_text item) (text_with_item p item h)
+
+pub one_item : (p : Port) (item : Item) → IsTextOf p → IsReady (put_on item p)
+one_item p item h =
+    let left = left_of p ++ item_text item in
+    let text = text_with_item p item h in
+    let is : left_of (put_on item p) ≡ left = left_is (put_on item p) left text in
+    record {
+      text = (text_of (put_on item p) left text).text;
+      enough = omega (arith, item_length item, length-append (left_of p) (item_text item), ap length is);
+    }

@@ -1,0 +1,90 @@
+//! What holds of whole runs of octets. Each law is the contract of a call that does nothing; it holds for every list of
+//! events, and so for every front of a list.
+
+ghost use Rattle.model_card.specs.ports.Laws.{CardsStaySound, DropsAreWithoutEffect, FramesLinear, LinesIsolated, OctetsAreACodec, RunIsMoments, StoredWithinLimit};
+ghost use Rattle.model_card.specs.ports.GoingOut.{GivenFramesAreHeard};
+ghost use Rattle.model_card.specs.ports.HeardOctets.{HeardFramesAreOctets};
+ghost use Rattle.model_card.specs.ports.Pulls.{PullsAreTakes};
+ghost use Rattle.model_card.specs.ports.WholeLaws.{FramesAreHeard};
+
+/// The law of the codec. A run of octets is, at the card of frames inside, the run of the frame events that it means, moment
+/// by moment, with the answers of which its own are made. What is heard is exactly what stands in the octets received; what
+/// is given is exactly what stands in the octets pulled, as flags and whole frames with bits stuffed (Q.921 clause 2).
+#[tactic(auto, using(crate::proofs::OfPorts::Codec::octets_are_a_codec))]
+pub fn octets_are_a_codec()
+    ensures { OctetsAreACodec }
+{}
+
+/// A run as one fold is its moments, one after the other.
+#[tactic(auto, using(crate::proofs::OfPorts::Fold::run_is_moments))]
+pub fn run_is_moments()
+    ensures { RunIsMoments }
+{}
+
+/// A card of octets is sound as it begins, and each event keeps it so.
+#[tactic(auto, using(crate::proofs::OfPorts::Sound::cards_stay_sound))]
+pub fn cards_stay_sound()
+    ensures { CardsStaySound }
+{}
+
+/// A sound card never stores more octets than its limit, which its configuration alone tells.
+#[tactic(auto, using(crate::proofs::OfPorts::Stored::stored_within_limit))]
+pub fn stored_within_limit()
+    ensures { StoredWithinLimit }
+{}
+
+/// In every moment of a run: where the answer to an octet names a cause, whichever, the cause is all that it says, and the
+/// card of frames is as it was; what may be sent stays as it is.
+#[tactic(auto, using(crate::proofs::OfPorts::Drops::drops_are_without_effect))]
+pub fn drops_are_without_effect()
+    ensures { DropsAreWithoutEffect }
+{}
+
+/// From a fresh card on, each frame heard has taken six of the octets received, and each of those REJ seven; so the frames
+/// sent are linear in the octets received, the accepted requests and the expiries of running timers.
+#[tactic(auto, using(crate::proofs::OfPorts::Linear::frames_linear))]
+pub fn frames_linear()
+    ensures { FramesLinear }
+{}
+
+/// From a fresh card on, for each line: its answers except for a full pool, octets pulled among them, are those of a fresh
+/// card of the same configuration on which only the events at that line happened, without the requests that found the
+/// pool full.
+#[tactic(auto, using(crate::proofs::OfPorts::Isolated::lines_isolated))]
+pub fn lines_isolated()
+    ensures { LinesIsolated }
+{}
+
+/// On an idle line the octets in which a frame stands, between flags, are heard as this frame and nothing else, or, by its
+/// length, as one that is too short or overlong; those in which a fault stands are heard as what is dropped for its cause and
+/// nothing else. So a card for frames takes what a controller tells for what stood on its line.
+#[tactic(auto, using(crate::proofs::OfPorts::FramesHeard::frames_are_heard))]
+pub fn frames_are_heard()
+    ensures { FramesAreHeard }
+{}
+
+/// What is heard are octets. Whatever a card of octets has received, and whatever comes, each frame that its card of frames
+/// hears consists of octets, each 0 to 255: those of which a sender makes the text between two flags, less the check (Q.921
+/// clauses 2.6 to 2.9). So `HasOctets` holds of all that is heard in `meant_all`, as the clause `octets` of `frames_are_read`
+/// of `laws_trace` asks, and there only the contents that layer 3 gives are left to be octets.
+#[tactic(auto, using(crate::proofs::OfPorts::HeardOctets::heard_frames_are_octets))]
+pub fn heard_frames_are_octets()
+    ensures { HeardFramesAreOctets }
+{}
+
+/// What goes out is heard. From a fresh card on, for each line: what a receiver hears in the octets that its pulls gave are the
+/// frames that the card of frames gave there, in order, whole, each once; the last may be on its way, unless the latest call
+/// for the next frame gave none. Of each of their numbers eight bits go out, so octets as they are (Q.921 clauses 2.2 to 2.7 and 2.9).
+#[tactic(auto, using(crate::proofs::OfPorts::GoingOut::given_frames_are_heard))]
+pub fn given_frames_are_heard()
+    ensures { GivenFramesAreHeard }
+{}
+
+/// Where a line is only pulled, its card of frames is only called for the next frame there: once a pull at most, and more often
+/// than n times once the pulls give more than the bits that are left and those of n of the longest frames (`enough`); this also
+/// where octets, expiries and requests of the line come between its pulls (`meanwhile`). At most one of these frames is left,
+/// whatever happened to the card.
+#[tactic(auto, using(crate::proofs::OfPorts::Pulls::pulls_are_takes))]
+pub fn pulls_are_takes()
+    ensures { PullsAreTakes }
+{}

@@ -1,2 +1,0 @@
--- The places of a shelf of lists.
-pub mod Places

@@ -1,3 +1,0 @@
--- Lemmas: a shelf with two owners; and worked values of a shelf.
-pub mod SharedShelf
-mod WorkedShelf

@@ -1,9 +1,0 @@
--- Worked values of the definitions of the lower crates; and what an outbox has been handed.
-pub mod WorkedStream
-pub mod WorkedBits
-pub mod WorkedNumbers
-pub mod WorkedFrames
-pub mod WorkedClock
-pub mod WorkedTeis
-pub mod WorkedCounters
-pub mod Outbox

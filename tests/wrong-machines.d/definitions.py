@@ -40,29 +40,56 @@ def types_of(text):
     return "".join(imports) + "\n" + types, NAME.findall(types)
 
 
+def files_in(folder):
+    """Returns the files of a folder and of those in it, by their paths there."""
+    return sorted(os.path.relpath(f"{at}/{it}", folder) for at, _, files in os.walk(folder) for it in files)
+
+
+def module_of(text, crate, src):
+    """Returns the modules of src/ whose types a file of specs/ names, by their paths."""
+    named = re.findall(rf"{crate}\.specs\.declared\.((?:[a-z]\w*\.)+)", text)
+    found = set()
+    for words in (it.rstrip(".").split(".") for it in named):
+        while words and "/".join(words) + ".rt" not in src:
+            words.pop()
+        found.add("/".join(words))
+    return found - {""}
+
+
 def strip(folder, crate):
     """Leaves of a crate what its definitions are: specs/ without worked values, and the types that specs/ name."""
-    named, lib = set(), read(f"{folder}/specs/Lib.antt")
-    for file in os.listdir(f"{folder}/specs"):
-        text = read(f"{folder}/specs/{file}")
+    named, src = set(), files_in(f"{folder}/src")
+    for file in files_in(f"{folder}/specs"):
+        text, (at, name) = read(f"{folder}/specs/{file}"), os.path.split(file)
         if ".TheInside." in text:
             # (it speaks of what values of the code stand for)
             os.remove(f"{folder}/specs/{file}")
-            lib = lib.replace(f"pub mod {file.removesuffix('.antt')}\n", "")
+            lib = f"{folder}/specs/{at or 'Lib'}.antt"
+            write(lib, read(lib).replace(f"pub mod {name.removesuffix('.antt')}\n", ""))
         else:
             parts = WORKED.sub("", text).split("\n\n")
-            is_worked = file.startswith("Worked")
+            is_worked = name.startswith("Worked")
             kept = [it for it in parts if not is_worked or DEFINES.match(it.lstrip("\n"))]
             write(f"{folder}/specs/{file}", "\n\n".join(kept).rstrip("\n") + "\n")
-            named |= set(re.findall(rf"{crate}\.specs\.declared\.(\w+)", text))
-    write(f"{folder}/specs/Lib.antt", lib)
+            named |= module_of(text, crate, src)
     texts = {it: types_of(read(f"{folder}/src/{it}.rt")) for it in sorted(named)}
     shutil.rmtree(f"{folder}/src")
-    uses = [f"pub use {it}::{{{', '.join(names)}}};\n" for it, (_, names) in texts.items() if names]
-    root = "".join(f"mod {it};\n" for it in texts) + "\n" + "".join(uses)
-    write(f"{folder}/src/lib.rt", f"//! Types.\n#![tactic(auto)]\n\n{root}")
-    for it, (text, _) in texts.items():
-        write(f"{folder}/src/{it}.rt", f"//! Types.\n\n{text}")
+    write_types(f"{folder}/src", "", texts)
+
+
+def write_types(src, at, texts):
+    """Writes the modules of a folder of src/ that have these types, and those of the folders in it."""
+    inside = {it.removeprefix(at).partition("/")[0] for it in texts if it.startswith(at)}
+    folders = sorted(it for it in inside if f"{at}{it}" not in texts)
+    modules = {it: texts[f"{at}{it}"] for it in sorted(inside) if f"{at}{it}" in texts}
+    uses = [f"pub use {it}::{{{', '.join(names)}}};\n" for it, (_, names) in modules.items() if names]
+    root = "".join(f"pub mod {it};\n" for it in folders) + "".join(f"mod {it};\n" for it in modules)
+    page = "//! Types.\n" if at else "//! Types.\n#![tactic(auto)]\n"
+    write(f"{src}/{at}mod.rt" if at else f"{src}/lib.rt", page + "\n" + root + "\n" + "".join(uses))
+    for it, (text, _) in modules.items():
+        write(f"{src}/{at}{it}.rt", f"//! Types.\n\n{text}")
+    for it in folders:
+        write_types(src, f"{at}{it}/", texts)
 
 
 def copy(crates, name, folder):

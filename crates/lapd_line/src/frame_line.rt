@@ -126,7 +126,8 @@ impl FrameLine {
     /// Takes a frame that a controller brings, from its address to its information, without its check, and tells in the report
     /// what it led to. [`FrameLine::lend`] lends contents that it delivers from these octets.
     ///
-    /// What it is heard as is what a deframer would hear in its octets on an idle line (`frames_are_heard` of `model_card::ports`).
+    /// What it is heard as is what a deframer would hear in its octets on an idle line (`frames_are_heard` of
+    /// `model_card::ports`).
     #[inline(always)]
     pub fn frame<S: Shelf>(&mut self, octets: &[u8], report: &mut BareReport, shelf: &mut S)
         requires clear { IsClear report.old }
@@ -160,7 +161,8 @@ impl FrameLine {
 
     /// A controller tells a fault in place of a frame. It is reported with its cause, and changes nothing.
     ///
-    /// What it is heard as is what a deframer would hear in the octets of such a fault (`frames_are_heard` of `model_card::ports`).
+    /// What it is heard as is what a deframer would hear in the octets of such a fault (`frames_are_heard` of
+    /// `model_card::ports`).
     pub fn failed(&mut self, fault: Fault) -> Report<'static>
         ensures told { (m : machine.Line)
             → told (report_told result) ≡ answer (config_of self.old) (hears (stream.dropped (cause_of fault))) m }

@@ -6,6 +6,7 @@
 //!   comes from a line and what a line takes.
 //! - `player`: plays a script; `memory`, one that lies in memory.
 //! - `program`: the program's words and exit status.
+//! - `machine`: what a script means, and what holds of whole scripts.
 //!
 //! # Only tested
 //!
@@ -29,7 +30,10 @@ mod traffic;
 
 pub use lapd_script::{FaultKind, Job, PlayFault, job, refuse};
 pub use lapd_transcript::{ReadFailed, ReadFrom, Source, Target, WriteFailed, WriteTo};
+pub use machine::{
+    frames_are_heard, limits_are_of_cards, runs_on_boards, scripts_are_runs, scripts_stay_within,
+    transcripts_are_replies, waits_leave_nothing_due,
+};
 pub use memory::play_octets;
 pub use player::play;
 pub use program::serve;
-pub use machine::{frames_are_heard, limits_are_of_cards, runs_on_boards, scripts_are_runs, scripts_stay_within, transcripts_are_replies, waits_leave_nothing_due};

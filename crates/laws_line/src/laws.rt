@@ -4,14 +4,14 @@ ghost use Rattle.laws_line.specs.Laws.{NothingIsLost, TakesServe, HeardIsDeliver
 
 /// Nothing that was accepted is lost silently. Each link keeps its contents without the oldest that a valid N(R)
 /// acknowledges, and with those of a granted data request at the end; or it keeps nothing, and a granted release or
-/// deactivation, a note or the end of its TEI says so. The note is an establishment indication, a release indication or a
-/// release confirm of the link (clauses 5.5.3.2, 5.6.3.2 and 5.7).
+/// deactivation, a note or the end of its TEI says so. The note is an establishment indication, a release indication or
+/// a release confirm of the link (clauses 5.5.3.2, 5.6.3.2 and 5.7).
 pub fn nothing_is_lost()
     ensures { NothingIsLost }
 {}
 
-/// A call for the next frame takes what waits, as `takes_serve` of `laws_line::card` has it; and no other event changes what waits of unit data, but by granted
-/// requests, or whose turn it is.
+/// A call for the next frame takes what waits, as `takes_serve` of `laws_line::card` has it; and no other event changes
+/// what waits of unit data, but by granted requests, or whose turn it is.
 pub fn takes_serve()
     ensures { TakesServe }
 {}
@@ -25,7 +25,8 @@ pub fn heard_is_delivered()
     ensures { HeardIsDelivered }
 {}
 
-/// One part of a line has one event, and all else of it is as it was, as the law of this name of `laws_line::card` has it.
+/// One part of a line has one event, and all else of it is as it was, as the law of this name of `laws_line::card` has
+/// it.
 pub fn one_event()
     ensures { OneEvent }
 {}

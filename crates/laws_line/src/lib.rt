@@ -1,5 +1,5 @@
-//! Laws of the machine of a line that say what it does: what becomes of what layer 3 gave, what is sent next, what comes
-//! of what was heard, and what a line comes to as its frames are taken.
+//! Laws of the machine of a line that say what it does: what becomes of what layer 3 gave, what is sent next, what
+//! comes of what was heard, and what a line comes to as its frames are taken.
 //!
 //! The machine itself stands in `model_line`; the laws of a single link in `laws_link`. `machine` says what a line
 //! never does (`Machine`). `specs/` has the words of these laws: what an event is to the contents of one link
@@ -12,9 +12,10 @@
 //! worked values of the laws and of the machine (`Worked*`). `Drains` and `Among` say what a line comes to with calls
 //! for the next frame, or with other events between them; their bounds are numbers of calls, and speak of no time. Each
 //! law is the contract of a call that does nothing; `laws`, `timers` and `notes` name what says the same of a card, in
-//! words: laws of `laws_line::card`, or fields of `Promises` (crate `laws_promises`).
+//! words: laws of [`card`], or fields of `Promises` (crate `laws_promises`).
 //!
 //! - `machine`, `laws`, `timers`, `notes`, `management`, `progress`, `turns`: the laws.
+//! - `card`: laws of a whole card.
 //!
 //! # Open
 //!

@@ -15,8 +15,8 @@
 //! - `laws`: what becomes of contents;
 //! - `known`: what layer 3 knows, which timers are kept, where numbers begin anew;
 //! - `sending`: when an I-frame goes, from where it is sent again, and what follows a delivery;
-//! - `following`: what an event leaves of a link, its state, its flags and what waits, and what it tells.
-//!
+//! - `following`: what an event leaves of a link, its state, its flags and what waits, and what it tells;
+//! - `two`: progress of a link, and of two links that face each other.
 #![tactic(auto)]
 
 mod following;
@@ -33,4 +33,9 @@ pub use sending::{
     offers_leave_timers, rejected_is_sent_again, requests_take_effect, sent_in_order,
     steady_unless_seen,
 };
-pub use two::{arrives_in_any_order, busy_ends_are_heard, busy_ends_recover, busy_is_heeded, contents_arrive, ends_hold_what_was_accepted, gaps_are_rejected, kept_contents_arrive, links_stay_up, losses_are_recovered, nothing_is_held_back, polls_are_answered, runs_what_it_needs, stay_up_while_ahead};
+pub use two::{
+    arrives_in_any_order, busy_ends_are_heard, busy_ends_recover, busy_is_heeded, contents_arrive,
+    ends_hold_what_was_accepted, gaps_are_rejected, kept_contents_arrive, links_stay_up,
+    losses_are_recovered, nothing_is_held_back, polls_are_answered, runs_what_it_needs,
+    stay_up_while_ahead,
+};

@@ -2,7 +2,7 @@
 //!
 //! `specs/` has all that can happen to two cards, at any of their lines (`Happenings`), the laws (`Order`, `Release`), worked
 //! runs that meet their premises and use them (`Worked`, `WorkedRelease`), and one that breaks what is said where a premise
-//! is left out (`WorkedBroken`). What a card does at an event is the machine of `model_card`, of frames; the wire is that of
+//! is left out (`WorkedBroken`). `circuit` has two cards for octets. What a card does at an event is the machine of `model_card`, of frames; the wire is that of
 //! `laws_wire`, and what is seen at an end is as in the trace of `laws_trace`. Each law is the contract of a call that does
 //! nothing.
 //!
@@ -15,5 +15,8 @@
 mod circuit;
 mod laws;
 
+pub use circuit::{
+    a_call_comes_through_in_octets, a_call_comes_to_rest, all_is_told_in_beats,
+    delivered_though_damaged,
+};
 pub use laws::{delivered_in_order, releases_end};
-pub use circuit::{a_call_comes_through_in_octets, a_call_comes_to_rest, all_is_told_in_beats, delivered_though_damaged};

@@ -6,6 +6,7 @@
 //! values of it. Each law is the contract of a call that does nothing.
 //!
 //! - `laws`: the laws.
+//! - `octets`: what they come to in the octets of a line.
 //!
 //! # Open
 //!

@@ -1,9 +1,9 @@
 //! Laws of the octets of a line: what a receiver hears of it, against what layer 3 asked for there.
 //!
-//! Each law holds from a fresh card of octets of a configuration in range, for every list of events at its lines, and for every
-//! line. They are composed of laws of frames (`laws_trace`) and of ports (`model_card::ports`), and speak of the octets that pulls
-//! gave and of the requests that were granted. `specs/` has what is granted (`Granted`), when a line was pulled long enough
-//! (`Pulled`), a file for each law, and worked values (`Worked`). Each law is the contract of a call that does nothing.
+//! Each law holds from a fresh card of octets of a configuration in range, for every list of events at its lines, and for
+//! every line. They are composed of the laws of the trace and of ports (`model_card::ports`), and speak of the octets that
+//! pulls gave and of the requests that were granted. `specs/octets` has what is granted (`Granted`), when a line was pulled
+//! long enough (`Pulled`), a file for each law, and worked values (`Worked`). Each law is the contract of a call that does nothing.
 
 ghost use Rattle.model_card.specs.ports.GoingOut.{OfEachLine};
 ghost use Rattle.laws_trace.specs.octets.FramesGoOut.{OnlyFramesAreHeard, GivenAreOctets, GoOutAsTheyAre, AllFramesGoOut};
@@ -11,38 +11,39 @@ ghost use Rattle.laws_trace.specs.octets.LatestIsBegun.{LatestIsBegun};
 ghost use Rattle.laws_trace.specs.octets.WaitedIsHeard.{AllThatWaitedIsHeard};
 ghost use Rattle.laws_trace.specs.octets.UnitsAreHeard.{UnitsAreHeard, AllUnitsAreHeard};
 
-/// Unit data is heard at the other end. The UI frames that a receiver hears in the octets that a line's pulls gave, except
-/// those of TEI management, are the first of the unit data that was granted there: in order, whole, each once, with its
-/// service and its TEI (`front`). And they are all of it, once the line was only pulled, as often as the configuration
-/// says, 64,346 times with eight terminals, N201 of 260, windows of 7, 4 unit data and 4 control frames (`all`). Of each
-/// number of the contents its eight low bits are heard, so an octet, 0 to 255, as it is (Q.921 clauses 2.2 to 2.7, 3.6.5
-/// and 5.2.2).
+/// Unit data is heard at the other end. The UI frames that a receiver hears in the octets that a line's pulls gave,
+/// except those of TEI management, are the first of the unit data that was granted there: in order, whole, each once,
+/// with its service and its TEI (`front`). And they are all of it, once the line was only pulled, as often as the
+/// configuration says, 64,346 times with eight terminals, N201 of 260, windows of 7, 4 unit data and 4 control frames
+/// (`all`). Of each number of the contents its eight low bits are heard, so an octet, 0 to 255, as it is (Q.921 clauses
+/// 2.2 to 2.7, 3.6.5 and 5.2.2).
 pub fn units_are_heard()
     ensures front { OfEachLine UnitsAreHeard }
     ensures all { OfEachLine AllUnitsAreHeard }
 {}
 
-/// What goes out are frames. All that a receiver hears in the octets that a line's pulls gave are frames that the grammar
-/// has, as those of the card's side, with the SAPI of a service or of TEI management (`grammar`). Where the contents that
-/// were granted there are octets, each 0 to 255, the frames that the card of frames gave there consist of octets, whatever
-/// came (`octets`), and a receiver hears them as they are, in order, whole, each once, and no other; the last may be on its
-/// way (`heard`; Q.921 clauses 2 and 3).
+/// What goes out are frames. All that a receiver hears in the octets that a line's pulls gave are frames that the
+/// grammar has, as those of the card's side, with the SAPI of a service or of TEI management (`grammar`). Where the
+/// contents that were granted there are octets, each 0 to 255, the frames that the card of frames gave there consist of
+/// octets, whatever came (`octets`), and a receiver hears them as they are, in order, whole, each once, and no other;
+/// the last may be on its way (`heard`; Q.921 clauses 2 and 3).
 pub fn frames_go_out()
     ensures grammar { OfEachLine OnlyFramesAreHeard }
     ensures octets { OfEachLine GivenAreOctets }
     ensures heard { OfEachLine GoOutAsTheyAre }
 {}
 
-/// In the end all frames go out. Once a line was only pulled, as often as the configuration says, a receiver has heard each
-/// frame that the card of frames gave there, and none is on its way (`all`); and each control frame that waited on a link
-/// before, as an answer does, he has heard since (`waited`; two alike may be one; Q.921 clauses 2.2 to 2.7 and 5.5 to 5.8).
+/// In the end all frames go out. Once a line was only pulled, as often as the configuration says, a receiver has heard
+/// each frame that the card of frames gave there, and none is on its way (`all`); and each control frame that waited on
+/// a link before, as an answer does, he has heard since (`waited`; two alike may be one; Q.921 clauses 2.2 to 2.7 and
+/// 5.5 to 5.8).
 pub fn all_frames_go_out()
     ensures all { OfEachLine AllFramesGoOut }
     ensures waited { OfEachLine AllThatWaitedIsHeard }
 {}
 
-/// The latest frame is told. What `Card::begun` tells is how the frame begins that a pull of the line began last: the latest
-/// that the card of frames gave there, whatever else happened since (profile).
+/// The latest frame is told. What `Card::begun` tells is how the frame begins that a pull of the line began last: the
+/// latest that the card of frames gave there, whatever else happened since (profile).
 pub fn latest_is_begun()
     ensures { OfEachLine LatestIsBegun }
 {}

@@ -2,7 +2,7 @@
 --
 -- Read in this order: Event, Card, Machine, Run. Stored, Counts, ByEvent, Drops, Numbered, Isolation, Sound and Reached are the
 -- words of the laws, Promises and Laws their statements. Room is what a card answers about itself. Counted is what is counted
--- of its lines.
+-- of its lines. The folder ports has the same of a card of octets.
 pub mod Event
 pub mod Card
 pub mod Machine

@@ -5,13 +5,14 @@
 //! (`Machine`), whole lists of events (`Run`), which cards come about (`Reached`), what is counted of them (`Counts`,
 //! `Counted`, `Stored`), of single events too (`ByEvent`, `Drops`), what a link delivers (`Numbered`), one line beside the
 //! others (`Isolation`), what is promised of whole lists of events (`Promises`), and the laws, which say of which cards and
-//! lists (`Laws`). Nothing here is of octets on a line: a card of octets is this card with a port at each line
-//! (`model_card::ports`).
+//! lists (`Laws`). Nothing of these is of octets on a line: a card of octets is this card with a port at each line
+//! ([`ports`]).
 //!
 //! The code of a card stands above, in another crate. Here is the type that it shares with the definitions:
 //!
 //! - `events`: `FrameEvent`, what happens at a card for frames.
 //! - `laws`: what holds of whole runs, as calls without effect.
+//! - `ports`: the same of a card of octets.
 #![tactic(auto)]
 
 mod events;

@@ -1,6 +1,8 @@
-//! Tests of the lower crates of the product by their public contracts; there is nothing to call. They stand in a crate of
-//! their own, so that what they test isn't proved again for them. What a link does `tool_tables` prints, and
-//! `tests/scripts/link` shows.
+//! Tests of the product by its public contracts. They stand in a crate of their own, so that what they test isn't proved
+//! again for them. What a transcript shows is in `tests/scripts`; what a link does `tool_tables` prints. The one call here,
+//! `keep_replies`, shows by its contract what a caller of `drive` can conclude.
+//!
+//! Of the lower crates:
 //!
 //! - `bits`: framers, deframers and frame checks. `frame`: the grammar of frames. `clock`: when timers fall due. `store`:
 //!   shelves, and queues of slots over them.
@@ -9,8 +11,7 @@
 //!
 //! `specs/` and `proofs/` have worked values of the definitions of these crates and of `model_bits` and `lapd_count`.
 //!
-//! Tests of the card by the public contracts of `lapd_card`. What a transcript shows is in `tests/scripts`. The one
-//! call shows by its contract what a caller of `drive` can conclude.
+//! Of a card:
 //!
 //! - `kept`: what a sink that keeps replies has kept after a list of events.
 //! - `starts`: which shelves a card starts with, and its faults in words.
@@ -22,8 +23,7 @@
 //! - `example`: a line that is served, as in the README.
 //! - `memory`: starts and long runs, of which `tests/memory` counts the allocations.
 //!
-//! What the simulator answers over sources and targets that give and take in pieces, or fail; there is nothing to
-//! call. What a transcript shows is in `tests/scripts`.
+//! Of the simulator, over sources and targets that give and take in pieces, or fail:
 //!
 //! - `fakes`: a source that gives its octets in pieces, and a target that keeps what it is given. Both can fail.
 //! - `worked`: worked scripts, with how far each line's answer goes.

@@ -1,8 +1,8 @@
 //! Laws of whole runs of a card that say what it does: what becomes of what layer 3 gave, what is sent next, and what
 //! comes of what was heard.
 //!
-//! The machine itself, and the laws that say what a card never does, stand in `model_card`; the laws of a line in
-//! `laws_line`, and those of a link in `laws_link`. `specs/` has the contents of the links from moment to moment
+//! The machine itself, and the laws that say what a card never does, stand in `model_card`; the laws of a line beside this
+//! module, and those of a link in `laws_link`. `specs/card` has the contents of the links from moment to moment
 //! (`Contents`), what holds in a moment (`OneEvent`), what holds of a list of events (`Promises`), and in brief, beside
 //! what the laws of the trace of a line say (`Brief`), which timers a caller runs (`Timers`), what calls for the next frame of a
 //! line come to (`Among`, `PromisesOfTakes`), what notes tell (`Knowledge`), the laws, which say of which cards and lists

@@ -1,7 +1,7 @@
 //! Laws of progress over the machine of `model_link`: of a link alone, and of two links that face each other. There is
 //! nothing to call: each law is the contract of a function that does nothing.
 //!
-//! `specs/` has the statements: what two links that face each other have accepted (`Holding`); what waits and what
+//! `specs/two` has the statements: what two links that face each other have accepted (`Holding`); what waits and what
 //! goes (`Waits`), polls and their answers (`Polls`), I-frames out of sequence (`Gaps`), a busy terminal (`Heeds`), the
 //! timer that a link needs (`Needed`), two ends in rounds (`Rounds`) and in turns of any order (`AnyOrder`), two ends
 //! whose frames were lost (`CutOff`), an end that is busy itself (`OwnBusy`) and is no more (`BusyOver`), what keeps two

@@ -1,7 +1,7 @@
 //! Octets around the machine of frames: ports, as definitions (Q.921 clause 2).
 //!
 //! A card of octets is a card of frames (`model_card`) with a port at each line. What comes at a port is heard as frames, or
-//! dropped; what the line gives is put on it as a text of flags and frames with bits stuffed. `specs/` has the port (`Port`),
+//! dropped; what the line gives is put on it as a text of flags and frames with bits stuffed. `specs/ports` has the port (`Port`),
 //! a line and a card with ports (`Line`, `Card`), whole lists of events (`Run`), and the law of the codec (`Codec`): all that
 //! is proved of cards of frames holds of cards of octets by it. What is said of octets alone is promised here too
 //! (`Promises`, `Laws`; `HeardOctets`, that what is heard are octets; `GoingOut`, what a receiver hears of a line; `Pulls`, how

@@ -24,9 +24,8 @@ use std::marker::Model;
 
 /// TEI management of one line (Q.921 clause 5.3), the network's side.
 ///
-/// A line has a table of at most `terminals` TEIs, each at a place; remembers the latest
-/// assignments, at most four; and runs at most one check of a TEI at a time. Its messages wait for
-/// the line, at most four. No call but `start` takes memory.
+/// A line has a table of at most `terminals` TEIs, each at a place; remembers the latest assignments, at most four; and runs
+/// at most one check of a TEI at a time. Its messages wait for the line, at most four. No call but `start` takes memory.
 #[derive(Drop, Debug)]
 pub struct Teis {
     table: Table,
@@ -120,8 +119,7 @@ impl Teis {
         })
     }
 
-    /// Takes a TEI off the line: the terminals with it are told so, and a check of it ends. The TEI
-    /// is at most 126.
+    /// Takes a TEI off the line: the terminals with it are told so, and a check of it ends. The TEI is at most 126.
     ///
     /// # Errors
     ///
@@ -148,8 +146,8 @@ impl Teis {
     ///
     /// # Errors
     ///
-    /// `NoLink` where it is not on the line, else `CheckRunning` where a check runs, else
-    /// `ControlFull` where no message more may wait.
+    /// `NoLink` where it is not on the line, else `CheckRunning` where a check runs, else `ControlFull` where no message more
+    /// may wait.
     pub fn check(&mut self, tei: u8) -> Result<TeiOutcome, Refusal>
         requires { tei ≤ 126 }
         ensures told { IfOk result (λ outcome. told_of outcome ≡ told (check tei) self.old) }

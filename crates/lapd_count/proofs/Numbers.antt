@@ -1,7 +1,5 @@
 -- A counter is a number.
-use Rattle.lapd_count.proofs.Vocabulary.{◌≡◌, ℕ, ◌+◌, ◌≤◌, ◌<◌, ◌==◌, Bool, true, false, cond, [], ◌∷◌, length, length-set, get_or, set, min, refl, sym, ap, subst, ◌∙◌, arith, eqb-true, eqb-false, get_or-set_same, get_or-set_other, sum_by-cons, Cause, Abort, Ragged, Short, Fcs, Extension, Sapi, Tei, Unserved, ErrorCode, Counter, Frames, Octets, Polls, Overlong, Dropped, Errors, EstablishIndications, EstablishConfirms, ReleaseIndications, ReleaseConfirms, Data, Units, Xids, Assigned, Removed, Doubled, Lost, Messages, Message, message_place, Heard, Begun, Counters, Kind, kind_place, count, most, place, cause_place, error_place, value_in, with_more, amount_of, amount_in, CountersAreNumbers}
-use Rattle.lapd_frame.specs.declared.notes.ErrorCode.TheVariants as code
-use Rattle.lapd_count.specs.declared.kinds.Kind.TheVariants as kind
+use Rattle.lapd_count.proofs.Vocabulary.{◌≡◌, ℕ, ◌+◌, ◌≤◌, ◌<◌, ◌==◌, Bool, true, false, cond, [], ◌∷◌, length, length-set, get_or, set, min, refl, sym, ap, subst, ◌∙◌, arith, eqb-true, eqb-false, get_or-set_same, get_or-set_other, sum_by-cons, Cause, ErrorCode, Counter, Message, message_place, Counters, Kind, kind_place, count, most, place, cause_place, error_place, value_in, with_more, amount_of, amount_in, CountersAreNumbers}
 
 kind_within : (k : Kind) → kind_place k < 12
 kind_within k = grind arith

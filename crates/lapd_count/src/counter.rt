@@ -98,36 +98,12 @@ fn cause_place(cause: Cause) -> usize
     ensures value { result ≡ cause_place cause }
     ensures bound { result < 8 }
 {
-    match cause {
-        Cause::Abort => 0,
-        Cause::Ragged => 1,
-        Cause::Short => 2,
-        Cause::Fcs => 3,
-        Cause::Extension => 4,
-        Cause::Sapi => 5,
-        Cause::Tei => 6,
-        Cause::Unserved => 7,
-    }
+    cause as usize - 1
 }
 
 fn error_place(code: ErrorCode) -> usize
     ensures value { result ≡ error_place code }
     ensures bound { result < 14 }
 {
-    match code {
-        ErrorCode::A => 0,
-        ErrorCode::B => 1,
-        ErrorCode::C => 2,
-        ErrorCode::D => 3,
-        ErrorCode::E => 4,
-        ErrorCode::F => 5,
-        ErrorCode::G => 6,
-        ErrorCode::H => 7,
-        ErrorCode::I => 8,
-        ErrorCode::J => 9,
-        ErrorCode::K => 10,
-        ErrorCode::L => 11,
-        ErrorCode::N => 12,
-        ErrorCode::O => 13,
-    }
+    code as usize
 }

@@ -101,19 +101,6 @@ impl Kind {
         ensures value { result ≡ kind_place self }
         ensures bound { result < 12 }
     {
-        match self {
-            Kind::Information => 0,
-            Kind::ReceiveReady => 1,
-            Kind::ReceiveNotReady => 2,
-            Kind::Reject => 3,
-            Kind::Sabme => 4,
-            Kind::Disc => 5,
-            Kind::Ui => 6,
-            Kind::Ua => 7,
-            Kind::Dm => 8,
-            Kind::Frmr => 9,
-            Kind::Xid => 10,
-            Kind::Undefined => 11,
-        }
+        self as usize
     }
 }

@@ -45,14 +45,6 @@ impl Message {
         ensures value { result ≡ message_place self }
         ensures bound { result < 7 }
     {
-        match self {
-            Message::IdentityRequest => 0,
-            Message::IdentityAssigned => 1,
-            Message::IdentityDenied => 2,
-            Message::IdentityCheckRequest => 3,
-            Message::IdentityCheckResponse => 4,
-            Message::IdentityRemove => 5,
-            Message::IdentityVerify => 6,
-        }
+        self as usize
     }
 }

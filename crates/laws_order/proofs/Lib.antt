@@ -15,5 +15,6 @@ pub mod Ordered
 pub mod LinkReleased
 pub mod ReleasedAt
 pub mod Released
+pub mod InTheEnd
 pub mod PremisesMet
 pub mod OfCircuit

@@ -23,6 +23,17 @@ use Rattle.laws_line.specs.Heard.{is_data_of}
 use Rattle.laws_trace.proofs.LinkLed.{own-is}
 use Rattle.laws_order.specs.Release.{is_news, begins_by_note}
 
+-- What confirms a release: UA and DM with F=1, and that the link is as one that begins.
+abbrev pub Confirms : Control → Type 0
+Confirms (Ua true) = Unit {0}
+Confirms (Dm true) = Unit {0}
+Confirms other = ⊥
+
+abbrev pub ConfirmsAt : Event → Type 0
+ConfirmsAt (received (frame f)) = Confirms f.control
+ConfirmsAt cleared = Unit {0}
+ConfirmsAt other = ⊥
+
 module _ (t : Terms) where
   abbrev News : List Note → List Note
   News ns = filter (is_news t.service t.tei) ns
@@ -38,9 +49,9 @@ module _ (t : Terms) where
   abbrev pub given_up : List Note
   given_up = notes.Error t.service t.tei code.H ∷ confirm
 
-  -- In state 6 a link stays there and tells nothing, or it comes to state 4, which it tells.
-  abbrev pub In6 : List Note → State → Type 0
-  In6 ns to = ((to ≡ AwaitingRelease) × Tells ns []) ⊎ ((to ≡ TeiAssigned) × (Tells ns confirm ⊎ Tells ns given_up))
+  -- In state 6 a link stays there and tells nothing, or it comes to state 4, which it tells; where it tells no error, by its cause.
+  abbrev pub In6 : Type 0 → List Note → State → Type 0
+  In6 cause ns to = ((to ≡ AwaitingRelease) × Tells ns []) ⊎ ((to ≡ TeiAssigned) × ((Tells ns confirm × cause) ⊎ Tells ns given_up))
 
   abbrev pub In4 : List Note → State → Type 0
   In4 ns to = (to ≡ TeiAssigned) × Tells ns []
@@ -68,10 +79,10 @@ module _ (t : Terms) where
   xid-silent : Tells (notes.Xid t.service t.tei ∷ []) []
   xid-silent = record { news = refl; no_data = refl }
 
-  frame-6 : (command : Bool) (octets : List ℕ) (control : Control) → In6 (told_in_6 t octets control) (by_frame AwaitingRelease command control)
-  frame-6 command octets (Ua true) = inr (refl, inl confirms)
+  frame-6 : (command : Bool) (octets : List ℕ) (control : Control) → In6 (Confirms control) (told_in_6 t octets control) (by_frame AwaitingRelease command control)
+  frame-6 command octets (Ua true) = inr (refl, inl (confirms, tt))
   frame-6 command octets (Ua false) = inl (refl, unasked-silent false)
-  frame-6 command octets (Dm true) = inr (refl, inl confirms)
+  frame-6 command octets (Dm true) = inr (refl, inl (confirms, tt))
   frame-6 command octets (Dm false) = inl (refl, silent)
   frame-6 command octets (Ui p) = inl (refl, unit-silent (nat_lt t.n201 (length octets)))
   frame-6 command octets (Xid pf) = inl (refl, xid-silent)
@@ -90,14 +101,14 @@ module _ (t : Terms) where
   frame-4 command octets (Xid pf) = inr (refl, xid-silent)
   frame-4 command octets other = inr (refl, silent)
 
-  expired-6 : (timer : LinkTimer) (again ran : Bool) → let to = cond ran (by_expiry AwaitingRelease timer again) AwaitingRelease in In6 (told_expired AwaitingRelease t to) to
+  expired-6 : (timer : LinkTimer) (again ran : Bool) → let to = cond ran (by_expiry AwaitingRelease timer again) AwaitingRelease in In6 ⊥ (told_expired AwaitingRelease t to) to
   expired-6 T200 true true = inl (refl, silent)
   expired-6 T200 false true = inr (refl, inr gives-up)
   expired-6 T203 true true = inl (refl, silent)
   expired-6 T203 false true = inl (refl, silent)
   expired-6 timer again false = inl (refl, silent)
 
-  asked-6 : (request : Request) → In6 (told_requested AwaitingRelease t request) (by_request AwaitingRelease request)
+  asked-6 : (request : Request) → In6 ⊥ (told_requested AwaitingRelease t request) (by_request AwaitingRelease request)
   asked-6 Establish = inl (refl, silent)
   asked-6 Release = inl (refl, silent)
   asked-6 (Data contents) = inl (refl, silent)
@@ -138,10 +149,10 @@ module _ (t : Terms) where
       To = state_after t (as_heard t e) x
 
     -- of a link of which the state is known
-    known-6 : (x : Link) → x.state ≡ AwaitingRelease → (e : Event) → In6 (Told x e (To x e)) (To x e)
+    known-6 : (x : Link) → x.state ≡ AwaitingRelease → (e : Event) → In6 (ConfirmsAt e) (Told x e (To x e)) (To x e)
     known-6 x is (received (frame f)) = go (is_overlong t f.control f.info)
       where
-        go : (long : Bool) → let e = received (cond long overlong (frame f)) in In6 (told_by t e x (state_after t e x)) (state_after t e x)
+        go : (long : Bool) → let e = received (cond long overlong (frame f)) in In6 (Confirms f.control) (told_by t e x (state_after t e x)) (state_after t e x)
         go true = rw is (inl (refl, silent))
         go false = rw is (frame-6 f.address.command f.info f.control)
     known-6 x is (received undefined) = rw is (inl (refl, silent))
@@ -150,7 +161,7 @@ module _ (t : Terms) where
     known-6 x is (expired timer) = rw is (expired-6 timer (may_repeat t x) (runs timer x.running))
     known-6 x is (requested request full) = rw is (asked-6 request)
     known-6 x is offer = inl (is, silent)
-    known-6 x is cleared = rw is (inr (refl, inl confirms))
+    known-6 x is cleared = rw is (inr (refl, inl (confirms, tt)))
 
     known-4 : (x : Link) → x.state ≡ TeiAssigned → (e : Event) → AsksNothing e → Begins (Told x e (To x e)) ⊎ In4 (Told x e (To x e)) (To x e)
     known-4 x is (received (frame f)) none = go (is_overlong t f.control f.info)
@@ -167,10 +178,10 @@ module _ (t : Terms) where
     known-4 x is offer none = inr (is, silent)
     known-4 x is cleared none = rw is (inr (refl, silent))
 
-    pub in-6 : l.state ≡ AwaitingRelease → (e : Event) → In6 (Now e) (after t e l).state
+    pub in-6 : l.state ≡ AwaitingRelease → (e : Event) → In6 (ConfirmsAt e) (Now e) (after t e l).state
     in-6 is e =
-        subst (λ ns. In6 ns (after t e l).state) (sym (tells e ∙ ap (λ to. told_by t (as_heard t e) l to) (leads e)))
-        (subst (In6 (Told l e (To l e))) (sym (leads e)) (known-6 l is e))
+        subst (λ ns. In6 (ConfirmsAt e) ns (after t e l).state) (sym (tells e ∙ ap (λ to. told_by t (as_heard t e) l to) (leads e)))
+        (subst (In6 (ConfirmsAt e) (Told l e (To l e))) (sym (leads e)) (known-6 l is e))
 
     pub in-4 : l.state ≡ TeiAssigned → (e : Event) → AsksNothing e → Begins (Now e) ⊎ In4 (Now e) (after t e l).state
     in-4 is e none =

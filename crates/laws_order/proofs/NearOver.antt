@@ -61,8 +61,25 @@ module _ (service : Service) (tei : ℕ) where
       let same : octets' ≡ octets = whole-is s.card.config.n201 octets octets' whole in
       ap (λ side. of_link_at service tei side octets) sides ∙ ap (of_link_at service tei (other_side s.card.config.side)) (sym same) ∙ its
 
-  none-heard : (c : Config) (Q : Control → Type 0) (e : Event) → NotHeard service tei c e → HeardIs c service tei Q e
+  pub none-heard : (c : Config) (Q : Control → Type 0) (e : Event) → NotHeard service tei c e → HeardIs c service tei Q e
   none-heard c Q e none octets f is its = let wrong : [] ≡ f ∷ [] = sym (none octets is) ∙ its in absurd (cc wrong)
+
+  -- Where the far end says nothing but what an end that is up says, the near end hears nothing else.
+  pub first-speaks : (near far : Station) → far.card.config.side ≡ other_side near.card.config.side → (octets : List ℕ) (rest : List (List ℕ))
+      → Each Speaks (line_of (record far { way = octets ∷ rest }))
+      → Each Speaks (line_of (record far { way = rest })) × HeardIs near.card.config service tei Speaks (hears (came near.card.config.n201 octets))
+  first-speaks near far sides octets rest speech = go (first-is far octets rest)
+    where
+      go : IsFirst far octets rest → Each Speaks (line_of (record far { way = rest })) × HeardIs near.card.config service tei Speaks (hears (came near.card.config.n201 octets))
+      go (other_first none same) = (
+        subst (Each Speaks) same speech,
+        λ octets' f is its. let wrong : [] ≡ f ∷ [] = sym none ∙ comes-so near far sides octets octets' f is its in absurd (cc wrong),
+      )
+      go (its_first g one more) =
+          let all : Each Speaks (g ∷ line_of (record far { way = rest })) = subst (Each Speaks) more speech in (
+            all.1,
+            λ octets' f is its. let same : g ≡ f = cc (sym one ∙ comes-so near far sides octets octets' f is its) in subst (λ (x : Parts). Speaks x.control) same all.0,
+          )
 
   -- The far end has been delivered the first of some contents, and has the next of them on the line to it.
   module _ (contents : List (List ℕ)) (a k : ℕ) (small : k ≤ 127) where
@@ -117,22 +134,9 @@ module _ (service : Service) (tei : ℕ) where
     near-takes : (near far : Station) (way : List (List ℕ)) (dm : List (List ℕ)) → let w : Wire = record { near = near; far = record far { way = way } } in
         Lasts w dm → GoesOn w (befalling (acts takes) w) dm
     near-takes near far [] dm h = (λ down. down, λ down. h)
-    near-takes near far (octets ∷ rest) dm h = go (first-is far octets rest)
-      where
-        w : Wire
-        w = record { near = near; far = record far { way = octets ∷ rest } }
-
-        e : Event
-        e = hears (came near.card.config.n201 octets)
-
-        go : IsFirst far octets rest → GoesOn w (befalling (acts takes) w) dm
-        go (other_first none same) =
-            by-event w dm h e rest (subst (Each Speaks) same h.speech)
-            (λ octets' f is its. let wrong : [] ≡ f ∷ [] = sym none ∙ comes-so near far h.sides octets octets' f is its in absurd (cc wrong))
-        go (its_first g one more) =
-            let speech : Each Speaks (g ∷ line_of (record far { way = rest })) = subst (Each Speaks) more h.speech in
-            by-event w dm h e rest speech.1
-            (λ octets' f is its. let same : g ≡ f = cc (sym one ∙ comes-so near far h.sides octets octets' f is its) in subst (λ (x : Parts). Speaks x.control) same speech.0)
+    near-takes near far (octets ∷ rest) dm h =
+        let x = first-speaks near far h.sides octets rest h.speech in
+        by-event (record { near = near; far = record far { way = octets ∷ rest } }) dm h (hears (came near.card.config.n201 octets)) rest x.0 x.1
 
     near-loses : (near far : Station) (way : List (List ℕ)) (dm : List (List ℕ)) → let w : Wire = record { near = record near { way = way }; far = far } in
         Lasts w dm → Lasts (befalling (acts loses) w) dm

@@ -125,14 +125,14 @@ module _ (service : Service) (tei : ℕ) where
         ∙ ap (λ xs. xs ++ h.rest) (append_assoc d (data_noted service tei t) (data_noted service tei t') ∙ ap (λ xs. d ++ xs) (sym (noted-append t t')));
   }
 
-  both-stay : (t u : List Seen) → StaysEstablished service tei (t ++ u) → StaysEstablished service tei t × StaysEstablished service tei u
+  pub both-stay : (t u : List Seen) → StaysEstablished service tei (t ++ u) → StaysEstablished service tei t × StaysEstablished service tei u
   both-stay t u h = or-parts (list_any (ends_by service tei) t) (list_any (ends_by service tei) u) (sym (list_any-append (ends_by service tei) t u) ∙ h)
 
   unmoved : (s s' : Station) → link_here service tei s' ≡ link_here service tei s → contents_at s' ≡ contents_at s ++ []
   unmoved s s' same = ap (λ (y : Link). y.contents) same ∙ sym (append-nil (contents_at s))
 
   -- What happens at one end leaves the link at the other.
-  other-link : (deed : Deed) (w : Wire) → link_here service tei (befalling deed w).far ≡ link_here service tei w.far
+  pub other-link : (deed : Deed) (w : Wire) → link_here service tei (befalling deed w).far ≡ link_here service tei w.far
   other-link (acts (requests r)) w = refl
   other-link (acts (times_out timer)) w = refl
   other-link (acts gives) w = refl
@@ -169,7 +169,7 @@ module _ (service : Service) (tei : ℕ) where
         }
 
   -- as both ends are up
-  pair-lasts : (w : Wire) (dn dm : List (List ℕ)) → (h : Pair service tei w dn dm)
+  pub pair-lasts : (w : Wire) (dn dm : List (List ℕ)) → (h : Pair service tei w dn dm)
       → Lasts service tei (contents_at w.near) (link_here service tei w.near).a (terms w.near.card.config service tei).k h.joined.near_ranges.k_high w dm
   pair-lasts w dn dm h =
       let n = facing service tei w.near dn in
@@ -272,7 +272,7 @@ module _ (service : Service) (tei : ℕ) where
         accepted = there.kept;
       }
 
-  begins-pair : (w : Wire) (h : FaceAtRest service tei w) → Pair service tei w (had w.far w.near) (had w.near w.far)
+  pub begins-pair : (w : Wire) (h : FaceAtRest service tei w) → Pair service tei w (had w.far w.near) (had w.near w.far)
   begins-pair w h =
       let n = proper service tei w.near (well w.near h.near) h.near.up in
       let m = proper service tei w.far (well w.far h.far) h.far.up in

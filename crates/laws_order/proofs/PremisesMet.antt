@@ -1,6 +1,7 @@
 -- The premises of the law are met by the worked run.
-use Rattle.std.proofs.Common.{◌≡◌, ℕ, IsTrue, List, [], ◌∷◌, ◌++◌, refl, sym, ap, ◌∙◌, arith}
+use Rattle.std.proofs.Common.{◌≡◌, ℕ, ◌<◌, true, IsTrue, List, [], ◌∷◌, ◌++◌, refl, sym, ap, ◌∙◌, subst, arith}
 use Rattle.std.specs.Prelude.{All}
+use Rattle.std.specs.List.{list_any}
 use Rattle.std.proofs.lemmas.Bool.{leb-true}
 use Rattle.std.proofs.lemmas.List.Elements.{All-nil, All-cons}
 use Rattle.lapd_frame.specs.declared.addresses.Side.TheVariants.{User, Network}
@@ -13,6 +14,7 @@ use Rattle.lapd_seq.specs.Numbers.{seq}
 use Rattle.lapd_tei.specs.Events as teis
 use Rattle.model_link.specs.Link.{is_multiple_frame}
 use Rattle.model_line.specs.declared.config.Config.{Config}
+use Rattle.model_line.specs.Line.{terms}
 use Rattle.model_line.specs.Machine as lines
 use Rattle.model_line.specs.Request.{Assign, Establish}
 use Rattle.model_line.specs.Came.{came}
@@ -23,10 +25,13 @@ use Rattle.laws_trace.specs.Trace.{IsFront}
 use Rattle.laws_wire.specs.Call.{station, assigned, calling}
 use Rattle.laws_wire.specs.Wire.{Station, Wire, Act, requests, times_out, gives, takes, loses, turned, acting, Doing, at_near, at_far, doing, doing_all, with_first_of}
 use Rattle.laws_order.specs.Happenings.{acts, disturbed, elsewhere, IsElsewhere, Happening, by_near, by_far, IsPossible, happening_all, seen_near, seen_far}
-use Rattle.laws_order.specs.Order.{data_noted, data_granted, link_here, of_link_on, HasReceivedOf, FaceAtRest, kept_by}
+use Rattle.laws_order.specs.InTheEnd.{t200s, IsToldAtLast, IsNotDeactivated}
+use Rattle.laws_order.specs.Order.{data_noted, data_granted, ends_by, link_here, of_link_on, HasReceivedOf, FaceAtRest, kept_by}
 use Rattle.laws_order.specs.Worked.{network, user, faces, calls_both, others_speak, both_send, is_busy, busy_run, call_far as far_stays, owes, sends_one, sends_more, more_far_stays}
 use Rattle.laws_order.specs.Release.{IsToldOfRelease, news}
 use Rattle.laws_order.specs.WorkedRelease.{releases, released, takes_two, far_lasts, awaits, both_release, both_begin_nothing}
+use Rattle.laws_order.specs.WorkedInTheEnd.{runs_on, gives_up, four_expire, gives_up_quietly, comes, comes_quietly, comes_there, comes_confirmed}
+use Rattle.laws_order.proofs.InTheEnd.{releases-are-told, both-are-told}
 use Rattle.laws_order.proofs.Ordered.{delivered-in-order}
 use Rattle.laws_order.proofs.Pairs.{IsWell, happens-well}
 use Rattle.laws_order.proofs.Released.{releases-end}
@@ -215,3 +220,27 @@ release-told : IsToldOfRelease Call 0 (news Call 0 (seen_near both_release relea
 release-told =
     let at = (all-happened releases tt faces well).near in
     (releases-end Call 0 released both_release (record { sound = at.sound; within = at.within }) awaits (acts-possible released both_release tt) both_begin_nothing).0
+
+-- and it is told in the end: where each DISC is lost, and where the other end was told before
+repeats-three : (terms released.near.card.config Call 0).n200 ≡ 3
+unfolding lines.after lines.answer lines.takes_slot reading header_of control_of unnumbered_of supervisory_of teis.course teis.refusal seq distance_of named doing_all happening_all
+repeats-three = refl
+
+told-at-last : IsToldAtLast Call 0 (news Call 0 (seen_near gives_up released))
+told-at-last =
+    let at = (all-happened releases tt faces well).near in
+    let many : (terms released.near.card.config Call 0).n200 < t200s Call 0 gives_up released = omega (arith, repeats-three, four_expire) in
+    releases-are-told Call 0 released gives_up (record { sound = at.sound; within = at.within }) awaits runs_on (acts-possible released gives_up tt) gives_up_quietly many
+
+abbrev AreActive : List Happening → Type 0
+AreActive [] = Unit {0}
+AreActive (h ∷ hs) = IsNotDeactivated Call 0 h × AreActive hs
+
+all-active : (hs : List Happening) → AreActive hs → All (IsNotDeactivated Call 0) hs
+all-active [] h = All-nil (IsNotDeactivated Call 0)
+all-active (x ∷ hs) h = All-cons (IsNotDeactivated Call 0) x hs h.0 (all-active hs h.1)
+
+both-told : list_any (ends_by Call 0) (seen_far releases faces ++ seen_far comes released) ≡ true
+both-told =
+    both-are-told Call 0 faces releases comes call-rests (acts-possible faces releases tt) awaits (acts-possible released comes tt) comes_there
+    (all-active comes (tt, (tt, (tt, (tt, (tt, (tt, (tt, tt)))))))) comes_quietly comes_confirmed

@@ -7,6 +7,7 @@ use Rattle.std.proofs.lemmas.List.Elements.{All-head, All-tail}
 use Rattle.std.proofs.lemmas.List.Folds.{list_any-append}
 use Rattle.lapd_frame.specs.declared.notes.Note.{Note}
 use Rattle.lapd_frame.specs.declared.services.Service.{Service}
+use Rattle.model_link.specs.declared.states.State.{State}
 use Rattle.model_link.specs.declared.states.State.TheVariants.{TeiAssigned, AwaitingRelease}
 use Rattle.model_link.specs.Link.{Link}
 use Rattle.model_line.specs.Came.{came}
@@ -15,66 +16,70 @@ use Rattle.model_line.specs.Line.{link_of}
 use Rattle.model_card.specs.Event.{at}
 use Rattle.model_card.proofs.CardSound.{after_is_sound}
 use Rattle.laws_trace.specs.Trace.{Seen, seen}
+use Rattle.laws_wire.specs.Facing.{line_of}
 use Rattle.laws_wire.specs.Wire.{Station, Wire, requests, times_out, gives, takes, loses, answered, happens, turned}
-use Rattle.laws_order.specs.Happenings.{Deed, acts, disturbed, elsewhere, befalling, Happening, by_near, by_far, IsPossible, happening, IsPossibleAt, seen_by, seen_at_near, seen_near}
+use Rattle.laws_order.specs.Happenings.{Deed, acts, disturbed, elsewhere, befalling, Happening, by_near, by_far, IsPossible, happening, IsPossibleAt, events_here, seen_by, seen_at_near, seen_near}
 use Rattle.laws_order.specs.Order.{noted_in, data_noted, link_here}
 use Rattle.laws_order.specs.Release.{news_in, news, begins_by, BeginsNothing, IsToldOfRelease, ReleasesEnd, ReleasedIsOver}
 use Rattle.laws_order.proofs.Leading.{other-line}
 use Rattle.laws_order.proofs.Ordered.{or-parts, near-place, far-place, all-possible}
 use Rattle.laws_order.proofs.Pairs.{IsWell, happens-well}
-use Rattle.laws_order.proofs.ReleasedAt.{Confirm, GivenUp, SixAt, station-six, station-four}
+use Rattle.laws_order.proofs.ReleasedAt.{Confirm, GivenUp, Confirmless, SixAt, station-six, station-four}
 
 module _ (service : Service) (tei : ℕ) where
   -- Whatever happens at an end, it is one event there, or none.
   abbrev Same : Wire → Wire → Type 0
-  Same w w' = IsWell w'.near × (link_here service tei w'.near ≡ link_here service tei w.near)
+  Same w w' = IsWell w'.near × (link_here service tei w'.near ≡ link_here service tei w.near) × (w'.near.card.config ≡ w.near.card.config)
 
-  data Occurs (w w' : Wire) (t : List Seen) : Type 0 where
-    nothing_there : Same w w' → t ≡ [] → Occurs w w' t
-    one_there : (e : Event) → IsWell w'.near → link_here service tei w'.near ≡ link_here service tei (happens e w.near) → t ≡ seen e (answered e w.near) → Occurs w w' t
+  pub data Occurs (w w' : Wire) (t : List Seen) (es : List Event) : Type 0 where
+    nothing_there : Same w w' → t ≡ [] → es ≡ [] → Occurs w w' t es
+    one_there : (e : Event) → w'.near ≡ happens e w.near → t ≡ seen e (answered e w.near) → es ≡ e ∷ [] → Occurs w w' t es
 
-  one-event : (w w' : Wire) (e : Event) → IsWell w.near → w'.near ≡ happens e w.near → Occurs w w' (seen e (answered e w.near) ++ [])
-  one-event w w' e well is =
-      one_there e (subst IsWell (sym is) (happens-well w.near well e)) (ap (link_here service tei) is) (append-nil (seen e (answered e w.near)))
+  one-event : (w w' : Wire) (e : Event) → w'.near ≡ happens e w.near → Occurs w w' (seen e (answered e w.near) ++ []) (e ∷ [])
+  one-event w w' e is = one_there e is (append-nil (seen e (answered e w.near))) refl
 
   takes-occurs : (near far : Station) (way : List (List ℕ)) → let w : Wire = record { near = near; far = record far { way = way } } in
-      IsWell near → Occurs w (befalling (acts takes) w) (seen_by (acts takes) w)
-  takes-occurs near far [] well = nothing_there (well, refl) refl
-  takes-occurs near far (octets ∷ rest) well = one-event _ _ (hears (came near.card.config.n201 octets)) well refl
+      IsWell near → Occurs w (befalling (acts takes) w) (seen_by (acts takes) w) (events_here (acts takes) w)
+  takes-occurs near far [] well = nothing_there (well, refl, refl) refl refl
+  takes-occurs near far (octets ∷ rest) well = one-event _ _ (hears (came near.card.config.n201 octets)) refl
 
-  near-occurs : (deed : Deed) (w : Wire) → IsWell w.near → IsPossibleAt service tei w.near deed → Occurs w (befalling deed w) (seen_by deed w)
-  near-occurs (acts (requests r)) w well is = one-event _ _ (request r) well refl
-  near-occurs (acts (times_out timer)) w well is = one-event _ _ (expiry timer) well refl
-  near-occurs (acts gives) w well is = one-event _ _ next well refl
+  near-occurs : (deed : Deed) (w : Wire) → IsWell w.near → IsPossibleAt service tei w.near deed → Occurs w (befalling deed w) (seen_by deed w) (events_here deed w)
+  near-occurs (acts (requests r)) w well is = one-event _ _ (request r) refl
+  near-occurs (acts (times_out timer)) w well is = one-event _ _ (expiry timer) refl
+  near-occurs (acts gives) w well is = one-event _ _ next refl
   near-occurs (acts takes) w well is = takes-occurs w.near w.far w.far.way well
-  near-occurs (acts loses) w well is = nothing_there (record { sound = well.sound; within = well.within }, refl) refl
-  near-occurs (disturbed what) w well is = one-event _ _ (hears what) well refl
+  near-occurs (acts loses) w well is = nothing_there (record { sound = well.sound; within = well.within }, refl, refl) refl refl
+  near-occurs (disturbed what) w well is = one-event _ _ (hears what) refl
   near-occurs (elsewhere e) w well is =
-      nothing_there (record { sound = after_is_sound w.near.card e well.sound is.within; within = well.within }, ap (link_of service tei) (other-line service tei w.near e is)) refl
+      nothing_there (record { sound = after_is_sound w.near.card e well.sound is.within; within = well.within }, ap (link_of service tei) (other-line service tei w.near e is), refl) refl refl
 
-  far-occurs : (deed : Deed) (w : Wire) → IsWell w.far → Occurs (turned w) (turned (befalling deed w)) []
-  far-occurs (acts (requests r)) w well = nothing_there (well, refl) refl
-  far-occurs (acts (times_out timer)) w well = nothing_there (well, refl) refl
-  far-occurs (acts gives) w well = nothing_there (well, refl) refl
-  far-occurs (acts takes) w well = nothing_there (record { sound = well.sound; within = well.within }, refl) refl
-  far-occurs (acts loses) w well = nothing_there (well, refl) refl
-  far-occurs (disturbed what) w well = nothing_there (well, refl) refl
-  far-occurs (elsewhere e) w well = nothing_there (well, refl) refl
+  far-occurs : (deed : Deed) (w : Wire) → IsWell w.far → Occurs (turned w) (turned (befalling deed w)) [] []
+  far-occurs (acts (requests r)) w well = nothing_there (well, refl, refl) refl refl
+  far-occurs (acts (times_out timer)) w well = nothing_there (well, refl, refl) refl refl
+  far-occurs (acts gives) w well = nothing_there (well, refl, refl) refl refl
+  far-occurs (acts takes) w well = nothing_there (record { sound = well.sound; within = well.within }, refl, refl) refl refl
+  far-occurs (acts loses) w well = nothing_there (well, refl, refl) refl refl
+  far-occurs (disturbed what) w well = nothing_there (well, refl, refl) refl refl
+  far-occurs (elsewhere e) w well = nothing_there (well, refl, refl) refl refl
+
+  pub then-well : (w w' : Wire) (t : List Seen) (es : List Event) → IsWell w.near → Occurs w w' t es → IsWell w'.near
+  then-well w w' t es well (nothing_there same none nil) = same.0
+  then-well w w' t es well (one_there e is shown one) = subst IsWell (sym is) (happens-well w.near well e)
 
   -- Whole runs.
-  news-append : (t u : List Seen) → news service tei (t ++ u) ≡ news service tei t ++ news service tei u
+  pub news-append : (t u : List Seen) → news service tei (t ++ u) ≡ news service tei t ++ news service tei u
   news-append t u = flat_map-append (news_in service tei) t u
 
   noted-append : (t u : List Seen) → data_noted service tei (t ++ u) ≡ data_noted service tei t ++ data_noted service tei u
   noted-append t u = flat_map-append (noted_in service tei) t u
 
-  both-quiet : (t u : List Seen) → BeginsNothing service tei (t ++ u) → BeginsNothing service tei t × BeginsNothing service tei u
+  pub both-quiet : (t u : List Seen) → BeginsNothing service tei (t ++ u) → BeginsNothing service tei t × BeginsNothing service tei u
   both-quiet t u h = or-parts (list_any (begins_by service tei) t) (list_any (begins_by service tei) u) (sym (list_any-append (begins_by service tei) t u) ∙ h)
 
-  abbrev Is : List Seen → List Note → Type 0
+  abbrev pub Is : List Seen → List Note → Type 0
   Is t ns = (news service tei t ≡ ns) × (data_noted service tei t ≡ [])
 
-  joins : (t u : List Seen) (ns ms : List Note) → Is t ns → Is u ms → Is (t ++ u) (ns ++ ms)
+  pub joins : (t u : List Seen) (ns ms : List Note) → Is t ns → Is u ms → Is (t ++ u) (ns ++ ms)
   joins t u ns ms x y = (
     news-append t u ∙ ap (λ a. a ++ news service tei u) x.0 ∙ ap (λ b. ns ++ b) y.0,
     noted-append t u ∙ ap (λ a. a ++ data_noted service tei u) x.1 ∙ y.1,
@@ -86,46 +91,66 @@ module _ (service : Service) (tei : ℕ) where
   one-is : (t : List Seen) (ns : List Note) (u : List Seen) → t ≡ u → Is u ns → Is t ns
   one-is t ns u e x = (ap (news service tei) e ∙ x.0, ap (data_noted service tei) e ∙ x.1)
 
-  step-four : (w w' : Wire) (t : List Seen) → IsWell w.near → (link_here service tei w.near).state ≡ TeiAssigned → BeginsNothing service tei t → Occurs w w' t
-      → IsWell w'.near × ((link_here service tei w'.near).state ≡ TeiAssigned) × Is t []
-  step-four w w' t well is quiet (nothing_there same none) = (same.0, ap (λ (y : Link). y.state) same.1 ∙ is, none-is t none)
-  step-four w w' t well is quiet (one_there e well' link shown) =
+  step-four : (w w' : Wire) (t : List Seen) (es : List Event) → IsWell w.near → (link_here service tei w.near).state ≡ TeiAssigned → BeginsNothing service tei t
+      → Occurs w w' t es → ((link_here service tei w'.near).state ≡ TeiAssigned) × Is t []
+  step-four w w' t es well is quiet (nothing_there same none nil) = (ap (λ (y : Link). y.state) same.1 ∙ is, none-is t none)
+  step-four w w' t es well is quiet (one_there e it shown one) =
       let x = station-four service tei w.near well e (subst (BeginsNothing service tei) shown quiet) is in
-      (well', ap (λ (y : Link). y.state) link ∙ x.0, one-is t [] (seen e (answered e w.near)) shown x.1)
+      (ap (λ (s : Station). (link_here service tei s).state) it ∙ x.0, one-is t [] (seen e (answered e w.near)) shown x.1)
 
-  abbrev StepSix : Wire → List Seen → Type 0
-  StepSix w' t =
-      (((link_here service tei w'.near).state ≡ AwaitingRelease) × Is t []) ⊎ (((link_here service tei w'.near).state ≡ TeiAssigned) × (Is t (Confirm service tei) ⊎ Is t (GivenUp service tei)))
+  -- where a release is confirmed, one of its events may confirm it
+  abbrev pub MayConfirm : Wire → Wire → List Event → Type 0
+  MayConfirm w w' es = All (λ e. Confirmless service tei w.near.card.config e (line_of w'.near)) es → ⊥
 
-  step-six : (w w' : Wire) (t : List Seen) → IsWell w.near → (link_here service tei w.near).state ≡ AwaitingRelease → Occurs w w' t → IsWell w'.near × StepSix w' t
-  step-six w w' t well is (nothing_there same none) = (same.0, inl (ap (λ (y : Link). y.state) same.1 ∙ is, none-is t none))
-  step-six w w' t well is (one_there e well' link shown) = (well', go (station-six service tei w.near well e is))
+  abbrev pub StepSix : Wire → Wire → List Seen → List Event → Type 0
+  StepSix w w' t es =
+      (((link_here service tei w'.near).state ≡ AwaitingRelease) × Is t [])
+      ⊎ (((link_here service tei w'.near).state ≡ TeiAssigned) × ((Is t (Confirm service tei) × MayConfirm w w' es) ⊎ Is t (GivenUp service tei)))
+
+  pub step-six : (w w' : Wire) (t : List Seen) (es : List Event) → IsWell w.near → (link_here service tei w.near).state ≡ AwaitingRelease → Occurs w w' t es → StepSix w w' t es
+  step-six w w' t es well is (nothing_there same none nil) = inl (ap (λ (y : Link). y.state) same.1 ∙ is, none-is t none)
+  step-six w w' t es well is (one_there e it shown one) = go (station-six service tei w.near well e is)
     where
-      go : SixAt service tei w.near well e (link_here service tei (happens e w.near)) (answered e w.near) → StepSix w' t
-      go (inl x) = inl (ap (λ (y : Link). y.state) link ∙ x.0, one-is t [] (seen e (answered e w.near)) shown x.1)
-      go (inr (to, inl x)) = inr (ap (λ (y : Link). y.state) link ∙ to, inl (one-is t (Confirm service tei) (seen e (answered e w.near)) shown x))
-      go (inr (to, inr x)) = inr (ap (λ (y : Link). y.state) link ∙ to, inr (one-is t (GivenUp service tei) (seen e (answered e w.near)) shown x))
+      to-state : (to : State) → (link_here service tei (happens e w.near)).state ≡ to → (link_here service tei w'.near).state ≡ to
+      to-state to h = ap (λ (s : Station). (link_here service tei s).state) it ∙ h
+
+      none-of : (Confirmless service tei w.near.card.config e (line_of (happens e w.near)) → ⊥) → MayConfirm w w' es
+      none-of never = λ all.
+          let mine : All (λ e. Confirmless service tei w.near.card.config e (line_of w'.near)) (e ∷ []) =
+          subst (All (λ e. Confirmless service tei w.near.card.config e (line_of w'.near))) one all in
+          never (subst (λ s. Confirmless service tei w.near.card.config e (line_of s)) it (All-head (λ e. Confirmless service tei w.near.card.config e (line_of w'.near)) e [] mine))
+
+      go : SixAt service tei w.near well e (line_of (happens e w.near)) (answered e w.near) → StepSix w w' t es
+      go (inl x) = inl (to-state AwaitingRelease x.0, one-is t [] (seen e (answered e w.near)) shown x.1)
+      go (inr (to, inl x)) = inr (to-state TeiAssigned to, inl (one-is t (Confirm service tei) (seen e (answered e w.near)) shown x.0, none-of x.1))
+      go (inr (to, inr x)) = inr (to-state TeiAssigned to, inr (one-is t (GivenUp service tei) (seen e (answered e w.near)) shown x))
 
   abbrev IsOpen : Wire → Happening → Type 0
   IsOpen w h = IsPossible service tei w h
 
-  occurs : (h : Happening) (w : Wire) → IsWell w.near → IsOpen w h → Occurs w (happening h w) (seen_at_near h w)
+  abbrev pub events_at : Happening → Wire → List Event
+  events_at (by_near deed) w = events_here deed w
+  events_at (by_far deed) w = []
+
+  pub occurs : (h : Happening) (w : Wire) → IsWell w.near → IsOpen w h → Occurs w (happening h w) (seen_at_near h w) (events_at h w)
   occurs (by_near deed) w well is = near-occurs deed w well is
   occurs (by_far deed) w well is = far-occurs deed (turned w) well
 
-  later : (h : Happening) (hs : List Happening) (w : Wire) → All (IsOpen w) (h ∷ hs) → All (IsOpen (happening h w)) hs
+  pub later : (h : Happening) (hs : List Happening) (w : Wire) → All (IsOpen w) (h ∷ hs) → All (IsOpen (happening h w)) hs
   later (by_near deed) hs w all = all-possible service tei w (befalling deed w) (near-place deed w) (far-place deed w) hs (All-tail (IsOpen w) (by_near deed) hs all)
   later (by_far deed) hs w all =
       all-possible service tei w (turned (befalling deed (turned w))) (far-place deed (turned w)) (near-place deed (turned w)) hs (All-tail (IsOpen w) (by_far deed) hs all)
 
-  run-four : (hs : List Happening) (w : Wire) → IsWell w.near → (link_here service tei w.near).state ≡ TeiAssigned → All (IsOpen w) hs
+  pub run-four : (hs : List Happening) (w : Wire) → IsWell w.near → (link_here service tei w.near).state ≡ TeiAssigned → All (IsOpen w) hs
       → BeginsNothing service tei (seen_near hs w) → Is (seen_near hs w) []
   unfolding seen_near
   run-four [] w well is all quiet = (refl, refl)
   run-four (h ∷ hs) w well is all quiet =
       let both = both-quiet (seen_at_near h w) (seen_near hs (happening h w)) quiet in
-      let x = step-four w (happening h w) (seen_at_near h w) well is both.0 (occurs h w well (All-head (IsOpen w) h hs all)) in
-      joins (seen_at_near h w) (seen_near hs (happening h w)) [] [] x.2 (run-four hs (happening h w) x.0 x.1 (later h hs w all) both.1)
+      let o = occurs h w well (All-head (IsOpen w) h hs all) in
+      let x = step-four w (happening h w) (seen_at_near h w) (events_at h w) well is both.0 o in
+      joins (seen_at_near h w) (seen_near hs (happening h w)) [] [] x.1
+      (run-four hs (happening h w) (then-well w (happening h w) (seen_at_near h w) (events_at h w) well o) x.0 (later h hs w all) both.1)
 
   abbrev Released : List Seen → Type 0
   Released t = IsToldOfRelease service tei (news service tei t) × (data_noted service tei t ≡ [])
@@ -154,13 +179,15 @@ module _ (service : Service) (tei : ℕ) where
       let t = seen_at_near h w in
       let u = seen_near hs w' in
       let both = both-quiet t u quiet in
-      let x = step-six w w' t well is (occurs h w well (All-head (IsOpen w) h hs all)) in
-      go w' t u (λ is'. run-six hs w' x.0 is' (later h hs w all) both.1) (λ is'. run-four hs w' x.0 is' (later h hs w all) both.1) x.1
+      let o = occurs h w well (All-head (IsOpen w) h hs all) in
+      let well' = then-well w w' t (events_at h w) well o in
+      go w' t u (λ is'. run-six hs w' well' is' (later h hs w all) both.1) (λ is'. run-four hs w' well' is' (later h hs w all) both.1)
+      (step-six w w' t (events_at h w) well is o)
     where
       go : (w' : Wire) (t u : List Seen) → ((link_here service tei w'.near).state ≡ AwaitingRelease → Released u) → ((link_here service tei w'.near).state ≡ TeiAssigned → Is u [])
-          → StepSix w' t → Released (t ++ u)
+          → StepSix w w' t (events_at h w) → Released (t ++ u)
       go w' t u six four (inl (is, x)) = behind-none t u x (six is)
-      go w' t u six four (inr (is, inl x)) = confirmed-so (t ++ u) (joins t u (Confirm service tei) [] x (four is))
+      go w' t u six four (inr (is, inl x)) = confirmed-so (t ++ u) (joins t u (Confirm service tei) [] x.0 (four is))
       go w' t u six four (inr (is, inr x)) = given-up-so (t ++ u) (joins t u (GivenUp service tei) [] x (four is))
 
 pub releases-end : ReleasesEnd

@@ -3,6 +3,8 @@ use Rattle.std.proofs.Common.{◌≡◌, ℕ, ◌&&◌, ◌||◌, not, Bool, tru
 use Rattle.std.specs.Prelude.{filter, option_to_list}
 use Rattle.std.specs.List.{list_any}
 use Rattle.std.proofs.lemmas.List.{get_or-set_same}
+use Rattle.lapd_frame.specs.declared.controls.Control.{Control}
+use Rattle.lapd_frame.specs.declared.controls.Control.TheVariants.{Ua, Dm}
 use Rattle.lapd_frame.specs.declared.notes.ErrorCode.TheVariants.{H}
 use Rattle.lapd_frame.specs.declared.notes.Note.{Note}
 use Rattle.lapd_frame.specs.declared.notes.Note.TheVariants as notes
@@ -16,7 +18,7 @@ use Rattle.model_link.specs.Link.{Link, fresh, state_number}
 use Rattle.model_link.specs.Machine as links
 use Rattle.model_line.specs.declared.config.Config.{Config}
 use Rattle.model_line.specs.Event.{Event, hears, expiry, request, next, Answer, told, refused, gave}
-use Rattle.model_line.specs.Line.{Line, fresh_line, link_of, place_in, terms}
+use Rattle.model_line.specs.Line.{Line, fresh_line, has_tei, link_of, place_in, terms}
 use Rattle.model_line.specs.Machine as lines
 use Rattle.model_line.specs.Request.{Request}
 use Rattle.model_line.specs.Sound as line_sound
@@ -24,12 +26,13 @@ use Rattle.model_card.specs.Card.{line_at}
 use Rattle.model_card.specs.Event.{at}
 use Rattle.model_card.proofs.Steps.{has_lines, by_room, line_sound as sound_line}
 use Rattle.laws_line.specs.Heard.{notes_of, contents_in, is_data_of}
-use Rattle.laws_line.specs.Requests.{of_link}
+use Rattle.laws_line.specs.Requests.{of_link, deactivates}
 use Rattle.laws_line.specs.Share.{is_granted}
 use Rattle.laws_line.specs.Steady.{IsBy}
 use Rattle.laws_line.proofs.Places.{is-off}
 use Rattle.laws_trace.specs.News as trace
 use Rattle.laws_trace.specs.Trace.{seen}
+use Rattle.laws_trace.specs.Units.{is_ui}
 use Rattle.laws_trace.proofs.Begins.{unless}
 use Rattle.laws_trace.proofs.DeliveriesRun.{no-data}
 use Rattle.laws_trace.proofs.LinkLed.{on-line, own-is}
@@ -38,13 +41,30 @@ use Rattle.laws_trace.proofs.NewsOfOthers.{none-filtered, others-silent}
 use Rattle.laws_trace.proofs.NewsWatched.{due}
 use Rattle.laws_trace.proofs.OneLink.{HasOne, HasNone, IsGivenUp, Goes, event-goes}
 use Rattle.laws_trace.proofs.TimersOfEvent.{off-fresh}
+use Rattle.laws_wire.specs.Facing.{line_of}
 use Rattle.laws_wire.specs.Wire.{Station, takes, answered, happens}
 use Rattle.laws_order.specs.Order.{data_noted, link_here}
 use Rattle.laws_order.specs.Release.{is_unasked, is_news, news, begins_by_note, begins_by_request, begins_by, BeginsNothing}
-use Rattle.laws_order.proofs.LinkReleased.{Tells, In6, In4, Begins, AsksNothing, in-6, in-4}
+use Rattle.laws_order.proofs.Down.{Speaks}
+use Rattle.laws_order.proofs.LinkReleased.{Tells, In6, In4, Begins, AsksNothing, Confirms, ConfirmsAt, in-6, in-4}
 use Rattle.laws_order.proofs.LinkEnds.{or-true}
 use Rattle.laws_order.proofs.Pairs.{IsWell}
+use Rattle.laws_order.proofs.Saying.{HeardIs, by-ui}
 use Rattle.laws_order.proofs.Shown.{Fits, fits, noted_by, noted-is, none-noted}
+
+-- UA and DM are no unit data, and no end that is up says them.
+abbrev Unconfirming : Control → Type 0
+Unconfirming control = Confirms control → ⊥
+
+ui-unconfirming : (control : Control) → is_ui control ≡ true → Unconfirming control
+ui-unconfirming (Ua f) is h = true≢false (sym is)
+ui-unconfirming (Dm f) is h = true≢false (sym is)
+ui-unconfirming other is h = h
+
+speaks-unconfirming : (control : Control) → Speaks control → Unconfirming control
+speaks-unconfirming (Ua f) is h = is
+speaks-unconfirming (Dm f) is h = is
+speaks-unconfirming other is h = h
 
 module _ (service : Service) (tei : ℕ) where
   abbrev News : List Note → List Note
@@ -84,8 +104,14 @@ module _ (service : Service) (tei : ℕ) where
   abbrev pub GivenUp : List Note
   GivenUp = notes.Error service tei H ∷ Confirm
 
-  abbrev pub Six : Link → Answer → Type 0
-  Six k a = ((k.state ≡ AwaitingRelease) × Says a []) ⊎ ((k.state ≡ TeiAssigned) × (Says a Confirm ⊎ Says a GivenUp))
+  abbrev pub Six : Type 0 → Link → Answer → Type 0
+  Six cause k a = ((k.state ≡ AwaitingRelease) × Says a []) ⊎ ((k.state ≡ TeiAssigned) × ((Says a Confirm × cause) ⊎ Says a GivenUp))
+
+  -- An event by which no release is confirmed, before which the TEI stays on the line.
+  pub record Confirmless (c : Config) (e : Event) (l : Line) : Type 0 where
+    pub heard : HeardIs c service tei Speaks e
+    pub stays : has_tei tei l ≡ true
+    pub active : deactivates service tei e ≡ false
 
   abbrev pub Four : Link → Answer → Type 0
   Four k a = (k.state ≡ TeiAssigned) × Says a []
@@ -142,6 +168,9 @@ module _ (service : Service) (tei : ℕ) where
     abbrev k' : Link
     k' = link_of service tei l'
 
+    abbrev Cause : Type 0
+    Cause = Confirmless c e l' → ⊥
+
     abbrev Quietly : Type 0
     Quietly = list_any (begins_by service tei) (seen e a) ≡ false
 
@@ -179,17 +208,20 @@ module _ (service : Service) (tei : ℕ) where
           → Says a (News (due service tei [] false false false false false (state_number k.state) 4))
       left-says place on off = by-trace _ (leaving-due service tei c e l s place on (is-off l'.management.places tei off) false false)
 
-      none-six : k.state ≡ AwaitingRelease → Six k' a
+      none-six : k.state ≡ AwaitingRelease → Six Cause k' a
       none-six is = go (place_in l tei) refl (place_in l' tei) refl
         where
-          go : (o : Option ℕ) → place_in l tei ≡ o → (p : Option ℕ) → place_in l' tei ≡ p → Six k' a
+          go : (o : Option ℕ) → place_in l tei ≡ o → (p : Option ℕ) → place_in l' tei ≡ p → Six Cause k' a
           go None off p q = let wrong : TeiAssigned ≡ AwaitingRelease = sym (ap (λ (y : Link). y.state) (off-fresh service tei l off)) ∙ is in absurd (cc wrong)
           go (Some place) on (Some there) still =
               inl (ap (λ (y : Link). y.state) (x.stays (on-line l tei place on) (on-line l' tei there still)) ∙ is, on-says there still)
           go (Some place) on None off =
               inr (
                 new-state (off-fresh service tei l' off),
-                inl (subst (Says a) (ap (λ here. News (due service tei [] false false false false false (state_number here) 4)) is ∙ confirm-is) (left-says place on off)),
+                inl (
+                  subst (Says a) (ap (λ here. News (due service tei [] false false false false false (state_number here) 4)) is ∙ confirm-is) (left-says place on off),
+                  λ none. true≢false (sym none.stays ∙ is-off l'.management.places tei off),
+                ),
               )
             where
               confirm-is : News Confirm ≡ Confirm
@@ -212,12 +244,22 @@ module _ (service : Service) (tei : ℕ) where
       state-is : k'.state ≡ (links.after Own x.event k).state
       state-is = ap (λ (y : Link). y.state) x.is
 
-      one-six : k.state ≡ AwaitingRelease → Six k' a
+      unconfirmed : (ev : link.Event) → IsBy c e a service tei ev → ConfirmsAt ev → Cause
+      unconfirmed (link.received (link.frame f)) by h = λ none. by-ui c service tei ranged l s e Speaks Unconfirming ui-unconfirming speaks-unconfirming none.heard f by h
+      unconfirmed (link.received link.undefined) by h = absurd h
+      unconfirmed (link.received link.wrong_size) by h = absurd h
+      unconfirmed (link.received link.overlong) by h = absurd h
+      unconfirmed (link.expired timer) by h = absurd h
+      unconfirmed (link.requested asked full) by h = absurd h
+      unconfirmed link.offer by h = absurd h
+      unconfirmed link.cleared by h = absurd by
+
+      one-six : k.state ≡ AwaitingRelease → Six Cause k' a
       one-six is = go (in-6 Own k is x.event)
         where
-          go : In6 Own (links.told Own x.event k).notes (links.after Own x.event k).state → Six k' a
+          go : In6 Own (ConfirmsAt x.event) (links.told Own x.event k).notes (links.after Own x.event k).state → Six Cause k' a
           go (inl y) = inl (state-is ∙ y.0, by-notes _ [] x.notes y.1)
-          go (inr (to, inl y)) = inr (state-is ∙ to, inl (by-notes _ Confirm x.notes y))
+          go (inr (to, inl y)) = inr (state-is ∙ to, inl (by-notes _ Confirm x.notes y.0, unconfirmed x.event x.by y.1))
           go (inr (to, inr y)) = inr (state-is ∙ to, inr (by-notes _ GivenUp x.notes y))
 
       asks-nothing : Quietly → (ev : link.Event) → IsBy c e a service tei ev → AsksNothing Own ev
@@ -249,12 +291,15 @@ module _ (service : Service) (tei : ℕ) where
       ended-state : k'.state ≡ TeiAssigned
       ended-state = ap (λ (y : Link). y.state) x.is
 
-      ended-six : k.state ≡ AwaitingRelease → Six k' a
+      deactivated : deactivates service tei e ≡ true
+      deactivated = ap (deactivates service tei) x.by.0 ∙ own-is service tei
+
+      ended-six : k.state ≡ AwaitingRelease → Six Cause k' a
       ended-six is = go (in-6 Own k is link.cleared)
         where
-          go : In6 Own (links.told Own link.cleared k).notes (links.after Own link.cleared k).state → Six k' a
+          go : In6 Own (ConfirmsAt link.cleared) (links.told Own link.cleared k).notes (links.after Own link.cleared k).state → Six Cause k' a
           go (inl y) = let wrong : AwaitingRelease ≡ TeiAssigned = sym y.0 in absurd (cc wrong)
-          go (inr (to, inl y)) = inr (ended-state, inl (by-notes _ Confirm x.notes y))
+          go (inr (to, inl y)) = inr (ended-state, inl (by-notes _ Confirm x.notes y.0, λ none. true≢false (sym deactivated ∙ none.active)))
           go (inr (to, inr y)) = inr (ended-state, inr (by-notes _ GivenUp x.notes y))
 
       ended-four : Quietly → k.state ≡ TeiAssigned → Four k' a
@@ -264,10 +309,10 @@ module _ (service : Service) (tei : ℕ) where
           go (inl begun) = absurd (true≢false (sym (noted-begins e a (fits c e l) (ap (list_any (begins_by_note service tei)) x.notes ∙ begun)) ∙ quiet))
           go (inr y) = (ended-state, by-notes _ [] x.notes y.1)
 
-    pub line-six : k.state ≡ AwaitingRelease → Six k' a
+    pub line-six : k.state ≡ AwaitingRelease → Six Cause k' a
     line-six is = go (event-goes c e l service tei s)
       where
-        go : Goes c service tei e l l' a → Six k' a
+        go : Goes c service tei e l l' a → Six Cause k' a
         go (inl x) = none-six x is
         go (inr (inl x)) = one-six x is
         go (inr (inr x)) = ended-six x is
@@ -298,23 +343,25 @@ module _ (service : Service) (tei : ℕ) where
     abbrev pub Shows : Answer → List Note → Type 0
     Shows a ns = (news service tei (seen e a) ≡ ns) × (data_noted service tei (seen e a) ≡ [])
 
-    abbrev pub SixAt : Link → Answer → Type 0
-    SixAt k a = ((k.state ≡ AwaitingRelease) × Shows a []) ⊎ ((k.state ≡ TeiAssigned) × (Shows a Confirm ⊎ Shows a GivenUp))
+    abbrev pub SixAt : Line → Answer → Type 0
+    SixAt l a =
+        let to = (link_of service tei l).state in
+        ((to ≡ AwaitingRelease) × Shows a []) ⊎ ((to ≡ TeiAssigned) × ((Shows a Confirm × (Confirmless conf e l → ⊥)) ⊎ Shows a GivenUp))
 
     shows : (a : Answer) → Fits e a → (ns : List Note) → Says a ns → Shows a ns
     shows a f ns x = (news-is e a f ∙ x.news, noted-is service tei e a f ∙ x.no_data)
 
-    six-shows : (k : Link) (a : Answer) → Fits e a → Six k a → SixAt k a
-    six-shows k a f (inl x) = inl (x.0, shows a f [] x.1)
-    six-shows k a f (inr (to, inl x)) = inr (to, inl (shows a f Confirm x))
-    six-shows k a f (inr (to, inr x)) = inr (to, inr (shows a f GivenUp x))
+    six-shows : (l : Line) (a : Answer) → Fits e a → Six (Confirmless conf e l → ⊥) (link_of service tei l) a → SixAt l a
+    six-shows l a f (inl x) = inl (x.0, shows a f [] x.1)
+    six-shows l a f (inr (to, inl x)) = inr (to, inl (shows a f Confirm x.0, x.1))
+    six-shows l a f (inr (to, inr x)) = inr (to, inr (shows a f GivenUp x))
 
-    pub station-six : (link_here service tei s).state ≡ AwaitingRelease → SixAt (link_here service tei (happens e s)) (answered e s)
+    pub station-six : (link_here service tei s).state ≡ AwaitingRelease → SixAt (line_of (happens e s)) (answered e s)
     station-six is =
-        by_room (λ ls a. SixAt (link_of service tei (get_or ls s.line (fresh_line conf))) a) (at s.line e) s.card
+        by_room (λ ls a. SixAt (get_or ls s.line (fresh_line conf)) a) (at s.line e) s.card
         (λ full. inl (is, (none-news e PoolFull, none-noted service tei e PoolFull)))
-        (λ room. subst (λ x. SixAt (link_of service tei x) (lines.answer conf e here)) (sym now)
-        (six-shows (link_of service tei (lines.after conf e here)) (lines.answer conf e here) (fits conf e here) (line-six conf well.sound.config here sound e is)))
+        (λ room. subst (λ x. SixAt x (lines.answer conf e here)) (sym now)
+        (six-shows (lines.after conf e here) (lines.answer conf e here) (fits conf e here) (line-six conf well.sound.config here sound e is)))
 
     pub station-four : BeginsNothing service tei (seen e (answered e s)) → (link_here service tei s).state ≡ TeiAssigned
         → ((link_here service tei (happens e s)).state ≡ TeiAssigned) × Shows (answered e s) []

@@ -150,7 +150,7 @@ module _ (c : Config) (service : Service) (tei : ℕ) where
     abbrev k' : Link
     k' = link_of service tei (lines.after c e l)
 
-    by-ui : (Q R : Control → Type 0) → ((control : Control) → is_ui control ≡ true → R control) → ((control : Control) → Q control → R control) → HeardIs Q e
+    pub by-ui : (Q R : Control → Type 0) → ((control : Control) → is_ui control ≡ true → R control) → ((control : Control) → Q control → R control) → HeardIs Q e
         → (f : Parts) → IsBy c e a service tei (link.received (link.frame f)) → R f.control
     by-ui Q R ui so heard f by = go (is_ui f.control) refl
       where

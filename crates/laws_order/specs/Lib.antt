@@ -2,7 +2,9 @@
 pub mod Happenings
 pub mod Order
 pub mod Release
+pub mod InTheEnd
 pub mod Worked
 pub mod WorkedRelease
+pub mod WorkedInTheEnd
 pub mod WorkedBroken
 pub mod circuit

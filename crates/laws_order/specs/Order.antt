@@ -36,8 +36,8 @@ abbrev pub data_noted : Service → ℕ → List Seen → List (List ℕ)
 data_noted service tei t = flat_map (noted_in service tei) t
 
 -- What ends an establishment, or renews it: its release is granted; layer 3 is told of an establishment or a release; or layer
--- management is told of an error by which the link is established anew, so not of A, C, D, G or H; of B, by which it is in state 8
--- alone, in either state (Q.921 clauses 4.1.1.1, 4.1.1.2, 5.7.1 and 5.8.2 to 5.8.7, appendix II).
+-- management is told of an error other than A, C, D, G and H, as the link is then established anew (Q.921 clauses 4.1.1.1, 4.1.1.2,
+-- 5.7.1 and 5.8.2 to 5.8.7, appendix II). Error B, of DM with F=1, counts in state 7, too, though it renews the link in state 8 alone.
 abbrev pub ends_by_note : Service → ℕ → Note → Bool
 ends_by_note service tei (EstablishIndication of by) = is_own service tei of by
 ends_by_note service tei (EstablishConfirm of by) = is_own service tei of by

@@ -36,9 +36,9 @@ pub fn a_call_comes_through_in_octets()
 /// So many octets are enough. In such a call, once nothing more is asked for, let the lines of both ends run at the
 /// same rate: in a beat each end's next octet is pulled, and then the first octet on the way to each end is heard. L
 /// octets are those of the longest frame with its check, a 0 stuffed after every fifth bit, a flag, and octets cut at
-/// both ends; at most D octets are on their way to either end. After 2 (2 L + D) beats, or 4 (2 L + D) where both ends
-/// call, and 2 (2 L + D) more for each request for data that was granted in the whole call, layer 3 of each was told
-/// all.
+/// both ends; as the last request is made at most D octets are on their way to either end. After 2 (2 L + D) beats, or
+/// 4 (2 L + D) where both ends call, and 2 (2 L + D) more for each request for data that was granted in the whole call,
+/// layer 3 of each was told all.
 pub fn all_is_told_in_beats()
     ensures { AllIsToldInBeats }
 {}

@@ -1,5 +1,6 @@
 //! What is delivered is in order, up to a release. Each law is the contract of a call that does nothing.
 
+ghost use Rattle.laws_order.specs.InTheEnd.{BothAreTold, ReleasesAreTold};
 ghost use Rattle.laws_order.specs.Order.{DeliveredInOrder};
 ghost use Rattle.laws_order.specs.Release.{ReleasedIsOver, ReleasesEnd};
 
@@ -33,4 +34,18 @@ pub fn delivered_in_order()
 pub fn releases_end()
     ensures released { ReleasesEnd }
     ensures over { ReleasedIsOver }
+{}
+
+/// A release is told in the end, at both ends. At an end of the wire the link is in state 6, in which T200 runs, as from where layer 3
+/// is granted the release, whatever waits and whatever is on its way. Then anything happens at both, as in [`delivered_in_order`], and
+/// frames are lost, too. Once T200 has expired there more than N200 times, if not before, this end was told that the release is
+/// confirmed, by itself or behind error H, unless something else began, as in [`releases_end`] (`here`; Q.921 clauses 5.5.3.2 and
+/// 5.5.3.3). And where it is told that alone, the other end was told before: the two links faced each other at rest before the
+/// release, as in [`delivered_in_order`], and the other's layer 3 was told since then that its establishment is over or renewed, or
+/// was granted a release itself (`there`). So it is while the TEI stays on the line of the end that releases, and its link is not
+/// deactivated: either confirms the release there, and the other end knows nothing of it. Where error H is told each DISC may have
+/// been lost, and then the other end is told nothing (`specs/WorkedEnding` of `laws_wire`).
+pub fn releases_are_told()
+    ensures here { ReleasesAreTold }
+    ensures there { BothAreTold }
 {}

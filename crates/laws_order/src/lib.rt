@@ -1,15 +1,15 @@
 //! The order of what is told at two cards on one wire, whatever else happens at both.
 //!
-//! `specs/` has all that can happen to two cards, at any of their lines (`Happenings`), the laws (`Order`, `Release`), worked
-//! runs that meet their premises and use them (`Worked`, `WorkedRelease`), and one that breaks what is said where a premise
-//! is left out (`WorkedBroken`). `circuit` has two cards for octets. What a card does at an event is the machine of `model_card`, of frames; the wire is that of
-//! `laws_wire`, and what is seen at an end is as in the trace of `laws_trace`. Each law is the contract of a call that does
-//! nothing.
+//! `specs/` has all that can happen to two cards, at any of their lines (`Happenings`), the laws (`Order`, `Release`,
+//! `InTheEnd`), worked runs that meet their premises and use them (`Worked`, `WorkedRelease`, `WorkedInTheEnd`), and one
+//! that breaks what is said where a premise is left out (`WorkedBroken`). `circuit` has two cards for octets. What a card
+//! does at an event is the machine of `model_card`, of frames; the wire is that of `laws_wire`, and what is seen at an end
+//! is as in the trace of `laws_trace`. Each law is the contract of a call that does nothing.
 //!
 //! # Open
 //!
-//! That what was granted is told in the end, or a release; an establishment whose called end sends before the other has
-//! taken its UA.
+//! That what was granted is told in the end; that the other end is told of a release behind error H; an establishment whose
+//! called end sends before the other has taken its UA.
 #![tactic(auto)]
 
 mod circuit;
@@ -19,4 +19,4 @@ pub use circuit::{
     a_call_comes_through_in_octets, a_call_comes_to_rest, all_is_told_in_beats,
     delivered_though_damaged,
 };
-pub use laws::{delivered_in_order, releases_end};
+pub use laws::{delivered_in_order, releases_are_told, releases_end};

@@ -1,5 +1,5 @@
 -- The premises of the law on a call with losses are met by the worked call.
-use Rattle.std.proofs.Common.{◌≡◌, List, [], ◌∷◌, ◌++◌, refl, sym, ap, ◌∙◌, true≢false, arith}
+use Rattle.std.proofs.Common.{◌≡◌, Bool, true, false, List, [], ◌∷◌, ◌++◌, refl, sym, ap, ◌∙◌, true≢false, arith}
 use Rattle.std.specs.Prelude.{All}
 use Rattle.std.proofs.lemmas.List.Elements.{All-nil, All-cons}
 use Rattle.lapd_frame.specs.declared.services.Service.TheVariants.{Call}
@@ -16,6 +16,7 @@ use Rattle.laws_link.specs.Flags.{awaits_answer}
 use Rattle.laws_wire.specs.Wire.{Wire, requests, times_out, gives, takes, loses, Doing, at_near, at_far, doing, doing_all, turns}
 use Rattle.laws_wire.specs.Call.{confirmed, data_told, all_told}
 use Rattle.laws_wire.specs.Losing.{heard_in}
+use Rattle.laws_wire.specs.Recovering.{round}
 use Rattle.laws_wire.specs.Facing.{end_of}
 use Rattle.laws_wire.specs.Timely.{is_poll, is_final, IsNoneOpen, MayRepeat}
 use Rattle.laws_wire.specs.Answering.{IsFullTalk, StayPatient, calls, ToldSo}
@@ -103,6 +104,29 @@ full =
       ),
     )
 
+-- Where frames are given and taken alone nothing is asked of it.
+abbrev are_turns : List Doing → Bool
+are_turns [] = true
+are_turns (at_near gives ∷ ds) = are_turns ds
+are_turns (at_near takes ∷ ds) = are_turns ds
+are_turns (at_far gives ∷ ds) = are_turns ds
+are_turns (at_far takes ∷ ds) = are_turns ds
+are_turns other = false
+
+only-turns : (ds : List Doing) → are_turns ds ≡ true → (w : Wire) → StayPatient ds w
+unfolding StayPatient
+only-turns [] e w = tt
+only-turns (at_near gives ∷ ds) e w = (tt, only-turns ds e (doing (at_near gives) w))
+only-turns (at_near takes ∷ ds) e w = (tt, only-turns ds e (doing (at_near takes) w))
+only-turns (at_far gives ∷ ds) e w = ((tt, tt), only-turns ds e (doing (at_far gives) w))
+only-turns (at_far takes ∷ ds) e w = ((tt, tt), only-turns ds e (doing (at_far takes) w))
+only-turns (at_near (requests r) ∷ ds) e w = absurd (true≢false (sym e))
+only-turns (at_near (times_out timer) ∷ ds) e w = absurd (true≢false (sym e))
+only-turns (at_near loses ∷ ds) e w = absurd (true≢false (sym e))
+only-turns (at_far (requests r) ∷ ds) e w = absurd (true≢false (sym e))
+only-turns (at_far (times_out timer) ∷ ds) e w = absurd (true≢false (sym e))
+only-turns (at_far loses ∷ ds) e w = absurd (true≢false (sym e))
+
 -- UA was lost
 ua-lost : Wire
 ua-lost = doing_all (at_near gives ∷ at_far takes ∷ at_far gives ∷ at_far loses ∷ []) begins
@@ -131,7 +155,7 @@ lost-may awaits = fewer _ _ 0 3 lost-repeats (omega arith)
 patient-first : StayPatient loses_ua begins
 unfolding doing_all StayPatient ua-lost
 patient-first =
-    ((tt, tt), ((tt, tt), ((tt, tt), ((tt, tt), ((((λ awaits. lost-open), lost-may), tt), ((tt, tt), ((tt, tt), ((tt, tt), ((tt, tt), tt)))))))))
+    (tt, ((tt, tt), ((tt, tt), ((tt, tt), (((λ awaits. lost-open), lost-may), only-turns round refl (doing (at_near (times_out (T200 Call 0))) ua-lost))))))
 
 -- Behind that the near end was told of the establishment, and it stays so.
 then : Wire
@@ -166,40 +190,23 @@ in-7 : (end_of Call 0 expires.near).link.state ≡ Established
 unfolding lines.after lines.answer lines.takes_slot reading header_of control_of unnumbered_of supervisory_of teis.course teis.refusal seq distance_of named doing_all turns then drops comes-back expires
 in-7 = refl
 
+patient-back : StayPatient (at_far (requests (ClearBusy Call 0)) ∷ at_near (times_out (T200 Call 0)) ∷ (round ++ round ++ round)) comes-back
+unfolding doing_all StayPatient expires
+patient-back = (
+  (tt, some (heard_in comes-back.near) _ (confirmed Call 0) back-told),
+  (
+    (λ awaits. absurd (true≢false (sym awaits ∙ ap awaits_answer in-7)), free (end_of Call 0 expires.near) in-7),
+    only-turns (round ++ round ++ round) refl (doing (at_near (times_out (T200 Call 0))) expires),
+  ),
+)
+
 patient-then : StayPatient is_busy then
-unfolding doing_all StayPatient then drops comes-back expires
+unfolding doing_all StayPatient then drops comes-back
 patient-then = (
   (tt, some (heard_in then.near) [] (confirmed Call 0) is-told),
   (
-    (tt, tt),
-    (
-      (tt, tt),
-      (
-        (tt, tt),
-        (
-          (tt, tt),
-          (
-            (tt, tt),
-            (
-              (tt, some (heard_in drops.near) [] (confirmed Call 0) drops-told),
-              (
-                (tt, tt),
-                (
-                  (tt, tt),
-                  (
-                    (tt, some (heard_in comes-back.near) _ (confirmed Call 0) back-told),
-                    (
-                      ((λ awaits. absurd (true≢false (sym awaits ∙ ap awaits_answer in-7)), free (end_of Call 0 expires.near) in-7), tt),
-                      ((tt, tt), ((tt, tt), ((tt, tt), ((tt, tt), ((tt, tt), ((tt, tt), ((tt, tt), ((tt, tt), ((tt, tt), ((tt, tt), ((tt, tt), ((tt, tt), tt)))))))))))),
-                    ),
-                  ),
-                ),
-              ),
-            ),
-          ),
-        ),
-      ),
-    ),
+    tt,
+    (tt, ((tt, tt), ((tt, tt), ((tt, tt), ((tt, some (heard_in drops.near) [] (confirmed Call 0) drops-told), ((tt, tt), (tt, patient-back))))))),
   ),
 )
 

@@ -1,17 +1,25 @@
 -- The ends as an establishment leaves them, and what changes nothing at a station or on a wire.
-use Rattle.std.proofs.Common.{◌≡◌, ℕ, ◌≤◌, false, List, [], length, drop, None, refl, sym, ap, subst, ◌∙◌, ◌⊎◌, inl, inr, true≢false, arith}
+use Rattle.std.proofs.Common.{◌≡◌, ℕ, ◌≤◌, false, not, List, [], ◌∷◌, length, drop, None, refl, sym, ap, subst, ◌∙◌, ◌⊎◌, inl, inr, true≢false, arith}
+use Rattle.std.specs.Option.{option_map_or}
 use Rattle.std.proofs.lemmas.List.Elements.{All-nil}
 use Rattle.lapd_frame.specs.declared.services.Service.{Service}
 use Rattle.model_link.specs.declared.terms.Terms.{Terms}
 use Rattle.model_link.specs.Events as link
+use Rattle.model_link.specs.Link.{Link, fresh}
 use Rattle.model_link.specs.Machine.{given}
-use Rattle.model_link.specs.Requests.{refusal}
+use Rattle.model_link.specs.Requests.{refusal, serves}
 use Rattle.model_link.specs.Sound.{IsInRange, IsSound}
 use Rattle.model_link.specs.TwoEnds.{End, Begins}
 use Rattle.model_link.proofs.Joined.{joined-first}
 use Rattle.model_line.specs.declared.config.Config.{Config}
 use Rattle.model_line.specs.Event.{LineTold, request, next}
-use Rattle.model_line.specs.Request.{Data}
+use Rattle.model_line.specs.Line.{Line, link_in, link_of, place_in}
+use Rattle.model_line.specs.Refusal.{bad_tei, no_link, wrong_state, first_that_holds}
+use Rattle.model_line.specs.Refusal.{refusal as refusal_on}
+use Rattle.model_line.specs.Request.{Request, Data, SetBusy, ClearBusy}
+use Rattle.model_line.specs.Requested.{aim_of_request, at_requested}
+use Rattle.model_card.specs.Card.{line_at}
+use Rattle.laws_line.proofs.Asked.{passed}
 use Rattle.laws_link.specs.two.Rounds.{IsReady, IsTaken}
 use Rattle.laws_link.proofs.OfTwo.Flow.{Flow}
 use Rattle.laws_wire.specs.Wire.{Station, Wire, happens, with_first_of, with_first_lost, takes, loses, acting}
@@ -20,6 +28,7 @@ use Rattle.laws_wire.proofs.Tame.{WaitsSo, IsFreeFrame}
 use Rattle.laws_wire.proofs.Firm.{Firm}
 use Rattle.laws_wire.proofs.Held.{Held, held-given, Grants, held-asked}
 use Rattle.laws_wire.proofs.Ringing.{answered}
+use Rattle.laws_wire.proofs.Standing.{Stands, Granted, asks-stands}
 use Rattle.laws_wire.proofs.Up.{stays}
 
 -- ---- the ends
@@ -146,3 +155,30 @@ module _ (service : Service) (tei : ℕ) (k : Config) (place : ℕ) (past : List
       go : (s' ≡ s) ⊎ Grants service tei place past k s n h octets s' → s' ≡ s
       go (inl same) = same
       go (inr x) = absurd (never octets x.none)
+
+  -- nor is own busy heeded where the state does not serve it
+  module _ (r : Request) (asked : link.Request) (aims : (l : Line) → aim_of_request r l ≡ at_requested service tei asked (place_in l tei))
+      (looks : (c : Config) (l : Line) → refusal_on c false r l ≡ first_that_holds (bad_tei tei ∷ no_link tei l ∷ wrong_state service tei asked l ∷ [])) where
+    unserved : serves n.link.state asked ≡ false → happens (request r) s ≡ s
+    unserved none = go (asks-stands service tei place s n own r asked aims)
+      where
+        own : Stands s.card.config service tei place s n
+        own = subst (λ k. Stands k service tei place s n) (sym h.stands.config) h.stands
+
+        l : Line
+        l = line_at s.line s.card
+
+        go : (happens (request r) s ≡ s) ⊎ Granted service tei place s n own r asked aims (happens (request r) s) → happens (request r) s ≡ s
+        go (inl same) = same
+        go (inr x) =
+            let bad = passed (bad_tei tei) (no_link tei l ∷ wrong_state service tei asked l ∷ []) (sym (looks s.card.config l) ∙ x.none) in
+            let unknown = passed (no_link tei l) (wrong_state service tei asked l ∷ []) bad.1 in
+            let state = passed (wrong_state service tei asked l) [] unknown.1 in
+            let its : (link_of service tei l).state ≡ n.link.state = ap (λ (x : Link). x.state) (ap (λ o. option_map_or (link_in l service) o fresh) own.speaks.placed ∙ own.speaks.link) in
+            absurd (true≢false (sym (ap (λ b. not b) (ap (λ s. serves s asked) its ∙ none)) ∙ state.0))
+
+  pub busy-refused : serves n.link.state link.SetBusy ≡ false → happens (request (SetBusy service tei)) s ≡ s
+  busy-refused = unserved (SetBusy service tei) link.SetBusy (λ l. refl) (λ c l. refl)
+
+  pub ready-refused : serves n.link.state link.ClearBusy ≡ false → happens (request (ClearBusy service tei)) s ≡ s
+  ready-refused = unserved (ClearBusy service tei) link.ClearBusy (λ l. refl) (λ c l. refl)

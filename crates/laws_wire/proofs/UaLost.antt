@@ -27,17 +27,18 @@ use Rattle.laws_wire.specs.Wire.{Station, Wire, happens, comes, with_first_of, A
 use Rattle.laws_wire.specs.Call.{confirmed, indicated}
 use Rattle.laws_wire.specs.Losing.{for_layer_3, heard_in}
 use Rattle.laws_wire.specs.Timely.{is_poll, is_final, IsTimelyOf}
-use Rattle.laws_wire.specs.Answering.{IsAsked, IsFullTalkOf, IsBehind, Waits, error_f}
+use Rattle.laws_wire.specs.Answering.{IsFullTalkOf, Waits, error_f}
 use Rattle.laws_wire.proofs.Answered.{takes-granted}
 use Rattle.laws_wire.proofs.Awaited.{may-there, waits-first, goes-first}
 use Rattle.laws_wire.proofs.Calling.{its_ua, ua, sabme, end, called, answering}
 use Rattle.laws_wire.proofs.Held.{TellsIt, Held, held-given, held-lost, held-first, held-expired, taken-told, taken-stands}
+use Rattle.laws_wire.proofs.LooseUp.{for-asked}
 use Rattle.laws_wire.proofs.LossyPhases.{first-way, empty}
 use Rattle.laws_wire.proofs.Ringing.{ringing, answered, its_sabme, repeated, t200-repeats}
 use Rattle.laws_wire.proofs.Speaking.{said_by}
 use Rattle.laws_wire.proofs.Standing.{IsCarried, Stands}
 use Rattle.laws_wire.proofs.Talking.{Face}
-use Rattle.laws_wire.proofs.TimelyFirst.{firm-first, takes-none, loses-none, gives-nothing, asks-refused}
+use Rattle.laws_wire.proofs.TimelyFirst.{firm-first, takes-none, loses-none, gives-nothing, asks-refused, busy-refused, ready-refused}
 use Rattle.laws_wire.proofs.TimelyPhases.{silent-t203, ringing-open}
 use Rattle.laws_wire.proofs.TimelyUp.{each-timer, BothUp}
 
@@ -60,20 +61,6 @@ called-quiet t = nothing-to_send t called (record { waiting = refl; information 
 replicate-push : (n : ℕ) (x : LineTold) → replicate n x ++ x ∷ [] ≡ x ∷ replicate n x
 replicate-push zero x = refl
 replicate-push (suc n) x = ap (λ xs. x ∷ xs) (replicate-push n x)
-
--- before it was told of the establishment, layer 3 of the near end asks for data alone
-for-told : (service : Service) (tei : ℕ) (P : Request → Type 0) (w : Wire) → heard_in w.near ≡ [] → ((octets : List ℕ) → P (Data service tei octets)) → (r : Request)
-    → IsAsked service tei r → IsBehind (requests r) w → P r
-for-told service tei P w none own (Data s t octets) is y = subst (λ s'. P (Data s' t octets)) (sym is.0) (subst (λ t'. P (Data service t' octets)) (sym is.1) (own octets))
-for-told service tei P w none own (ask.SetBusy s t) is y = absurd (y none)
-for-told service tei P w none own (ask.ClearBusy s t) is y = absurd (y none)
-for-told service tei P w none own (ask.Establish s t) is y = absurd is
-for-told service tei P w none own (ask.Release s t) is y = absurd is
-for-told service tei P w none own (ask.Unit s t octets) is y = absurd is
-for-told service tei P w none own (ask.Deactivate s t) is y = absurd is
-for-told service tei P w none own (ask.Assign t) is y = absurd is
-for-told service tei P w none own (ask.Remove t) is y = absurd is
-for-told service tei P w none own (ask.Check t) is y = absurd is
 
 module _ (service : Service) (tei : ℕ) (c d : Config) (p q : ℕ) (face : Face c d) (back : Face d c) (rt : IsInRange (terms c service tei)) (ru : IsInRange (terms d service tei)) where
   abbrev t : Terms
@@ -114,6 +101,12 @@ module _ (service : Service) (tei : ℕ) (c d : Config) (p q : ℕ) (face : Face
 
       near-asks : (octets : List ℕ) → R ws way (acting (requests (Data service tei octets)) w)
       near-asks octets = subst (λ s. R ws way (record w { near = s })) (sym (asks-refused service tei c p [] w.near n h.near (λ octets none. cc none) octets)) h
+
+      near-busy : R ws way (acting (requests (ask.SetBusy service tei)) w)
+      near-busy = subst (λ s. R ws way (record w { near = s })) (sym (busy-refused service tei c p [] w.near n h.near refl)) h
+
+      near-ready : R ws way (acting (requests (ask.ClearBusy service tei)) w)
+      near-ready = subst (λ s. R ws way (record w { near = s })) (sym (ready-refused service tei c p [] w.near n h.near refl)) h
 
       near-t203 : R ws way (acting (times_out (timers.T203 service tei)) w)
       near-t203 = record { repeats = h.repeats; near = silent-t203 service tei c d p q h.repeats ws way w.near h.near; far = h.far }
@@ -156,41 +149,45 @@ module _ (service : Service) (tei : ℕ) (c d : Config) (p q : ℕ) (face : Face
         }
 
     -- ---- each act of the near end
-    silent : (w : Wire) (h : R [] [] w) (act : Act) → IsFullTalkOf service tei act → IsTimelyOf act w → IsBehind act w → Ringing m past (acting act w)
-    silent w h (requests r) is x y = for-told service tei (λ r. Ringing m past (acting (requests r) w)) w h.near.heard (λ octets. inl (near-asks [] [] w h octets)) r is y
-    silent w h (times_out timer) is x y =
+    silent : (w : Wire) (h : R [] [] w) (act : Act) → IsFullTalkOf service tei act → IsTimelyOf act w → Ringing m past (acting act w)
+    silent w h (requests r) is x = for-asked service tei (λ r. Ringing m past (acting (requests r) w)) (λ octets. inl (near-asks [] [] w h octets)) (inl (near-busy [] [] w h)) (inl (near-ready [] [] w h)) r is
+    silent w h (times_out timer) is x =
         each-timer service tei (λ timer. IsTimelyOf (times_out timer) w → Ringing m past (acting (times_out timer) w))
         (λ x. inr (inl (repeats-sabme w h (may-there service tei c p w.near (end t (ringing h.repeats []) []) h.near.stands x.1 refl)))) (λ x. inl (near-t203 [] [] w h)) timer is x
-    silent w h gives is x y = inl (record { repeats = h.repeats; near = gives-nothing service tei c p [] w.near (end t (ringing h.repeats []) []) h.near refl; far = h.far })
-    silent w h takes is x y = inl (near-takes [] [] w h)
-    silent w h loses is x y = inl (near-loses [] [] w h refl)
+    silent w h gives is x = inl (record { repeats = h.repeats; near = gives-nothing service tei c p [] w.near (end t (ringing h.repeats []) []) h.near refl; far = h.far })
+    silent w h takes is x = inl (near-takes [] [] w h)
+    silent w h loses is x = inl (near-loses [] [] w h refl)
 
-    asking : (w : Wire) (h : R (its_sabme ∷ []) [] w) (act : Act) → IsFullTalkOf service tei act → IsTimelyOf act w → IsBehind act w → Ringing m past (acting act w)
-    asking w h (requests r) is x y = for-told service tei (λ r. Ringing m past (acting (requests r) w)) w h.near.heard (λ octets. inr (inl (near-asks (its_sabme ∷ []) [] w h octets))) r is y
-    asking w h (times_out timer) is x y =
+    asking : (w : Wire) (h : R (its_sabme ∷ []) [] w) (act : Act) → IsFullTalkOf service tei act → IsTimelyOf act w → Ringing m past (acting act w)
+    asking w h (requests r) is x =
+        for-asked service tei (λ r. Ringing m past (acting (requests r) w)) (λ octets. inr (inl (near-asks (its_sabme ∷ []) [] w h octets)))
+        (inr (inl (near-busy (its_sabme ∷ []) [] w h))) (inr (inl (near-ready (its_sabme ∷ []) [] w h))) r is
+    asking w h (times_out timer) is x =
         each-timer service tei (λ timer. IsTimelyOf (times_out timer) w → Ringing m past (acting (times_out timer) w))
         (λ x. absurd (waits-first is_poll (end t (ringing h.repeats (its_sabme ∷ [])) []) its_sabme [] refl refl (ringing-open service tei c d p q h.repeats (its_sabme ∷ []) [] w m past h.near h.far x.0).commands))
         (λ x. inr (inl (near-t203 (its_sabme ∷ []) [] w h))) timer is x
-    asking w h gives is x y =
+    asking w h gives is x =
         inr (inr (record { repeats = h.repeats; near = held-given service tei p [] c w.near (end t (ringing h.repeats (its_sabme ∷ [])) []) h.near refl; far = h.far }))
-    asking w h takes is x y = inr (inl (near-takes (its_sabme ∷ []) [] w h))
-    asking w h loses is x y = inr (inl (near-loses (its_sabme ∷ []) [] w h refl))
+    asking w h takes is x = inr (inl (near-takes (its_sabme ∷ []) [] w h))
+    asking w h loses is x = inr (inl (near-loses (its_sabme ∷ []) [] w h refl))
 
-    calling : (w : Wire) (h : R [] (sabme t ∷ []) w) (act : Act) → IsFullTalkOf service tei act → IsTimelyOf act w → IsBehind act w → Ringing m past (acting act w)
-    calling w h (requests r) is x y = for-told service tei (λ r. Ringing m past (acting (requests r) w)) w h.near.heard (λ octets. inr (inr (near-asks [] (sabme t ∷ []) w h octets))) r is y
-    calling w h (times_out timer) is x y =
+    calling : (w : Wire) (h : R [] (sabme t ∷ []) w) (act : Act) → IsFullTalkOf service tei act → IsTimelyOf act w → Ringing m past (acting act w)
+    calling w h (requests r) is x =
+        for-asked service tei (λ r. Ringing m past (acting (requests r) w)) (λ octets. inr (inr (near-asks [] (sabme t ∷ []) w h octets)))
+        (inr (inr (near-busy [] (sabme t ∷ []) w h))) (inr (inr (near-ready [] (sabme t ∷ []) w h))) r is
+    calling w h (times_out timer) is x =
         each-timer service tei (λ timer. IsTimelyOf (times_out timer) w → Ringing m past (acting (times_out timer) w))
         (λ x. absurd (goes-first is_poll (end t (ringing h.repeats []) (sabme t ∷ [])) (sabme t) [] refl refl (ringing-open service tei c d p q h.repeats [] (sabme t ∷ []) w m past h.near h.far x.0).commands))
         (λ x. inr (inr (near-t203 [] (sabme t ∷ []) w h))) timer is x
-    calling w h gives is x y =
+    calling w h gives is x =
         inr (inr (record { repeats = h.repeats; near = gives-nothing service tei c p [] w.near (end t (ringing h.repeats []) (sabme t ∷ [])) h.near refl; far = h.far }))
-    calling w h takes is x y = inr (inr (near-takes [] (sabme t ∷ []) w h))
-    calling w h loses is x y = inl (record { repeats = h.repeats; near = held-lost service tei p [] c w.near (end t (ringing h.repeats []) (sabme t ∷ [])) h.near; far = h.far })
+    calling w h takes is x = inr (inr (near-takes [] (sabme t ∷ []) w h))
+    calling w h loses is x = inl (record { repeats = h.repeats; near = held-lost service tei p [] c w.near (end t (ringing h.repeats []) (sabme t ∷ [])) h.near; far = h.far })
 
-    pub near-rings : (w : Wire) → Ringing m past w → (act : Act) → IsFullTalkOf service tei act → IsTimelyOf act w → IsBehind act w → Ringing m past (acting act w)
-    near-rings w (inl h) act is x y = silent w h act is x y
-    near-rings w (inr (inl h)) act is x y = asking w h act is x y
-    near-rings w (inr (inr h)) act is x y = calling w h act is x y
+    pub near-rings : (w : Wire) → Ringing m past w → (act : Act) → IsFullTalkOf service tei act → IsTimelyOf act w → Ringing m past (acting act w)
+    near-rings w (inl h) act is x = silent w h act is x
+    near-rings w (inr (inl h)) act is x = asking w h act is x
+    near-rings w (inr (inr h)) act is x = calling w h act is x
 
     pub not-told : (w : Wire) → Ringing m past w → heard_in w.near ≡ []
     not-told w (inl h) = h.near.heard
@@ -255,17 +252,19 @@ module _ (service : Service) (tei : ℕ) (c d : Config) (p q : ℕ) (face : Face
     abbrev UaStays : Wire → Type 0
     UaStays w = UaWaits j w
 
-    pub waits-near : (act : Act) → IsFullTalkOf service tei act → IsTimelyOf act w → IsBehind act w → UaWaits j (acting act w)
-    waits-near (requests r) is x y =
-        for-told service tei (λ r. UaWaits j (acting (requests r) w)) w h.near.heard
-        (λ octets. subst (λ s. UaWaits j (record w { near = s })) (sym (asks-refused service tei c p [] w.near rung h.near (λ octets none. cc none) octets)) h) r is y
-    waits-near (times_out timer) is x y =
+    pub waits-near : (act : Act) → IsFullTalkOf service tei act → IsTimelyOf act w → UaWaits j (acting act w)
+    waits-near (requests r) is x =
+        for-asked service tei (λ r. UaWaits j (acting (requests r) w))
+        (λ octets. subst (λ s. UaWaits j (record w { near = s })) (sym (asks-refused service tei c p [] w.near rung h.near (λ octets none. cc none) octets)) h)
+        (subst (λ s. UaWaits j (record w { near = s })) (sym (busy-refused service tei c p [] w.near rung h.near refl)) h)
+        (subst (λ s. UaWaits j (record w { near = s })) (sym (ready-refused service tei c p [] w.near rung h.near refl)) h) r is
+    waits-near (times_out timer) is x =
         each-timer service tei (λ timer. IsTimelyOf (times_out timer) w → UaWaits j (acting (times_out timer) w))
         (λ x. absurd (waits-first is_final other its_ua [] refl refl (ringing-open service tei c d p q h.repeats [] [] w other (past_far j) h.near h.far x.0).responses))
         (λ x. record { repeats = h.repeats; near = silent-t203 service tei c d p q h.repeats [] [] w.near h.near; far = h.far }) timer is x
-    waits-near gives is x y = record { repeats = h.repeats; near = gives-nothing service tei c p [] w.near rung h.near refl; far = h.far }
-    waits-near takes is x y = subst UaStays (sym (takes-none w (empty service tei d q (past_far j) w.far other h.far refl))) h
-    waits-near loses is x y = subst UaStays (sym (loses-none w (empty service tei c p [] w.near rung h.near refl))) h
+    waits-near gives is x = record { repeats = h.repeats; near = gives-nothing service tei c p [] w.near rung h.near refl; far = h.far }
+    waits-near takes is x = subst UaStays (sym (takes-none w (empty service tei d q (past_far j) w.far other h.far refl))) h
+    waits-near loses is x = subst UaStays (sym (loses-none w (empty service tei c p [] w.near rung h.near refl))) h
 
     pub waits-far : (act : Act) → Waits act w → UaWaits j (turned (acting act (turned w))) ⊎ UaGoes j (turned (acting act (turned w)))
     waits-far (requests r) y = absurd (y h.near.heard)
@@ -302,17 +301,19 @@ module _ (service : Service) (tei : ℕ) (c d : Config) (p q : ℕ) (face : Face
     abbrev Comes : Wire → Type 0
     Comes w' = UaGoes j w' ⊎ BothUp service tei c d p q first_near (past_far j) w' (end t (answered h.repeats []) []) (end u called [])
 
-    pub goes-near : (act : Act) → IsFullTalkOf service tei act → IsTimelyOf act w → IsBehind act w → Comes (acting act w)
-    goes-near (requests r) is x y =
-        for-told service tei (λ r. Comes (acting (requests r) w)) w h.near.heard
-        (λ octets. inl (subst (λ s. UaGoes j (record w { near = s })) (sym (asks-refused service tei c p [] w.near rung' h.near (λ octets none. cc none) octets)) h)) r is y
-    goes-near (times_out timer) is x y =
+    pub goes-near : (act : Act) → IsFullTalkOf service tei act → IsTimelyOf act w → Comes (acting act w)
+    goes-near (requests r) is x =
+        for-asked service tei (λ r. Comes (acting (requests r) w))
+        (λ octets. inl (subst (λ s. UaGoes j (record w { near = s })) (sym (asks-refused service tei c p [] w.near rung' h.near (λ octets none. cc none) octets)) h))
+        (inl (subst (λ s. UaGoes j (record w { near = s })) (sym (busy-refused service tei c p [] w.near rung' h.near refl)) h))
+        (inl (subst (λ s. UaGoes j (record w { near = s })) (sym (ready-refused service tei c p [] w.near rung' h.near refl)) h)) r is
+    goes-near (times_out timer) is x =
         each-timer service tei (λ timer. IsTimelyOf (times_out timer) w → Comes (acting (times_out timer) w))
         (λ x. absurd (goes-first is_final sent (ua u) [] refl refl (ringing-open service tei c d p q h.repeats [] [] w sent (past_far j) h.near h.far x.0).responses))
         (λ x. inl (record { repeats = h.repeats; near = silent-t203 service tei c d p q h.repeats [] [] w.near h.near; far = h.far })) timer is x
-    goes-near gives is x y = inl (record { repeats = h.repeats; near = gives-nothing service tei c p [] w.near rung' h.near refl; far = h.far })
-    goes-near takes is x y = inr confirms
-    goes-near loses is x y = inl (subst (UaGoes j) (sym (loses-none w (empty service tei c p [] w.near rung' h.near refl))) h)
+    goes-near gives is x = inl (record { repeats = h.repeats; near = gives-nothing service tei c p [] w.near rung' h.near refl; far = h.far })
+    goes-near takes is x = inr confirms
+    goes-near loses is x = inl (subst (UaGoes j) (sym (loses-none w (empty service tei c p [] w.near rung' h.near refl))) h)
 
     pub goes-far : (act : Act) → Waits act w → UaGoes j (turned (acting act (turned w))) ⊎ Rings (end u called []) (past_far j) [] [] (turned (acting act (turned w)))
     goes-far (requests r) y = absurd (y h.near.heard)

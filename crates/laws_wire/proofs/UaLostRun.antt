@@ -18,7 +18,7 @@ use Rattle.laws_wire.specs.Call.{CanCall, calling, confirmed, indicated, data_to
 use Rattle.laws_wire.specs.Losing.{heard_in}
 use Rattle.laws_wire.specs.Timely.{IsTimelyOf}
 use Rattle.laws_wire.specs.Arriving.{runs_t200}
-use Rattle.laws_wire.specs.Answering.{IsFullTalkOf, IsFullTalk, IsBehind, Waits, Rests, IsPatient, StayPatient, takes_sabme, calls, error_f, told_of_calls, LossyCallsComeThrough}
+use Rattle.laws_wire.specs.Answering.{IsFullTalkOf, IsFullTalk, Waits, Rests, IsPatient, StayPatient, takes_sabme, calls, error_f, told_of_calls, LossyCallsComeThrough}
 use Rattle.laws_wire.proofs.Awaited.{link-is}
 use Rattle.laws_wire.proofs.Calling.{end, called, sabme}
 use Rattle.laws_wire.proofs.Held.{Held}
@@ -87,10 +87,10 @@ module _ (service : Service) (tei : ℕ) (c d : Config) (p q : ℕ) (face : Face
 
   -- ---- what the near end does
 
-  near-called : (j : ℕ) (w : Wire) → Called j w → (act : Act) → IsFullTalkOf service tei act → IsTimelyOf act w → IsBehind act w → Called j (acting act w)
-  near-called j w (inl h) act is x y = inl (near-rings service tei c d p q face back rt ru up (its_far j) refl w h act is x y)
-  near-called j w (inr (inl h)) act is x y = inr (inl (waits-near service tei c d p q face back rt ru j w h act is x y))
-  near-called j w (inr (inr (inl h))) act is x y = go (goes-near service tei c d p q face back rt ru j w h act is x y)
+  near-called : (j : ℕ) (w : Wire) → Called j w → (act : Act) → IsFullTalkOf service tei act → IsTimelyOf act w → Called j (acting act w)
+  near-called j w (inl h) act is x = inl (near-rings service tei c d p q face back rt ru up (its_far j) refl w h act is x)
+  near-called j w (inr (inl h)) act is x = inr (inl (waits-near service tei c d p q face back rt ru j w h act is x))
+  near-called j w (inr (inr (inl h))) act is x = go (goes-near service tei c d p q face back rt ru j w h act is x)
     where
       go : UaGoes service tei c d p q face back rt ru j (acting act w)
           ⊎ BothUp service tei c d p q its_near (its_far j) (acting act w) (end (terms c service tei) (answered h.repeats []) []) up → Called j (acting act w)
@@ -98,11 +98,11 @@ module _ (service : Service) (tei : ℕ) (c d : Config) (p q : ℕ) (face : Face
       go (inr b) =
           let n = end (terms c service tei) (answered h.repeats []) [] in
           inr (inr (inr (record { n = n; m = up; near = b.near; far = b.far; loose = as-loose n up b.firm })))
-  near-called j w (inr (inr (inr h))) act is x y = inr (inr (inr (loose-acts service tei c d p q face its_near (its_far j) w h act is x)))
+  near-called j w (inr (inr (inr h))) act is x = inr (inr (inr (loose-acts service tei c d p q face its_near (its_far j) w h act is x)))
 
-  near-step : (n : ℕ) (w : Wire) → Goes n w → (act : Act) → IsFullTalkOf service tei act → IsTimelyOf act w → IsBehind act w → Goes n (acting act w)
-  near-step n w (inl (e, h)) act is x y = inl (e, near-rings service tei c d p q face back rt ru down [] refl w h act is x y)
-  near-step n w (inr (j, e, h)) act is x y = as-called n j (acting act w) e (near-called j w h act is x y)
+  near-step : (n : ℕ) (w : Wire) → Goes n w → (act : Act) → IsFullTalkOf service tei act → IsTimelyOf act w → Goes n (acting act w)
+  near-step n w (inl (e, h)) act is x = inl (e, near-rings service tei c d p q face back rt ru down [] refl w h act is x)
+  near-step n w (inr (j, e, h)) act is x = as-called n j (acting act w) e (near-called j w h act is x)
 
   -- ---- what the far end does
 
@@ -232,7 +232,7 @@ module _ (service : Service) (tei : ℕ) (c d : Config) (p q : ℕ) (face : Face
   nothing-more n = omega arith
 
   step : (n : ℕ) (k : Doing) → IsFullTalk service tei k → (w : Wire) → IsPatient k w → Goes n w → Goes (cond {A = ℕ} (takes_sabme k w) 1 0 + n) (doing k w)
-  step n (at_near act) is w x h = same-goes n _ (acting act w) (nothing-more n) (near-step n w h act is x.0 x.1)
+  step n (at_near act) is w x h = same-goes n _ (acting act w) (nothing-more n) (near-step n w h act is x)
   step n (at_far act) is w x h = far-step n w h act is x.0 x.1
 
   added : (a b n : ℕ) → (a + b) + n ≡ b + (a + n)

@@ -30,12 +30,6 @@ abbrev pub IsFullTalk : Service → ℕ → Doing → Type 0
 IsFullTalk service tei (at_near act) = IsFullTalkOf service tei act
 IsFullTalk service tei (at_far act) = IsFullTalkOf service tei act
 
--- The end that calls is busy only behind the establishment.
-abbrev pub IsBehind : Act → Wire → Type 0
-IsBehind (requests (SetBusy s t)) w = heard_in w.near ≢ []
-IsBehind (requests (ClearBusy s t)) w = heard_in w.near ≢ []
-IsBehind other w = Unit {0}
-
 -- The end that was called waits: before the other was told anything, its layer 3 asks for nothing, and none of its timers expires.
 -- Any of its frames may be lost.
 abbrev pub Waits : Act → Wire → Type 0
@@ -45,7 +39,7 @@ Waits other w = Unit {0}
 
 -- T200 is long enough at both ends, and N200 is not used up.
 abbrev pub IsPatient : Doing → Wire → Type 0
-IsPatient (at_near act) w = IsTimelyOf act w × IsBehind act w
+IsPatient (at_near act) w = IsTimelyOf act w
 IsPatient (at_far act) w = IsTimelyOf act (turned w) × Waits act w
 
 unfoldable pub StayPatient : List Doing → Wire → Type 0

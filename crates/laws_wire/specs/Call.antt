@@ -44,7 +44,7 @@ abbrev pub IsCall : Service → ℕ → Doing → Type 0
 IsCall service tei (at_near act) = IsCallOf service tei act
 IsCall service tei (at_far act) = IsCallOf service tei act
 
--- Whether layer 3 of the far end was granted an establishment, too, before SABME came: then both ends call.
+-- Whether layer 3 of the far end was granted an establishment, too: then both ends call. Once SABME has come it is refused.
 abbrev pub calls_back : Doing → Wire → Bool
 calls_back (at_far (requests (Establish s t))) w = is_granted (answered (request (Establish s t)) w.far)
 calls_back other w = false

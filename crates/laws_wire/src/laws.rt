@@ -14,7 +14,8 @@ ghost use Rattle.laws_wire.specs.Recovering.{WhatIsLostArrives};
 /// in whatever order, layer 3 of each is told one establishment, by a confirm where it was granted to ask for it and else by an
 /// indication, and then the data that the other was granted to send, in order, and nothing else: at any time a beginning of
 /// that, and all of it where no turn is left. And there are at most four turns for each end that calls, and four more for
-/// each request for data that was granted.
+/// each request for data that was granted. Contents are lists of any numbers: the frames of this machine carry them as they are,
+/// and octets alone are asked for where octets go (`a_call_comes_through_in_octets` of `laws_order`).
 pub fn a_call_comes_through()
     ensures { CallsComeThrough }
 {}

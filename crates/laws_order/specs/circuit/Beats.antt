@@ -20,7 +20,7 @@ beats (suc n) w = beats n (doing_all beat w)
 abbrev pub longest : ℕ → ℕ
 longest n201 = longest_text n201 / 8 + 1
 
--- So many beats are enough behind the last request, where at most so many octets are on their way at a time, one end calls or
+-- So many beats are enough behind the last request, where at most so many octets are on their way as it is made, one end calls or
 -- both, and so much data was granted: for each frame that is given and heard, of which there are two for each end that calls and
 -- two for each request, the longest frame before it, the frame itself, and the way.
 abbrev pub enough_beats : ℕ → ℕ → Bool → ℕ → ℕ

@@ -41,7 +41,7 @@ abbrev pub IsTalk : Service → ℕ → OctetDoing → Type 0
 IsTalk service tei (at_near act) = IsTalkOf service tei act
 IsTalk service tei (at_far act) = IsTalkOf service tei act
 
--- Whether layer 3 of the far end was granted an establishment, too, before SABME came: then both ends call.
+-- Whether layer 3 of the far end was granted an establishment, too: then both ends call. Once SABME has come it is refused.
 abbrev pub is_granted : Answer → Bool
 is_granted (port.told t) = true
 is_granted (port.refused why) = false

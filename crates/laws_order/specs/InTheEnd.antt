@@ -1,0 +1,65 @@
+-- A release is told in the end, at both ends, whatever waits, is on its way, or is lost.
+use Rattle.std.specs.Prelude.{◌≡◌, ◌<◌, ℕ, ◌+◌, Bool, true, false, List, [], ◌∷◌, ◌++◌, length, filter, All, ◌⊎◌}
+use Rattle.std.specs.List.{list_any}
+use Rattle.lapd_frame.specs.declared.notes.ErrorCode.TheVariants.{H}
+use Rattle.lapd_frame.specs.declared.notes.Note.{Note}
+use Rattle.lapd_frame.specs.declared.notes.Note.TheVariants.{ReleaseConfirm, Error}
+use Rattle.lapd_frame.specs.declared.services.Service.{Service}
+use Rattle.lapd_frame.specs.declared.timers.Timer.TheVariants.{T200}
+use Rattle.model_link.specs.declared.states.State.TheVariants.{AwaitingRelease}
+use Rattle.model_line.specs.Event.{Event, expiry, request}
+use Rattle.model_line.specs.Line.{has_tei, terms}
+use Rattle.laws_line.specs.Requests.{deactivates}
+use Rattle.laws_trace.specs.Trace.{is_own}
+use Rattle.laws_wire.specs.Arriving.{runs_t200}
+use Rattle.laws_wire.specs.Facing.{line_of}
+use Rattle.laws_wire.specs.Wire.{requests, Wire}
+use Rattle.laws_order.specs.Happenings.{acts, Happening, by_near, by_far, IsPossible, happening, happening_all, events_here, seen_near, seen_far}
+use Rattle.laws_order.specs.Order.{ends_by, link_here, FaceAtRest}
+use Rattle.laws_order.specs.Release.{news, BeginsNothing, IsAtLine}
+
+-- How often T200 of the link expired at the near end.
+abbrev pub is_t200 : Service → ℕ → Event → Bool
+is_t200 service tei (expiry (T200 of by)) = is_own service tei of by
+is_t200 service tei other = false
+
+abbrev pub t200_by : Service → ℕ → Happening → Wire → ℕ
+t200_by service tei (by_near deed) w = length (filter (is_t200 service tei) (events_here deed w))
+t200_by service tei (by_far deed) w = 0
+
+unfoldable pub t200s : Service → ℕ → List Happening → Wire → ℕ
+t200s service tei [] w = 0
+t200s service tei (h ∷ hs) w = t200_by service tei h w + t200s service tei hs (happening h w)
+
+-- That the release is confirmed; with error H before it, where DISC was not answered N200 times again (Q.921 clauses 5.5.3.2 and
+-- 5.5.3.3).
+abbrev pub IsToldAtLast : Service → ℕ → List Note → Type 0
+IsToldAtLast service tei ns = (ns ≡ ReleaseConfirm service tei ∷ []) ⊎ (ns ≡ Error service tei H ∷ ReleaseConfirm service tei ∷ [])
+
+-- The end at which the release was granted is told once T200 expired there more than N200 times, if not before: from state 6 on, in
+-- which T200 runs, and as long as nothing else begins, as `Release` has it.
+abbrev pub ReleasesAreTold : Type 0
+ReleasesAreTold =
+    (service : Service) (tei : ℕ) (w : Wire) (hs : List Happening) → IsAtLine w.near → (link_here service tei w.near).state ≡ AwaitingRelease →
+    runs_t200 service tei w.near ≡ true → All (IsPossible service tei w) hs → BeginsNothing service tei (seen_near hs w) →
+    (terms w.near.card.config service tei).n200 < t200s service tei hs w → IsToldAtLast service tei (news service tei (seen_near hs w))
+
+-- The TEI stays on the line of the near end, and its link is not deactivated.
+unfoldable pub StaysThere : ℕ → List Happening → Wire → Type 0
+StaysThere tei [] w = has_tei tei (line_of w.near) ≡ true
+StaysThere tei (h ∷ hs) w = (has_tei tei (line_of w.near) ≡ true) × StaysThere tei hs (happening h w)
+
+abbrev pub IsNotDeactivated : Service → ℕ → Happening → Type 0
+IsNotDeactivated service tei (by_near (acts (requests r))) = deactivates service tei (request r) ≡ false
+IsNotDeactivated service tei other = Unit {0}
+
+-- And where it is told the confirm, and no error H, the other end was told before, by a note that its establishment is over or renewed,
+-- unless its layer 3 was granted a release itself: whatever happened at both since they faced each other at rest, and whatever was
+-- waiting or on its way as the release was granted.
+abbrev pub BothAreTold : Type 0
+BothAreTold =
+    (service : Service) (tei : ℕ) (w : Wire) (before behind : List Happening) → FaceAtRest service tei w → All (IsPossible service tei w) before →
+    let v = happening_all before w in (link_here service tei v.near).state ≡ AwaitingRelease → All (IsPossible service tei v) behind →
+    StaysThere tei behind v → All (IsNotDeactivated service tei) behind → BeginsNothing service tei (seen_near behind v) →
+    news service tei (seen_near behind v) ≡ ReleaseConfirm service tei ∷ [] →
+    list_any (ends_by service tei) (seen_far before w ++ seen_far behind v) ≡ true

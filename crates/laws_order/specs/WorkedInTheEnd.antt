@@ -1,0 +1,109 @@
+-- Worked values: a release whose commands are lost, and what would be told where a premise is left out. Each computes.
+use Rattle.std.specs.Prelude.{◌≡◌, ℕ, true, List, [], ◌∷◌, ◌++◌, refl}
+use Rattle.std.specs.List.{list_any}
+use Rattle.lapd_frame.specs.declared.notes.ErrorCode.TheVariants.{H}
+use Rattle.lapd_frame.specs.declared.notes.Note.TheVariants.{ReleaseConfirm, Error}
+use Rattle.lapd_frame.specs.declared.services.Service.TheVariants.{Call}
+use Rattle.lapd_frame.specs.declared.timers.Timer.TheVariants.{T200}
+use Rattle.lapd_frame.specs.Reading.{reading, header_of, control_of, unnumbered_of, supervisory_of}
+use Rattle.lapd_seq.specs.Circle.{distance_of, named}
+use Rattle.lapd_seq.specs.Numbers.{seq}
+use Rattle.lapd_tei.specs.Events as teis
+use Rattle.model_line.specs.Machine as lines
+use Rattle.model_line.specs.Request.{Release, Remove, Deactivate}
+use Rattle.laws_wire.specs.Arriving.{runs_t200}
+use Rattle.laws_wire.specs.Wire.{Wire, requests, times_out, gives, takes, loses, turned, doing_all}
+use Rattle.laws_order.specs.Happenings.{acts, Happening, by_near, by_far, happening_all, seen_near, seen_far}
+use Rattle.laws_order.specs.InTheEnd.{t200s, StaysThere}
+use Rattle.laws_order.specs.Order.{ends_by, StaysEstablished}
+use Rattle.laws_order.specs.Release.{news, BeginsNothing}
+use Rattle.laws_order.specs.Worked.{faces}
+use Rattle.laws_order.specs.WorkedRelease.{releases, released, takes_two, takes_disc}
+
+pub runs_on : runs_t200 Call 0 released.near ≡ true
+unfolding lines.after lines.answer lines.takes_slot reading header_of control_of unnumbered_of supervisory_of teis.course teis.refusal seq distance_of named doing_all happening_all
+runs_on = refl
+
+-- N200 is 3. The I-frames that were on their way are lost, and DISC, and T200 expires: at the fourth time the near end is told.
+abbrev pub is_lost : List Happening
+is_lost = by_near (acts gives) ∷ by_near (acts loses) ∷ by_near (acts (times_out (T200 Call 0))) ∷ []
+
+abbrev pub gives_up : List Happening
+gives_up = is_lost ++ is_lost ++ is_lost ++ is_lost
+
+three_are_few : news Call 0 (seen_near (is_lost ++ is_lost ++ is_lost) released) ≡ []
+unfolding lines.after lines.answer lines.takes_slot reading header_of control_of unnumbered_of supervisory_of teis.course teis.refusal seq distance_of named doing_all happening_all seen_near
+three_are_few = refl
+
+told_at_last : news Call 0 (seen_near gives_up released) ≡ Error Call 0 H ∷ ReleaseConfirm Call 0 ∷ []
+unfolding lines.after lines.answer lines.takes_slot reading header_of control_of unnumbered_of supervisory_of teis.course teis.refusal seq distance_of named doing_all happening_all seen_near
+told_at_last = refl
+
+pub four_expire : t200s Call 0 gives_up released ≡ 4
+unfolding lines.after lines.answer lines.takes_slot reading header_of control_of unnumbered_of supervisory_of teis.course teis.refusal seq distance_of named doing_all happening_all t200s
+four_expire = refl
+
+pub gives_up_quietly : BeginsNothing Call 0 (seen_near gives_up released)
+unfolding lines.after lines.answer lines.takes_slot reading header_of control_of unnumbered_of supervisory_of teis.course teis.refusal seq distance_of named doing_all happening_all seen_near
+gives_up_quietly = refl
+
+-- Where DISC comes, and UA, the near end is told the confirm, and the TEI stays there.
+abbrev pub comes : List Happening
+comes = takes_two ++ takes_disc
+
+pub comes_quietly : BeginsNothing Call 0 (seen_near comes released)
+unfolding lines.after lines.answer lines.takes_slot reading header_of control_of unnumbered_of supervisory_of teis.course teis.refusal seq distance_of named doing_all happening_all seen_near
+comes_quietly = refl
+
+pub comes_confirmed : news Call 0 (seen_near comes released) ≡ ReleaseConfirm Call 0 ∷ []
+unfolding lines.after lines.answer lines.takes_slot reading header_of control_of unnumbered_of supervisory_of teis.course teis.refusal seq distance_of named doing_all happening_all seen_near
+comes_confirmed = refl
+
+pub comes_there : StaysThere 0 comes released
+unfolding lines.after lines.answer lines.takes_slot reading header_of control_of unnumbered_of supervisory_of teis.course teis.refusal seq distance_of named doing_all happening_all StaysThere
+comes_there = (refl, (refl, (refl, (refl, (refl, (refl, (refl, refl)))))))
+
+abbrev asks : List Happening
+asks = by_near (acts (requests (Release Call 0))) ∷ []
+
+-- Where the TEI leaves the line of the end that releases, here the network's, or its link is deactivated, that confirms its release,
+-- and the other end knows nothing of it.
+abbrev removes : List Happening
+removes = by_near (acts (requests (Remove 0))) ∷ []
+
+abbrev deactivates : List Happening
+deactivates = by_near (acts (requests (Deactivate Call 0))) ∷ []
+
+removed_near : news Call 0 (seen_near removes (happening_all asks (turned faces))) ≡ ReleaseConfirm Call 0 ∷ []
+unfolding lines.after lines.answer lines.takes_slot reading header_of control_of unnumbered_of supervisory_of teis.course teis.refusal seq distance_of named doing_all happening_all seen_near
+removed_near = refl
+
+removed_far : StaysEstablished Call 0 (seen_far (asks ++ removes) (turned faces))
+unfolding lines.after lines.answer lines.takes_slot reading header_of control_of unnumbered_of supervisory_of teis.course teis.refusal seq distance_of named doing_all happening_all seen_far
+removed_far = refl
+
+deactivated_near : news Call 0 (seen_near deactivates released) ≡ ReleaseConfirm Call 0 ∷ []
+unfolding lines.after lines.answer lines.takes_slot reading header_of control_of unnumbered_of supervisory_of teis.course teis.refusal seq distance_of named doing_all happening_all seen_near
+deactivated_near = refl
+
+deactivated_far : StaysEstablished Call 0 (seen_far (releases ++ deactivates) faces)
+unfolding lines.after lines.answer lines.takes_slot reading header_of control_of unnumbered_of supervisory_of teis.course teis.refusal seq distance_of named doing_all happening_all seen_far
+deactivated_far = refl
+
+-- Where the two did not face each other at rest: UA from before is on its way to the near end, and confirms its release.
+abbrev old_ua : List ℕ
+old_ua = 0x00 ∷ 0x01 ∷ 0x73 ∷ []
+
+abbrev with_ua : Wire
+with_ua = record faces { far = record faces.far { way = old_ua ∷ [] } }
+
+abbrev ua_comes : List Happening
+ua_comes = by_near (acts takes) ∷ []
+
+ua_near : news Call 0 (seen_near ua_comes (happening_all asks with_ua)) ≡ ReleaseConfirm Call 0 ∷ []
+unfolding lines.after lines.answer lines.takes_slot reading header_of control_of unnumbered_of supervisory_of teis.course teis.refusal seq distance_of named doing_all happening_all seen_near
+ua_near = refl
+
+ua_far : StaysEstablished Call 0 (seen_far (asks ++ ua_comes) with_ua)
+unfolding lines.after lines.answer lines.takes_slot reading header_of control_of unnumbered_of supervisory_of teis.course teis.refusal seq distance_of named doing_all happening_all seen_far
+ua_far = refl

@@ -1,9 +1,9 @@
 -- Worked values of a call that ends. Each computes.
 use Rattle.std.specs.Prelude.{◌≡◌, false, List, [], ◌∷◌, ◌++◌, refl}
-use Rattle.lapd_frame.specs.declared.notes.ErrorCode.TheVariants.{H}
+use Rattle.lapd_frame.specs.declared.notes.ErrorCode.TheVariants.{H, I}
 use Rattle.lapd_frame.specs.declared.notes.Note.TheVariants.{Error, ReleaseConfirm}
 use Rattle.lapd_frame.specs.declared.services.Service.TheVariants.{Call}
-use Rattle.lapd_frame.specs.declared.timers.Timer.TheVariants.{T200}
+use Rattle.lapd_frame.specs.declared.timers.Timer.TheVariants.{T200, T203}
 use Rattle.lapd_frame.specs.Reading.{reading, header_of, control_of, unnumbered_of, supervisory_of}
 use Rattle.lapd_seq.specs.Circle.{distance_of, named}
 use Rattle.lapd_seq.specs.Numbers.{seq}
@@ -73,3 +73,12 @@ gives_up_near = refl
 gives_up_far : heard_in gives_up.far ≡ indicated Call 0 ∷ []
 unfolding lines.after lines.answer lines.takes_slot reading header_of control_of unnumbered_of supervisory_of teis.course teis.refusal seq distance_of named doing_all turns
 gives_up_far = refl
+
+-- Where timers of the other end expire, too, it may give up first: T203 expires, and each enquiry comes to an end that does not heed it.
+abbrev far_asks : List Doing
+far_asks = at_far gives ∷ at_near takes ∷ at_far (times_out (T200 Call 0)) ∷ []
+
+other_gives_up : heard_in (doing_all (at_far (times_out (T203 Call 0)) ∷ far_asks ++ far_asks ++ far_asks ++ far_asks) released).far
+    ≡ indicated Call 0 ∷ record nothing { notes = Error Call 0 I ∷ [] } ∷ []
+unfolding lines.after lines.answer lines.takes_slot reading header_of control_of unnumbered_of supervisory_of teis.course teis.refusal seq distance_of named doing_all turns
+other_gives_up = refl

@@ -1,6 +1,6 @@
 -- Worked values of a call in which frames are lost and timers expire. Each computes.
 use Rattle.std.specs.Prelude.{◌≡◌, List, [], ◌∷◌, ◌++◌, refl}
-use Rattle.lapd_frame.specs.declared.notes.ErrorCode.TheVariants.{F}
+use Rattle.lapd_frame.specs.declared.notes.ErrorCode.TheVariants.{F, O}
 use Rattle.lapd_frame.specs.declared.notes.Note.TheVariants.{Error}
 use Rattle.lapd_frame.specs.declared.services.Service.TheVariants.{Call}
 use Rattle.lapd_frame.specs.declared.timers.Timer.TheVariants.{T200, T203}
@@ -8,13 +8,14 @@ use Rattle.lapd_frame.specs.Reading.{reading, header_of, control_of, unnumbered_
 use Rattle.lapd_seq.specs.Circle.{distance_of, named}
 use Rattle.lapd_seq.specs.Numbers.{seq}
 use Rattle.lapd_tei.specs.Events as teis
+use Rattle.model_line.specs.declared.config.Config.{Config}
 use Rattle.model_line.specs.Event.{LineTold, nothing}
 use Rattle.model_line.specs.Machine as lines
 use Rattle.model_line.specs.Request.{Data}
 use Rattle.laws_wire.specs.Wire.{requests, times_out, gives, takes, loses, Doing, at_near, at_far, doing_all, turns}
-use Rattle.laws_wire.specs.Call.{confirmed, indicated, data_told}
+use Rattle.laws_wire.specs.Call.{calling, confirmed, indicated, data_told}
 use Rattle.laws_wire.specs.Losing.{heard_in}
-use Rattle.laws_wire.specs.Worked.{begins, establishes}
+use Rattle.laws_wire.specs.Worked.{network, user, begins, establishes}
 
 -- SABME is lost, T200 expires, and it goes again. Then an I-frame is lost, T200 expires, the other end is asked, and it goes again.
 abbrev pub loses_two : List Doing
@@ -49,3 +50,14 @@ error_f = record nothing { notes = Error Call 0 F ∷ [] }
 heard_twice : heard_in (doing_all comes_twice begins).far ≡ indicated Call 0 ∷ data_told Call 0 (0xAB ∷ []) ∷ error_f ∷ data_told Call 0 (0xAB ∷ []) ∷ []
 unfolding lines.after lines.answer lines.takes_slot reading header_of control_of unnumbered_of supervisory_of teis.course teis.refusal seq distance_of named doing_all turns
 heard_twice = refl
+
+-- Where N201 is not the same at both, contents that one end may send are too long for the other.
+abbrev narrow : Config
+narrow = record network { n201 = 8 }
+
+abbrev sends_nine : List Doing
+sends_nine = establishes ++ at_near (requests (Data Call 0 (1 ∷ 2 ∷ 3 ∷ 4 ∷ 5 ∷ 6 ∷ 7 ∷ 8 ∷ 9 ∷ []))) ∷ at_near gives ∷ at_far takes ∷ []
+
+heard_of_nine : heard_in (doing_all sends_nine (calling Call 0 user 0 narrow 0)).far ≡ indicated Call 0 ∷ record nothing { notes = Error Call 0 O ∷ [] } ∷ []
+unfolding lines.after lines.answer lines.takes_slot reading header_of control_of unnumbered_of supervisory_of teis.course teis.refusal seq distance_of named doing_all turns
+heard_of_nine = refl

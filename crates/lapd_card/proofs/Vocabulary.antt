@@ -38,7 +38,7 @@ pub use Rattle.lapd_line.specs.Reports.{report_told, told_if, told_in}
 pub use Rattle.lapd_line.specs.Stands.{config_of, pairs_of}
 pub use Rattle.lapd_line.specs.declared.frame_line.FrameLine.{FrameLine}
 pub use Rattle.lapd_line.specs.declared.port.Port.{Port}
-pub use Rattle.lapd_line.specs.declared.reports.BareReport.{BareReport}
+pub use Rattle.lapd_link_steps.specs.declared.report.BareReport.{BareReport}
 pub use Rattle.lapd_line.specs.declared.reports.Report.{Report}
 pub use Rattle.lapd_store.proofs.Focus.{FocusPair, focus_pair, octets-machines, slots-machines}
 pub use Rattle.lapd_store.proofs.Ownership.{Holds-unused, stored_octets-held, used_slots-held}

@@ -26,6 +26,11 @@ pub record Looked (i : ℕ) (old : Marks) (y : FrameLine) (new : Marks) : Type 0
   pub says : (s : Store) (others : List Owned) (l : machine.Line) → line.Stands y s others l → told ≡ lines.has_next (config_of y) l
   pub sets : Sets i told old new
 
+-- a mark says whether its test holds
+pub same_marks : (a b : Bool) → digit a ≡ digit b → a ≡ b
+same_marks true b is = sym (marked b is)
+same_marks false b is = sym (unmarked b is)
+
 -- a line of the card
 pub at_line_of_card : (i : ℕ) (m : Card) → i < m.config.lines → has_next i m ≡ lines.has_next m.config (line_at i m)
 at_line_of_card i m within = ap (λ b. b && lines.has_next m.config (line_at i m)) (lt-ltb i m.config.lines within)

@@ -2,7 +2,7 @@
 use Rattle.std.specs.Prelude.{◌≡◌, ℕ, ◌<◌, List, length, get_or, slice_get, Option, None, Some}
 use Rattle.std.specs.Option.{option_map_or}
 use Rattle.lapd_line.specs.declared.port.Port.{Port}
-use Rattle.lapd_line.specs.declared.reports.BareReport.{BareReport}
+use Rattle.lapd_link_steps.specs.declared.report.BareReport.{BareReport}
 use Rattle.lapd_line.specs.Ports.{PortStands, latest_frame}
 use Rattle.lapd_line.specs.Reports.{told_in}
 use Rattle.model_line.specs.Event.{LineTold, nothing}

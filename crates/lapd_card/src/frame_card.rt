@@ -235,13 +235,13 @@ impl<S: Shelf> FrameCard<S> {
         orders
     }
 
-    /// Whether a frame waits on a line: whether a call for its next frame gives one.
+    /// Whether a frame waits on a line: whether a call for its next frame gives one. It looks at the card's marks alone.
     #[inline(always)]
     pub fn has_next(&self, line: usize) -> bool
         requires { line < line_count self.now }
         ensures { (m : machine.Card) → Stands S.store self.now m → result ≡ has_next line m }
     {
-        self.lines[line].has_next()
+        self.waiting.has(line)
     }
 
     /// The first line on which a frame waits, of those from one on; none where none waits on any of these. It looks at no

@@ -170,11 +170,11 @@ module _ (c : Config) (parts : Parts) (told : LineTold) where
 -- and so it is reported
 pub group_reported : (octets : List ℕ) (one : ShortList Note) (rest : BareReport) (start : ℕ) (service : Service) (info : List ℕ)
     → listed one ≡ notes.Unit service group_tei ∷ [] → IsClear rest → drop start octets ≡ info
-    → told_in octets (record rest { answer = record rest.answer { told = record rest.answer.told { notes = one; unit = true } }; start = start }) ≡ group_told service info
+    → told_in octets (record rest { notes = one; unit = true; start = start }) ≡ group_told service info
 group_reported octets one rest start service info noted none contents =
     let told = clear_tells_nothing octets none in λ i. record {
       notes = noted i;
-      contents = option_or (if none.answer.told.delivered i then Some (contents i) else None) (Some (contents i));
+      contents = option_or (if none.delivered i then Some (contents i) else None) (Some (contents i));
       cause = (told i).cause;
       orders = (told i).orders;
       lost = (told i).lost;

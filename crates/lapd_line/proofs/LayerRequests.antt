@@ -1,5 +1,5 @@
 -- Requests, and why they are refused.
-use Rattle.lapd_line.proofs.Vocabulary.{◌≡◌, ℕ, ◌+◌, ◌||◌, Bool, true, false, not, ◌≤◌, nat_lt, List, [], ◌∷◌, length, Option, Some, None, refl, sym, ap, subst, ◌∙◌, cond, arith, option_map_or, ltb-false, none-some, prefix_len, list_any, Refusal, BadTei, NoLink, WrongState, TooLong, QueueFull, PoolFull, WrongSide, Service, serves, refusal_for_room, Terms, Places, has, is_on, place_of, IsAt, is_on-at, place_of-is, Config, Line, has_tei, link_of, link_in, place_in, terms, link_number, with_link, refusal, Establish, Release, Data, SetBusy, ClearBusy, Assign, Remove, Check, Owned, Store, Link, Answer, told_with, at_link, of_aim, told_of_link, at_requested, Marks, LinkLayer, BareReport, Stands, Standing, Serves, Sets, TellsOf, HasTerms, Refuses, machine_at, told_in, TeiRequest, event_of, link_refusal, management_refusal, may_ask, Deactivate}
+use Rattle.lapd_line.proofs.Vocabulary.{◌≡◌, ℕ, ◌+◌, ◌||◌, Bool, true, false, not, ◌≤◌, nat_lt, List, [], ◌∷◌, length, Option, Some, None, refl, sym, ap, subst, ◌∙◌, cond, arith, option_map_or, ltb-false, none-some, prefix_len, list_any, Refusal, BadTei, NoLink, WrongState, TooLong, QueueFull, PoolFull, WrongSide, Service, serves, refusal_for_room, Terms, Places, has, is_on, place_of, IsAt, is_on-at, place_of-is, Config, Line, has_tei, link_of, link_in, place_in, terms, link_number, with_link, refusal, Establish, Release, Data, SetBusy, ClearBusy, Assign, Remove, Check, Owned, Store, Link, told_with, at_link, of_aim, told_of_link, at_requested, Marks, LinkLayer, BareReport, Stands, Standing, Serves, Sets, TellsOf, HasTerms, Refuses, machine_at, told_in, TeiRequest, event_of, link_refusal, management_refusal, may_ask, Deactivate}
 use Rattle.model_link.specs.Events as link
 use Rattle.model_link.specs.Link as machine
 use Rattle.model_link.specs.Machine as answers
@@ -121,7 +121,7 @@ same_step : (t : Terms) (l : machine.Link) (full : Bool) (request : link.Request
 same_step t l full request granted =
     ap (λ o. elim o [ None ↦ links.granted t request (begun l) | Some _ ↦ begun l ]) (granted ∙ sym (granted_same t l full request granted))
 
-pub asked_serves : (e : LinkLayer) (s t : Store) (new : List Link) (awake : Marks) (service : Service) (tei place number : ℕ) (full : Bool) (request : link.Request) (answer : Answer) (outcome : BareReport) {looked : Bool}
+pub asked_serves : (e : LinkLayer) (s t : Store) (new : List Link) (awake : Marks) (service : Service) (tei place number : ℕ) (full : Bool) (request : link.Request) (answer : BareReport) (outcome : BareReport) {looked : Bool}
     → Standing e s → place_of tei e.teis.places ≡ Some place → (place ≤ 8 → number ≡ link_number place service)
     → TellsOf number new looked → Sets number looked e.awake awake → Refuses number full request e.links s None
     → all.Serves number (link.requested request full) [] e.links s new t answer

@@ -1,5 +1,5 @@
 -- What a call on the links does to the entities of a line.
-use Rattle.lapd_line.proofs.Vocabulary.{◌≡◌, ℕ, ◌<◌, ◌≤◌, List, ◌++◌, length, slice_get, Option, Some, refl, sym, ap, subst, ◌∙◌, arith, append_assoc, get_or, None, Owned, Holds, Store, SameLimits, Service, Link, Answer, told_with, state_number, IsAt, place_of, at-within, place_of-is, Line, link_number, link_count, service_at, place_at, tei_at, terms, state_in, state_of, at_link, told_of_link, IsSound, place_at-number, service_at-number, number_within, aim_sound, ranges_of, LinkLayer, BareReport, told_in, unit_pairs, UnitRing, AreFor, Marks, Sets, AreAwake, TellsOf, gives, Bool, LinksStand, HasTerms, links_pairs, terms_in, machine_at, LinkFits, Stands, Standing, Serves, always, Config, Management, All, zip}
+use Rattle.lapd_line.proofs.Vocabulary.{◌≡◌, ℕ, ◌<◌, ◌≤◌, List, ◌++◌, length, slice_get, Option, Some, refl, sym, ap, subst, ◌∙◌, arith, append_assoc, get_or, None, Owned, Holds, Store, SameLimits, Service, Link, told_with, state_number, IsAt, place_of, at-within, place_of-is, Line, link_number, link_count, service_at, place_at, tei_at, terms, state_in, state_of, at_link, told_of_link, IsSound, place_at-number, service_at-number, number_within, aim_sound, ranges_of, LinkLayer, BareReport, told_in, unit_pairs, UnitRing, AreFor, Marks, Sets, AreAwake, TellsOf, gives, Bool, LinksStand, HasTerms, links_pairs, terms_in, machine_at, LinkFits, Stands, Standing, Serves, always, Config, Management, All, zip}
 use Rattle.std.specs.Option.{option_map}
 use Rattle.model_link.specs.Events as event
 use Rattle.model_link.specs.Link as machine
@@ -112,7 +112,7 @@ number_low {e} {s} service (others, m, st) at exact =
     omega (arith, number_there service (others, m, st) at exact, st.count, (ranges_of e.config st.range).terminals.most)
 
 -- an event of a link
-pub at_link_serves : {e : LinkLayer} {s t : Store} {new : List Link} {awake : Marks} {service : Service} {tei place number : ℕ} {what : event.Event} {info octets : List ℕ} {answer : Answer} {outcome : BareReport} {looked : Bool}
+pub at_link_serves : {e : LinkLayer} {s t : Store} {new : List Link} {awake : Marks} {service : Service} {tei place number : ℕ} {what : event.Event} {info octets : List ℕ} {answer : BareReport} {outcome : BareReport} {looked : Bool}
     → Standing e s → IsAt e.teis.places place tei → (place ≤ 8 → number ≡ link_number place service) → TellsOf number new looked → Sets number looked e.awake awake
     → links.Serves number what info e.links s new t answer → told_in octets outcome ≡ told_of_link (told_with info answer)
     → Serves (always (at_link service tei place what)) octets e s (record e { links = new; awake = awake }) t outcome

@@ -1,6 +1,7 @@
 -- What a call on the entities of a line does to the line.
-use Rattle.lapd_line.proofs.Vocabulary.{◌≡◌, ℕ, List, [], ◌++◌, Option, Some, None, refl, sym, ap, ◌∙◌, subst, false≢true, Cause, Timer, Owned, Store, SameLimits, Config, Event, LineTold, told, dropped, hears, expiry, aim_of_expiry, after, answer, IsSome, Counters, More, with_all, heard_shown, shown, told_in_answer, told_in_report, FrameLine, LinkLayer, BareReport, Report, Serves, aim_of_event, report_told, told_in, Leads, LeadsIfHeard, answer_if_heard, config_of, with_counted, bare_shown}
+use Rattle.lapd_line.proofs.Vocabulary.{◌≡◌, fold-append, ℕ, List, [], ◌++◌, Option, Some, None, refl, sym, ap, ◌∙◌, subst, false≢true, Cause, Timer, Owned, Store, SameLimits, Config, Event, LineTold, told, dropped, hears, expiry, aim_of_expiry, after, answer, IsSome, Counters, More, with_all, heard_shown, shown, told_in_answer, told_in_report, FrameLine, LinkLayer, BareReport, Report, Serves, aim_of_event, report_told, told_in, Leads, LeadsIfHeard, answer_if_heard, config_of, with_counted, bare_shown}
 use Rattle.model_bits.specs.Stream as stream
+use Rattle.lapd_count.specs.Counters.{with_more}
 use Rattle.model_line.specs.Line as machine
 use Rattle.lapd_line.specs.LinkLayer as layer
 use Rattle.lapd_line.specs.Reports.{octets_of}
@@ -13,6 +14,9 @@ recounted l k s others m st = record { layer = st.layer }
 -- The entities have gone on with an event of which this is shown, and it was counted.
 abbrev pub gone_on : FrameLine → LinkLayer → List More → FrameLine
 gone_on old e all = record { layer = e; counters = with_all old.counters all }
+
+pub counted_twice : (k : Counters) (a b : List More) → with_all (with_all k a) b ≡ with_all k (a ++ b)
+counted_twice k a b = sym (fold-append with_more k a b)
 
 -- So it leads the line on.
 pub leads_on : {event : Event} {old new : FrameLine} {s t : Store} {e : LinkLayer} (all : List More) → e.config ≡ config_of old → SameLimits s t
@@ -56,13 +60,6 @@ dropped_leads {old} s cause o says is = record {
   stands = λ others m st. subst (λ l. Stands l s others m) (sym is) (recounted old (with_all old.counters (bare_shown o)) s others m st);
   counted = λ others m st. ap (λ l. l.counters) is ∙ ap (λ t. with_all old.counters (told_in_report t)) says;
 }
-
-module _ (h : Option stream.Event) (cause : Cause) (is : h ≡ Some (stream.dropped cause)) (o : BareReport) (says : (octets : List ℕ) → told_in octets o ≡ dropped cause) where
-  pub drop_told : (c : Config) (m : machine.Line) → told (told_in (octets_of h) o) ≡ answer_if_heard c h m
-  drop_told c m = dropped_told c cause m (told_in (octets_of h) o) (says (octets_of h)) ∙ ap (λ x. answer_if_heard c x m) (sym is)
-
-  pub drop_leads : (old : FrameLine) {new : FrameLine} (s : Store) → new ≡ with_counted old (bare_shown o) → LeadsIfHeard h old s new s
-  drop_leads old {new} s counts = subst (λ x. LeadsIfHeard x old s new s) (sym is) (dropped_leads s cause o (says []) counts)
 
 -- a timer has expired
 pub expiry_told : {e new : LinkLayer} {s t : Store} {o : BareReport} (timer : Timer) (r : Report) → report_told r ≡ told_in [] o → Serves (aim_of_expiry timer) [] e s new t o

@@ -1,5 +1,5 @@
 -- What a call on one link does to all of them: it is taken out of the list, and put back.
-use Rattle.lapd_line.proofs.Vocabulary.{◌≡◌, ℕ, ◌<◌, ◌≤◌, List, length, get_or, set, option_map, Result, Ok, Err, IfOk, OnOk, refl, sym, ap, subst, ◌∙◌, arith, Option, Bool, length-map, length-set, get_or_default, map-set_same, slice_get-map, slice_get-get_or, same_Some, Owned, Store, SameLimits, FocusPair, focus_pair, Link, Offer, Answer, terms_of, told_with, Terms, offer, Service, Config, terms, window, LinkFits, LinksStand, HasTerms, machine_at, link_pairs, terms_in, IsGiven, Offers, Refuses, Refusal, GoesOn}
+use Rattle.lapd_line.proofs.Vocabulary.{◌≡◌, ℕ, ◌<◌, ◌≤◌, List, length, get_or, set, option_map, Result, Ok, Err, IfOk, OnOk, refl, sym, ap, subst, ◌∙◌, arith, Option, Bool, length-map, length-set, get_or_default, map-set_same, slice_get-map, slice_get-get_or, same_Some, Owned, Store, SameLimits, FocusPair, focus_pair, Link, Offer, BareReport, terms_of, told_with, Terms, offer, Service, Config, terms, window, LinkFits, LinksStand, HasTerms, machine_at, link_pairs, terms_in, IsGiven, Offers, Refuses, Refusal, GoesOn}
 use Rattle.lapd_link.specs.Stands.{Stands}
 use Rattle.model_link.specs.Events.{Event, Request}
 use Rattle.model_link.specs.Requests.{refusal}
@@ -85,7 +85,7 @@ module _ {items links : List Link} {number : ℕ} {x : Link} (view : items ≡ l
       subst (λ u. LinksStand c (set links number y) t others (set ms number (after u e (machine_at ms number)))) (terms_at links number x terms within is has)
       (f.back t y _ limits same (stands f.rest (machine_at ms number) f.stands))
 
-  pub serves : {y : Link} {s t : Store} {e : Event} {info : List ℕ} {answer : Answer}
+  pub serves : {y : Link} {s t : Store} {e : Event} {info : List ℕ} {answer : BareReport}
       → ((others : List Owned) (m : machine.Link) → Stands x s others m → Stands y t others (after (terms_of x) e m))
       → ((others : List Owned) (m : machine.Link) → Stands x s others m → told_with info answer ≡ told (terms_of x) e m)
       → terms_of y ≡ terms_of x → SameLimits s t → Serves number e info links s (set items number y) t answer

@@ -1,6 +1,12 @@
 -- The bits of marks.
-use Rattle.lapd_line.proofs.Vocabulary.{◌≡◌, ◌≢◌, ℕ, ◌+◌, ◌-◌, ◌/◌, ◌%◌, ◌^◌, ◌≤◌, ◌<◌, ap, sym, ◌∙◌, arith, shr-shr, div-le_self, bit_at-zero, bit_at-trailing_zeros, bit_at, trailing_zeros, NoneFrom, IsLowestFrom, Bool, true, false, true≢false, eqb-true, not, ◌==◌, zero, suc, refl}
+use Rattle.lapd_line.proofs.Vocabulary.{◌≡◌, ◌≢◌, ℕ, ◌+◌, ◌-◌, ◌/◌, ◌%◌, ◌^◌, ◌≤◌, ◌<◌, ap, sym, ◌∙◌, arith, shr-shr, div-le_self, bit_at-zero, bit_at-trailing_zeros, bit_at, trailing_zeros, NoneFrom, IsLowestFrom, digit, Bool, true, false, true≢false, eqb-true, not, ◌==◌, zero, suc, refl}
 use Rattle.std.specs.Int.{w64}
+
+-- a bit is 1 exactly where it is a mark
+pub one_bit : (x : ℕ) → x < 2 → x ≡ digit (x == 1)
+one_bit zero low = refl
+one_bit (suc zero) low = refl
+one_bit (suc (suc x)) low = absurd (omega (arith, low))
 
 -- a bit of what is left from one bit on
 shifted_bit : (n from number : ℕ) → from ≤ number → bit_at n number ≡ bit_at (n / 2 ^ from) (number - from)

@@ -61,12 +61,6 @@ octet_leads {old} {new} {s} {t} {value} h brings goes_on leads = go h brings lea
       counted = λ others l st. leads.counted others l.line st.frames ∙ ap (counted_if old l) (sym (is c.n201 l.port st.port));
     }
 
--- where nothing was ended, a report of nothing is lent
-pub lent_told : (octets : List ℕ) {told : LineTold} {says : port.Answer} {bare : BareReport} (o : Option BareReport) (none : BareReport) → ((x : List ℕ) → told_in x none ≡ line.nothing)
-    → bare ≡ unwrap_or o none → told ≡ told_in octets bare → port.told (told_if octets o) ≡ says → port.told told ≡ says
-lent_told octets None none nothing is lent told = ap port.told (lent ∙ ap (told_in octets) is ∙ nothing octets) ∙ told
-lent_told octets (Some x) none nothing is lent told = ap port.told (lent ∙ ap (told_in octets) is) ∙ told
-
 abbrev cause_told : port.Answer → Option Cause
 cause_told (port.told x) = x.cause
 cause_told other = None
@@ -125,17 +119,9 @@ said_if_due : (c : Config) (l : OctetLine) (due : Bool) → is_some (said_to c l
 said_if_due c l true = refl
 said_if_due c l false = refl
 
--- it begins nothing where none is due, or none waits
+-- it begins nothing where none is due
 pub not_due : {line : Line} {s : Store} {others : List Owned} {l : OctetLine} → OctetsStand line s others l → is_due l.port ≡ false → frame_begun (said (octets_config line) pull l) ≡ None
 not_due {line} {l = l} st is = ap (λ b. frame_begun (said_to (octets_config line) l (called b))) is
-
-pub is_quiet : (c : Config) (l : OctetLine) → taken c l.line ≡ None → frame_begun (said c pull l) ≡ None
-unfolding line_answer
-is_quiet c l none = go (is_due l.port)
-  where
-    go : (due : Bool) → frame_begun (said_to c l (called due)) ≡ None
-    go true = ap (option_map next_of) none
-    go false = refl
 
 -- so the line stays
 begins_nothing : (c : Config) (l : OctetLine) (k : Counters) (due : Bool) → frame_begun (said_to c l (called due)) ≡ None

@@ -1,5 +1,5 @@
 -- What is written into a report in which nothing is told yet.
-use Rattle.lapd_line.proofs.Vocabulary.{◌≡◌, ℕ, ◌||◌, Bool, true, false, false≢true, List, [], Option, Some, None, drop, refl, sym, ap, ◌∙◌, Cause, listed, Answer, told_with, LineTold, nothing, told_of_link, TeiOutcome, told_of, told_of_management, BareReport, told_in}
+use Rattle.lapd_line.proofs.Vocabulary.{◌≡◌, ℕ, ◌||◌, Bool, true, false, false≢true, List, [], Option, Some, None, drop, refl, sym, ap, ◌∙◌, Cause, listed, told_with, LineTold, nothing, told_of_link, TeiOutcome, told_of, told_of_management, BareReport, told_in}
 use Rattle.std.specs.Option.{option_or}
 use Rattle.std.specs.Prelude.{if◌then◌else◌}
 use Rattle.model_line.specs.Effect.{unserved_cause}
@@ -12,37 +12,37 @@ none_else (Some cause) = refl
 -- a cause alone,
 pub cause_alone : {r : BareReport} (octets : List ℕ) (cause : Option Cause) → IsClear r → told_in octets (record r { cause = cause }) ≡ record nothing { cause = cause }
 cause_alone {r} octets cause clear = λ i. record {
-  notes = clear.answer.told.notes i;
-  contents = option_or (if clear.answer.told.delivered i then Some (drop r.start octets) else None) (if clear.answer.told.unit i then Some (drop r.start octets) else None);
-  cause = option_or (unserved_cause (clear.answer.told.unserved i)) cause;
-  orders = clear.answer.orders i;
-  lost = clear.answer.told.lost i;
+  notes = clear.notes i;
+  contents = option_or (if clear.delivered i then Some (drop r.start octets) else None) (if clear.unit i then Some (drop r.start octets) else None);
+  cause = option_or (unserved_cause (clear.unserved i)) cause;
+  orders = clear.orders i;
+  lost = clear.lost i;
 }
 
 -- or not even that,
 pub clear_tells_nothing : {r : BareReport} (octets : List ℕ) → IsClear r → told_in octets r ≡ nothing
 clear_tells_nothing {r} octets clear = cause_alone octets r.cause clear ∙ ap (λ c. record nothing { cause = c }) clear.cause
 
--- or the answer of a link
-pub link_told : (octets info : List ℕ) (answer : Answer) (start : ℕ) (cause : Option Cause) → cause ≡ None → info ≡ drop start octets
-    → told_in octets (record { answer = answer; start = start; cause = cause }) ≡ told_of_link (told_with info answer)
-link_told octets info answer start cause none is =
+-- or what a link told
+pub link_told : (octets info : List ℕ) (r : BareReport) (start : ℕ) → info ≡ drop start octets
+    → told_in octets (record r { start = start; cause = None }) ≡ told_of_link (told_with info r)
+link_told octets info r start is =
     let same = sym is in
-    let alone = ap (option_or (unserved_cause answer.told.unserved)) none ∙ none_else (unserved_cause answer.told.unserved) in λ i. record {
-      notes = listed answer.told.notes;
-      contents = option_or (if answer.told.delivered then Some (same i) else None) (if answer.told.unit then Some (same i) else None);
+    let alone = none_else (unserved_cause r.unserved) in λ i. record {
+      notes = listed r.notes;
+      contents = option_or (if r.delivered then Some (same i) else None) (if r.unit then Some (same i) else None);
       cause = alone i;
-      orders = listed answer.orders;
-      lost = answer.told.lost;
+      orders = listed r.orders;
+      lost = r.lost;
     }
 
 -- or of TEI management
 pub management_told : {r : BareReport} (octets : List ℕ) (told : TeiOutcome) → IsClear r
-    → told_in octets (record r { answer = record r.answer { told = record r.answer.told { notes = told.notes; lost = told.lost; unserved = told.unserved }; orders = told.orders } }) ≡ told_of_management (told_of told)
+    → told_in octets (record r { notes = told.notes; lost = told.lost; unserved = told.unserved; orders = told.orders }) ≡ told_of_management (told_of told)
 management_told {r} octets told clear =
     let alone = ap (option_or (unserved_cause told.unserved)) clear.cause ∙ none_else (unserved_cause told.unserved) in λ i. record {
       notes = listed told.notes;
-      contents = option_or (if clear.answer.told.delivered i then Some (drop r.start octets) else None) (if clear.answer.told.unit i then Some (drop r.start octets) else None);
+      contents = option_or (if clear.delivered i then Some (drop r.start octets) else None) (if clear.unit i then Some (drop r.start octets) else None);
       cause = alone i;
       orders = listed told.orders;
       lost = told.lost;

@@ -1,19 +1,18 @@
 -- Changes of the table, and the links that follow them.
-use Rattle.lapd_line.proofs.Vocabulary.{◌≡◌, ◌≢◌, ℕ, ◌<◌, ◌≤◌, List, [], ◌++◌, length, get_or, set, slice_get, Some, None, refl, sym, ap, subst, ◌∙◌, arith, append_assoc, ⊎_elim, cases_eq, length-map, length-set, get_or-set_same, get_or-set_other, none-some, same_Some, slice_get-set_same, slice_get-set_other, Owned, Holds, Store, Service, Call, Packet, Link, Answer, told_with, terms_of, Gained, Left, TeiOutcome, HasJoined, HasLeft, Management, told_of, changes_are_told, Line, link_number, link_count, service_at, place_at, tei_at, terms, link_at, at_management, of_change, of_management, told_of_link, told_of_management, with_cleared, with_opened, IsSound, IsSoundAt, IsInRange, management_event_sound, place_at-number, service_at-number, number_within, ranges_of, other_place, LinkLayer, told_in, unit_pairs, Marks, Sets, AreAwake, false, LinksStand, HasTerms, links_pairs, terms_in, machine_at, Stands, Serves, always, IsAnswerTo, with_management, Config, Terms, listed, cleared-tells, cleared-orders, LinkTold, Changing}
+use Rattle.lapd_line.proofs.Vocabulary.{◌≡◌, ◌≢◌, ℕ, ◌<◌, ◌≤◌, List, [], ◌++◌, length, get_or, set, slice_get, Some, None, refl, sym, ap, subst, ◌∙◌, arith, append_assoc, ⊎_elim, cases_eq, length-map, length-set, get_or-set_same, get_or-set_other, none-some, same_Some, slice_get-set_same, slice_get-set_other, Owned, Holds, Store, Service, Call, Packet, Link, BareReport, told_with, terms_of, Gained, Left, TeiOutcome, HasJoined, HasLeft, Management, told_of, changes_are_told, Line, link_number, link_count, service_at, place_at, tei_at, terms, link_at, at_management, of_change, of_management, told_of_link, told_of_management, with_cleared, with_opened, IsSound, IsSoundAt, IsInRange, management_event_sound, place_at-number, service_at-number, number_within, ranges_of, other_place, LinkLayer, told_in, unit_pairs, Marks, Sets, AreAwake, false, LinksStand, HasTerms, links_pairs, terms_in, machine_at, Stands, Serves, always, IsAnswerTo, with_management, Config, Terms, listed, cleared-tells, cleared-orders, LinkTold, Changing}
 use Rattle.model_link.specs.Events as event
 use Rattle.model_link.specs.Link as machine
 use Rattle.model_link.specs.Machine as answers
 use Rattle.lapd_tei.specs.Events as teis
 use Rattle.lapd_tei.specs.Laws.{Moves}
 use Rattle.model_line.proofs.Numbers.{at_place}
-use Rattle.lapd_line.specs.declared.reports.BareReport as reports
 use Rattle.lapd_line.specs.Links as links
 use Rattle.lapd_line.proofs.AwakeSteps.{awake_begun, awake_cleared}
 use Rattle.lapd_line.proofs.LayerSteps.{links_part, named, few_places}
 use Rattle.lapd_line.proofs.LinkSteps.{same_many}
 
 -- one link is cleared, and then another
-both_cleared : {c : Config} {ls one two : List Link} {s u t : Store} {first second : ℕ} {call packet : Answer} (t1 t2 : Terms) (others : List Owned) (ms : List machine.Link)
+both_cleared : {c : Config} {ls one two : List Link} {s u t : Store} {first second : ℕ} {call packet : BareReport} (t1 t2 : Terms) (others : List Owned) (ms : List machine.Link)
     → HasTerms ls first t1 → HasTerms ls second t2 → links.Serves first event.cleared [] ls s one u call → links.Serves second event.cleared [] one u two t packet → LinksStand c ls s others ms
     → (told_with [] call ≡ answers.told t1 event.cleared (machine_at ms first))
     × LinksStand c two t others (set (set ms first (answers.after t1 event.cleared (machine_at ms first))) second (answers.after t2 event.cleared (machine_at (set ms first (answers.after t1 event.cleared (machine_at ms first))) second)))
@@ -76,7 +75,7 @@ module _ (e : LinkLayer) (before : Management) (what : teis.Event) (outcome : Te
   }
 
   -- The table stays as it was.
-  pub unmoved : (s : Store) (octets : List ℕ) (o : reports.BareReport) → outcome.change ≡ None → told_in octets o ≡ told_of_management (told_of outcome)
+  pub unmoved : (s : Store) (octets : List ℕ) (o : BareReport) → outcome.change ≡ None → told_in octets o ≡ told_of_management (told_of outcome)
       → Serves (always (at_management what)) octets (with_management before e) s e s o
   unmoved s octets o none told = record {
     config = refl;
@@ -93,7 +92,7 @@ module _ (e : LinkLayer) (before : Management) (what : teis.Event) (outcome : Te
   }
 
   -- A TEI has come to the line.
-  pub joined : (s : Store) (octets : List ℕ) (o : reports.BareReport) (tei place : ℕ) (one two : List Link) → outcome.change ≡ Some (Gained tei place)
+  pub joined : (s : Store) (octets : List ℕ) (o : BareReport) (tei place : ℕ) (one two : List Link) → outcome.change ≡ Some (Gained tei place)
       → told_in octets o ≡ told_of_management (told_of outcome)
       → terms_in one ≡ set (terms_in e.links) (link_number place Call) (terms e.config Call tei)
       → terms_in two ≡ set (terms_in one) (link_number place Packet) (terms e.config Packet tei)
@@ -167,7 +166,7 @@ module _ (e : LinkLayer) (before : Management) (what : teis.Event) (outcome : Te
               ∙ st.terms number tei' few (ap (λ b. get_or b.places (place_at number) None) st.management ∙ sym (get_or-set_other before.places place (place_at number) (Some tei) None other) ∙ places_are)
 
   -- A TEI has left the line.
-  pub left : (s u t : Store) (octets : List ℕ) (o : reports.BareReport) (tei place : ℕ) (one two : List Link) (call packet : Answer) (mid awake : Marks) → outcome.change ≡ Some (Left tei place)
+  pub left : (s u t : Store) (octets : List ℕ) (o : BareReport) (tei place : ℕ) (one two : List Link) (call packet : BareReport) (mid awake : Marks) → outcome.change ≡ Some (Left tei place)
       → Sets (link_number place Call) false e.awake mid → Sets (link_number place Packet) false mid awake
       → links.Serves (link_number place Call) event.cleared [] e.links s one u call
       → links.Serves (link_number place Packet) event.cleared [] one u two t packet
@@ -285,10 +284,10 @@ going {e} {s} {outcome} {tei} {place} (what, before, is, (others, m, st)) gone =
 IsFew : LinkTold → Type 0
 IsFew t = (length t.notes ≤ 1) × (length t.orders ≤ 1)
 
-pub few_told : {e : LinkLayer} {s u t : Store} {tei place first second : ℕ} {one two : List Link} {call packet : Answer} (k : Going e s tei place)
+pub few_told : {e : LinkLayer} {s u t : Store} {tei place first second : ℕ} {one two : List Link} {call packet : BareReport} (k : Going e s tei place)
     → (place ≤ 8 → first ≡ link_number place Call) → (place ≤ 8 → second ≡ link_number place Packet)
     → links.Serves first event.cleared [] e.links s one u call → links.Serves second event.cleared [] one u two t packet
-    → ((length (listed call.told.notes) ≤ 1) × (length (listed call.orders) ≤ 1)) × ((length (listed packet.told.notes) ≤ 1) × (length (listed packet.orders) ≤ 1))
+    → ((length (listed call.notes) ≤ 1) × (length (listed call.orders) ≤ 1)) × ((length (listed packet.notes) ≤ 1) × (length (listed packet.orders) ≤ 1))
 unfolding IsFew
 few_told {e} {tei = tei} {first = first} {second} k is_call is_packet one two =
     let of_call = terms e.config Call tei in

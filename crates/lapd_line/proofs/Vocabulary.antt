@@ -60,7 +60,7 @@ pub use Rattle.lapd_line.specs.declared.addressing.Addressee.{Addressee}
 pub use Rattle.lapd_line.specs.declared.frame_line.FrameLine.{FrameLine}
 pub use Rattle.lapd_line.specs.declared.link_layer.LinkLayer.{LinkLayer}
 pub use Rattle.lapd_line.specs.declared.marks.Marks.{Marks}
-pub use Rattle.lapd_line.specs.declared.reports.BareReport.{BareReport}
+pub use Rattle.lapd_link_steps.specs.declared.report.BareReport.{BareReport}
 pub use Rattle.lapd_line.specs.declared.reports.Report.{Report}
 pub use Rattle.lapd_line.specs.declared.requests.TeiRequest.{TeiRequest}
 pub use Rattle.lapd_line.specs.declared.units.QueuedUnit.{QueuedUnit}
@@ -69,7 +69,6 @@ pub use Rattle.lapd_link.specs.Outcome.{HasMessage, contents_in, given_by, told_
 pub use Rattle.lapd_link.specs.Stands.{Fits, terms_of}
 pub use Rattle.lapd_link.specs.declared.link.Link.{Link}
 pub use Rattle.lapd_link.specs.declared.offers.Offer.{Offer}
-pub use Rattle.lapd_link.specs.declared.outcome.Answer.{Answer}
 pub use Rattle.lapd_link.specs.declared.requests.LinkRequest.{LinkRequest}
 pub use Rattle.lapd_store.proofs.Focus.{FocusPair, Part, focus_pair, octets-machines, second_part, slots-machines}
 pub use Rattle.lapd_store.proofs.Ownership.{Holds-empty, owned_octets-append}

@@ -12,7 +12,7 @@ use Rattle.model_line.specs.Heard.{aim_of_heard}
 use Rattle.model_line.specs.Effect.{Aim, at_none, of_aim}
 use Rattle.model_line.specs.Sound.{IsInRange, IsSound}
 use Rattle.lapd_line.specs.declared.link_layer.LinkLayer.{LinkLayer}
-use Rattle.lapd_line.specs.declared.reports.BareReport.{BareReport}
+use Rattle.lapd_link_steps.specs.declared.report.BareReport.{BareReport}
 use Rattle.lapd_line.specs.Awake.{AreAwake}
 use Rattle.lapd_line.specs.Links.{LinkFits, HasTerms, links_pairs}
 use Rattle.lapd_line.specs.Units.{AreFor, unit_pairs}

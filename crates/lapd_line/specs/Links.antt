@@ -6,7 +6,7 @@ use Rattle.lapd_store.specs.Ownership.{Owned, Holds, pairs_of}
 use Rattle.lapd_store.specs.Store.{Store, SameLimits, IsUsed}
 use Rattle.lapd_link.specs.declared.link.Link.{Link}
 use Rattle.lapd_link.specs.declared.offers.Offer.{Offer}
-use Rattle.lapd_link.specs.declared.outcome.Answer.{Answer}
+use Rattle.lapd_link_steps.specs.declared.report.BareReport.{BareReport}
 use Rattle.lapd_link.specs.Stands.{Fits, slots_of, terms_of}
 use Rattle.lapd_link.specs.Outcome.{told_with, given_by, HasMessage}
 use Rattle.model_link.specs.declared.terms.Terms.{Terms}
@@ -59,16 +59,16 @@ GoesOn number e old s new t =
     → LinksStand c new t others (set ms number (after terms e (machine_at ms number)))
 
 -- And it is answered with what that machine tells.
-abbrev pub IsTold : ℕ → Event → List ℕ → List Link → Store → Answer → Type 0
-IsTold number e info old s answer =
+abbrev pub IsTold : ℕ → Event → List ℕ → List Link → Store → BareReport → Type 0
+IsTold number e info old s report =
     (c : Config) (terms : Terms) (others : List Owned) (ms : List machine.Link) → HasTerms old number terms → LinksStand c old s others ms
-    → told_with info answer ≡ told terms e (machine_at ms number)
+    → told_with info report ≡ told terms e (machine_at ms number)
 
-pub record Serves (number : ℕ) (e : Event) (info : List ℕ) (old : List Link) (s : Store) (new : List Link) (t : Store) (answer : Answer) : Type 0 where
+pub record Serves (number : ℕ) (e : Event) (info : List ℕ) (old : List Link) (s : Store) (new : List Link) (t : Store) (report : BareReport) : Type 0 where
   pub terms : terms_in new ≡ terms_in old
   pub limits : SameLimits s t
   pub goes_on : GoesOn number e old s new t
-  pub told : IsTold number e info old s answer
+  pub told : IsTold number e info old s report
 
 -- A request of the link at a place is refused for this reason, or not.
 abbrev pub Refuses : ℕ → Bool → Request → List Link → Store → Option Refusal → Type 0

@@ -3,18 +3,16 @@
 -- An answer has room for four notes and four orders, by value. No clause needs to speak of that room: an answer
 -- equals what the machine tells, so a list that was cut would break the clause. That four suffice is
 -- `answers_are_short` of `laws_line`.
-use Rattle.std.specs.Prelude.{◌≡◌, ℕ, ◌||◌, Bool, List, [], take, drop, Option, Some, None, option_map, if◌then◌else◌}
+use Rattle.std.specs.Prelude.{◌≡◌, ℕ, List, [], take, drop, Option, Some, None, option_map, if◌then◌else◌}
 use Rattle.std.specs.Option.{option_copied, option_or}
 use Rattle.model_bits.specs.Stream as stream
-use Rattle.model_bits.specs.declared.heard.Cause.{Cause}
 use Rattle.lapd_frame.specs.ShortLists.{listed}
-use Rattle.model_line.specs.Effect.{unserved_cause}
 use Rattle.model_line.specs.Event.{LineTold, Answer, gave, nothing}
 use Rattle.model_line.specs.Event as line
 use Rattle.model_card.specs.ports.Port as port
-use Rattle.lapd_link.specs.Outcome as link
+use Rattle.lapd_link_steps.specs.declared.report.BareReport.{BareReport}
+pub use Rattle.lapd_link_steps.specs.Reports.{IsClear, cause_in, has_contents}
 use Rattle.lapd_line.specs.declared.next_frame.NextFrame.{NextFrame}
-use Rattle.lapd_line.specs.declared.reports.BareReport.{BareReport}
 use Rattle.lapd_line.specs.declared.reports.Report.{Report}
 use Rattle.lapd_line.specs.declared.pulled.Pulled.{Pulled}
 
@@ -26,27 +24,14 @@ report_told r =
 abbrev pub without_contents : LineTold → LineTold
 without_contents t = record t { contents = None }
 
--- Nothing is told in it yet.
-pub record IsClear (o : BareReport) : Type 0 where
-  pub answer : link.IsClear o.answer
-  pub cause : o.cause ≡ None
-
--- Whether contents were delivered.
-abbrev pub has_contents : BareReport → Bool
-has_contents o = o.answer.told.delivered || o.answer.told.unit
-
--- Why something was dropped.
-abbrev pub cause_in : BareReport → Option Cause
-cause_in o = option_or (unserved_cause o.answer.told.unserved) o.cause
-
 -- What it tells, with the contents that it names lent from these octets.
 abbrev pub told_in : List ℕ → BareReport → LineTold
 told_in octets o = record {
-  notes = listed o.answer.told.notes;
-  contents = option_or (if o.answer.told.delivered then Some (drop o.start octets) else None) (if o.answer.told.unit then Some (drop o.start octets) else None);
+  notes = listed o.notes;
+  contents = option_or (if o.delivered then Some (drop o.start octets) else None) (if o.unit then Some (drop o.start octets) else None);
   cause = cause_in o;
-  orders = listed o.answer.orders;
-  lost = o.answer.told.lost;
+  orders = listed o.orders;
+  lost = o.lost;
 }
 
 -- The same where there is an outcome, and nothing where there is none.

@@ -12,11 +12,11 @@ ghost use Rattle.model_line.specs.Sides.{has_management, told_at};
 ghost use Rattle.lapd_line.specs.Addressing.{is_ui};
 
 use crate::link_layer::LinkLayer;
-use crate::reports::BareReport;
+use crate::reports::tell_drop;
 use lapd_frame::{
     Address, Control, Frame, Long, Note, ReadFault, Service, ShortList, Side, read, read_long,
 };
-use lapd_link::Received;
+use lapd_link::{BareReport, Received};
 use lapd_store::Shelf;
 use model_bits::{Cause, Heard};
 
@@ -76,7 +76,7 @@ impl LinkLayer {
     {
         match heard {
             Heard::Nothing => {}
-            Heard::Dropped(cause) => report.tell_drop(cause),
+            Heard::Dropped(cause) => tell_drop(report, cause),
             Heard::Frame(octets) => self.frame(octets, report, shelf),
             Heard::Overlong(head) => self.overlong(&head, report, shelf),
         }
@@ -133,10 +133,10 @@ impl LinkLayer {
             → told_in octets report.new ≡ told_at self.now.config self.now.config.side (parts_of frame.entry) (dropped cause) }
     {
         match self.group_service(frame) {
-            None => report.tell_drop(cause),
+            None => tell_drop(report, cause),
             Some(service) => {
-                report.answer.told.notes = ShortList::one(Note::Unit(service, GROUP));
-                report.answer.told.unit = true;
+                report.notes = ShortList::one(Note::Unit(service, GROUP));
+                report.unit = true;
                 report.start = frame.control.start();
             }
         }
@@ -176,7 +176,7 @@ impl LinkLayer {
             → Serves (λ m. aim_of_reading self.old.config m (Err fault)) octets self.old (S.store shelf.old) self.new (S.store shelf.new) report.new }
     {
         match fault {
-            ReadFault::BadExtension => report.tell_drop(Cause::Extension),
+            ReadFault::BadExtension => tell_drop(report, Cause::Extension),
             ReadFault::Undefined(address) => self.malformed(
                 address,
                 Received::Undefined,
@@ -191,7 +191,7 @@ impl LinkLayer {
                 report,
                 shelf,
             ),
-            ReadFault::Short => report.tell_drop(Cause::Unserved),
+            ReadFault::Short => tell_drop(report, Cause::Unserved),
         }
     }
 
@@ -232,13 +232,13 @@ impl LinkLayer {
             → Serves (λ m. addressed m address (received_of received.entry) (drop_for Unserved)) octets self.old (S.store shelf.old) self.new (S.store shelf.new) report.new }
     {
         match self.addressee(address) {
-            Addressee::Management => report.tell_drop(Cause::Unserved),
+            Addressee::Management => tell_drop(report, Cause::Unserved),
             Addressee::Link {
                 service,
                 tei,
                 place,
             } => self.receive(service, tei, place, received, len, report, shelf),
-            Addressee::Nobody(cause) => report.tell_drop(cause),
+            Addressee::Nobody(cause) => tell_drop(report, cause),
         }
     }
 
@@ -250,8 +250,8 @@ impl LinkLayer {
         ensures { Serves (λ m. unless_at_link (addressed m address link.overlong (drop_for Unserved))) [] self.old (S.store shelf.old) self.new (S.store shelf.new) report.new }
     {
         match self.addressee(address) {
-            Addressee::Management | Addressee::Link { .. } => report.tell_drop(Cause::Unserved),
-            Addressee::Nobody(cause) => report.tell_drop(cause),
+            Addressee::Management | Addressee::Link { .. } => tell_drop(report, Cause::Unserved),
+            Addressee::Nobody(cause) => tell_drop(report, cause),
         }
     }
 
@@ -270,7 +270,7 @@ impl LinkLayer {
         ensures { (octets : List ℕ) → Serves (always (message_at self.old.config.side control info.now)) octets self.old (S.store shelf.old) self.new (S.store shelf.new) report.new }
     {
         if !is_ui(control) || !has_management(self.config.side) {
-            return report.tell_drop(Cause::Unserved);
+            return tell_drop(report, Cause::Unserved);
         }
         let told = self.teis.message(info);
         self.change(told, report, shelf);

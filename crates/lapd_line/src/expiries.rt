@@ -7,9 +7,8 @@ ghost use Rattle.model_line.specs.Effect.{at_management};
 ghost use Rattle.lapd_tei.specs.Events as teis;
 
 use crate::link_layer::LinkLayer;
-use crate::reports::BareReport;
 use lapd_frame::{Service, Timer};
-use lapd_link::LinkTimer;
+use lapd_link::{BareReport, LinkTimer};
 use lapd_store::Shelf;
 
 impl LinkLayer {

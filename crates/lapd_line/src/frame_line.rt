@@ -1,16 +1,15 @@
 //! The line: one call for each thing that happens.
 
-ghost use Rattle.std.specs.Prelude.{◌≡◌, ℕ, ◌≤◌, ◌++◌, List, false, None, Some, IfOk, IfErr, OnErr, nat_le};
+ghost use Rattle.std.specs.Prelude.{◌≡◌, ◌≤◌, List, false, None, Some, IfOk, IfErr, OnErr, nat_le};
 ghost use Rattle.std.specs.Option.{option_copied};
-ghost use Rattle.lapd_count.specs.Counters.{none_counted, with_all};
-ghost use Rattle.lapd_count.specs.Shown.{heard_shown};
+ghost use Rattle.lapd_count.specs.Counters.{none_counted};
 ghost use Rattle.lapd_store.specs.Ownership.{Owned, Holds};
 ghost use Rattle.lapd_store.specs.Store.{Store, used_slots};
 ghost use Rattle.model_bits.specs.Heard.{heard_of};
 ghost use Rattle.model_bits.specs.Stream as stream;
 ghost use Rattle.model_line.specs.Came.{came, cause_of};
 ghost use Rattle.model_line.specs.Event as line_event;
-ghost use Rattle.model_line.specs.Event.{told, dropped, hears};
+ghost use Rattle.model_line.specs.Event.{told, hears};
 ghost use Rattle.model_line.specs.Line as machine;
 ghost use Rattle.model_line.specs.Machine.{answer};
 ghost use Rattle.model_line.specs.Refusal.{refusal};
@@ -22,11 +21,12 @@ use crate::came::{came, cause_of, octets_of};
 use crate::counting::count_told;
 use crate::fault::StartFault;
 use crate::link_layer::LinkLayer;
-use crate::reports::{BareReport, Report};
+use crate::reports::{Report, lent, tell_drop};
 use lapd_count::Counters;
 use lapd_frame::{Refusal, Timer};
+use lapd_link::BareReport;
 use lapd_store::Shelf;
-use model_bits::{Cause, Heard};
+use model_bits::Heard;
 use model_line::{Config, Fault, Request};
 use std::alloc::Global;
 
@@ -44,7 +44,6 @@ pub struct FrameLine {
 
 impl FrameLine {
     ghost use Rattle.lapd_line.specs.Counted.{bare_shown, with_counted};
-    ghost use Rattle.lapd_line.specs.LinkLayer.{Standing, Serves, aim_of_event};
     ghost use Rattle.lapd_line.specs.Reports.{report_told, told_in, octets_of, IsClear};
     ghost use Rattle.lapd_line.specs.Stands.{Stands, Leads, LeadsIfHeard, answer_if_heard, config_of};
 
@@ -80,38 +79,12 @@ impl FrameLine {
     {
         match heard {
             Heard::Nothing => {}
-            Heard::Dropped(cause) => self.dropped(cause, report),
-            Heard::Frame(_) | Heard::Overlong(_) => self.serve(heard, report, shelf),
+            Heard::Dropped(_) | Heard::Frame(_) | Heard::Overlong(_) => {
+                self.counters.heard(self.layer.config.side, heard);
+                self.layer.serve(heard, report, shelf);
+                self.count(report);
+            }
         }
-    }
-
-    /// Something is dropped in place of a frame. It is told, counted, and changes nothing.
-    #[inline(always)]
-    fn dropped(&mut self, cause: Cause, report: &mut BareReport)
-        requires { IsClear report.old }
-        ensures line { self.new ≡ with_counted self.old (bare_shown report.new) }
-        ensures told { (octets : List ℕ) → told_in octets report.new ≡ dropped cause }
-    {
-        report.tell_drop(cause);
-        self.count(report);
-    }
-
-    /// Serves a frame, and counts it and what it led to.
-    #[inline(always)]
-    fn serve<S: Shelf>(&mut self, heard: Heard<'_>, report: &mut BareReport, shelf: &mut S)
-        requires clear { IsClear report.old }
-        requires stands { Standing self.old.layer (S.store shelf.old) }
-        ensures line { self.new ≡ record {
-          layer = self.new.layer;
-          counters = with_all self.old.counters (heard_shown self.old.layer.config.side (heard_of heard.entry) ++ bare_shown report.new);
-        } }
-        ensures served { Serves (aim_of_event self.old.layer.config (heard_of heard.entry)) (octets_of (heard_of heard.entry))
-            self.old.layer (S.store shelf.old) self.new.layer (S.store shelf.new) report.new }
-    {
-        let side = self.layer.config.side;
-        self.counters.heard(side, heard);
-        self.layer.serve(heard, report, shelf);
-        self.count(report);
     }
 
     /// Counts what was told.
@@ -119,8 +92,12 @@ impl FrameLine {
     fn count(&mut self, report: &BareReport)
         ensures { self.new ≡ with_counted self.old (bare_shown report.now) }
     {
-        let told = &report.answer.told;
-        count_told(&mut self.counters, &told.notes, report.cause(), told.lost);
+        count_told(
+            &mut self.counters,
+            &report.notes,
+            report.cause(),
+            report.lost,
+        );
     }
 
     /// Takes a frame that a controller brings, from its address to its information, without its check, and tells in the report
@@ -143,7 +120,7 @@ impl FrameLine {
     pub fn lend<'a>(&self, octets: &'a [u8], bare: &BareReport) -> Report<'a>
         ensures { report_told result ≡ told_in (octets_of (Some (came (config_of self.now).n201 octets.now))) bare.now }
     {
-        bare.report(octets_of(came(octets, self.layer.config.n201)))
+        Report::of(bare, octets_of(came(octets, self.layer.config.n201)))
     }
 
     /// The contents alone.
@@ -153,7 +130,7 @@ impl FrameLine {
         ensures { option_copied result ≡ (told_in (octets_of (Some (came (config_of self.now).n201 octets.now))) bare.now).contents }
     {
         if bare.has_contents() {
-            bare.lent(octets_of(came(octets, self.layer.config.n201)))
+            lent(bare, octets_of(came(octets, self.layer.config.n201)))
         } else {
             None
         }
@@ -169,8 +146,9 @@ impl FrameLine {
         ensures after { (store : Store) → Leads (hears (stream.dropped (cause_of fault))) self.old store self.new store }
     {
         let mut bare = BareReport::nothing();
-        self.dropped(cause_of(fault), &mut bare);
-        bare.report(&[])
+        tell_drop(&mut bare, cause_of(fault));
+        self.count(&bare);
+        Report::of(&bare, &[])
     }
 
     /// A timer expires: T200 or T203 of a link, or T201 of the check of a TEI (Q.921 clause 5.9). Where it does not
@@ -186,7 +164,7 @@ impl FrameLine {
         let mut bare = BareReport::nothing();
         self.layer.expire(timer, &mut bare, shelf);
         self.count(&bare);
-        bare.report(&[])
+        Report::of(&bare, &[])
     }
 
     /// Serves a request of layer 3 or management (Q.921 clause 4.1.1). One that is refused changes nothing. The whole
@@ -219,7 +197,7 @@ impl FrameLine {
         match self.layer.request(request, &mut bare, shelf, slots) {
             Ok(()) => {
                 self.count(&bare);
-                Ok(bare.report(&[]))
+                Ok(Report::of(&bare, &[]))
             }
             Err(why) => Err(why),
         }

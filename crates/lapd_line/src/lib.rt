@@ -50,11 +50,11 @@ mod units;
 
 pub use fault::StartFault;
 pub use frame_line::FrameLine;
-pub use lapd_link::Room;
+pub use lapd_link::{BareReport, Room};
 pub use line::Line;
 pub use marks::Marks;
 pub use model_line::{Config, Field, Request};
 pub use next_frame::NextFrame;
 pub use port::Port;
 pub use pulled::Pulled;
-pub use reports::{BareReport, Report};
+pub use reports::Report;

@@ -1,6 +1,6 @@
 //! A line of octets: a line, and its port.
 
-ghost use Rattle.std.specs.Prelude.{◌≡◌, ◌≤◌, ◌<◌, ◌+◌, List, Some, None, IsSome, IfOk, IfErr, OnErr, nat_le, length};
+ghost use Rattle.std.specs.Prelude.{◌≡◌, ◌≤◌, ◌+◌, List, Some, None, IsSome, IfOk, IfErr, OnErr, nat_le};
 ghost use Rattle.lapd_count.specs.Counters.{none_counted};
 ghost use Rattle.lapd_store.specs.Ownership.{Owned, Holds};
 ghost use Rattle.lapd_store.specs.Store.{Store, used_slots};
@@ -20,11 +20,10 @@ use crate::fault::StartFault;
 use crate::frame_line::FrameLine;
 use crate::port::Port;
 use crate::pulled::Pulled;
-use crate::reports::{BareReport, Report};
-use lapd_bits::Ended;
+use crate::reports::Report;
 use lapd_frame::{Refusal, Service, Timer};
+use lapd_link::BareReport;
 use lapd_store::Shelf;
-use model_bits::Heard;
 use model_line::{Config, Request};
 use std::alloc::Global;
 
@@ -44,7 +43,7 @@ impl Line {
     ghost use Rattle.lapd_line.specs.contracts.line.Line.{the_row};
     ghost use Rattle.lapd_line.specs.Octets.{OctetsStand, OctetsLead, octets_config};
     ghost use Rattle.lapd_line.specs.Ports.{latest_frame};
-    ghost use Rattle.lapd_line.specs.Reports.{report_told, told_if, pulled_of};
+    ghost use Rattle.lapd_line.specs.Reports.{report_told, told_in, pulled_of};
 
     /// A line of a card with these sizes and limits, all in range. No TEI is on it, and no octet has come.
     ///
@@ -76,31 +75,21 @@ impl Line {
         ensures* after { sem 𝓛 (Rests the_row self.entry
             (λ v. OctetsLead (port.octet octet) self.old (S.store shelf.old) v (S.store shelf.new))) }
     {
-        let bare = self.hear(octet, shelf).unwrap_or(BareReport::nothing());
+        let bare = self.hear(octet, shelf);
         self.port.lend(&bare)
     }
 
-    /// Takes an octet, and answers without references; none where it ended nothing, as most octets do.
-    #[inline(always)]
-    fn hear<S: Shelf>(&mut self, octet: u8, shelf: &mut S) -> Option<BareReport>
+    /// Takes an octet, and tells without references what it led to.
+    fn hear<S: Shelf>(&mut self, octet: u8, shelf: &mut S) -> BareReport
         requires { (others : List Owned) × (l : OctetLine) × OctetsStand self.old (S.store shelf.old) others l }
         ensures told { (others : List Owned) (l : OctetLine) → OctetsStand self.old (S.store shelf.old) others l
-            → told (told_if (latest_frame self.new.port) result) ≡ answer (octets_config self.old) (port.octet octet) l }
+            → told (told_in (latest_frame self.new.port) result) ≡ answer (octets_config self.old) (port.octet octet) l }
         ensures after { OctetsLead (port.octet octet) self.old (S.store shelf.old) self.new (S.store shelf.new) }
     {
-        match self.port.octet(octet) {
-            Ended::Nothing => None,
-            Ended::Dropped(cause) => {
-                let mut bare = BareReport::nothing();
-                self.frames.heard(Heard::Dropped(cause), &mut bare, shelf);
-                Some(bare)
-            }
-            Ended::Frame(_) | Ended::Overlong => {
-                let mut bare = BareReport::nothing();
-                self.frames.heard(self.port.latest(), &mut bare, shelf);
-                Some(bare)
-            }
-        }
+        let mut bare = BareReport::nothing();
+        self.port.octet(octet);
+        self.frames.heard(self.port.latest(), &mut bare, shelf);
+        bare
     }
 
     /// A timer expires, as [`FrameLine::expire`] has it.
@@ -144,7 +133,6 @@ impl Line {
     /// Gives the next octet of the line, low bit first. Where fewer than eight bits are left to send, the frame that is
     /// next is taken: a message of TEI management, else unit data, else one of a link, each link in its turn; or an
     /// idle flag where none waits (profile).
-    #[inline(always)]
     pub fn pull<S: Shelf>(&mut self, shelf: &mut S) -> Pulled
         requires { (others : List Owned) × (l : OctetLine) × OctetsStand self.old (S.store shelf.old) others l }
         ensures told { (others : List Owned) (l : OctetLine) → OctetsStand self.old (S.store shelf.old) others l
@@ -154,22 +142,6 @@ impl Line {
         if !self.port.is_due() {
             return self.port.give(None);
         }
-        if !self.frames.has_next() {
-            return self.port.give(None);
-        }
-        self.pull_next(shelf)
-    }
-
-    /// Gives the next octet where fewer than eight bits are left to send. It stands apart, so that a caller has little to do
-    /// for the pulls that take no frame, which are most.
-    #[inline(never)]
-    fn pull_next<S: Shelf>(&mut self, shelf: &mut S) -> Pulled
-        requires stands { (others : List Owned) × (l : OctetLine) × OctetsStand self.old (S.store shelf.old) others l }
-        requires few { length self.old.port.framer.left < 8 }
-        ensures told { (others : List Owned) (l : OctetLine) → OctetsStand self.old (S.store shelf.old) others l
-            → pulled_of result ≡ answer (octets_config self.old) port.pull l }
-        ensures after { OctetsLead port.pull self.old (S.store shelf.old) self.new (S.store shelf.new) }
-    {
         let taken = self.frames.load_next(&mut self.port, shelf);
         self.port.give(taken)
     }

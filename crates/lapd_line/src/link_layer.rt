@@ -9,10 +9,9 @@ ghost use Rattle.model_line.specs.Effect.{at_link};
 
 use crate::links::Links;
 use crate::marks::Marks;
-use crate::reports::BareReport;
 use crate::units::Units;
 use lapd_frame::Service;
-use lapd_link::{LinkTimer, Received};
+use lapd_link::{BareReport, LinkTimer, Received};
 use lapd_store::Shelf;
 use lapd_tei::Teis;
 use model_line::Config;
@@ -67,9 +66,9 @@ impl LinkLayer {
             → Serves (always (at_link service tei place (event.received (received_of received.entry)))) octets self.old (S.store shelf.old) self.new (S.store shelf.new) report.new }
     {
         let number = link_number(place, service);
+        self.links.receive(number, received, report, shelf);
         report.start = start;
-        self.links
-            .receive(number, received, &mut report.answer, shelf);
+        report.cause = None;
         self.awake.set(number, self.links.has_frame(number));
     }
 
@@ -89,7 +88,8 @@ impl LinkLayer {
         ensures { Serves (always (at_link service tei place (event.expired timer))) [] self.old (S.store shelf.old) self.new (S.store shelf.new) report.new }
     {
         let number = link_number(place, service);
-        self.links.expire(number, timer, &mut report.answer, shelf);
+        self.links.expire(number, timer, report, shelf);
+        report.cause = None;
         self.awake.set(number, self.links.has_frame(number));
     }
 
@@ -108,7 +108,8 @@ impl LinkLayer {
         ensures { Serves (always (at_link service tei place event.cleared)) [] self.old (S.store shelf.old) self.new (S.store shelf.new) report.new }
     {
         let number = link_number(place, service);
-        self.links.clear(number, &mut report.answer, shelf);
+        self.links.clear(number, report, shelf);
+        report.cause = None;
         self.awake.set(number, self.links.has_frame(number));
     }
 

@@ -15,7 +15,7 @@ ghost use Rattle.model_line.specs.Sound.{IsInRange};
 
 use crate::fault::StartFault;
 use lapd_frame::{Address, Refusal, Service};
-use lapd_link::{Answer, Link, LinkRequest, LinkTimer, Offer, Received, Room};
+use lapd_link::{BareReport, Link, LinkRequest, LinkTimer, Offer, Received, Room};
 use lapd_store::Shelf;
 use model_line::Config;
 use std::alloc::Global;
@@ -38,8 +38,8 @@ impl Model for Links {
 
 impl Links {
     ghost use Rattle.lapd_link.specs.Events.{received_of, request_of, info_of};
-    ghost use Rattle.lapd_link.specs.Outcome.{IsClear};
     ghost use Rattle.lapd_line.specs.Awake.{TellsOf};
+    ghost use Rattle.lapd_line.specs.Reports.{IsClear};
     ghost use Rattle.lapd_line.specs.Links.{LinksStand, Offers, Serves, Refuses, HasTerms, machine_at, terms_in};
     ghost use Rattle.lapd_line.specs.Starts.{AreBegun};
 
@@ -63,15 +63,15 @@ impl Links {
         &mut self,
         number: usize,
         received: Received<'_>,
-        answer: &mut Answer,
+        report: &mut BareReport,
         shelf: &mut S,
     )
         requires within { number < length self.old }
-        requires clear { IsClear answer.old }
+        requires clear { IsClear report.old }
         requires stands { (c : Config) × (others : List Owned) × (ms : List machine.Link) × LinksStand c self.old (S.store shelf.old) others ms }
-        ensures { Serves number (event.received (received_of received.entry)) (info_of received.entry) self.old (S.store shelf.old) self.new (S.store shelf.new) answer.new }
+        ensures { Serves number (event.received (received_of received.entry)) (info_of received.entry) self.old (S.store shelf.old) self.new (S.store shelf.new) report.new }
     {
-        self.all[number].receive(received, answer, shelf);
+        self.all[number].receive(received, report, shelf);
     }
 
     /// A timer of a link expires.
@@ -79,25 +79,25 @@ impl Links {
         &mut self,
         number: usize,
         timer: LinkTimer,
-        answer: &mut Answer,
+        report: &mut BareReport,
         shelf: &mut S,
     )
         requires within { number < length self.old }
-        requires clear { IsClear answer.old }
+        requires clear { IsClear report.old }
         requires stands { (c : Config) × (others : List Owned) × (ms : List machine.Link) × LinksStand c self.old (S.store shelf.old) others ms }
-        ensures { Serves number (event.expired timer) [] self.old (S.store shelf.old) self.new (S.store shelf.new) answer.new }
+        ensures { Serves number (event.expired timer) [] self.old (S.store shelf.old) self.new (S.store shelf.new) report.new }
     {
-        self.all[number].expire(timer, answer, shelf);
+        self.all[number].expire(timer, report, shelf);
     }
 
     /// The TEI of a link leaves the line.
-    pub(crate) fn clear<S: Shelf>(&mut self, number: usize, answer: &mut Answer, shelf: &mut S)
+    pub(crate) fn clear<S: Shelf>(&mut self, number: usize, report: &mut BareReport, shelf: &mut S)
         requires within { number < length self.old }
-        requires clear { IsClear answer.old }
+        requires clear { IsClear report.old }
         requires stands { (c : Config) × (others : List Owned) × (ms : List machine.Link) × LinksStand c self.old (S.store shelf.old) others ms }
-        ensures { Serves number event.cleared [] self.old (S.store shelf.old) self.new (S.store shelf.new) answer.new }
+        ensures { Serves number event.cleared [] self.old (S.store shelf.old) self.new (S.store shelf.new) report.new }
     {
-        self.all[number].clear(answer, shelf);
+        self.all[number].clear(report, shelf);
     }
 
     /// Layer 3 asks a link for something.
@@ -106,22 +106,22 @@ impl Links {
         &mut self,
         number: usize,
         request: LinkRequest<'_>,
-        answer: &mut Answer,
+        report: &mut BareReport,
         shelf: &mut S,
         slots: u32,
     ) -> Result<(), Refusal>
         requires within { number < length self.old }
-        requires clear { IsClear answer.old }
+        requires clear { IsClear report.old }
         requires stands { (c : Config) × (others : List Owned) × (ms : List machine.Link) × LinksStand c self.old (S.store shelf.old) others ms }
         requires slots { slots ≤ (S.store shelf.old).slots }
         ensures refused { IfErr result (λ why. Refuses number (nat_le slots (used_slots (S.store shelf.old))) (request_of request.entry) self.old (S.store shelf.old) (Some why)) }
         ensures unchanged { OnErr result (self.new ≡ self.old) }
         ensures kept { OnErr result (shelf.new ≡ shelf.old) }
-        ensures untold { OnErr result (answer.new ≡ answer.old) }
+        ensures untold { OnErr result (report.new ≡ report.old) }
         ensures granted { OnOk result (Refuses number (nat_le slots (used_slots (S.store shelf.old))) (request_of request.entry) self.old (S.store shelf.old) None) }
-        ensures served { OnOk result (Serves number (event.requested (request_of request.entry) (nat_le slots (used_slots (S.store shelf.old)))) [] self.old (S.store shelf.old) self.new (S.store shelf.new) answer.new) }
+        ensures served { OnOk result (Serves number (event.requested (request_of request.entry) (nat_le slots (used_slots (S.store shelf.old)))) [] self.old (S.store shelf.old) self.new (S.store shelf.new) report.new) }
     {
-        self.all[number].request(request, answer, shelf, slots)
+        self.all[number].request(request, report, shelf, slots)
     }
 
     /// How many they are.

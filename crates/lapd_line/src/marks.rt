@@ -35,6 +35,16 @@ impl Marks {
         }
     }
 
+    /// Whether a number is marked.
+    #[tactic(auto, using(crate::proofs::MarkBits::one_bit))]
+    #[inline(always)]
+    pub fn has(&self, number: usize) -> bool
+        requires { number < 64 }
+        ensures { IsMark self.now number result }
+    {
+        (self.bits >> number) % 2 == 1
+    }
+
     /// Whether any number is marked.
     #[inline(always)]
     pub fn any(&self) -> bool

@@ -16,9 +16,10 @@ ghost use Rattle.lapd_line.specs.Reports.{report_told, told_in};
 use crate::came::octets_of;
 use crate::fault::StartFault;
 use crate::pulled::Pulled;
-use crate::reports::{BareReport, Report};
+use crate::reports::Report;
 use lapd_bits::{Deframer, Ended, Framer};
 use lapd_frame::{Order, ShortList};
+use lapd_link::BareReport;
 use model_bits::{Head, Heard};
 use std::alloc::Global;
 
@@ -89,7 +90,7 @@ impl Port {
     pub fn lend(&self, bare: &BareReport) -> Report<'_>
         ensures { report_told result ≡ told_in (latest_frame self.now) bare.now }
     {
-        bare.report(octets_of(self.latest()))
+        Report::of(bare, octets_of(self.latest()))
     }
 
     /// Whether fewer than eight bits are left to send, so that the next pull needs a frame to begin.

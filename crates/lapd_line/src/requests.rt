@@ -20,10 +20,9 @@ ghost use Rattle.lapd_line.specs.Requests.{event_of, link_refusal, management_re
 
 use crate::addressing::{GROUP, has_management};
 use crate::link_layer::{LinkLayer, link_number};
-use crate::reports::BareReport;
 use crate::units::QueuedUnit;
 use lapd_frame::{Refusal, Service, Side};
-use lapd_link::LinkRequest;
+use lapd_link::{BareReport, LinkRequest};
 use lapd_store::Shelf;
 use lapd_tei::{TeiOutcome, Teis};
 use model_line::Request;
@@ -154,11 +153,9 @@ impl LinkLayer {
             return Err(Refusal::NoLink);
         };
         let number = link_number(place, service);
-        match self
-            .links
-            .request(number, request, &mut report.answer, shelf, slots)
-        {
+        match self.links.request(number, request, report, shelf, slots) {
             Ok(()) => {
+                report.cause = None;
                 self.awake.set(number, self.links.has_frame(number));
                 Ok(())
             }

@@ -8,41 +8,37 @@ ghost use Rattle.lapd_tei.specs.Machine.{Management};
 ghost use Rattle.lapd_tei.specs.declared.outcome.Change.TheVariants.{Gained, Left};
 ghost use Rattle.lapd_tei.specs.Outcome.{told_of, IsShort};
 ghost use Rattle.model_line.specs.Effect.{at_management, told_of_link, told_of_management, with_cleared};
+ghost use Rattle.lapd_line.specs.Reports.{IsClear, told_in};
 ghost use Rattle.lapd_line.specs.TeiChanges.{IsAnswerTo, Changing, with_management};
 
 use crate::link_layer::{LinkLayer, link_number};
-use crate::reports::BareReport;
 use lapd_frame::{Service, ShortList};
-use lapd_link::Answer;
+use lapd_link::BareReport;
 use lapd_store::Shelf;
 use lapd_tei::{Change, TeiOutcome};
 
-impl BareReport {
-    ghost use Rattle.lapd_line.specs.Reports.{told_in, IsClear};
+/// What TEI management tells.
+fn tell_management(report: &mut BareReport, told: TeiOutcome)
+    requires { IsClear report.old }
+    ensures notes { listed report.new.notes ≡ listed told.notes }
+    ensures orders { listed report.new.orders ≡ listed told.orders }
+    ensures told { (octets : List ℕ) → told_in octets report.new ≡ told_of_management (told_of told) }
+{
+    report.notes = told.notes;
+    report.lost = told.lost;
+    report.unserved = told.unserved;
+    report.orders = told.orders;
+}
 
-    /// What TEI management tells.
-    fn tell_management(&mut self, told: TeiOutcome)
-        requires { IsClear self.old }
-        ensures notes { listed self.new.answer.told.notes ≡ listed told.notes }
-        ensures orders { listed self.new.answer.orders ≡ listed told.orders }
-        ensures told { (octets : List ℕ) → told_in octets self.new ≡ told_of_management (told_of told) }
-    {
-        self.answer.told.notes = told.notes;
-        self.answer.told.lost = told.lost;
-        self.answer.told.unserved = told.unserved;
-        self.answer.orders = told.orders;
-    }
-
-    /// After that, what the two links of a TEI tell that leaves the line.
-    fn tell_cleared(&mut self, call: &Answer, packet: &Answer)
-        requires notes { length (listed self.old.answer.told.notes) + length (listed call.now.told.notes) + length (listed packet.now.told.notes) ≤ 4 }
-        requires orders { length (listed call.now.orders) + length (listed packet.now.orders) + length (listed self.old.answer.orders) ≤ 4 }
-        ensures { (octets : List ℕ) → told_in octets self.new
-            ≡ with_cleared (told_of_link (link.told_with [] call.now)) (told_of_link (link.told_with [] packet.now)) (told_in octets self.old) }
-    {
-        self.answer.told.notes = joined(self.answer.told.notes, call.told.notes, packet.told.notes);
-        self.answer.orders = joined(call.orders, packet.orders, self.answer.orders);
-    }
+/// After that, what the two links of a TEI tell that leaves the line.
+fn tell_cleared(report: &mut BareReport, call: &BareReport, packet: &BareReport)
+    requires notes { length (listed report.old.notes) + length (listed call.now.notes) + length (listed packet.now.notes) ≤ 4 }
+    requires orders { length (listed call.now.orders) + length (listed packet.now.orders) + length (listed report.old.orders) ≤ 4 }
+    ensures { (octets : List ℕ) → told_in octets report.new
+        ≡ with_cleared (told_of_link (link.told_with [] call.now)) (told_of_link (link.told_with [] packet.now)) (told_in octets report.old) }
+{
+    report.notes = joined(report.notes, call.notes, packet.notes);
+    report.orders = joined(call.orders, packet.orders, report.orders);
 }
 
 /// Three lists after one another, which have at most four items.
@@ -59,7 +55,6 @@ fn joined<T: Copy>(first: ShortList<T>, second: ShortList<T>, third: ShortList<T
 
 impl LinkLayer {
     ghost use Rattle.lapd_line.specs.LinkLayer.{Serves, always};
-    ghost use Rattle.lapd_line.specs.Reports.{IsClear};
 
     /// TEI management has served an event: what it told leads to changes of the links.
     pub(crate) fn change<S: Shelf>(
@@ -75,7 +70,7 @@ impl LinkLayer {
             → Serves (always (at_management e)) octets (with_management before self.old) (S.store shelf.old) self.new (S.store shelf.new) report.new }
     {
         match told.change {
-            None => report.tell_management(told),
+            None => tell_management(report, told),
             Some(Change::Gained { tei, place }) => self.open(told, tei, place, report, shelf),
             Some(Change::Left { tei, place }) => self.clear(told, tei, place, report, shelf),
         }
@@ -108,7 +103,7 @@ impl LinkLayer {
             tei,
             &self.config,
         );
-        report.tell_management(told);
+        tell_management(report, told);
     }
 
     /// A TEI has left the line: its links are cleared, that of call control first.
@@ -131,13 +126,13 @@ impl LinkLayer {
             link_number(place, Service::Call),
             link_number(place, Service::Packet),
         );
-        let mut call = Answer::nothing();
-        let mut packet = Answer::nothing();
+        let mut call = BareReport::nothing();
+        let mut packet = BareReport::nothing();
         self.links.clear(first, &mut call, shelf);
         self.awake.set(first, false);
         self.links.clear(second, &mut packet, shelf);
         self.awake.set(second, false);
-        report.tell_management(told);
-        report.tell_cleared(&call, &packet);
+        tell_management(report, told);
+        tell_cleared(report, &call, &packet);
     }
 }

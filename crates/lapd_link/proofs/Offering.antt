@@ -1,5 +1,5 @@
 -- Offers.
-use Rattle.lapd_link.proofs.Vocabulary.{◌≡◌, ℕ, suc, zero, ◌+◌, ◌<◌, ◌≤◌, Bool, true, false, IsTrue, cond, List, [], ◌∷◌, length, drop, get_or, Option, Some, None, MatchOption, refl, sym, ap, subst, ◌∙◌, arith, length-drop, IfSome, IsSome, All, slice_get, get_or-drop, slice_get_within, get_or_from_slice_get, seq, ReceiveReady, IsFrame, allows, takes, row, sapi_of, Service, Call, Packet, frame_of, IsInRange, IsWaitingFrame, Store, IsUsed, contents_of, Owned, Keeps, Keeps-at, Keeps-used, Order, ControlFrame, T200, Terms, orders_for, Sent, Course, begun, ◌then◌, changed, pending_is, response, start, course, after, given, given_of, sound-after, Entity, Told, Agrees, fits-resting, begun-resting, rests-after, Link, contents_in, HasMessage, Stands, terms_of}
+use Rattle.lapd_link.proofs.Vocabulary.{◌≡◌, ℕ, suc, zero, ◌+◌, ◌<◌, ◌≤◌, Bool, true, false, IsTrue, cond, List, [], ◌∷◌, length, drop, get_or, Option, Some, None, MatchOption, refl, sym, ap, subst, ◌∙◌, arith, length-drop, IfSome, IsSome, All, slice_get, get_or-drop, slice_get_within, get_or_from_slice_get, seq, ReceiveReady, IsFrame, allows, takes, row, sapi_of, Service, Call, Packet, frame_of, IsInRange, IsWaitingFrame, Store, IsUsed, contents_of, Owned, Keeps, Keeps-at, Keeps-used, Order, ControlFrame, T200, Terms, orders_for, Sent, Course, begun, ◌then◌, changed, pending_is, response, start, course, after, given, given_of, sound-after, Entity, BareReport, IsClear, Agrees, fits-resting, begun-resting, rests-after, Link, contents_in, HasMessage, Stands, terms_of}
 use Rattle.model_link.specs.Link as machine
 use Rattle.model_link.specs.Events as event
 use Rattle.model_link.specs.Offers as offers
@@ -98,20 +98,20 @@ frame-offered {link} {m = m} given s sent =
     subst (Good (terms_of link)) sent (frames-sent (terms_of link) m.waiting (begun m) s.fits.range s.fits.sound.frames tt)
 
 -- The course of an offer,
-pub offered : {link : Link} {store : Store} {others : List Owned} {m : machine.Link} {queued : ℕ} {none : Told} {e' : Entity} {t' : Told} {given : Option rows.Given} → Stands link store others m → done.IsNothing none → queued ≡ length link.queue.slots → done.Gives (terms_of link) (offers.offer_step (terms_of link)) queued link.entity none e' t' given → Agrees (terms_of link) [] (machine.queue_of m) (course (terms_of link) event.offer m) e' t'
+pub offered : {link : Link} {store : Store} {others : List Owned} {m : machine.Link} {queued : ℕ} {none : BareReport} {e' : Entity} {t' : BareReport} {given : Option rows.Given} → Stands link store others m → IsClear none → queued ≡ length link.queue.slots → done.Gives (terms_of link) (offers.offer_step (terms_of link)) queued link.entity none e' t' given → Agrees (terms_of link) [] (machine.queue_of m) (course (terms_of link) event.offer m) e' t'
 offered {link} {m = m} {e' = e'} {t'} s nothing many gives =
     subst (λ (c : Course). Agrees (terms_of link) [] (machine.queue_of m) (offers.offer_step (terms_of link) c) e' t')
     (begun-resting [] s.fits.rests nothing)
     (gives.step [] (machine.queue_of m) (done.past_at m) (omega (arith, many, s.kept.lengths)) nothing.released refl (fits-resting s.fits.rests (few s) nothing))
 
 -- what it sends,
-pub offered-sent : {link : Link} {store : Store} {others : List Owned} {m : machine.Link} {queued : ℕ} {none : Told} {e' : Entity} {t' : Told} {given : Option rows.Given} → Stands link store others m → done.IsNothing none → queued ≡ length link.queue.slots → done.Gives (terms_of link) (offers.offer_step (terms_of link)) queued link.entity none e' t' given → (course (terms_of link) event.offer m).sent ≡ done.given_of (machine.queue_of m) given
+pub offered-sent : {link : Link} {store : Store} {others : List Owned} {m : machine.Link} {queued : ℕ} {none : BareReport} {e' : Entity} {t' : BareReport} {given : Option rows.Given} → Stands link store others m → IsClear none → queued ≡ length link.queue.slots → done.Gives (terms_of link) (offers.offer_step (terms_of link)) queued link.entity none e' t' given → (course (terms_of link) event.offer m).sent ≡ done.given_of (machine.queue_of m) given
 offered-sent {link} {m = m} s nothing many gives =
     ap (λ (c : Course). (offers.offer_step (terms_of link) c).sent) (sym (begun-resting [] s.fits.rests nothing))
     ∙ gives.sent [] (machine.queue_of m) (done.past_at m) (omega (arith, many, s.kept.lengths)) nothing.released refl (fits-resting s.fits.rests (few s) nothing)
 
 -- and what the link stands for afterwards
-pub stands-offered : {link : Link} {store : Store} {others : List Owned} {m : machine.Link} {e' : Entity} {t' : Told} → Stands link store others m → Agrees (terms_of link) [] (machine.queue_of m) (course (terms_of link) event.offer m) e' t' → Stands (record link { entity = e' }) store others (after (terms_of link) event.offer m)
+pub stands-offered : {link : Link} {store : Store} {others : List Owned} {m : machine.Link} {e' : Entity} {t' : BareReport} → Stands link store others m → Agrees (terms_of link) [] (machine.queue_of m) (course (terms_of link) event.offer m) e' t' → Stands (record link { entity = e' }) store others (after (terms_of link) event.offer m)
 stands-offered {link} {store} {others} {m} s agrees =
     record {
       fits =
@@ -126,7 +126,7 @@ stands-offered {link} {store} {others} {m} s agrees =
     }
 
 -- what is given, with its orders
-pub given-offered : {e' : Entity} {t' : Told} (t : Terms) (m : machine.Link) (frame : ControlFrame) (contents found : Option (List ℕ)) (orders : List Order) → Agrees t [] (machine.queue_of m) (course t event.offer m) e' t' → (course t event.offer m).sent ≡ Some (record { frame = frame; contents = contents }) → found ≡ contents → orders ≡ orders_for t m.running t'.started e'.running → Some (record { frame = frame; contents = found; orders = orders }) ≡ given t m
+pub given-offered : {e' : Entity} {t' : BareReport} (t : Terms) (m : machine.Link) (frame : ControlFrame) (contents found : Option (List ℕ)) (orders : List Order) → Agrees t [] (machine.queue_of m) (course t event.offer m) e' t' → (course t event.offer m).sent ≡ Some (record { frame = frame; contents = contents }) → found ≡ contents → orders ≡ orders_for t m.running t'.started e'.running → Some (record { frame = frame; contents = found; orders = orders }) ≡ given t m
 given-offered t m frame contents found orders agrees sent same ordered =
     ap (λ (x : Option (List ℕ)). Some (record { frame = frame; contents = x; orders = orders })) same
     ∙ ap (λ (x : List Order). Some (record { frame = frame; contents = contents; orders = x })) ordered

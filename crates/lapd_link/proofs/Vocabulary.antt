@@ -16,15 +16,15 @@ pub use Rattle.lapd_link.specs.Events.{info_of, received_of, request_of}
 pub use Rattle.lapd_link.specs.Outcome.{HasMessage, contents_in, told_with}
 pub use Rattle.lapd_link.specs.Stands.{HasPlace, HasRoom, Reaches, Stands, Stays, slots_of, terms_of}
 pub use Rattle.lapd_link.specs.declared.link.Link.{Link}
-pub use Rattle.lapd_link.specs.declared.outcome.Answer.{Answer}
 pub use Rattle.lapd_link.specs.declared.received.Received.{Received}
 pub use Rattle.lapd_link.specs.declared.requests.LinkRequest.{LinkRequest}
 pub use Rattle.lapd_link.specs.declared.requests.LinkRequest.TheVariants.{ClearBusy, Data, Establish, Release, SetBusy}
 pub use Rattle.lapd_link_steps.proofs.Resting.{begun-resting, fits-resting, rests-after, took-course}
 pub use Rattle.lapd_link_steps.specs.Does.{Agrees, Does}
-pub use Rattle.lapd_link_steps.specs.Done.{IsNothing, Rests, Took}
+pub use Rattle.lapd_link_steps.specs.Done.{Rests, Took}
+pub use Rattle.lapd_link_steps.specs.Reports.{IsClear}
 pub use Rattle.lapd_link_steps.specs.declared.entity.Entity.{Entity}
-pub use Rattle.lapd_link_steps.specs.declared.told.Told.{Told}
+pub use Rattle.lapd_link_steps.specs.declared.report.BareReport.{BareReport}
 unfoldable pub use Rattle.lapd_seq.specs.Numbers.{seq}
 pub use Rattle.lapd_seq.specs.Windows.{va_of}
 pub use Rattle.lapd_seq.specs.declared.numbers.Seq.{Seq}

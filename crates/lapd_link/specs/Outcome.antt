@@ -3,26 +3,20 @@ use Rattle.std.specs.Prelude.{◌≡◌, ℕ, ◌≤◌, List, [], length, Optio
 use Rattle.std.specs.Borrow.{Bor}
 use Rattle.lapd_store.specs.Store.{Store, contents_of}
 use Rattle.lapd_frame.specs.ShortLists.{listed}
-use Rattle.lapd_link_steps.specs.Done.{IsNothing}
+use Rattle.lapd_link_steps.specs.declared.report.BareReport.{BareReport}
 use Rattle.model_link.specs.Told.{LinkTold, Given}
-use Rattle.lapd_link.specs.declared.outcome.Answer.{Answer}
 use Rattle.lapd_link.specs.declared.outcome.Outcome.{Outcome}
 use Rattle.lapd_link.specs.declared.offers.Offer.{Offer}
 
--- nothing is told in an answer yet
-pub record IsClear (answer : Answer) : Type 0 where
-  pub told : IsNothing answer.told
-  pub orders : listed answer.orders ≡ []
-
--- of an answer, with the information that came with the frame
-abbrev pub told_with : List ℕ → Answer → LinkTold
-told_with info answer = record {
-  notes = listed answer.told.notes;
-  delivered = if answer.told.delivered then Some info else None;
-  unit = if answer.told.unit then Some info else None;
-  orders = listed answer.orders;
-  lost = answer.told.lost;
-  unserved = answer.told.unserved;
+-- of a report, with the information that came with the frame
+abbrev pub told_with : List ℕ → BareReport → LinkTold
+told_with info report = record {
+  notes = listed report.notes;
+  delivered = if report.delivered then Some info else None;
+  unit = if report.unit then Some info else None;
+  orders = listed report.orders;
+  lost = report.lost;
+  unserved = report.unserved;
 }
 
 -- of an outcome that lends it

@@ -2,7 +2,7 @@
 --
 -- Every clause of a call is said for every machine and every list of what others own for which the link stands. A
 -- row frees nothing on the shelf: it counts the contents that are to go, and `settle` then releases so many, the
--- oldest first, and puts the answer together (`Reaches`). That the machine's link stays sound is the law
+-- oldest first, and puts the report together (`Reaches`). That the machine's link stays sound is the law
 -- `stays_sound`, and needs no code.
 use Rattle.std.specs.Prelude.{◌≡◌, ℕ, ◌<◌, ◌≤◌, Bool, false, List, length}
 use Rattle.lapd_store.specs.Store.{Store, used_slots}
@@ -14,8 +14,8 @@ use Rattle.model_link.specs.Steps.{Course}
 use Rattle.model_link.specs.Machine as answers
 use Rattle.model_link.specs.Sound.{IsInRange, IsSound}
 use Rattle.lapd_link_steps.specs.Done.{Rests}
+use Rattle.lapd_link_steps.specs.declared.report.BareReport.{BareReport}
 use Rattle.lapd_link.specs.declared.link.Link.{Link}
-use Rattle.lapd_link.specs.declared.outcome.Answer.{Answer}
 use Rattle.lapd_link.specs.Outcome.{told_with}
 
 -- the terms under which a link works
@@ -41,11 +41,11 @@ pub record Stands (link : Link) (store : Store) (others : List Owned) (m : machi
   pub wide : (terms_of link).n201 ≤ store.width
   pub kept : Keeps store (slots_of link) (machine.queue_of m) others
 
--- A link and its answer stand for the end of an event, whatever the event was.
-pub record Reaches (info : List ℕ) (before : machine.Link) (c : Course) (link : Link) (store : Store) (others : List Owned) (answer : Answer) : Type 0 where
+-- A link and its report stand for the end of an event, whatever the event was.
+pub record Reaches (info : List ℕ) (before : machine.Link) (c : Course) (link : Link) (store : Store) (others : List Owned) (report : BareReport) : Type 0 where
   pub rests : Rests (terms_of link) link.entity c.link
   pub kept : Keeps store (slots_of link) (machine.queue_of c.link) others
-  pub told : told_with info answer ≡ answers.told_of (terms_of link) before c
+  pub told : told_with info report ≡ answers.told_of (terms_of link) before c
 
 -- What stays through every event: the terms, and the capacity of the queue.
 pub record Stays (old new : Link) : Type 0 where

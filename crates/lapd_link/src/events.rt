@@ -11,20 +11,21 @@ ghost use Rattle.model_link.specs.Machine.{after, told, received_step};
 ghost use Rattle.model_link.specs.Told.{starts};
 ghost use Rattle.model_link.specs.Rises.{RisesByEvent};
 ghost use Rattle.lapd_link_steps.specs.Does.{Agrees, Does, HasRoom};
+ghost use Rattle.lapd_link_steps.specs.Reports.{IsClear};
 ghost use Rattle.lapd_link.specs.Events.{info_of, received_of};
 
 use crate::link::Link;
 use crate::orders::orders;
-use crate::outcome::{Answer, Outcome};
+use crate::outcome::Outcome;
 use crate::received::Received;
 use lapd_frame::ErrorCode;
-use lapd_link_steps::{Entity, Told};
+use lapd_link_steps::{BareReport, Entity};
 use lapd_store::Shelf;
 use model_link::{LinkTimer, Terms};
 
 impl Link {
     ghost use Rattle.lapd_link.specs.Stands.{Stands, Stays, Reaches, terms_of};
-    ghost use Rattle.lapd_link.specs.Outcome.{IsClear, told_with, told_of};
+    ghost use Rattle.lapd_link.specs.Outcome.{told_with, told_of};
 
     /// Something came from the terminal with the link's address. What is delivered is lent from the frame.
     pub fn frame<'a, S: Shelf>(&mut self, received: Received<'a>, shelf: &mut S) -> Outcome<'a>
@@ -41,64 +42,69 @@ impl Link {
         ensures terms { terms_of self.new ≡ terms_of self.old }
         ensures limits { SameLimits (S.store shelf.old) (S.store shelf.new) }
     {
-        let mut answer = Answer::nothing();
-        self.receive(received, &mut answer, shelf);
-        answer.lend(received.information())
+        let mut report = BareReport::nothing();
+        self.receive(received, &mut report, shelf);
+        Outcome::of(&report, received.information())
     }
 
-    /// The same without lending anything: the answer, in which nothing is told yet, then says whether the frame's information is
+    /// The same without lending anything: the report, in which nothing is told yet, then says whether the frame's information is
     /// delivered.
     // As `settle` is.
     #[inline(always)]
-    pub fn receive<S: Shelf>(&mut self, received: Received<'_>, answer: &mut Answer, shelf: &mut S)
+    pub fn receive<S: Shelf>(
+        &mut self,
+        received: Received<'_>,
+        report: &mut BareReport,
+        shelf: &mut S,
+    )
         requires stands { (others : List Owned) × (m : machine.Link) × Stands self.old (S.store shelf.old) others m }
-        requires clear { IsClear answer.old }
+        requires clear { IsClear report.old }
         ensures stands { (others : List Owned) (m : machine.Link) → Stands self.old (S.store shelf.old) others m →
             Stands self.new (S.store shelf.new) others (after (terms_of self.old) (event.received (received_of received.entry)) m) }
         ensures told { (others : List Owned) (m : machine.Link) → Stands self.old (S.store shelf.old) others m →
-            told_with (info_of received.entry) answer.new ≡ told (terms_of self.old) (event.received (received_of received.entry)) m }
+            told_with (info_of received.entry) report.new ≡ told (terms_of self.old) (event.received (received_of received.entry)) m }
         ensures frames { (others : List Owned) (m : machine.Link) → Stands self.old (S.store shelf.old) others m →
             RisesByEvent (terms_of self.old) (event.received (received_of received.entry)) m }
         // What the state does not serve changes nothing.
-        ensures unserved { (others : List Owned) (m : machine.Link) → Stands self.old (S.store shelf.old) others m → answer.new.told.unserved ≡ true →
+        ensures unserved { (others : List Owned) (m : machine.Link) → Stands self.old (S.store shelf.old) others m → report.new.unserved ≡ true →
             after (terms_of self.old) (event.received (received_of received.entry)) m ≡ m }
         ensures terms { terms_of self.new ≡ terms_of self.old }
         ensures limits { SameLimits (S.store shelf.old) (S.store shelf.new) }
     {
         let before = self.entity.running();
-        hear(&mut self.entity, &self.terms, &mut answer.told, received);
-        self.settle(before, answer, shelf);
+        hear(&mut self.entity, &self.terms, report, received);
+        self.settle(before, report, shelf);
     }
 
-    /// A timer expires. One that does not run changes nothing. In the answer nothing is told yet.
-    pub fn expire<S: Shelf>(&mut self, timer: LinkTimer, answer: &mut Answer, shelf: &mut S)
-        requires clear { IsClear answer.old }
+    /// A timer expires. One that does not run changes nothing. In the report nothing is told yet.
+    pub fn expire<S: Shelf>(&mut self, timer: LinkTimer, report: &mut BareReport, shelf: &mut S)
+        requires clear { IsClear report.old }
         requires stands { (others : List Owned) × (m : machine.Link) × Stands self.old (S.store shelf.old) others m }
         ensures stands { (others : List Owned) (m : machine.Link) → Stands self.old (S.store shelf.old) others m →
             Stands self.new (S.store shelf.new) others (after (terms_of self.old) (event.expired timer) m) }
         ensures told { (others : List Owned) (m : machine.Link) → Stands self.old (S.store shelf.old) others m →
-            told_with [] answer.new ≡ told (terms_of self.old) (event.expired timer) m }
+            told_with [] report.new ≡ told (terms_of self.old) (event.expired timer) m }
         ensures frames { (others : List Owned) (m : machine.Link) → Stands self.old (S.store shelf.old) others m →
             RisesByEvent (terms_of self.old) (event.expired timer) m }
         // At most one timer is started.
-        ensures starts { starts (listed answer.new.orders) ≤ 1 }
+        ensures starts { starts (listed report.new.orders) ≤ 1 }
         ensures terms { terms_of self.new ≡ terms_of self.old }
         ensures limits { SameLimits (S.store shelf.old) (S.store shelf.new) }
     {
         let before = self.entity.running();
-        self.entity.expire(&self.terms, &mut answer.told, timer);
-        self.settle(before, answer, shelf);
+        self.entity.expire(&self.terms, report, timer);
+        self.settle(before, report, shelf);
     }
 
-    /// The link's TEI leaves the line: its contents are released, and it is as one that begins. In the answer nothing is told
+    /// The link's TEI leaves the line: its contents are released, and it is as one that begins. In the report nothing is told
     /// yet.
-    pub fn clear<S: Shelf>(&mut self, answer: &mut Answer, shelf: &mut S)
-        requires clear { IsClear answer.old }
+    pub fn clear<S: Shelf>(&mut self, report: &mut BareReport, shelf: &mut S)
+        requires clear { IsClear report.old }
         requires stands { (others : List Owned) × (m : machine.Link) × Stands self.old (S.store shelf.old) others m }
         ensures stands { (others : List Owned) (m : machine.Link) → Stands self.old (S.store shelf.old) others m →
             Stands self.new (S.store shelf.new) others (after (terms_of self.old) event.cleared m) }
         ensures told { (others : List Owned) (m : machine.Link) → Stands self.old (S.store shelf.old) others m →
-            told_with [] answer.new ≡ told (terms_of self.old) event.cleared m }
+            told_with [] report.new ≡ told (terms_of self.old) event.cleared m }
         // It may send no more than before.
         ensures frames { (others : List Owned) (m : machine.Link) → Stands self.old (S.store shelf.old) others m →
             RisesByEvent (terms_of self.old) event.cleared m }
@@ -106,53 +112,48 @@ impl Link {
         ensures limits { SameLimits (S.store shelf.old) (S.store shelf.new) }
     {
         let before = self.entity.running();
-        self.entity.clear(&self.terms, &mut answer.told);
-        self.settle(before, answer, shelf);
+        self.entity.clear(&self.terms, report);
+        self.settle(before, report, shelf);
     }
 
-    // Ends an event: what it released goes from the shelf, and the answer gets its orders.
+    // Ends an event: what it released goes from the shelf, and the report gets its orders.
     #[inline(always)]
     pub(crate) fn settle<S: Shelf>(
         &mut self,
         before: Option<LinkTimer>,
-        answer: &mut Answer,
+        report: &mut BareReport,
         shelf: &mut S,
     )
         requires { (messages : List (List ℕ)) × (others : List Owned) × Keeps (S.store shelf.old) self.old.queue.slots messages others }
         ensures reaches { (info : List ℕ) (messages : List (List ℕ)) (others : List Owned) (m : machine.Link) (c : Course) →
             Keeps (S.store shelf.old) self.old.queue.slots messages others → before ≡ m.running →
-            Agrees (terms_of self.old) info messages c self.old.entity answer.old.told → Reaches info m c self.new (S.store shelf.new) others answer.new }
-        ensures starts { starts (listed answer.new.orders) ≤ 1 }
+            Agrees (terms_of self.old) info messages c self.old.entity report.old → Reaches info m c self.new (S.store shelf.new) others report.new }
+        ensures starts { starts (listed report.new.orders) ≤ 1 }
         ensures stays { Stays self.old self.new }
         ensures limits { SameLimits (S.store shelf.old) (S.store shelf.new) }
     {
         self.queue
-            .release_oldest(usize::from(answer.told.released), shelf);
-        answer.orders = orders(
-            &self.terms,
-            before,
-            answer.told.started,
-            self.entity.running(),
-        );
+            .release_oldest(usize::from(report.released), shelf);
+        report.orders = orders(&self.terms, before, report.started, self.entity.running());
     }
 }
 
 // What came goes to its rows.
 #[inline(always)]
-fn hear(entity: &mut Entity, terms: &Terms, told: &mut Told, received: Received<'_>)
-    requires { HasRoom 2 2 told.old }
-    ensures { Does terms.now (info_of received.entry) (received_step terms.now (received_of received.entry)) entity.old told.old entity.new told.new }
+fn hear(entity: &mut Entity, terms: &Terms, report: &mut BareReport, received: Received<'_>)
+    requires { HasRoom 2 2 report.old }
+    ensures { Does terms.now (info_of received.entry) (received_step terms.now (received_of received.entry)) entity.old report.old entity.new report.new }
 {
     match received {
         Received::Frame(frame) => entity.frame(
             terms,
-            told,
+            report,
             frame.address.command,
             frame.control,
             frame.info.len(),
         ),
-        Received::Undefined => entity.malformed(terms, told, ErrorCode::L),
-        Received::WrongSize => entity.malformed(terms, told, ErrorCode::N),
-        Received::Overlong => entity.malformed(terms, told, ErrorCode::O),
+        Received::Undefined => entity.malformed(terms, report, ErrorCode::L),
+        Received::WrongSize => entity.malformed(terms, report, ErrorCode::N),
+        Received::Overlong => entity.malformed(terms, report, ErrorCode::O),
     }
 }

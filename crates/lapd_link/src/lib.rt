@@ -32,9 +32,10 @@ mod requests;
 mod rooms;
 
 pub use fault::StartFault;
+pub use lapd_link_steps::BareReport;
 pub use link::Link;
 pub use model_link::{LinkTimer, Room, two_ends};
 pub use offers::Offer;
-pub use outcome::{Answer, Outcome};
+pub use outcome::Outcome;
 pub use received::Received;
 pub use requests::LinkRequest;

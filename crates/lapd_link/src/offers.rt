@@ -13,7 +13,7 @@ ghost use Rattle.model_link.specs.Rises.{RisesByEvent, sent, may_send};
 use crate::link::Link;
 use crate::orders::orders;
 use lapd_frame::{Order, ShortList};
-use lapd_link_steps::Told;
+use lapd_link_steps::BareReport;
 use lapd_store::Slot;
 use model_link::ControlFrame;
 
@@ -57,13 +57,16 @@ impl Link {
         ensures terms { terms_of self.new ≡ terms_of self.old }
     {
         let before = self.entity.running();
-        let mut told = Told::nothing();
-        match self.entity.offer(&self.terms, &mut told, self.queue.len()) {
+        let mut report = BareReport::nothing();
+        match self
+            .entity
+            .offer(&self.terms, &mut report, self.queue.len())
+        {
             None => None,
             Some(given) => Some(Offer {
                 frame: given.frame,
                 contents: self.slot_at(given.place),
-                orders: orders(&self.terms, before, told.started, self.entity.running()),
+                orders: orders(&self.terms, before, report.started, self.entity.running()),
             }),
         }
     }

@@ -3,17 +3,7 @@
 ghost use Rattle.std.specs.Prelude.{◌≡◌};
 
 use lapd_frame::{Note, Order, ShortList};
-use lapd_link_steps::Told;
-
-/// What an event told, without the contents that it delivered. A call is handed one in which nothing is told yet, and each
-/// row writes into it what it tells.
-#[derive(Clone, Copy)]
-pub struct Answer {
-    /// What it told, but for orders: at most two notes, and at most two control frames that found no place to wait.
-    pub told: Told,
-    /// What is to be done with T200 and then T203, at most one order each.
-    pub orders: ShortList<Order>,
-}
+use lapd_link_steps::BareReport;
 
 /// What an event told, with the contents that it delivered, lent from the frame.
 #[derive(Clone, Copy)]
@@ -32,30 +22,20 @@ pub struct Outcome<'a> {
     pub unserved: bool,
 }
 
-impl Answer {
-    ghost use Rattle.lapd_link.specs.Outcome.{IsClear, told_with, told_of};
+impl<'a> Outcome<'a> {
+    ghost use Rattle.lapd_link.specs.Outcome.{told_with, told_of};
 
-    /// Nothing is told yet.
-    pub fn nothing() -> Answer
-        ensures { IsClear result }
-    {
-        Answer {
-            told: Told::nothing(),
-            orders: ShortList::none(),
-        }
-    }
-
-    /// The answer with the frame's information lent where it is delivered.
-    pub fn lend<'a>(&self, information: &'a [u8]) -> Outcome<'a>
-        ensures { told_of result ≡ told_with information.now self.now }
+    /// What a report says, with the frame's information lent where it is delivered.
+    pub(crate) fn of(report: &BareReport, information: &'a [u8]) -> Outcome<'a>
+        ensures { told_of result ≡ told_with information.now report.now }
     {
         Outcome {
-            notes: self.told.notes,
-            delivered: self.told.delivered.then_some(information),
-            unit: self.told.unit.then_some(information),
-            orders: self.orders,
-            lost: self.told.lost,
-            unserved: self.told.unserved,
+            notes: report.notes,
+            delivered: report.delivered.then_some(information),
+            unit: report.unit.then_some(information),
+            orders: report.orders,
+            lost: report.lost,
+            unserved: report.unserved,
         }
     }
 }

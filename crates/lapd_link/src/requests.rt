@@ -9,10 +9,11 @@ ghost use Rattle.model_link.specs.Steps.{begun};
 ghost use Rattle.model_link.specs.Requests as asked;
 ghost use Rattle.model_link.specs.Machine.{after, told};
 ghost use Rattle.model_link.specs.Rises.{RisesByEvent};
+ghost use Rattle.lapd_link_steps.specs.Reports.{IsClear};
 
 use crate::link::Link;
-use crate::outcome::Answer;
 use lapd_frame::Refusal;
+use lapd_link_steps::BareReport;
 use lapd_store::Shelf;
 use model_link::State;
 
@@ -34,38 +35,38 @@ pub enum LinkRequest<'a> {
 impl Link {
     ghost use Rattle.lapd_link.specs.Stands.{Stands, Stays, Reaches, HasRoom, HasPlace, terms_of};
     ghost use Rattle.lapd_link.specs.Events.{request_of};
-    ghost use Rattle.lapd_link.specs.Outcome.{IsClear, told_with};
+    ghost use Rattle.lapd_link.specs.Outcome.{told_with};
 
     /// Layer 3 asks for something, where all users of the shelf together may hold `slots` contents, at most as many as
-    /// the shelf has slots. In the answer nothing is told yet.
+    /// the shelf has slots. In the report nothing is told yet.
     ///
     /// # Errors
     ///
-    /// The first of these that holds; then nothing changes, neither link nor answer nor shelf. `WrongState`: `Establish` not in
+    /// The first of these that holds; then nothing changes, neither link nor report nor shelf. `WrongState`: `Establish` not in
     /// state 4, `Release` not in 4, 7 or 8, the others not in 7 or 8. `TooLong`: contents over N201. `QueueFull`: the
     /// link keeps as many contents as it may. `PoolFull`: `slots` contents are held.
     #[inline(always)]
     pub fn request<S: Shelf>(
         &mut self,
         request: LinkRequest<'_>,
-        answer: &mut Answer,
+        report: &mut BareReport,
         shelf: &mut S,
         slots: u32,
     ) -> Result<(), Refusal>
         requires stands { (others : List Owned) × (m : machine.Link) × Stands self.old (S.store shelf.old) others m }
-        requires clear { IsClear answer.old }
+        requires clear { IsClear report.old }
         requires slots { slots ≤ (S.store shelf.old).slots }
         ensures refused { IfErr result (λ refusal. (others : List Owned) (m : machine.Link) → Stands self.old (S.store shelf.old) others m →
             asked.refusal (terms_of self.old) m (nat_le slots (used_slots (S.store shelf.old))) (request_of request.entry) ≡ Some refusal) }
         ensures unchanged { OnErr result (self.new ≡ self.old) }
         ensures shelf_unchanged { OnErr result (shelf.new ≡ shelf.old) }
-        ensures untold { OnErr result (answer.new ≡ answer.old) }
+        ensures untold { OnErr result (report.new ≡ report.old) }
         ensures granted { OnOk result ((others : List Owned) (m : machine.Link) → Stands self.old (S.store shelf.old) others m →
             asked.refusal (terms_of self.old) m (nat_le slots (used_slots (S.store shelf.old))) (request_of request.entry) ≡ None) }
         ensures stands { OnOk result ((others : List Owned) (m : machine.Link) → Stands self.old (S.store shelf.old) others m →
             Stands self.new (S.store shelf.new) others (after (terms_of self.old) (event.requested (request_of request.entry) (nat_le slots (used_slots (S.store shelf.old)))) m)) }
         ensures told { OnOk result ((others : List Owned) (m : machine.Link) → Stands self.old (S.store shelf.old) others m →
-            told_with [] answer.new ≡ told (terms_of self.old) (event.requested (request_of request.entry) (nat_le slots (used_slots (S.store shelf.old)))) m) }
+            told_with [] report.new ≡ told (terms_of self.old) (event.requested (request_of request.entry) (nat_le slots (used_slots (S.store shelf.old)))) m) }
         ensures frames { (others : List Owned) (m : machine.Link) → Stands self.old (S.store shelf.old) others m →
             RisesByEvent (terms_of self.old) (event.requested (request_of request.entry) (nat_le slots (used_slots (S.store shelf.old)))) m }
         ensures terms { terms_of self.new ≡ terms_of self.old }
@@ -74,7 +75,7 @@ impl Link {
         match self.refusal(request, slots <= shelf.used()) {
             Some(refusal) => Err(refusal),
             None => {
-                self.grant(request, answer, shelf);
+                self.grant(request, report, shelf);
                 Ok(())
             }
         }
@@ -115,24 +116,24 @@ impl Link {
 
     // Does what is asked for, which is not refused.
     #[inline(always)]
-    fn grant<S: Shelf>(&mut self, request: LinkRequest<'_>, answer: &mut Answer, shelf: &mut S)
+    fn grant<S: Shelf>(&mut self, request: LinkRequest<'_>, report: &mut BareReport, shelf: &mut S)
         requires stands { (others : List Owned) × (m : machine.Link) × Stands self.old (S.store shelf.old) others m }
-        requires clear { IsClear answer.old }
+        requires clear { IsClear report.old }
         requires place { HasPlace (request_of request) self.old (S.store shelf.old) }
         ensures reaches { (others : List Owned) (m : machine.Link) → Stands self.old (S.store shelf.old) others m →
-            Reaches [] m (asked.granted (terms_of self.old) (request_of request.entry) (begun m)) self.new (S.store shelf.new) others answer.new }
+            Reaches [] m (asked.granted (terms_of self.old) (request_of request.entry) (begun m)) self.new (S.store shelf.new) others report.new }
         ensures stays { Stays self.old self.new }
         ensures limits { SameLimits (S.store shelf.old) (S.store shelf.new) }
     {
         let before = self.entity.running();
         match request {
-            LinkRequest::Establish => self.entity.establish_in_4(&self.terms, &mut answer.told),
-            LinkRequest::Release => self.entity.release(&self.terms, &mut answer.told),
+            LinkRequest::Establish => self.entity.establish_in_4(&self.terms, report),
+            LinkRequest::Release => self.entity.release(&self.terms, report),
             LinkRequest::Data(octets) => self.keep(octets, shelf),
-            LinkRequest::SetBusy => self.entity.set_busy_in_7_8(&self.terms, &mut answer.told),
-            LinkRequest::ClearBusy => self.entity.clear_busy_in_7_8(&self.terms, &mut answer.told),
+            LinkRequest::SetBusy => self.entity.set_busy_in_7_8(&self.terms, report),
+            LinkRequest::ClearBusy => self.entity.clear_busy_in_7_8(&self.terms, report),
         }
-        self.settle(before, answer, shelf);
+        self.settle(before, report, shelf);
     }
 
     // The contents go to the end of the queue.

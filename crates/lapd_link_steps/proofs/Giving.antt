@@ -1,11 +1,11 @@
 -- How the steps of an offer are put together.
-use Rattle.lapd_link_steps.proofs.Vocabulary.{◌≡◌, ℕ, ◌≤◌, Bool, true, false, cond, not, eqb, eqb-true, eqb-false, List, [], ◌∷◌, length, drop, Option, Some, None, is_some, refl, sym, ap, subst, arith, ◌∙◌, ◌||◌, Buffer, buffer, ControlFrame, Terms, Link, queue_of, Course, begun, changed, pending_is, ◌then◌, Sent, Step, depending_on, given, given_of, give_information, with_one_sent, is_awaiting_acknowledgement, may_send_information, send_acknowledgement, send_information, offer_among, offer_step, Entity, Given, Told, Past, past_at, link_of, course_of, Fits, Rests, Agrees, Gives, start, T200}
+use Rattle.lapd_link_steps.proofs.Vocabulary.{◌≡◌, ℕ, ◌≤◌, Bool, true, false, cond, not, eqb, eqb-true, eqb-false, List, [], ◌∷◌, length, drop, Option, Some, None, is_some, refl, sym, ap, subst, arith, ◌∙◌, ◌||◌, Buffer, buffer, ControlFrame, Terms, Link, queue_of, Course, begun, changed, pending_is, ◌then◌, Sent, Step, depending_on, given, given_of, give_information, with_one_sent, is_awaiting_acknowledgement, may_send_information, send_acknowledgement, send_information, offer_among, offer_step, Entity, Given, BareReport, Past, past_at, link_of, course_of, Fits, Rests, Agrees, Gives, start, T200}
 use Rattle.lapd_frame.specs.declared.short_lists.ShortList.TheVariants.{None as no_notes}
 use Rattle.model_link.specs.Events.{offer}
 use Rattle.model_link.specs.Machine.{course}
 
 -- the test of an offer, known before
-pub gives_where : {terms : Terms} {f : Step} {queued : ℕ} {e e' : Entity} {t t' : Told} {given : Option Given} (test : Link → Bool) (g : Step) → ((messages : List (List ℕ)) (p : Past) → length messages ≡ queued → t.released ≡ 0 → Fits terms messages e t p → test (link_of e p) ≡ true) → Gives terms f queued e t e' t' given → Gives terms (depending_on test f g) queued e t e' t' given
+pub gives_where : {terms : Terms} {f : Step} {queued : ℕ} {e e' : Entity} {t t' : BareReport} {given : Option Given} (test : Link → Bool) (g : Step) → ((messages : List (List ℕ)) (p : Past) → length messages ≡ queued → t.released ≡ 0 → Fits terms messages e t p → test (link_of e p) ≡ true) → Gives terms f queued e t e' t' given → Gives terms (depending_on test f g) queued e t e' t' given
 gives_where {terms} {f} {e = e} {e'} {t} {t'} {given} test g passed done =
     record {
       step = λ info messages p many none unsent fits.
@@ -17,7 +17,7 @@ gives_where {terms} {f} {e = e} {e'} {t} {t'} {given} test g passed done =
     }
 
 -- a ring that was found empty is as it was
-pub gives_empty : {terms : Terms} {queued : ℕ} {e' : Entity} {t t' : Told} {given : Option Given} (e : Entity) (w : Buffer ControlFrame) → e.waiting.items ≡ [] → w ≡ buffer (drop 1 e.waiting.items) e.waiting.capacity → Gives terms (offer_among terms []) queued (record e { waiting = w }) t e' t' given → Gives terms (offer_step terms) queued e t e' t' given
+pub gives_empty : {terms : Terms} {queued : ℕ} {e' : Entity} {t t' : BareReport} {given : Option Given} (e : Entity) (w : Buffer ControlFrame) → e.waiting.items ≡ [] → w ≡ buffer (drop 1 e.waiting.items) e.waiting.capacity → Gives terms (offer_among terms []) queued (record e { waiting = w }) t e' t' given → Gives terms (offer_step terms) queued e t e' t' given
 gives_empty {terms} {queued} {e'} {t} {t'} {given} e w empty popped done =
     let same : w ≡ e.waiting =
     popped
@@ -67,8 +67,8 @@ some_given t l c None = refl
 some_given t l c (Some x) = refl
 
 -- nothing is told between two events
-abbrev untold : Told
-untold = record { notes = no_notes; delivered = false; unit = false; started = None; lost = 0; unserved = false; released = 0; in_range = omega arith }
+abbrev untold : BareReport
+untold = record { notes = no_notes; orders = no_notes; delivered = false; unit = false; start = 0; cause = None; started = None; lost = 0; unserved = false; released = 0; in_range = omega arith }
 
 -- so the machine gives a frame where a control frame waits,
 module _ {terms : Terms} {e : Entity} (m : Link) (rests : Rests terms e m) where
@@ -83,7 +83,7 @@ module _ {terms : Terms} {e : Entity} (m : Link) (rests : Rests terms e m) where
 
   -- and else where an I-frame may go, or an acknowledgement is owed
   pub other_given : {queued : ℕ} {may : Bool} → eqb (length e.waiting.items) 0 ≡ true
-      → ((messages : List (List ℕ)) (t : Told) (p : Past) → length messages ≡ queued → t.released ≡ 0 → Fits terms messages e t p → may ≡ may_send_information terms (link_of e p))
+      → ((messages : List (List ℕ)) (t : BareReport) (p : Past) → length messages ≡ queued → t.released ≡ 0 → Fits terms messages e t p → may ≡ may_send_information terms (link_of e p))
       → length (queue_of m) ≡ queued → queued ≤ 127 → (may || e.pending) ≡ is_some (given terms m)
   other_given {queued} {may} none allowed many few =
       let fits : Fits terms (queue_of m) e untold (past_at m) = record { window = rests.window; received = rests.received; ring = rests.ring; queue = refl; few = omega (arith, many, few) } in

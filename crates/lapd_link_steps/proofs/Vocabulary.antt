@@ -17,13 +17,14 @@ pub use Rattle.lapd_frame.specs.declared.controls.Control.{Control}
 pub use Rattle.lapd_frame.specs.declared.controls.Control.TheVariants.{Disc, Dm, Information, Reject, Sabme, Ua}
 pub use Rattle.lapd_frame.specs.declared.notes.Note.{Note}
 pub use Rattle.lapd_link_steps.specs.Does.{Agrees, Does, DoesBy}
-pub use Rattle.lapd_link_steps.specs.Done.{Gives, IsNothing, Rests, Took, past_at}
+pub use Rattle.lapd_link_steps.specs.Done.{Gives, Rests, Took, past_at}
+pub use Rattle.lapd_link_steps.specs.Reports.{IsClear}
 pub use Rattle.lapd_link_steps.specs.Parts.{effect_of, particulars, renewed, supervised}
 pub use Rattle.lapd_link_steps.specs.Past.{Fits, Past, course_of, if_told, link_of, past_of}
 pub use Rattle.lapd_link_steps.specs.declared.entity.Entity.{Entity}
 pub use Rattle.lapd_link_steps.specs.declared.offers.Given.{Given}
 pub use Rattle.lapd_link_steps.specs.declared.states.multiple_frame.Bearer.TheVariants.{Rej, Rnr, Rr}
-pub use Rattle.lapd_link_steps.specs.declared.told.Told.{Told}
+pub use Rattle.lapd_link_steps.specs.declared.report.BareReport.{BareReport}
 pub use Rattle.lapd_seq.specs.Circle.{IsNamed, named}
 pub use Rattle.lapd_seq.specs.Numbers.{seq}
 pub use Rattle.lapd_seq.specs.Windows.{Stands}
@@ -35,7 +36,7 @@ pub use Rattle.model_link.specs.MultipleFrame.{failed}
 pub use Rattle.model_link.specs.Offers.{give_information, is_awaiting_acknowledgement, is_pending, may_send_information, offer_among, offer_step, send_acknowledgement, send_information, with_one_sent}
 pub use Rattle.model_link.specs.Requests.{release_in}
 pub use Rattle.model_link.specs.Steps.{Course, Sent, Step, begun, by_bit, changed, depending_on, nothing, ◌then◌}
-pub use Rattle.model_link.specs.Words.{acknowledge, begin_anew, by_number, command, deliver_unit, error, leave_unserved, pending_is, start}
+pub use Rattle.model_link.specs.Words.{acknowledge, begin_anew, by_number, command, deliver_unit, error, leave_unserved, peer_busy_is, pending_is, start}
 pub use Rattle.model_link.specs.declared.frames.ControlFrame.{ControlFrame}
 pub use Rattle.model_link.specs.declared.states.State.{State}
 pub use Rattle.model_link.specs.declared.states.State.TheVariants.{AwaitingEstablishment, AwaitingRelease, Established, TeiAssigned, TimerRecovery}

@@ -2,25 +2,15 @@
 use Rattle.std.specs.Prelude.{◌≡◌, ℕ, List, [], length, Option, Some, None, false, slice_get}
 use Rattle.lapd_seq.specs.Numbers.{seq}
 use Rattle.lapd_seq.specs.Windows as window
-use Rattle.lapd_frame.specs.ShortLists.{listed}
 use Rattle.model_link.specs.declared.terms.Terms.{Terms}
 use Rattle.model_link.specs.Link.{Link, fresh}
 use Rattle.model_link.specs.Steps.{Sent, Step}
 use Rattle.lapd_link_steps.specs.declared.entity.Entity.{Entity}
 use Rattle.lapd_link_steps.specs.Past.{Past, link_of, course_of, Fits}
 use Rattle.lapd_link_steps.specs.Does.{Agrees, Does}
-use Rattle.lapd_link_steps.specs.declared.told.Told.{Told}
+use Rattle.lapd_link_steps.specs.declared.report.BareReport.{BareReport}
+use Rattle.lapd_link_steps.specs.Reports.{IsClear}
 use Rattle.lapd_link_steps.specs.declared.offers.Given.{Given}
-
--- nothing is told yet
-pub record IsNothing (t : Told) : Type 0 where
-  pub notes : listed t.notes ≡ []
-  pub delivered : t.delivered ≡ false
-  pub unit : t.unit ≡ false
-  pub started : t.started ≡ None
-  pub lost : t.lost ≡ 0
-  pub unserved : t.unserved ≡ false
-  pub released : t.released ≡ 0
 
 -- the contents at a place of the queue
 abbrev pub contents_at : List (List ℕ) → Option ℕ → Option (List ℕ)
@@ -43,7 +33,7 @@ pub record IsFresh (control : ℕ) (e : Entity) : Type 0 where
   pub ring : e.waiting.capacity ≡ control
 
 -- what an offer gives is this step: for every past that fits an event that begins, with these messages queued
-pub record Gives (terms : Terms) (f : Step) (queued : ℕ) (e : Entity) (t : Told) (e' : Entity) (t' : Told) (given : Option Given) : Type 0 where
+pub record Gives (terms : Terms) (f : Step) (queued : ℕ) (e : Entity) (t : BareReport) (e' : Entity) (t' : BareReport) (given : Option Given) : Type 0 where
   pub step : (info : List ℕ) (messages : List (List ℕ)) (p : Past) → length messages ≡ queued → t.released ≡ 0 → p.sent ≡ None → Fits terms messages e t p → Agrees terms info messages (f (course_of info e t p)) e' t'
   pub sent : (info : List ℕ) (messages : List (List ℕ)) (p : Past) → length messages ≡ queued → t.released ≡ 0 → p.sent ≡ None → Fits terms messages e t p → (f (course_of info e t p)).sent ≡ given_of messages given
 
@@ -58,7 +48,7 @@ pub record Rests (terms : Terms) (e : Entity) (m : Link) : Type 0 where
   pub is : link_of e (past_at m) ≡ m
 
 -- A call that began with nothing told did this step.
-pub record Took (terms : Terms) (info : List ℕ) (f : Step) (e : Entity) (e' : Entity) (t : Told) : Type 0 where
-  pub none : Told
-  pub nothing : IsNothing none
+pub record Took (terms : Terms) (info : List ℕ) (f : Step) (e : Entity) (e' : Entity) (t : BareReport) : Type 0 where
+  pub none : BareReport
+  pub nothing : IsClear none
   pub does : Does terms info f e none e' t

@@ -1,4 +1,5 @@
 -- The definitions by which the contracts of this crate are stated.
+pub mod Reports
 pub mod Past
 pub mod Does
 pub mod Parts

@@ -55,7 +55,12 @@ effect_of own Rr final = own.by_rr final
 effect_of own Rnr final = own.by_rnr final
 effect_of own Rej final = own.by_rej final
 
+-- Whether a supervisory frame tells that the terminal can take no I-frames.
+abbrev pub tells_busy : Bearer → Bool
+tells_busy Rnr = true
+tells_busy other = false
+
 -- A supervisory frame, before its N(R) has its effect.
-abbrev pub supervised : Particulars → Terms → Bool → Bool → Bool → Step
-supervised own t busy is_command pf =
-    peer_busy_is busy then answered t is_command pf then own.told_of (is_final is_command pf)
+abbrev pub supervised : Particulars → Terms → Bearer → Bool → Bool → Step
+supervised own t by is_command pf =
+    peer_busy_is (tells_busy by) then answered t is_command pf then own.told_of (is_final is_command pf)

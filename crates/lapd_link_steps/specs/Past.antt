@@ -7,7 +7,7 @@ use Rattle.model_link.specs.declared.terms.Terms.{Terms}
 use Rattle.model_link.specs.Link.{Link}
 use Rattle.model_link.specs.Steps.{Course, Sent}
 use Rattle.lapd_link_steps.specs.declared.entity.Entity.{Entity}
-use Rattle.lapd_link_steps.specs.declared.told.Told.{Told}
+use Rattle.lapd_link_steps.specs.declared.report.BareReport.{BareReport}
 
 -- The past: the contents that have numbers since V(S) was last set to zero (`contents` of a link), and the plain numbers
 -- of those acknowledged, sent and received; and of the event under way, what it sent and whether it set the numbers to zero.
@@ -51,7 +51,7 @@ link_of e p = record {
 abbrev pub if_told : Bool → List ℕ → Option (List ℕ)
 if_told b info = if b then Some info else None
 
-abbrev pub course_of : List ℕ → Entity → Told → Past → Course
+abbrev pub course_of : List ℕ → Entity → BareReport → Past → Course
 course_of info e t p = record {
   link = link_of e p;
   notes = listed t.notes;
@@ -67,7 +67,7 @@ course_of info e t p = record {
 -- The past is one of this entity in the course of an event, at whose beginning these messages were queued: the window
 -- and V(R) are the remainders of its numbers, and the messages without those that are to be released are the contents
 -- from the first that is not acknowledged on.
-pub record Fits (terms : Terms) (messages : List (List ℕ)) (e : Entity) (t : Told) (p : Past) : Type 0 where
+pub record Fits (terms : Terms) (messages : List (List ℕ)) (e : Entity) (t : BareReport) (p : Past) : Type 0 where
   pub window : window.Stands e.window p.a p.s
   pub received : e.vr ≡ seq p.r
   pub ring : e.waiting.capacity ≡ terms.control

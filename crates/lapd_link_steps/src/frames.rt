@@ -6,7 +6,7 @@ ghost use Rattle.lapd_link_steps.specs.Does.{Does, HasRoom, Tells};
 ghost use Rattle.lapd_link_steps.specs.Parts.{malformed_by_state};
 
 use crate::entity::Entity;
-use crate::told::Told;
+use crate::report::BareReport;
 use lapd_frame::{Control, ErrorCode};
 use model_link::{State, Terms};
 
@@ -16,7 +16,7 @@ impl Entity {
     pub fn frame(
         &mut self,
         terms: &Terms,
-        told: &mut Told,
+        told: &mut BareReport,
         command: bool,
         control: Control,
         octets: usize,
@@ -36,7 +36,7 @@ impl Entity {
     }
 
     /// A frame came that is undefined (error L), of wrong size (N), or an I-frame that was too long to keep (O).
-    pub fn malformed(&mut self, terms: &Terms, told: &mut Told, code: ErrorCode)
+    pub fn malformed(&mut self, terms: &Terms, told: &mut BareReport, code: ErrorCode)
         requires { HasRoom 2 2 told.old }
         ensures tells { Tells 2 2 told.old told.new }
         ensures does { (info : List ℕ) →

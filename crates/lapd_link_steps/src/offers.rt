@@ -6,14 +6,14 @@ ghost use Rattle.model_link.specs.declared.terms.Terms.{Terms};
 ghost use Rattle.model_link.specs.Link.{Link, queue_of};
 ghost use Rattle.model_link.specs.Machine.{given};
 ghost use Rattle.model_link.specs.Offers as offers;
-ghost use Rattle.lapd_link_steps.specs.declared.told.Told.{Told};
+ghost use Rattle.lapd_link_steps.specs.declared.report.BareReport.{BareReport};
 ghost use Rattle.model_link.specs.Steps.{changed};
 ghost use Rattle.lapd_link_steps.specs.Parts.{awaiting};
 ghost use Rattle.lapd_link_steps.specs.Past.{Past, link_of, Fits};
 ghost use Rattle.lapd_link_steps.specs.Does.{Does, Changes};
 
 use crate::entity::Entity;
-use crate::told::Told;
+use crate::report::BareReport;
 use lapd_frame::Control;
 use model_link::{ControlFrame, LinkTimer, State, Terms};
 
@@ -32,7 +32,7 @@ impl Entity {
     /// The next frame, if there is one, while so many contents are queued: the control frame that has waited longest; else
     /// an I-frame; else the acknowledgement that is owed.
     #[inline(always)]
-    pub fn offer(&mut self, terms: &Terms, told: &mut Told, queued: usize) -> Option<Given>
+    pub fn offer(&mut self, terms: &Terms, told: &mut BareReport, queued: usize) -> Option<Given>
         requires { terms.now.k ≤ 127 }
         ensures { Gives terms.now (offers.offer_step terms.now) queued self.old told.old self.new told.new result }
     {
@@ -55,7 +55,12 @@ impl Entity {
 
     // The next frame while no control frame waits.
     #[inline(always)]
-    fn offer_numbered(&mut self, terms: &Terms, told: &mut Told, queued: usize) -> Option<Given>
+    fn offer_numbered(
+        &mut self,
+        terms: &Terms,
+        told: &mut BareReport,
+        queued: usize,
+    ) -> Option<Given>
         requires { terms.now.k ≤ 127 }
         ensures { Gives terms.now (offers.offer_among terms.now []) queued self.old told.old self.new told.new result }
     {
@@ -81,7 +86,7 @@ impl Entity {
     // Whether an I-frame may be sent.
     fn may_send_information(&self, terms: &Terms, queued: usize) -> bool
         ensures window { IsTrue result → outstanding_of self.now.window < terms.now.k }
-        ensures machine { (messages : List (List ℕ)) (t : Told) (p : Past) → length messages ≡ queued → t.released ≡ 0 →
+        ensures machine { (messages : List (List ℕ)) (t : BareReport) (p : Past) → length messages ≡ queued → t.released ≡ 0 →
             Fits terms.now messages self.now t p → result ≡ offers.may_send_information terms.now (link_of self.now p) }
     {
         matches!(self.state, State::Established)
@@ -92,7 +97,7 @@ impl Entity {
 
     // Sends the I-frame with the first contents that are unsent. It carries the acknowledgement.
     #[inline(always)]
-    fn send_information(&mut self, told: &mut Told) -> Given
+    fn send_information(&mut self, told: &mut BareReport) -> Given
         requires { outstanding_of self.old.window < 127 }
         ensures { (terms : Terms) (queued : ℕ) → Gives terms offers.send_information queued self.old told.old self.new told.new (Some result) }
     {
@@ -104,7 +109,7 @@ impl Entity {
     }
 
     fn next_information(&self) -> Given
-        ensures { (terms : Terms) (messages : List (List ℕ)) (t : Told) (p : Past) → t.released ≡ 0 → Fits terms messages self.now t p →
+        ensures { (terms : Terms) (messages : List (List ℕ)) (t : BareReport) (p : Past) → t.released ≡ 0 → Fits terms messages self.now t p →
             given_of messages (Some result) ≡ Some (record { frame = offers.next_information (link_of self.now p); contents = offers.first_unsent (link_of self.now p) }) }
     {
         let frame = ControlFrame {
@@ -130,7 +135,7 @@ impl Entity {
 
     // T200 is started unless it runs.
     #[tactic(auto, using(crate::proofs::Steps::where_no))]
-    fn await_acknowledgement(&mut self, told: &mut Told)
+    fn await_acknowledgement(&mut self, told: &mut BareReport)
         ensures { (terms : Terms) (info : List ℕ) → Does terms info awaiting self.old told.old self.new told.new }
     {
         if !self.runs(LinkTimer::T200) {

@@ -9,13 +9,13 @@ ghost use Rattle.lapd_link_steps.specs.Does.{Does, HasRoom, Tells};
 ghost use Rattle.lapd_link_steps.specs.Parts.{released_by_state, told_of_clearing_by_state};
 
 use crate::entity::Entity;
-use crate::told::{ALL, Told};
+use crate::report::{ALL, BareReport};
 use lapd_seq::{Seq, Window};
 use model_link::{State, Terms};
 
 impl Entity {
     /// Layer 3 asks for the release. In states 5 and 6 nothing is done.
-    pub fn release(&mut self, terms: &Terms, told: &mut Told)
+    pub fn release(&mut self, terms: &Terms, told: &mut BareReport)
         requires { HasRoom 2 2 told.old }
         ensures tells { Tells 2 2 told.old told.new }
         ensures does { (info : List ℕ) → Does terms.now info (released_by_state terms.now) self.old told.old self.new told.new }
@@ -30,7 +30,7 @@ impl Entity {
     }
 
     /// The TEI leaves the line: layer 3 is told as the state has it, and the entity is as one that begins.
-    pub fn clear(&mut self, terms: &Terms, told: &mut Told)
+    pub fn clear(&mut self, terms: &Terms, told: &mut BareReport)
         requires { HasRoom 2 2 told.old }
         ensures tells { Tells 2 2 told.old told.new }
         ensures does { (info : List ℕ) → Does terms.now info (cleared_step terms.now) self.old told.old self.new told.new }
@@ -39,7 +39,7 @@ impl Entity {
         self.begin_anew(told);
     }
 
-    fn tell_clearing(&self, terms: &Terms, told: &mut Told)
+    fn tell_clearing(&self, terms: &Terms, told: &mut BareReport)
         requires { HasRoom 1 0 told.old }
         ensures tells { Tells 1 0 told.old told.new }
         ensures does { (info : List ℕ) →
@@ -54,7 +54,7 @@ impl Entity {
         }
     }
 
-    fn begin_anew(&mut self, told: &mut Told)
+    fn begin_anew(&mut self, told: &mut BareReport)
         ensures tells { Tells 0 0 told.old told.new }
         ensures does { (terms : Terms) (info : List ℕ) → Does terms info begin_anew self.old told.old self.new told.new }
     {

@@ -6,7 +6,7 @@ ghost use Rattle.model_link.specs.Machine.{expired_step, expire_running};
 ghost use Rattle.lapd_link_steps.specs.Does.{Does, HasRoom, Tells};
 
 use crate::entity::Entity;
-use crate::told::Told;
+use crate::report::BareReport;
 use model_link::{LinkTimer, State, Terms};
 
 /// Whether the one that runs, or the one that was started, is this timer.
@@ -23,7 +23,7 @@ pub fn is_the(timer: LinkTimer, other: Option<LinkTimer>) -> bool
 impl Entity {
     /// A timer expires. One that does not run changes nothing.
     #[tactic(auto, using(crate::proofs::Steps::where_yes))]
-    pub fn expire(&mut self, terms: &Terms, told: &mut Told, timer: LinkTimer)
+    pub fn expire(&mut self, terms: &Terms, told: &mut BareReport, timer: LinkTimer)
         requires { HasRoom 2 2 told.old }
         ensures tells { Tells 2 2 told.old told.new }
         ensures does { (info : List ℕ) → Does terms.now info (expired_step terms.now timer) self.old told.old self.new told.new }
@@ -40,7 +40,7 @@ impl Entity {
         is_the(timer, self.running)
     }
 
-    fn expire_running(&mut self, terms: &Terms, told: &mut Told, timer: LinkTimer)
+    fn expire_running(&mut self, terms: &Terms, told: &mut BareReport, timer: LinkTimer)
         requires { HasRoom 2 2 told.old }
         ensures tells { Tells 2 2 told.old told.new }
         ensures does { (info : List ℕ) → Does terms.now info (expire_running timer terms.now) self.old told.old self.new told.new }

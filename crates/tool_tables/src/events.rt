@@ -4,7 +4,7 @@ ghost use Rattle.tool_tables.specs.Works.{Works};
 
 use crate::shelved_link::ShelvedLink;
 use lapd_frame::{Control, Refusal};
-use lapd_link::{Answer, LinkRequest, LinkTimer, Offer, Received};
+use lapd_link::{BareReport, LinkRequest, LinkTimer, Offer, Received};
 use lapd_seq::Seq;
 
 /// A state of a link, by the events that lead there from state 4.
@@ -90,7 +90,7 @@ pub struct Led {
     /// The state after.
     pub after: u8,
     /// What was told, or why a request was refused.
-    pub answer: Result<Answer, Refusal>,
+    pub answer: Result<BareReport, Refusal>,
     /// The frames that were sent then, but those that waited before.
     pub sent: [Option<Offer>; 4],
 }
@@ -167,7 +167,7 @@ fn send(shelved: &mut ShelvedLink) -> [Option<Offer>; 4]
     [first, second, third, fourth]
 }
 
-fn give(shelved: &mut ShelvedLink, event: Event) -> Result<Answer, Refusal>
+fn give(shelved: &mut ShelvedLink, event: Event) -> Result<BareReport, Refusal>
     requires { Works shelved.old }
     ensures { Works shelved.new }
 {

@@ -124,8 +124,7 @@ fn tell(cell: &mut Text, led: &Led, polled: Option<bool>) {
     frames(cell, &led.sent, polled);
     match &led.answer {
         Ok(answer) => {
-            let told = &answer.told;
-            words::told(cell, told.lost, told.unserved, told.notes.as_slice());
+            words::told(cell, answer.lost, answer.unserved, answer.notes.as_slice());
             words::orders(cell, answer.orders.as_slice());
         }
         Err(refusal) => cell.item(words::refusal_name(*refusal)),

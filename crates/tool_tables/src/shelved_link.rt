@@ -3,7 +3,7 @@
 ghost use Rattle.std.specs.Prelude.{IfOk};
 
 use lapd_frame::{Address, Control, Frame, Refusal, Service};
-use lapd_link::{Answer, Link, LinkRequest, LinkTimer, Offer, Received, StartFault};
+use lapd_link::{BareReport, Link, LinkRequest, LinkTimer, Offer, Received, StartFault};
 use lapd_store::SlabShelf;
 use std::alloc::Global;
 
@@ -34,7 +34,7 @@ impl ShelvedLink {
     }
 
     /// The link hears a frame of its terminal, without information.
-    pub fn hear(&mut self, command: bool, control: Control) -> Answer
+    pub fn hear(&mut self, command: bool, control: Control) -> BareReport
         requires { Works self.old }
         ensures { Works self.new }
     {
@@ -42,34 +42,34 @@ impl ShelvedLink {
     }
 
     /// The link is handed what came.
-    pub fn receive(&mut self, received: Received<'_>) -> Answer
+    pub fn receive(&mut self, received: Received<'_>) -> BareReport
         requires { Works self.old }
         ensures { Works self.new }
     {
-        let mut answer = Answer::nothing();
-        self.link.receive(received, &mut answer, &mut self.shelf);
-        answer
+        let mut report = BareReport::nothing();
+        self.link.receive(received, &mut report, &mut self.shelf);
+        report
     }
 
     /// Layer 3 asks for something.
-    pub fn ask(&mut self, request: LinkRequest<'_>) -> Result<Answer, Refusal>
+    pub fn ask(&mut self, request: LinkRequest<'_>) -> Result<BareReport, Refusal>
         requires { Works self.old }
         ensures { Works self.new }
     {
-        let mut answer = Answer::nothing();
+        let mut report = BareReport::nothing();
         self.link
-            .request(request, &mut answer, &mut self.shelf, ROOM)?;
-        Ok(answer)
+            .request(request, &mut report, &mut self.shelf, ROOM)?;
+        Ok(report)
     }
 
     /// A timer expires.
-    pub fn expire(&mut self, timer: LinkTimer) -> Answer
+    pub fn expire(&mut self, timer: LinkTimer) -> BareReport
         requires { Works self.old }
         ensures { Works self.new }
     {
-        let mut answer = Answer::nothing();
-        self.link.expire(timer, &mut answer, &mut self.shelf);
-        answer
+        let mut report = BareReport::nothing();
+        self.link.expire(timer, &mut report, &mut self.shelf);
+        report
     }
 
     /// The next frame is sent.
@@ -81,13 +81,13 @@ impl ShelvedLink {
     }
 
     /// The TEI leaves the line.
-    pub fn clear(&mut self) -> Answer
+    pub fn clear(&mut self) -> BareReport
         requires { Works self.old }
         ensures { Works self.new }
     {
-        let mut answer = Answer::nothing();
-        self.link.clear(&mut answer, &mut self.shelf);
-        answer
+        let mut report = BareReport::nothing();
+        self.link.clear(&mut report, &mut self.shelf);
+        report
     }
 }
 

@@ -7,7 +7,7 @@ ghost use Rattle.lapd_link_steps.specs.Does.{Does, HasRoom, Tells};
 ghost use Rattle.lapd_link_steps.specs.Parts.{told_of_establishment};
 
 use crate::entity::Entity;
-use crate::told::Told;
+use crate::report::BareReport;
 use lapd_frame::{Control, ErrorCode};
 use model_link::{LinkTimer, State, Terms};
 
@@ -17,7 +17,7 @@ impl Entity {
     pub(crate) fn frame_in_5(
         &mut self,
         terms: &Terms,
-        told: &mut Told,
+        told: &mut BareReport,
         control: Control,
         octets: usize,
     )
@@ -44,7 +44,7 @@ impl Entity {
     }
 
     // The terminal accepts the SABME.
-    fn accepted_in_5(&mut self, terms: &Terms, told: &mut Told)
+    fn accepted_in_5(&mut self, terms: &Terms, told: &mut BareReport)
         requires { HasRoom 1 0 told.old }
         ensures tells { Tells 1 0 told.old told.new }
         ensures does { (info : List ℕ) → Does terms.now info (row.frame_in_5 terms.now info (Ua true)) self.old told.old self.new told.new }
@@ -56,7 +56,7 @@ impl Entity {
     }
 
     // Layer 3 is told where it asked, or where contents are lost.
-    fn tell_establishment(&mut self, terms: &Terms, told: &mut Told)
+    fn tell_establishment(&mut self, terms: &Terms, told: &mut BareReport)
         requires { HasRoom 1 0 told.old }
         ensures tells { Tells 1 0 told.old told.new }
         ensures does { (info : List ℕ) → Does terms.now info (told_of_establishment terms.now) self.old told.old self.new told.new }
@@ -69,7 +69,7 @@ impl Entity {
     }
 
     // The terminal declines it.
-    fn declined_in_5(&mut self, terms: &Terms, told: &mut Told)
+    fn declined_in_5(&mut self, terms: &Terms, told: &mut BareReport)
         requires { HasRoom 1 0 told.old }
         ensures tells { Tells 1 0 told.old told.new }
         ensures does { (info : List ℕ) → Does terms.now info (row.frame_in_5 terms.now info (Dm true)) self.old told.old self.new told.new }
@@ -80,7 +80,7 @@ impl Entity {
         self.enter(State::TeiAssigned);
     }
 
-    pub(crate) fn t200_in_5(&mut self, terms: &Terms, told: &mut Told)
+    pub(crate) fn t200_in_5(&mut self, terms: &Terms, told: &mut BareReport)
         requires { HasRoom 2 1 told.old }
         ensures tells { Tells 2 1 told.old told.new }
         ensures does { (info : List ℕ) → Does terms.now info (row.t200_in_5 terms.now) self.old told.old self.new told.new }

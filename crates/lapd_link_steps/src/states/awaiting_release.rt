@@ -6,7 +6,7 @@ ghost use Rattle.model_link.specs.AwaitingRelease as row;
 ghost use Rattle.lapd_link_steps.specs.Does.{Does, HasRoom, Tells};
 
 use crate::entity::Entity;
-use crate::told::Told;
+use crate::report::BareReport;
 use lapd_frame::{Control, ErrorCode};
 use model_link::{LinkTimer, State, Terms};
 
@@ -16,7 +16,7 @@ impl Entity {
     pub(crate) fn frame_in_6(
         &mut self,
         terms: &Terms,
-        told: &mut Told,
+        told: &mut BareReport,
         control: Control,
         octets: usize,
     )
@@ -43,7 +43,7 @@ impl Entity {
     }
 
     // The terminal answers the DISC.
-    fn released_in_6(&mut self, terms: &Terms, told: &mut Told)
+    fn released_in_6(&mut self, terms: &Terms, told: &mut BareReport)
         requires { HasRoom 1 0 told.old }
         ensures tells { Tells 1 0 told.old told.new }
         ensures does { (info : List ℕ) → Does terms.now info (row.frame_in_6 terms.now info (Ua true)) self.old told.old self.new told.new }
@@ -53,7 +53,7 @@ impl Entity {
         self.enter(State::TeiAssigned);
     }
 
-    pub(crate) fn t200_in_6(&mut self, terms: &Terms, told: &mut Told)
+    pub(crate) fn t200_in_6(&mut self, terms: &Terms, told: &mut BareReport)
         requires { HasRoom 2 1 told.old }
         ensures tells { Tells 2 1 told.old told.new }
         ensures does { (info : List ℕ) → Does terms.now info (row.t200_in_6 terms.now) self.old told.old self.new told.new }

@@ -10,8 +10,8 @@ ghost use Rattle.lapd_link_steps.specs.Does.{Does, DoesBy, HasRoom, Tells};
 ghost use Rattle.lapd_link_steps.specs.Parts.{effect_of};
 
 use crate::entity::Entity;
+use crate::report::BareReport;
 use crate::states::multiple_frame::Bearer;
-use crate::told::Told;
 use lapd_frame::ErrorCode;
 use lapd_seq::Seq;
 use model_link::{LinkTimer, State, Terms};
@@ -19,7 +19,7 @@ use model_link::{LinkTimer, State, Terms};
 impl Entity {
     // What a valid N(R) does, by the frame that brought it. It is the same for a final frame and another.
     #[inline(always)]
-    pub(crate) fn acknowledged_in_7(&mut self, told: &mut Told, nr: Seq, by: Bearer)
+    pub(crate) fn acknowledged_in_7(&mut self, told: &mut BareReport, nr: Seq, by: Bearer)
         requires { IsValid (va_of self.old.window) nr (vs_of self.old.window) }
         ensures tells { Tells 0 0 told.old told.new }
         ensures does { (terms : Terms) (info : List ℕ) (final : Bool) →
@@ -33,7 +33,7 @@ impl Entity {
         }
     }
 
-    fn acknowledged_by_information_in_7(&mut self, told: &mut Told, nr: Seq)
+    fn acknowledged_by_information_in_7(&mut self, told: &mut BareReport, nr: Seq)
         requires { IsValid (va_of self.old.window) nr (vs_of self.old.window) }
         ensures tells { Tells 0 0 told.old told.new }
         ensures does { (terms : Terms) (info : List ℕ) →
@@ -47,7 +47,7 @@ impl Entity {
 
     // RR, or an I-frame while the terminal is not busy.
     #[inline(always)]
-    fn acknowledged_by_rr_in_7(&mut self, told: &mut Told, nr: Seq)
+    fn acknowledged_by_rr_in_7(&mut self, told: &mut BareReport, nr: Seq)
         requires { IsValid (va_of self.old.window) nr (vs_of self.old.window) }
         ensures tells { Tells 0 0 told.old told.new }
         ensures does { (terms : Terms) (info : List ℕ) →
@@ -64,7 +64,7 @@ impl Entity {
         self.start_timer(told, LinkTimer::T200);
     }
 
-    fn acknowledged_by_rnr_in_7(&mut self, told: &mut Told, nr: Seq)
+    fn acknowledged_by_rnr_in_7(&mut self, told: &mut BareReport, nr: Seq)
         requires { IsValid (va_of self.old.window) nr (vs_of self.old.window) }
         ensures tells { Tells 0 0 told.old told.new }
         ensures does { (terms : Terms) (info : List ℕ) →
@@ -74,7 +74,7 @@ impl Entity {
         self.start_timer(told, LinkTimer::T200);
     }
 
-    fn acknowledged_by_rej_in_7(&mut self, told: &mut Told, nr: Seq)
+    fn acknowledged_by_rej_in_7(&mut self, told: &mut BareReport, nr: Seq)
         requires { IsValid (va_of self.old.window) nr (vs_of self.old.window) }
         ensures tells { Tells 0 0 told.old told.new }
         ensures does { (terms : Terms) (info : List ℕ) →
@@ -85,7 +85,7 @@ impl Entity {
         self.start_timer(told, LinkTimer::T203);
     }
 
-    pub(crate) fn timer_in_7(&mut self, terms: &Terms, told: &mut Told)
+    pub(crate) fn timer_in_7(&mut self, terms: &Terms, told: &mut BareReport)
         requires { HasRoom 0 1 told.old }
         ensures tells { Tells 0 1 told.old told.new }
         ensures does { (info : List ℕ) → Does terms.now info (row.timer_in_7 terms.now) self.old told.old self.new told.new }
@@ -97,7 +97,7 @@ impl Entity {
     }
 }
 
-impl Told {
+impl BareReport {
     // A final response that no command asked for.
     #[inline(always)]
     #[tactic(auto, using(crate::proofs::Steps::bit_yes, crate::proofs::Steps::bit_no))]

@@ -4,15 +4,15 @@ ghost use Rattle.std.specs.Prelude.{◌≡◌, ℕ, List, length};
 ghost use Rattle.model_link.specs.Words.{by_number};
 ghost use Rattle.model_link.specs.MultipleFrame as row;
 ghost use Rattle.lapd_link_steps.specs.Does.{Does, Adds, HasRoom, Tells};
-ghost use Rattle.lapd_link_steps.specs.Parts.{particulars, effect_of, supervised, renewed};
+ghost use Rattle.lapd_link_steps.specs.Parts.{particulars, effect_of, supervised, renewed, tells_busy};
 
 use crate::entity::Entity;
-use crate::told::Told;
+use crate::report::BareReport;
 use lapd_frame::{Control, ErrorCode};
 use lapd_seq::Seq;
 use model_link::{LinkTimer, State, Terms};
 
-impl Told {
+impl BareReport {
     // UA, which no command asked for.
     #[tactic(auto, using(crate::proofs::Steps::bit_yes, crate::proofs::Steps::bit_no))]
     #[cold]
@@ -38,6 +38,16 @@ pub(crate) enum Bearer {
     Rej,
 }
 
+impl Bearer {
+    // Whether it tells that the terminal can take no I-frames, of supervisory frames.
+    #[inline(always)]
+    fn tells_busy(self) -> bool
+        ensures { result ≡ tells_busy self }
+    {
+        matches!(self, Bearer::Rnr)
+    }
+}
+
 // Whether a supervisory frame is a response with F=1, which answers a command.
 fn is_final(command: bool, pf: bool) -> bool
     ensures { result ≡ row.is_final command pf }
@@ -51,7 +61,7 @@ impl Entity {
     pub(crate) fn frame_in_7_8(
         &mut self,
         terms: &Terms,
-        told: &mut Told,
+        told: &mut BareReport,
         recovering: bool,
         command: bool,
         control: Control,
@@ -71,16 +81,19 @@ impl Entity {
                 self.number(terms, told, recovering, nr, Bearer::Information, false);
             }
             Control::ReceiveReady { nr, pf } => {
-                let last = self.supervised(terms, told, recovering, false, command, pf);
-                self.number(terms, told, recovering, nr, Bearer::Rr, last);
+                let by = Bearer::Rr;
+                let last = self.supervised(terms, told, recovering, by, command, pf);
+                self.number(terms, told, recovering, nr, by, last);
             }
             Control::ReceiveNotReady { nr, pf } => {
-                let last = self.supervised(terms, told, recovering, true, command, pf);
-                self.number(terms, told, recovering, nr, Bearer::Rnr, last);
+                let by = Bearer::Rnr;
+                let last = self.supervised(terms, told, recovering, by, command, pf);
+                self.number(terms, told, recovering, nr, by, last);
             }
             Control::Reject { nr, pf } => {
-                let last = self.supervised(terms, told, recovering, false, command, pf);
-                self.number(terms, told, recovering, nr, Bearer::Rej, last);
+                let by = Bearer::Rej;
+                let last = self.supervised(terms, told, recovering, by, command, pf);
+                self.number(terms, told, recovering, nr, by, last);
             }
             Control::Sabme { pf } => self.sabme_in_7_8(terms, told, pf),
             Control::Disc { pf } => self.disc_in_7_8(terms, told, pf),
@@ -98,9 +111,9 @@ impl Entity {
     fn supervised(
         &mut self,
         terms: &Terms,
-        told: &mut Told,
+        told: &mut BareReport,
         recovering: bool,
-        busy: bool,
+        by: Bearer,
         command: bool,
         pf: bool,
     ) -> bool
@@ -108,10 +121,10 @@ impl Entity {
         ensures tells { Tells 1 1 told.old told.new }
         ensures last { result ≡ row.is_final command pf }
         ensures does { (info : List ℕ) →
-            Does terms.now info (supervised (particulars recovering terms.now) terms.now busy command pf) self.old told.old self.new told.new }
+            Does terms.now info (supervised (particulars recovering terms.now) terms.now by command pf) self.old told.old self.new told.new }
     {
         let last = is_final(command, pf);
-        self.peer_busy_is(busy);
+        self.peer_busy_is(by.tells_busy());
         self.answered(terms, told, command, pf);
         if recovering {
             return last;
@@ -125,7 +138,7 @@ impl Entity {
     fn number(
         &mut self,
         terms: &Terms,
-        told: &mut Told,
+        told: &mut BareReport,
         recovering: bool,
         nr: Seq,
         by: Bearer,
@@ -147,7 +160,7 @@ impl Entity {
 
     // DM with F=1.
     #[cold]
-    fn dm_in_7_8(&mut self, terms: &Terms, told: &mut Told, recovering: bool)
+    fn dm_in_7_8(&mut self, terms: &Terms, told: &mut BareReport, recovering: bool)
         requires { HasRoom 1 1 told.old }
         ensures tells { Tells 1 1 told.old told.new }
         ensures does { (info : List ℕ) → Does terms.now info (particulars recovering terms.now).by_dm self.old told.old self.new told.new }
@@ -159,7 +172,7 @@ impl Entity {
     }
 
     // Layer 3 asks for the release.
-    pub(crate) fn release_in_7_8(&mut self, terms: &Terms, told: &mut Told)
+    pub(crate) fn release_in_7_8(&mut self, terms: &Terms, told: &mut BareReport)
         requires { HasRoom 0 1 told.old }
         ensures tells { Tells 0 1 told.old told.new }
         ensures does { (info : List ℕ) → Does terms.now info (row.release_in_7_8 terms.now) self.old told.old self.new told.new }
@@ -173,7 +186,7 @@ impl Entity {
     }
 
     /// Layer 3 can take no more contents, in states 7 and 8.
-    pub fn set_busy_in_7_8(&mut self, terms: &Terms, told: &mut Told)
+    pub fn set_busy_in_7_8(&mut self, terms: &Terms, told: &mut BareReport)
         requires { HasRoom 0 1 told.old }
         ensures tells { Tells 0 1 told.old told.new }
         ensures does { (info : List ℕ) → Does terms.now info (row.set_busy_in_7_8 terms.now) self.old told.old self.new told.new }
@@ -186,7 +199,7 @@ impl Entity {
     }
 
     /// Layer 3 can take contents again, in states 7 and 8.
-    pub fn clear_busy_in_7_8(&mut self, terms: &Terms, told: &mut Told)
+    pub fn clear_busy_in_7_8(&mut self, terms: &Terms, told: &mut BareReport)
         requires { HasRoom 0 1 told.old }
         ensures tells { Tells 0 1 told.old told.new }
         ensures does { (info : List ℕ) → Does terms.now info (row.clear_busy_in_7_8 terms.now) self.old told.old self.new told.new }
@@ -200,7 +213,7 @@ impl Entity {
 
     // The terminal establishes the link again.
     #[cold]
-    pub(crate) fn sabme_in_7_8(&mut self, terms: &Terms, told: &mut Told, pf: bool)
+    pub(crate) fn sabme_in_7_8(&mut self, terms: &Terms, told: &mut BareReport, pf: bool)
         requires { HasRoom 2 1 told.old }
         ensures tells { Tells 2 1 told.old told.new }
         ensures does { (info : List ℕ) → Does terms.now info (row.sabme_in_7_8 terms.now pf) self.old told.old self.new told.new }
@@ -215,7 +228,7 @@ impl Entity {
     }
 
     // Where contents are outstanding, all are lost, and layer 3 is told.
-    pub(crate) fn discard_outstanding(&mut self, terms: &Terms, told: &mut Told)
+    pub(crate) fn discard_outstanding(&mut self, terms: &Terms, told: &mut BareReport)
         requires { HasRoom 1 0 told.old }
         ensures tells { Tells 1 0 told.old told.new }
         ensures does { (info : List ℕ) → Does terms.now info (renewed terms.now) self.old told.old self.new told.new }
@@ -229,7 +242,7 @@ impl Entity {
 
     // The terminal releases the link.
     #[cold]
-    pub(crate) fn disc_in_7_8(&mut self, terms: &Terms, told: &mut Told, pf: bool)
+    pub(crate) fn disc_in_7_8(&mut self, terms: &Terms, told: &mut BareReport, pf: bool)
         requires { HasRoom 1 1 told.old }
         ensures tells { Tells 1 1 told.old told.new }
         ensures does { (info : List ℕ) → Does terms.now info (row.disc_in_7_8 terms.now pf) self.old told.old self.new told.new }
@@ -244,7 +257,7 @@ impl Entity {
 
     // An error that is told, and after which the link is established again.
     #[cold]
-    pub(crate) fn failed(&mut self, terms: &Terms, told: &mut Told, code: ErrorCode)
+    pub(crate) fn failed(&mut self, terms: &Terms, told: &mut BareReport, code: ErrorCode)
         requires { HasRoom 1 1 told.old }
         ensures tells { Tells 1 1 told.old told.new }
         ensures does { (info : List ℕ) → Does terms.now info (row.failed terms.now code) self.old told.old self.new told.new }
@@ -256,7 +269,7 @@ impl Entity {
     // A command with P=1 is answered.
     #[inline(always)]
     #[tactic(auto, using(crate::proofs::Steps::bit_yes, crate::proofs::Steps::bit_no))]
-    pub(crate) fn answered(&mut self, terms: &Terms, told: &mut Told, command: bool, pf: bool)
+    pub(crate) fn answered(&mut self, terms: &Terms, told: &mut BareReport, command: bool, pf: bool)
         requires { HasRoom 0 1 told.old }
         ensures tells { Tells 0 1 told.old told.new }
         ensures does { (info : List ℕ) → Does terms.now info (row.answered terms.now command pf) self.old told.old self.new told.new }
@@ -267,7 +280,13 @@ impl Entity {
     }
 
     // The contents of an I-frame.
-    pub(crate) fn contents_in_7_8(&mut self, terms: &Terms, told: &mut Told, ns: Seq, pf: bool)
+    pub(crate) fn contents_in_7_8(
+        &mut self,
+        terms: &Terms,
+        told: &mut BareReport,
+        ns: Seq,
+        pf: bool,
+    )
         requires { HasRoom 1 1 told.old }
         ensures tells { Tells 1 1 told.old told.new }
         ensures does { (info : List ℕ) → Does terms.now info (row.contents_in_7_8 terms.now ns pf info) self.old told.old self.new told.new }
@@ -283,7 +302,7 @@ impl Entity {
 
     // P=1 is answered.
     #[tactic(auto, using(crate::proofs::Steps::bit_yes, crate::proofs::Steps::bit_no))]
-    fn answer_if(&mut self, terms: &Terms, told: &mut Told, pf: bool)
+    fn answer_if(&mut self, terms: &Terms, told: &mut BareReport, pf: bool)
         requires { HasRoom 0 1 told.old }
         ensures tells { Tells 0 1 told.old told.new }
         ensures does { (info : List ℕ) → Does terms.now info (row.dropped terms.now pf) self.old told.old self.new told.new }
@@ -294,7 +313,7 @@ impl Entity {
     }
 
     // The next in sequence is delivered.
-    fn in_sequence(&mut self, terms: &Terms, told: &mut Told, pf: bool)
+    fn in_sequence(&mut self, terms: &Terms, told: &mut BareReport, pf: bool)
         requires { HasRoom 1 1 told.old }
         ensures tells { Tells 1 1 told.old told.new }
         ensures does { (info : List ℕ) → Does terms.now info (row.in_sequence terms.now pf info) self.old told.old self.new told.new }
@@ -311,7 +330,7 @@ impl Entity {
 
     // Another is asked for again, once.
     #[cold]
-    fn out_of_sequence(&mut self, terms: &Terms, told: &mut Told, pf: bool)
+    fn out_of_sequence(&mut self, terms: &Terms, told: &mut BareReport, pf: bool)
         requires { HasRoom 0 1 told.old }
         ensures tells { Tells 0 1 told.old told.new }
         ensures does { (info : List ℕ) → Does terms.now info (row.out_of_sequence terms.now pf) self.old told.old self.new told.new }

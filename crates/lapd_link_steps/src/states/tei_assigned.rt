@@ -6,7 +6,7 @@ ghost use Rattle.model_link.specs.TeiAssigned as row;
 ghost use Rattle.lapd_link_steps.specs.Does.{Does, HasRoom, Tells};
 
 use crate::entity::Entity;
-use crate::told::Told;
+use crate::report::BareReport;
 use lapd_frame::{Control, ErrorCode};
 use model_link::{LinkTimer, State, Terms};
 
@@ -16,7 +16,7 @@ impl Entity {
     pub(crate) fn frame_in_4(
         &mut self,
         terms: &Terms,
-        told: &mut Told,
+        told: &mut BareReport,
         control: Control,
         octets: usize,
     )
@@ -37,7 +37,7 @@ impl Entity {
     }
 
     // The terminal establishes the link.
-    fn sabme_in_4(&mut self, terms: &Terms, told: &mut Told, pf: bool)
+    fn sabme_in_4(&mut self, terms: &Terms, told: &mut BareReport, pf: bool)
         requires { HasRoom 1 1 told.old }
         ensures tells { Tells 1 1 told.old told.new }
         ensures does { (info : List ℕ) → Does terms.now info (row.frame_in_4 terms.now info (Sabme pf)) self.old told.old self.new told.new }
@@ -51,7 +51,7 @@ impl Entity {
     }
 
     /// Layer 3 asks for the establishment, in state 4.
-    pub fn establish_in_4(&mut self, terms: &Terms, told: &mut Told)
+    pub fn establish_in_4(&mut self, terms: &Terms, told: &mut BareReport)
         requires { HasRoom 0 1 told.old }
         ensures tells { Tells 0 1 told.old told.new }
         ensures does { (info : List ℕ) → Does terms.now info (row.establish_in_4 terms.now) self.old told.old self.new told.new }

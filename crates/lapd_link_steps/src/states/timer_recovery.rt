@@ -9,15 +9,21 @@ ghost use Rattle.lapd_link_steps.specs.Does.{Does, DoesBy, HasRoom, Tells};
 ghost use Rattle.lapd_link_steps.specs.Parts.{effect_of, sent_again};
 
 use crate::entity::Entity;
+use crate::report::BareReport;
 use crate::states::multiple_frame::Bearer;
-use crate::told::Told;
 use lapd_frame::ErrorCode;
 use lapd_seq::Seq;
 use model_link::{LinkTimer, State, Terms};
 
 impl Entity {
     // What a valid N(R) does, by the frame that brought it.
-    pub(crate) fn acknowledged_in_8(&mut self, told: &mut Told, nr: Seq, by: Bearer, last: bool)
+    pub(crate) fn acknowledged_in_8(
+        &mut self,
+        told: &mut BareReport,
+        nr: Seq,
+        by: Bearer,
+        last: bool,
+    )
         requires { IsValid (va_of self.old.window) nr (vs_of self.old.window) }
         ensures tells { Tells 0 0 told.old told.new }
         ensures does { (terms : Terms) (info : List ℕ) →
@@ -34,7 +40,7 @@ impl Entity {
     // A final frame answers the enquiry.
     fn acknowledged_by_supervisory_in_8(
         &mut self,
-        told: &mut Told,
+        told: &mut BareReport,
         nr: Seq,
         last: bool,
         timer: LinkTimer,
@@ -51,7 +57,7 @@ impl Entity {
     }
 
     // What was not received is sent again.
-    fn recovered(&mut self, told: &mut Told, nr: Seq, timer: LinkTimer)
+    fn recovered(&mut self, told: &mut BareReport, nr: Seq, timer: LinkTimer)
         requires { IsValid (va_of self.old.window) nr (vs_of self.old.window) }
         ensures tells { Tells 0 0 told.old told.new }
         ensures does { (terms : Terms) (info : List ℕ) → DoesBy terms info nr (sent_again timer) self.old told.old self.new told.new }
@@ -61,7 +67,7 @@ impl Entity {
         self.enter(State::Established);
     }
 
-    pub(crate) fn t200_in_8(&mut self, terms: &Terms, told: &mut Told)
+    pub(crate) fn t200_in_8(&mut self, terms: &Terms, told: &mut BareReport)
         requires { HasRoom 1 1 told.old }
         ensures tells { Tells 1 1 told.old told.new }
         ensures does { (info : List ℕ) → Does terms.now info (row.t200_in_8 terms.now) self.old told.old self.new told.new }

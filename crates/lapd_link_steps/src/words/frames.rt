@@ -7,13 +7,13 @@ ghost use Rattle.lapd_link_steps.specs.Past.{Past, link_of};
 ghost use Rattle.lapd_link_steps.specs.Does.{Does, HasRoom, Tells};
 
 use crate::entity::Entity;
-use crate::told::Told;
+use crate::report::BareReport;
 use lapd_frame::Control;
 use model_link::{ControlFrame, LinkTimer, State, Terms};
 
 impl Entity {
     // Puts a frame into the ring. Where the ring is full, it is lost.
-    pub(crate) fn send(&mut self, terms: &Terms, told: &mut Told, frame: ControlFrame)
+    pub(crate) fn send(&mut self, terms: &Terms, told: &mut BareReport, frame: ControlFrame)
         requires { HasRoom 0 1 told.old }
         ensures tells { Tells 0 1 told.old told.new }
         ensures repeats { self.new.repeats ≡ self.old.repeats }
@@ -24,7 +24,7 @@ impl Entity {
         }
     }
 
-    pub(crate) fn command(&mut self, terms: &Terms, told: &mut Told, control: Control)
+    pub(crate) fn command(&mut self, terms: &Terms, told: &mut BareReport, control: Control)
         requires { HasRoom 0 1 told.old }
         ensures tells { Tells 0 1 told.old told.new }
         ensures repeats { self.new.repeats ≡ self.old.repeats }
@@ -40,7 +40,7 @@ impl Entity {
         );
     }
 
-    pub(crate) fn response(&mut self, terms: &Terms, told: &mut Told, control: Control)
+    pub(crate) fn response(&mut self, terms: &Terms, told: &mut BareReport, control: Control)
         requires { HasRoom 0 1 told.old }
         ensures tells { Tells 0 1 told.old told.new }
         ensures does { (info : List ℕ) → Does terms.now info (word.send terms.now (word.response control)) self.old told.old self.new told.new }
@@ -67,7 +67,7 @@ impl Entity {
     }
 
     // Asks for the terminal's state.
-    pub(crate) fn enquire(&mut self, terms: &Terms, told: &mut Told)
+    pub(crate) fn enquire(&mut self, terms: &Terms, told: &mut BareReport)
         requires { HasRoom 0 1 told.old }
         ensures tells { Tells 0 1 told.old told.new }
         ensures repeats { self.new.repeats ≡ self.old.repeats }
@@ -79,7 +79,7 @@ impl Entity {
     }
 
     // Answers a command with P.
-    pub(crate) fn answer(&mut self, terms: &Terms, told: &mut Told)
+    pub(crate) fn answer(&mut self, terms: &Terms, told: &mut BareReport)
         requires { HasRoom 0 1 told.old }
         ensures tells { Tells 0 1 told.old told.new }
         ensures does { (info : List ℕ) → Does terms.now info (word.answer terms.now) self.old told.old self.new told.new }
@@ -90,7 +90,7 @@ impl Entity {
     }
 
     // Reports, unasked, whether own busy is on.
-    pub(crate) fn report_ready(&mut self, terms: &Terms, told: &mut Told)
+    pub(crate) fn report_ready(&mut self, terms: &Terms, told: &mut BareReport)
         requires { HasRoom 0 1 told.old }
         ensures tells { Tells 0 1 told.old told.new }
         ensures does { (info : List ℕ) → Does terms.now info (word.report_ready terms.now) self.old told.old self.new told.new }
@@ -101,7 +101,7 @@ impl Entity {
     }
 
     // Asks for the I-frames from V(R) on again.
-    pub(crate) fn reject(&mut self, terms: &Terms, told: &mut Told, pf: bool)
+    pub(crate) fn reject(&mut self, terms: &Terms, told: &mut BareReport, pf: bool)
         requires { HasRoom 0 1 told.old }
         ensures tells { Tells 0 1 told.old told.new }
         ensures does { (info : List ℕ) → Does terms.now info (word.reject terms.now pf) self.old told.old self.new told.new }
@@ -111,7 +111,7 @@ impl Entity {
     }
 
     // Begins the establishment again.
-    pub(crate) fn re_establish(&mut self, terms: &Terms, told: &mut Told)
+    pub(crate) fn re_establish(&mut self, terms: &Terms, told: &mut BareReport)
         requires { HasRoom 0 1 told.old }
         ensures tells { Tells 0 1 told.old told.new }
         ensures does { (info : List ℕ) → Does terms.now info (word.re_establish terms.now) self.old told.old self.new told.new }

@@ -5,11 +5,11 @@ ghost use Rattle.model_link.specs.Words as word;
 ghost use Rattle.lapd_link_steps.specs.declared.entity.Entity.{Entity};
 ghost use Rattle.lapd_link_steps.specs.Does.{Does, Adds, HasRoom, Tells};
 
-use crate::told::Told;
+use crate::report::BareReport;
 use lapd_frame::{ErrorCode, Note};
 use model_link::Terms;
 
-impl Told {
+impl BareReport {
     pub(crate) fn note(&mut self, note: Note)
         requires { HasRoom 1 0 self.old }
         ensures tells { Tells 1 0 self.old self.new }

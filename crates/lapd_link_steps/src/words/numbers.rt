@@ -8,12 +8,12 @@ ghost use Rattle.model_link.specs.Words as word;
 ghost use Rattle.lapd_link_steps.specs.Does.{Does, DoesBy, Changes, Tells};
 
 use crate::entity::Entity;
-use crate::told::{ALL, Told};
+use crate::report::{ALL, BareReport};
 use lapd_seq::{Seq, Window, valid};
 
 impl Entity {
     // Releases all contents that are kept.
-    pub(crate) fn discard(&mut self, told: &mut Told)
+    pub(crate) fn discard(&mut self, told: &mut BareReport)
         ensures tells { Tells 0 0 told.old told.new }
         ensures does { (terms : Terms) (info : List ℕ) → Does terms info word.discard self.old told.old self.new told.new }
     {
@@ -23,7 +23,7 @@ impl Entity {
     }
 
     // The numbers become 0. What was sent goes.
-    pub(crate) fn zero_numbers(&mut self, told: &mut Told)
+    pub(crate) fn zero_numbers(&mut self, told: &mut BareReport)
         ensures tells { Tells 0 0 told.old told.new }
         ensures does { (terms : Terms) (info : List ℕ) → Does terms info word.zero_numbers self.old told.old self.new told.new }
     {
@@ -49,7 +49,7 @@ impl Entity {
     }
 
     // The contents before the number that a valid N(R) names are acknowledged, and go.
-    pub(crate) fn acknowledge(&mut self, told: &mut Told, nr: Seq)
+    pub(crate) fn acknowledge(&mut self, told: &mut BareReport, nr: Seq)
         requires { IsValid (va_of self.old.window) nr (vs_of self.old.window) }
         ensures tells { Tells 0 0 told.old told.new }
         ensures valid { IsValid (va_of self.new.window) nr (vs_of self.new.window) }

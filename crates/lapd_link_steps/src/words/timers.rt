@@ -6,12 +6,12 @@ ghost use Rattle.model_link.specs.Words as word;
 ghost use Rattle.lapd_link_steps.specs.Does.{Does, Tells};
 
 use crate::entity::Entity;
-use crate::told::Told;
+use crate::report::BareReport;
 use model_link::LinkTimer;
 
 impl Entity {
     // Starts a timer, or starts it anew; the other is stopped.
-    pub(crate) fn start_timer(&mut self, told: &mut Told, timer: LinkTimer)
+    pub(crate) fn start_timer(&mut self, told: &mut BareReport, timer: LinkTimer)
         ensures tells { Tells 0 0 told.old told.new }
         ensures does { (terms : Terms) (info : List ℕ) → Does terms info (word.start timer) self.old told.old self.new told.new }
     {
@@ -20,7 +20,7 @@ impl Entity {
     }
 
     // Stops both timers.
-    pub(crate) fn no_timer(&mut self, told: &mut Told)
+    pub(crate) fn no_timer(&mut self, told: &mut BareReport)
         ensures tells { Tells 0 0 told.old told.new }
         ensures does { (terms : Terms) (info : List ℕ) → Does terms info word.no_timer self.old told.old self.new told.new }
     {

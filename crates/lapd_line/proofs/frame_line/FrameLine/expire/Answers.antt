@@ -5,12 +5,12 @@ use Rattle.lapd_line.proofs.LineSteps.{expired, expiry_told}
 use Rattle.lapd_line.proofs.frame_line.FrameLine.expire.Goals as goal
 
 pub returns-clause-told : goal.returns-clause-told
-returns-clause-told g c = λ others m st. expiry_told c.args.timer c.report.result c.report.ensures c.expire.ensures others m st.layer
+returns-clause-told g c = λ others m st. expiry_told c.args.timer c.of.result c.of.ensures c.expire.ensures others m st.layer
 
 pub returns-clause-starts : goal.returns-clause-starts
 returns-clause-starts g c =
     let (others, m, st) = c.requires in
-    starts_one (config_of c.args.self.now) c.args.timer m (report_told c.report.result) (expiry_told c.args.timer c.report.result c.report.ensures c.expire.ensures others m st.layer)
+    starts_one (config_of c.args.self.now) c.args.timer m (report_told c.of.result) (expiry_told c.args.timer c.of.result c.of.ensures c.expire.ensures others m st.layer)
 
 pub returns-clause-after : goal.returns-clause-after
 returns-clause-after g c = expired c.args.timer c.expire.ensures c.count.ensures

@@ -6,9 +6,9 @@ use Rattle.lapd_line.proofs.frame_line.FrameLine.failed.Goals as goal
 
 pub returns-clause-told : goal.returns-clause-told
 returns-clause-told c = λ m.
-    dropped_told (config_of c.args.self.now) (cause_of c.args.fault) m (report_told c.report.result)
-    (c.report.ensures ∙ c.dropped.ensures.told [] ∙ ap dropped c.cause_of.ensures)
+    dropped_told (config_of c.args.self.now) (cause_of c.args.fault) m (report_told c.of.result)
+    (c.of.ensures ∙ c.tell_drop.ensures [] ∙ ap dropped c.cause_of.ensures)
 
 pub returns-clause-after : goal.returns-clause-after
 returns-clause-after c = λ store.
-    dropped_leads store (cause_of c.args.fault) c.dropped.new.report (c.dropped.ensures.told [] ∙ ap dropped c.cause_of.ensures) c.dropped.ensures.line
+    dropped_leads store (cause_of c.args.fault) c.tell_drop.new.report (c.tell_drop.ensures [] ∙ ap dropped c.cause_of.ensures) c.count.ensures

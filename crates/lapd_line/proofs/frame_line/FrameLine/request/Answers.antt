@@ -5,7 +5,7 @@ use Rattle.lapd_line.proofs.frame_line.FrameLine.request.Goals as goal
 
 pub returns-in-Ok-clause-told : goal.returns-in-Ok-clause-told
 returns-in-Ok-clause-told g c = λ others m st.
-    request_told (nat_le c.args.slots (used_slots (g.S.Shelf.store c.args.shelf.now))) (request_of c.args.request) c.report.result c.in-Ok.ensures.granted c.in-Ok.ensures.served c.report.ensures others m st.layer
+    request_told (nat_le c.args.slots (used_slots (g.S.Shelf.store c.args.shelf.now))) (request_of c.args.request) c.of.result c.in-Ok.ensures.granted c.in-Ok.ensures.served c.of.ensures others m st.layer
 
 pub returns-in-Ok-clause-after : goal.returns-in-Ok-clause-after
 returns-in-Ok-clause-after g c =

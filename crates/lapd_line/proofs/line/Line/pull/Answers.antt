@@ -1,7 +1,6 @@
 -- Hand-written answers for `Line::pull`.
-use Rattle.lapd_line.proofs.Vocabulary.{sym, octets_config}
-use Rattle.lapd_line.proofs.OctetSteps.{not_due, is_quiet, nothing_told, nothing_leads}
-use Rattle.lapd_line.proofs.NextSteps.{nothing_waits}
+use Rattle.lapd_line.proofs.Vocabulary.{refl, sym, octets_config}
+use Rattle.lapd_line.proofs.OctetSteps.{not_due, nothing_told, nothing_leads, next_told, next_leads_on}
 use Rattle.lapd_line.proofs.line.Line.pull.Goals as goal
 
 pub returns-then-not-is_due-clause-told : goal.returns-then-not-is_due-clause-told
@@ -14,12 +13,16 @@ returns-then-not-is_due-clause-after g c =
     nothing_leads c.args.self.now (g.S.Shelf.store c.args.shelf.now) c.give.result c.give.new.self c.give.ensures
     (λ others l st. not_due st (sym (c.if-not-is_due.ensures.due (octets_config c.args.self.now).n201 l.port st.port)))
 
-pub returns-then-not-has_next-clause-told : goal.returns-then-not-has_next-clause-told
-returns-then-not-has_next-clause-told g c =
-    nothing_told c.args.self.now (g.S.Shelf.store c.args.shelf.now) c.give-then-not-has_next.result c.give-then-not-has_next.new.self c.give-then-not-has_next.ensures
-    (λ others l st. is_quiet (octets_config c.args.self.now) l (nothing_waits (octets_config c.args.self.now) l.line (c.if-not-has_next.ensures (g.S.Shelf.store c.args.shelf.now) others l.line st.frames)))
+pub load_next-taken-requires : goal.load_next-taken-requires
+load_next-taken-requires g c =
+    let (others, l, st) = c.requires in
+    record { stands = (others, l.line, st.frames); few = c.if-not-is_due.ensures.few refl; room = st.port.room }
 
-pub returns-then-not-has_next-clause-after : goal.returns-then-not-has_next-clause-after
-returns-then-not-has_next-clause-after g c =
-    nothing_leads c.args.self.now (g.S.Shelf.store c.args.shelf.now) c.give-then-not-has_next.result c.give-then-not-has_next.new.self c.give-then-not-has_next.ensures
-    (λ others l st. is_quiet (octets_config c.args.self.now) l (nothing_waits (octets_config c.args.self.now) l.line (c.if-not-has_next.ensures (g.S.Shelf.store c.args.shelf.now) others l.line st.frames)))
+pub returns-clause-told : goal.returns-clause-told
+returns-clause-told g c =
+    next_told c.args.self.now (g.S.Shelf.store c.args.shelf.now) c.load_next-taken.new.port c.load_next-taken.result c.give-2.result c.give-2.new.self (c.if-not-is_due.ensures.few refl) c.load_next-taken.ensures.loaded c.give-2.ensures
+
+pub returns-clause-after : goal.returns-clause-after
+returns-clause-after g c =
+    next_leads_on c.args.self.now (g.S.Shelf.store c.args.shelf.now) c.load_next-taken.new.port c.load_next-taken.result c.give-2.result c.give-2.new.self (c.if-not-is_due.ensures.few refl) c.load_next-taken.ensures.loaded c.give-2.ensures
+    c.load_next-taken.ensures.after

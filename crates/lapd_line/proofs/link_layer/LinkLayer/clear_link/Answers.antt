@@ -6,7 +6,7 @@ use Rattle.lapd_line.proofs.ReportSteps.{link_told}
 use Rattle.lapd_line.proofs.link_layer.LinkLayer.clear_link.Goals as goal
 
 pub clear-requires : goal.clear-requires
-clear-requires g c = record { within = number_there c.args.service c.requires.stands c.requires.at c.link_number-number.ensures; clear = c.requires.clear.answer; stands = links_standing c.requires.stands }
+clear-requires g c = record { within = number_there c.args.service c.requires.stands c.requires.at c.link_number-number.ensures; clear = c.requires.clear; stands = links_standing c.requires.stands }
 
 pub has_frame-requires : goal.has_frame-requires
 has_frame-requires g c = number_still c.clear.new.self c.args.service c.requires.stands c.requires.at c.link_number-number.ensures c.clear.ensures.terms
@@ -15,4 +15,4 @@ pub set-requires : goal.set-requires
 set-requires g c = number_low c.args.service c.requires.stands c.requires.at c.link_number-number.ensures
 
 pub returns : goal.returns
-returns g c = at_link_serves c.requires.stands c.requires.at c.link_number-number.ensures c.has_frame.ensures c.set.ensures c.clear.ensures (link_told [] [] c.clear.new.answer c.args.report.now.start c.args.report.now.cause c.requires.clear.cause (nothing_after [] c.args.report.now.start (omega arith)))
+returns g c = at_link_serves c.requires.stands c.requires.at c.link_number-number.ensures c.has_frame.ensures c.set.ensures c.clear.ensures (link_told [] [] c.clear.new.report c.clear.new.report.start (nothing_after [] c.clear.new.report.start (omega arith)))

@@ -19,4 +19,4 @@ returns-then-not-is_ui g c = λ octets.
       | then-not-is_ui-via-then-not-is_ui w ↦ no_ui side c.args.control c.args.info.now (sym c.is_ui.ensures ∙ w.if-not-is_ui.true)
       | then-not-is_ui-via-else-not-is_ui+then-not-has_management w ↦ not_ours side c.args.control c.args.info.now (sym w.has_management.ensures ∙ w.if-not-has_management.true)
     ] in
-    serves_as (λ others m st. unserved) (serves_none c.args.self.now (g.S.Shelf.store c.args.shelf.now) octets c.tell_drop.new.self (dropped Unserved) (c.tell_drop.ensures octets))
+    serves_as (λ others m st. unserved) (serves_none c.args.self.now (g.S.Shelf.store c.args.shelf.now) octets c.tell_drop.new.report (dropped Unserved) (c.tell_drop.ensures octets))

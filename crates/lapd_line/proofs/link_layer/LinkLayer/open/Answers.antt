@@ -34,7 +34,7 @@ returns g c = λ what before octets is.
     let config = c.args.self.now.config in
     let call = k.exact c.link_number.ensures in
     let packet = k.exact c.link_number-2.ensures in
-    joined c.args.self.now before what c.args.told is s octets c.tell_management.new.self c.args.tei c.args.place c.open.new.self c.open-2.new.self c.requires.gained (c.tell_management.ensures.told octets)
+    joined c.args.self.now before what c.args.told is s octets c.tell_management.new.report c.args.tei c.args.place c.open.new.self c.open-2.new.self c.requires.gained (c.tell_management.ensures.told octets)
     (subst (λ n. terms_in c.open.new.self ≡ set (terms_in c.args.self.now.links) n (terms config Call c.args.tei)) call c.open.ensures.terms)
     (subst (λ n. terms_in c.open-2.new.self ≡ set (terms_in c.open.new.self) n (terms config Packet c.args.tei)) packet c.open-2.ensures.terms)
     (λ more ms h. subst (λ n. LinksStand config c.open.new.self s more (set ms n machine.fresh)) call (c.open.ensures.stands s more ms h))

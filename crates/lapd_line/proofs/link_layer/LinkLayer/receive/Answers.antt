@@ -4,7 +4,7 @@ use Rattle.lapd_line.proofs.ReportSteps.{link_told}
 use Rattle.lapd_line.proofs.link_layer.LinkLayer.receive.Goals as goal
 
 pub receive-requires : goal.receive-requires
-receive-requires g c = record { within = number_there c.args.service c.requires.stands c.requires.at c.link_number-number.ensures; clear = c.requires.clear.answer; stands = links_standing c.requires.stands }
+receive-requires g c = record { within = number_there c.args.service c.requires.stands c.requires.at c.link_number-number.ensures; clear = c.requires.clear; stands = links_standing c.requires.stands }
 
 pub has_frame-requires : goal.has_frame-requires
 has_frame-requires g c = number_still c.receive.new.self c.args.service c.requires.stands c.requires.at c.link_number-number.ensures c.receive.ensures.terms
@@ -13,4 +13,4 @@ pub set-requires : goal.set-requires
 set-requires g c = number_low c.args.service c.requires.stands c.requires.at c.link_number-number.ensures
 
 pub returns : goal.returns
-returns g c = λ octets is. at_link_serves c.requires.stands c.requires.at c.link_number-number.ensures c.has_frame.ensures c.set.ensures c.receive.ensures (link_told octets _ c.receive.new.answer c.args.start c.args.report.now.cause c.requires.clear.cause is)
+returns g c = λ octets is. at_link_serves c.requires.stands c.requires.at c.link_number-number.ensures c.has_frame.ensures c.set.ensures c.receive.ensures (link_told octets _ c.receive.new.report c.args.start is)

@@ -11,9 +11,9 @@ returns-in-Management g c =
       | inr at ↦ ap (λ whom. unless_at_link (aim_at whom link.overlong (drop_for Unserved))) at.3
     ] in
     serves_as (λ others m st. ap unless_at_link (aimed c.args.self.now (g.S.Shelf.store c.args.shelf.now) others m c.args.address link.overlong (drop_for Unserved) _ c.addressee.ensures.is st) ∙ unserved)
-    (serves_none c.args.self.now (g.S.Shelf.store c.args.shelf.now) [] c.tell_drop.new.self _ (c.tell_drop.ensures []))
+    (serves_none c.args.self.now (g.S.Shelf.store c.args.shelf.now) [] c.tell_drop.new.report _ (c.tell_drop.ensures []))
 
 pub returns-in-Nobody : goal.returns-in-Nobody
 returns-in-Nobody g c =
     serves_as (λ others m st. ap unless_at_link (aimed c.args.self.now (g.S.Shelf.store c.args.shelf.now) others m c.args.address link.overlong (drop_for Unserved) _ c.in-Nobody.ensures.is st))
-    (serves_none c.args.self.now (g.S.Shelf.store c.args.shelf.now) [] c.tell_drop-in-Nobody.new.self _ (c.tell_drop-in-Nobody.ensures []))
+    (serves_none c.args.self.now (g.S.Shelf.store c.args.shelf.now) [] c.tell_drop-in-Nobody.new.report _ (c.tell_drop-in-Nobody.ensures []))

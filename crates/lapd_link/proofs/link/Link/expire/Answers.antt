@@ -8,13 +8,13 @@ pub returns-clause-stands : goal.returns-clause-stands
 returns-clause-stands g c = λ others m s.
     stands-after (event.expired c.args.timer) s (record { terms = c.settle.ensures.stays.terms; capacity = c.settle.ensures.stays.capacity }) c.settle.ensures.limits
     (c.settle.ensures.reaches [] (queue_of m) others m (course (terms_of c.args.self.now) (event.expired c.args.timer) m) s.kept (c.running-before.ensures ∙ running-at s.fits.rests)
-    (reached (record { none = c.args.answer.now.told; nothing = c.requires.clear.told; does = c.expire.ensures.does [] }) s))
+    (reached (record { none = c.args.report.now; nothing = c.requires.clear; does = c.expire.ensures.does [] }) s))
 
 pub returns-clause-told : goal.returns-clause-told
 returns-clause-told g c = λ others m s.
     told-after {link = c.args.self.now} (event.expired c.args.timer) (record { terms = c.settle.ensures.stays.terms; capacity = c.settle.ensures.stays.capacity })
     (c.settle.ensures.reaches [] (queue_of m) others m (course (terms_of c.args.self.now) (event.expired c.args.timer) m) s.kept (c.running-before.ensures ∙ running-at s.fits.rests)
-    (reached (record { none = c.args.answer.now.told; nothing = c.requires.clear.told; does = c.expire.ensures.does [] }) s))
+    (reached (record { none = c.args.report.now; nothing = c.requires.clear; does = c.expire.ensures.does [] }) s))
 
 pub returns-clause-frames : goal.returns-clause-frames
 returns-clause-frames g c = λ others m s. event-rises (terms_of c.args.self.now) s.fits.range m s.fits.sound (event.expired c.args.timer)

@@ -21,8 +21,8 @@ returns-in-None-clause-stands g c = λ others m s.
     let none : refusal (terms_of c.args.self.now) m (nat_le c.args.slots (used_slots (g.S.Shelf.store c.args.shelf.now))) (request_of c.args.request) ≡ None =
     ap (λ (n : ℕ). refusal (terms_of c.args.self.now) m (nat_le c.args.slots n) (request_of c.args.request)) (sym c.used.ensures.count)
     ∙ sym (c.refusal.ensures.machine (g.S.Shelf.store c.args.shelf.now) others m s) ∙ c.in-None.is in
-    let reaches : Reaches [] m (course (terms_of c.args.self.now) (requested (request_of c.args.request) (nat_le c.args.slots (used_slots (g.S.Shelf.store c.args.shelf.now)))) m) c.grant.new.self (g.S.Shelf.store c.grant.new.shelf) others c.grant.new.answer =
-    subst (λ (k : Course). Reaches [] m k c.grant.new.self (g.S.Shelf.store c.grant.new.shelf) others c.grant.new.answer)
+    let reaches : Reaches [] m (course (terms_of c.args.self.now) (requested (request_of c.args.request) (nat_le c.args.slots (used_slots (g.S.Shelf.store c.args.shelf.now)))) m) c.grant.new.self (g.S.Shelf.store c.grant.new.shelf) others c.grant.new.report =
+    subst (λ (k : Course). Reaches [] m k c.grant.new.self (g.S.Shelf.store c.grant.new.shelf) others c.grant.new.report)
     (granted-course (terms_of c.args.self.now) (request_of c.args.request) (nat_le c.args.slots (used_slots (g.S.Shelf.store c.args.shelf.now))) m none)
     (c.grant.ensures.reaches others m s) in
     stands-after (requested (request_of c.args.request) (nat_le c.args.slots (used_slots (g.S.Shelf.store c.args.shelf.now)))) s c.grant.ensures.stays c.grant.ensures.limits reaches
@@ -32,8 +32,8 @@ returns-in-None-clause-told g c = λ others m s.
     let none : refusal (terms_of c.args.self.now) m (nat_le c.args.slots (used_slots (g.S.Shelf.store c.args.shelf.now))) (request_of c.args.request) ≡ None =
     ap (λ (n : ℕ). refusal (terms_of c.args.self.now) m (nat_le c.args.slots n) (request_of c.args.request)) (sym c.used.ensures.count)
     ∙ sym (c.refusal.ensures.machine (g.S.Shelf.store c.args.shelf.now) others m s) ∙ c.in-None.is in
-    let reaches : Reaches [] m (course (terms_of c.args.self.now) (requested (request_of c.args.request) (nat_le c.args.slots (used_slots (g.S.Shelf.store c.args.shelf.now)))) m) c.grant.new.self (g.S.Shelf.store c.grant.new.shelf) others c.grant.new.answer =
-    subst (λ (k : Course). Reaches [] m k c.grant.new.self (g.S.Shelf.store c.grant.new.shelf) others c.grant.new.answer)
+    let reaches : Reaches [] m (course (terms_of c.args.self.now) (requested (request_of c.args.request) (nat_le c.args.slots (used_slots (g.S.Shelf.store c.args.shelf.now)))) m) c.grant.new.self (g.S.Shelf.store c.grant.new.shelf) others c.grant.new.report =
+    subst (λ (k : Course). Reaches [] m k c.grant.new.self (g.S.Shelf.store c.grant.new.shelf) others c.grant.new.report)
     (granted-course (terms_of c.args.self.now) (request_of c.args.request) (nat_le c.args.slots (used_slots (g.S.Shelf.store c.args.shelf.now))) m none)
     (c.grant.ensures.reaches others m s) in
     told-after {link = c.args.self.now} (requested (request_of c.args.request) (nat_le c.args.slots (used_slots (g.S.Shelf.store c.args.shelf.now)))) c.grant.ensures.stays reaches

@@ -3,7 +3,7 @@ use Rattle.std.proofs.Common.{[], ◌∙◌}
 use Rattle.tool_tables.proofs.shelved_link.ShelvedLink.clear.Goals as goal
 
 pub clear-requires : goal.clear-requires
-clear-requires c = record { clear = c.nothing-answer.ensures; stands = ([], c.requires.0, c.requires.1) }
+clear-requires c = record { clear = c.nothing-report.ensures; stands = ([], c.requires.0, c.requires.1) }
 
 pub returns : goal.returns
 returns c = (_, c.clear.ensures.stands [] c.requires.0 c.requires.1, c.clear.ensures.limits.slots ∙ c.requires.2)

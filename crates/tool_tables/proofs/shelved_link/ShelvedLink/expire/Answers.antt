@@ -3,7 +3,7 @@ use Rattle.std.proofs.Common.{[], ◌∙◌}
 use Rattle.tool_tables.proofs.shelved_link.ShelvedLink.expire.Goals as goal
 
 pub expire-requires : goal.expire-requires
-expire-requires c = record { clear = c.nothing-answer.ensures; stands = ([], c.requires.0, c.requires.1) }
+expire-requires c = record { clear = c.nothing-report.ensures; stands = ([], c.requires.0, c.requires.1) }
 
 pub returns : goal.returns
 returns c = (_, c.expire.ensures.stands [] c.requires.0 c.requires.1, c.expire.ensures.limits.slots ∙ c.requires.2)

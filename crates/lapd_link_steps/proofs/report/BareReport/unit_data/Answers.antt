@@ -1,7 +1,7 @@
--- Hand-written answers for `Told::unit_data`.
+-- Hand-written answers for `BareReport::unit_data`.
 use Rattle.lapd_link_steps.proofs.Vocabulary.{length, arith, lt-ltb, le-ltb, deliver_unit, leave_unserved}
 use Rattle.lapd_link_steps.proofs.Steps.{bit_yes, bit_no}
-use Rattle.lapd_link_steps.proofs.told.Told.unit_data.Goals as goal
+use Rattle.lapd_link_steps.proofs.report.BareReport.unit_data.Goals as goal
 
 pub returns-then-from-octets-clause-does : goal.returns-then-from-octets-clause-does
 returns-then-from-octets-clause-does c = λ info e len.

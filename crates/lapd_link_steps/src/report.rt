@@ -1,0 +1,101 @@
+//! What an event is answered with.
+
+ghost use Rattle.std.specs.Prelude.{◌≡◌, ◌≤◌, ◌||◌};
+ghost use Rattle.lapd_frame.specs.ShortLists.{listed};
+
+use lapd_frame::{Note, Order, ShortList};
+use model_bits::Cause;
+use model_link::LinkTimer;
+
+// All contents of a queue, as a number of those that are to be released.
+pub(crate) const ALL: u8 = 127;
+
+/// What an event led to, without references. A call is handed one in which nothing is told yet ([`BareReport::nothing`]), and
+/// each level below it writes its own part: rows of the tables all but `orders`, `start` and `cause`, the end of a link's event
+/// `orders`, and the line what is told by no link.
+#[derive(Clone, Copy)]
+pub struct BareReport {
+    /// What layer 3 and layer management are told, in order.
+    pub notes: ShortList<Note>,
+    /// What is to be done with timers, in order.
+    pub orders: ShortList<Order>,
+    /// Whether the information of the frame is delivered, as that of an I-frame.
+    pub delivered: bool,
+    /// Whether it is told as unit data.
+    pub unit: bool,
+    /// Where in the frame the information begins.
+    pub start: usize,
+    /// Why something was dropped that no link was asked for.
+    pub cause: Option<Cause>,
+    /// The timer that the event started last, if it was not stopped since.
+    pub started: Option<LinkTimer>,
+    /// How many control frames and messages of TEI management found no place to wait.
+    pub lost: u8,
+    /// Whether the link's state, or TEI management, does not serve the frame.
+    pub unserved: bool,
+    /// How many of the oldest contents of the queue are to be released, 0 to 127; 127 is all of them.
+    pub released: u8,
+    ghost in_range: { released ≤ 127 },
+}
+
+impl BareReport {
+    ghost use Rattle.lapd_link_steps.specs.Reports.{IsClear, cause_in, has_contents};
+
+    /// Nothing is told yet.
+    #[inline(always)]
+    pub fn nothing() -> BareReport
+        ensures { IsClear result }
+    {
+        BareReport {
+            notes: ShortList::none(),
+            orders: ShortList::none(),
+            delivered: false,
+            unit: false,
+            start: 0,
+            cause: None,
+            started: None,
+            lost: 0,
+            unserved: false,
+            released: 0,
+        }
+    }
+
+    /// What layer 3 and management are told, in order.
+    pub fn note_list(&self) -> &ShortList<Note>
+        ensures { listed result.now ≡ listed self.now.notes }
+    {
+        &self.notes
+    }
+
+    /// What is to be done with timers, in order.
+    pub fn order_list(&self) -> &ShortList<Order>
+        ensures { listed result.now ≡ listed self.now.orders }
+    {
+        &self.orders
+    }
+
+    /// Why something was dropped.
+    pub fn cause(&self) -> Option<Cause>
+        ensures { result ≡ cause_in self.now }
+    {
+        if self.unserved {
+            Some(Cause::Unserved)
+        } else {
+            self.cause
+        }
+    }
+
+    /// How many control frames and messages of TEI management found no place to wait.
+    pub fn lost(&self) -> u8
+        ensures { result ≡ self.now.lost }
+    {
+        self.lost
+    }
+
+    /// Whether contents were delivered, of an I-frame or a UI frame.
+    pub fn has_contents(&self) -> bool
+        ensures { result ≡ has_contents self.now }
+    {
+        self.delivered || self.unit
+    }
+}

@@ -71,9 +71,6 @@ module _ (t : Terms) (room : nat_lt 0 t.control ≡ true) (l : Link) where
     abbrev over : Course
     over = (Words.error t code.H then Words.release_confirm t then Words.no_timer then Words.enter TeiAssigned) (begun (leaving l k []))
 
-    t200-is : course t (expired T200) (leaving l k []) ≡ cond (nat_lt k t.n200) (again (nat_lt 0 t.control)) over
-    t200-is = refl
-
     repeats : k < t.n200 → course t (expired T200) (leaving l k []) ≡ again true
     repeats few = ap (λ b. cond b (again (nat_lt 0 t.control)) over) (lt-ltb k t.n200 few) ∙ ap again room
 

@@ -68,7 +68,6 @@ pub mod RestedTimely
 pub mod PremisesMet
 pub mod BothMet
 pub mod RecoveryMet
-pub mod RecoveryMetAgain
 pub mod CountedMet
 pub mod RestingMet
 pub mod ArrivingMet

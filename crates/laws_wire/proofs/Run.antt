@@ -152,9 +152,6 @@ module _ (service : Service) (tei : ℕ) where
               one.price rest.price);
         }
 
-    abbrev Crossing : Wire → ℕ → Type 0
-    Crossing w k = crossed.IsCrossing service tei c d p q face back rt ru w k
-
     -- where SABMEs cross a turn is left
     crossing-moves : (own other : crossed.Place) (w : Wire) → Both service tei c d p q unheard unheard w (crossed.crossing (terms c service tei) own other) (crossed.crossing (terms d service tei) other own) → IsStill w → ⊥
     crossing-moves waits other w h still = let no = none-given c p unheard w.near _ h.near still.near in cc

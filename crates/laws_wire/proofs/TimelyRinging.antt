@@ -46,9 +46,6 @@ module _ (service : Service) (tei : ℕ) (c d : Config) (p q : ℕ) (face : Face
   abbrev u : Terms
   u = terms d service tei
 
-  abbrev first_near : List LineTold
-  first_near = confirmed service tei ∷ []
-
   abbrev first_far : List LineTold
   first_far = indicated service tei ∷ []
 

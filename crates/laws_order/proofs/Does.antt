@@ -40,7 +40,7 @@ use Rattle.laws_line.proofs.Asked.{link-grants}
 use Rattle.laws_line.proofs.Granting.{not-refused}
 use Rattle.laws_line.proofs.Hearing.{same-sapi, sapi-is}
 use Rattle.laws_line.proofs.Knowing.{known-up}
-use Rattle.laws_trace.specs.DataGoesOut.{data_asked}
+use Rattle.laws_trace.specs.Outgoing.{data_asked}
 use Rattle.laws_trace.specs.LinkFrames.{is_for}
 use Rattle.laws_trace.specs.Trace.{frame_in, is_own, seen}
 use Rattle.laws_trace.specs.Units.{is_ui}

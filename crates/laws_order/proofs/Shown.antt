@@ -11,7 +11,7 @@ use Rattle.model_line.specs.Machine as lines
 use Rattle.model_line.specs.Request.{Request}
 use Rattle.laws_line.specs.Heard.{notes_of, contents_in, is_data_of}
 use Rattle.laws_line.specs.Share.{is_granted}
-use Rattle.laws_trace.specs.DataGoesOut.{data_asked}
+use Rattle.laws_trace.specs.Outgoing.{data_asked}
 use Rattle.laws_trace.specs.Trace.{frame_in, seen}
 use Rattle.laws_wire.specs.Wire.{frames_by}
 use Rattle.laws_order.specs.Order.{data_noted, data_granted, ends_by_note, ends_by_request, ends_by}

@@ -13,7 +13,7 @@ use Rattle.model_line.specs.Request.{Request, Release}
 use Rattle.model_card.specs.Sound as card_sound
 use Rattle.laws_line.specs.Heard.{is_data_of}
 use Rattle.laws_link.specs.Steady.{is_anew}
-use Rattle.laws_trace.specs.DataGoesOut.{data_asked}
+use Rattle.laws_trace.specs.Outgoing.{data_asked}
 use Rattle.laws_trace.specs.Trace.{is_own, Seen, noted, granted, IsFront}
 use Rattle.laws_wire.specs.Facing.{line_of}
 use Rattle.laws_wire.specs.Wire.{Station, Wire}

@@ -9,7 +9,7 @@ use Rattle.model_card.specs.Card.{fresh, line_at}
 use Rattle.model_card.specs.Event.{Event}
 use Rattle.model_card.specs.Run.{after_all}
 use Rattle.laws_line.specs.card.Among.{AreTakesAt, takes_at}
-use Rattle.laws_trace.specs.Counting.{nothing_yet, watch}
+use Rattle.laws_trace.proofs.Counting.{nothing_yet, watch}
 use Rattle.laws_trace.specs.Trace.{trace_of, is_up}
 use Rattle.laws_trace.specs.AllAreAcknowledged.{numbers_at, lost_since, IsLast}
 

@@ -22,7 +22,7 @@ use Rattle.model_card.proofs.CardSound.{fresh_is_sound}
 use Rattle.laws_line.proofs.OfCard.Meanwhile.{card-drains}
 use Rattle.laws_trace.specs.AllAreAcknowledged.{numbers_at, lost_since, IsLast}
 use Rattle.laws_trace.proofs.AcknowledgedWatched.{AllAreAcknowledged}
-use Rattle.laws_trace.specs.Counting.{Watched, nothing_yet, watch}
+use Rattle.laws_trace.proofs.Counting.{Watched, nothing_yet, watch}
 use Rattle.laws_trace.specs.Trace.{Seen, seen, trace_of, Always}
 use Rattle.laws_trace.proofs.AcknowledgedOfLink.{numbers, IsAcked}
 use Rattle.laws_trace.proofs.AllDataGoesOut.{silent-there, line-at-end}

@@ -1,9 +1,12 @@
 -- All data goes out, where a line is only called for its next frame, as often as the configuration says.
-use Rattle.std.proofs.Common.{◌≡◌, ℕ, ◌<◌, ◌≤◌, List, ◌++◌, length, get_or, Option, Some, None, sym, ap, ◌∙◌, subst, true≢false, refl, arith}
+use Rattle.std.proofs.Common.{◌≡◌, ℕ, ◌+◌, ◌<◌, ◌≤◌, Bool, true, false, List, ◌++◌, length, get_or, Option, Some, None, sym, ap, ◌∙◌, subst, true≢false, refl, arith}
+use Rattle.std.specs.Prelude.{nat_lt}
+use Rattle.std.proofs.lemmas.Bool.{ltb-true, ltb-false}
 use Rattle.std.specs.Option.{option_map_or}
 use Rattle.lapd_frame.specs.declared.services.Service.{Service}
 use Rattle.lapd_tei.proofs.Tables.{place_of-is}
-use Rattle.model_link.specs.Link.{fresh, is_multiple_frame}
+use Rattle.model_link.specs.Link.{Link, fresh, is_multiple_frame}
+use Rattle.model_link.specs.declared.terms.Terms.{Terms}
 use Rattle.model_link.specs.Sound as link_sound
 use Rattle.model_link.specs.declared.states.State.TheVariants.{Established}
 use Rattle.model_line.specs.declared.config.Config.{Config}
@@ -22,8 +25,6 @@ use Rattle.laws_line.specs.card.Among.{AreTakesAt, takes_at}
 use Rattle.laws_line.proofs.OfCard.Meanwhile.{line-sound, card-drains}
 use Rattle.laws_line.proofs.OfCard.Wherever.{config-stays}
 use Rattle.laws_trace.proofs.WaitedBegins as frames
-use Rattle.laws_trace.proofs.DataKnown.{IsOpen, all-has-gone}
-use Rattle.laws_trace.proofs.DataRun.{at-end}
 use Rattle.laws_trace.proofs.WaitedBegins.{after-both}
 
 -- A link of a line that has nothing to send has nothing to send.
@@ -59,12 +60,27 @@ link-at-end c l ranged s service tei place on =
     subst (link_sound.IsSound (terms c service tei)) (sym (ap (λ o. option_map_or (link_in l service) o fresh) on))
     (sound_in c ranged l s service tei place (place_of-is l.management.places tei place on).1)
 
--- All has gone, and V(S) is behind it.
+-- An I-frame might go, if contents were unsent (clauses 5.6.1 and 5.6.5).
+pub record IsOpen (t : Terms) (l : Link) : Type 0 where
+  pub state : l.state ≡ Established
+  pub free : l.peer_busy ≡ false
+  pub window : l.s < l.a + t.k
+
+-- Where an I-frame might go, and the link has nothing to send, V(S) is behind all contents.
+all-has-gone : (t : Terms) (k : Link) → link_sound.IsSound t k → IsSilent t k → IsOpen t k → k.s ≡ length k.contents
+all-has-gone t k s silent is_open = go (nat_lt k.s (length k.contents)) refl
+  where
+    go : (b : Bool) → nat_lt k.s (length k.contents) ≡ b → k.s ≡ length k.contents
+    go true less =
+        absurd (silent.information (record { state = is_open.state; free = is_open.free; window = is_open.window; unsent = ltb-true k.s (length k.contents) less }))
+    go false none =
+        let high : length k.contents ≤ k.s = ltb-false k.s (length k.contents) none in
+        let low : k.s ≤ length k.contents = s.accepted in
+        omega (arith, high, low)
+
 pub all-gone : (c : Config) (events : List Event) (number : ℕ) (ranged : IsInRange c) (all : AreAtLines (cards.fresh c) events) (within : number < c.lines)
     (service : Service) (tei : ℕ) (before calls : List Event) → events ≡ before ++ calls → AreTakesAt number calls → most_frames c ≤ takes_at number calls →
-    let k = link_of service tei (line_at number (after_all (cards.fresh c) events)) in
-    let x = at-end c events number ranged all within service tei in
-    IsOpen (terms c service tei) k → (x.gone ≡ length x.contents) × (k.s ≡ x.gone)
+    let k = link_of service tei (line_at number (after_all (cards.fresh c) events)) in IsOpen (terms c service tei) k → k.s ≡ length k.contents
 all-gone c events number ranged all within service tei before calls split only enough may =
     let m = after_all (cards.fresh c) before in
     let m_sound = frames.sound c events number ranged all within before calls split only enough in
@@ -79,6 +95,4 @@ all-gone c events number ranged all within service tei before calls split only e
     subst (λ x. HasNothing c (line_at number x)) (sym last) (subst (λ d. HasNothing d (line_at number (after_all m calls))) kept nothing) in
     let s = line-at-end c events number ranged all within in
     let on = on-line l service tei may.state (place_in l tei) refl in
-    let x = at-end c events number ranged all within service tei in
-    all-has-gone (terms c service tei) (link_of service tei l) (link-at-end c l ranged s service tei on.0 on.1) x.contents x.gone x.knows
-    (silent-there c l s there service tei on.0 on.1) may
+    all-has-gone (terms c service tei) (link_of service tei l) (link-at-end c l ranged s service tei on.0 on.1) (silent-there c l s there service tei on.0 on.1) may

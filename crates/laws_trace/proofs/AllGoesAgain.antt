@@ -1,5 +1,5 @@
 -- What is to go again goes again, where a line is only called for its next frame, as often as the configuration says: the law.
-use Rattle.std.proofs.Common.{◌≡◌, ℕ, ◌+◌, ◌-◌, ◌%◌, ◌≤◌, ◌<◌, List, Option, Some, None, refl, sym, ap, ◌∙◌, subst, arith}
+use Rattle.std.proofs.Common.{◌≡◌, ℕ, ◌+◌, ◌-◌, ◌%◌, ◌≤◌, ◌<◌, List, ◌++◌, length, Option, Some, None, refl, sym, ap, ◌∙◌, subst, arith, length-drop}
 use Rattle.std.specs.Prelude.{All, IfSome, fold}
 use Rattle.std.proofs.lemmas.Option.{none-some}
 use Rattle.lapd_frame.specs.declared.services.Service.{Service}
@@ -16,13 +16,15 @@ use Rattle.model_card.proofs.Steps.{has_lines, line_sound}
 use Rattle.model_card.specs.Card.{fresh, line_at}
 use Rattle.model_card.specs.Event.{Event, at}
 use Rattle.model_card.specs.Run.{moments, after_all, AreAtLines}
-use Rattle.laws_trace.proofs.AgainWatched.{is_next, MayGo, AllGoesAgain, NextGoes}
+use Rattle.model_link.specs.Link.{queue_of}
+use Rattle.laws_line.specs.Drains.{most_frames}
+use Rattle.laws_line.specs.card.Among.{AreTakesAt, takes_at}
+use Rattle.laws_trace.specs.Observer.{steps}
+use Rattle.laws_trace.proofs.AgainWatched.{is_next, MayGo, NextGoes}
 use Rattle.laws_trace.proofs.TimersWatched.{nothing_yet, watch}
 use Rattle.laws_trace.specs.Trace.{frame_in, Always}
-use Rattle.laws_trace.proofs.AllDataGoesOut.{on-line, line-at-end, link-at-end, all-gone}
-use Rattle.laws_trace.proofs.DataGoesOut.{quiet, sent_of}
-use Rattle.laws_trace.proofs.DataKnown.{IsOpen}
-use Rattle.laws_trace.proofs.DataRun.{at-end}
+use Rattle.laws_trace.proofs.AllDataGoesOut.{IsOpen, on-line, line-at-end, link-at-end, all-gone}
+use Rattle.laws_trace.proofs.DataGoesOut.{sent_of}
 use Rattle.laws_trace.proofs.TimerClaims.{Agrees, IsKnown, told_state}
 use Rattle.laws_trace.proofs.TimersAreTimely.{front-at, config-now, sound-now, timely-now, true-now}
 use Rattle.laws_trace.proofs.TimersOfEvent.{state-on, off-state, next-next}
@@ -71,8 +73,13 @@ may-go-where-open c events number ranged all within service tei is_open =
       few = few-by-numbers own.a own.s (window c service) k.next k.acknowledged ordered (omega (arith, bound, small)) small known.next known.acknowledged is_open.window;
     }
 
-pub all-goes-again : Always AllGoesAgain
-all-goes-again c events number ranged all within service tei before calls split only enough may =
+-- Once it was only called for its next frame, V(S) is behind all that is kept.
+pub steps-are : (c : Config) (events : List Event) (number : ℕ) (ranged : IsInRange c) (all : AreAtLines (fresh c) events) (within : number < c.lines)
+    (service : Service) (tei : ℕ) (before calls : List Event) → events ≡ before ++ calls → AreTakesAt number calls → most_frames c ≤ takes_at number calls →
+    let k = fold (watch c service tei number) nothing_yet (moments (fresh c) events) in
+    let l = line_at number (after_all (fresh c) events) in
+    MayGo c service k (state_of service tei l) → (place : ℕ) × (place_in l tei ≡ Some place) × (steps k.acknowledged k.next ≡ length (queue_of (link_of service tei l)))
+steps-are c events number ranged all within service tei before calls split only enough may =
     let l = line_at number (after_all (fresh c) events) in
     let own = link_of service tei l in
     let k = fold (watch c service tei number) nothing_yet (moments (fresh c) events) in
@@ -82,16 +89,18 @@ all-goes-again c events number ranged all within service tei before calls split 
     let range = terms_in_range c ranged service tei (line_sound.management.table.range up.0 tei (place_of-is l.management.places tei up.0 up.1).1) in
     let known : IsKnown k own.a own.s own.peer_busy =
     subst (λ state. Agrees state k own.a own.s own.peer_busy) up.2 (true-now c events number ranged all within service tei) in
-    let x = at-end c events number ranged all within service tei in
     let ordered : own.a ≤ own.s = s.ordered in
     let bound : own.s ≤ own.a + window c service = s.within in
     let small : window c service ≤ 127 = range.k_high in
-    let gone = all-gone c events number ranged all within service tei before calls split only enough (record {
+    let gone : own.s ≡ length own.contents = all-gone c events number ranged all within service tei before calls split only enough (record {
       state = up.2;
       free = sym known.busy_is ∙ may.free;
       window = few-outstanding own.a own.s (window c service) k.next k.acknowledged ordered (omega (arith, bound, small)) known.next known.acknowledged may.few;
     }) in
-    (quiet x.told_count x.contents x.gone, x.reaches, gone.0, known.next ∙ ap (λ n. n % 128) gone.1)
+    let kept : length (queue_of own) ≡ length own.contents - own.a = length-drop own.a own.contents in
+    let a : k.acknowledged ≡ own.a % 128 = known.acknowledged in
+    let n : k.next ≡ own.s % 128 = known.next in
+    (up.0, up.1, omega (arith, ordered, bound, small, gone, kept, a, n))
 
 -- Each I-frame that begins is the one that goes next: the law.
 pub next-goes : Always NextGoes

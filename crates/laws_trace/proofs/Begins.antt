@@ -21,7 +21,7 @@ use Rattle.laws_link.specs.States.{as_heard, by_frame, by_received, by_expiry, b
 use Rattle.laws_link.specs.Telling.{told_by}
 use Rattle.laws_link.proofs.Restarts.{establishes}
 use Rattle.laws_link.proofs.Follows.{event-follows}
-use Rattle.laws_trace.specs.Counting.{begins_by, is_end}
+use Rattle.laws_trace.proofs.Counting.{begins_by, is_end}
 
 -- A link in a state is itself.
 pub in-state : (P : Link → Type 0) (l : Link) → ((here : State) → P (record l { state = here })) → P l

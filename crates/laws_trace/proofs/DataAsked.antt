@@ -25,7 +25,7 @@ use Rattle.laws_line.proofs.Asked.{passed}
 use Rattle.laws_line.proofs.Granting.{not-refused}
 use Rattle.laws_line.proofs.Obeyed.{service-same}
 use Rattle.laws_line.proofs.Places.{is-off}
-use Rattle.laws_trace.specs.DataGoesOut.{data_asked}
+use Rattle.laws_trace.specs.Outgoing.{data_asked}
 use Rattle.laws_trace.proofs.OneLink.{is_at_link}
 use Rattle.laws_trace.proofs.Deliveries.{heard-by}
 

@@ -43,7 +43,7 @@ use Rattle.laws_line.proofs.Hearing.{sapi-is, read-aim, read-event}
 use Rattle.laws_line.proofs.ToldOnce.{told-once}
 use Rattle.laws_line.proofs.Grouping.{group-read}
 use Rattle.laws_trace.specs.LinkFrames.{parts_of, frame_of, is_for}
-use Rattle.laws_trace.specs.Counting.{begins_by, begins}
+use Rattle.laws_trace.proofs.Counting.{begins_by, begins}
 use Rattle.laws_trace.proofs.DeliveriesWatched.{number_in, IsOfFrame}
 use Rattle.laws_trace.specs.Trace.{is_up}
 use Rattle.laws_trace.specs.Units.{is_ui}

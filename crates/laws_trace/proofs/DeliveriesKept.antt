@@ -19,7 +19,7 @@ use Rattle.model_card.specs.Run.{after_all, AreAtLines}
 use Rattle.model_card.proofs.CardSound.{fresh_is_sound}
 use Rattle.laws_trace.specs.Trace.{Seen, seen, trace_of}
 use Rattle.laws_trace.proofs.DeliveriesWatched.{Standing, at_first, stand}
-use Rattle.laws_trace.specs.Counting.{watch}
+use Rattle.laws_trace.proofs.Counting.{watch}
 use Rattle.laws_trace.proofs.DeliveriesRun.{IsCount}
 use Rattle.laws_trace.proofs.Runs.{run-shows}
 use Rattle.laws_trace.proofs.Standing.{standing, stand-is, event-stands, event-counts, fresh-stands}

@@ -43,7 +43,7 @@ use Rattle.laws_line.proofs.Obeyed.{service-same, both-true}
 use Rattle.laws_line.proofs.ToldOnce.{told-once}
 use Rattle.laws_trace.specs.Trace as traces
 use Rattle.laws_trace.specs.Trace.{frame_in, Seen, seen_told, seen}
-use Rattle.laws_trace.specs.Counting.{Watched, begins, counted, watch}
+use Rattle.laws_trace.proofs.Counting.{Watched, begins, counted, watch}
 use Rattle.laws_trace.proofs.DeliveriesWatched.{number_in, IsOfFrame, IsHeard}
 use Rattle.laws_trace.specs.LinkFrames.{parts_of, frame_of, is_for}
 use Rattle.laws_trace.specs.Units.{is_ui}

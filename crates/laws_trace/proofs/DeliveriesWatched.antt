@@ -12,7 +12,7 @@ use Rattle.laws_line.specs.Heard.{is_data_of, is_unit_of, tells_contents}
 use Rattle.laws_trace.specs.LinkFrames.{is_for}
 use Rattle.laws_trace.specs.Trace.{is_own, Seen, noted, granted}
 use Rattle.laws_trace.specs.Units.{is_ui}
-use Rattle.laws_trace.specs.Counting.{Watched, nothing_yet, begins, watch}
+use Rattle.laws_trace.proofs.Counting.{Watched, nothing_yet, begins, watch}
 
 -- And how the card's side of the link stands. Layer 3 is busy from SetBusy that is granted to ClearBusy that is, and is
 -- not where the numbers begin (clauses 5.5.1.2, 5.6.6 and 5.7). An I-frame of which nothing is told, while layer 3 is

@@ -208,41 +208,35 @@ module _ (t : Terms) (k : Link) (s : IsSound t k) (small : t.k ≤ 127) (e : Eve
   left-is : (b : Bool) → empties t e k ≡ b → queue_of next ≡ cond b [] (drop (acknowledged t e k) (queue_of k) ++ accepted t e k)
   left-is b is = (event-done t k s e).comes.kept ∙ ap (λ b. cond {A = List (List ℕ)} b [] (drop gone (queue_of k) ++ more)) is
 
-  pub none-left : empties t e k ≡ true → length (queue_of next) ≡ 0
-  none-left all = ap length (left-is true all)
-
-  some-left : empties t e k ≡ false → length (queue_of next) ≡ (length (queue_of k) - gone) + length more
-  some-left some =
-      ap length (left-is false some) ∙ length-append (drop gone (queue_of k)) more
-      ∙ ap (λ n. n + length more) (length-drop gone (queue_of k))
-
   a-is : restarts t e k ≡ false → empties t e k ≡ false → next.a ≡ k.a + gone
   a-is on some =
       (event-done t k s e).comes.acknowledged
       ∙ ap (λ z. (with_share (record { accepted = k.contents; acknowledged = k.a }) (record { restarts = z; empties = empties t e k; accepted = more; acknowledged = gone })).acknowledged) on
       ∙ ap (λ b. (with_share (record { accepted = k.contents; acknowledged = k.a }) (record { restarts = false; empties = b; accepted = more; acknowledged = gone })).acknowledged) some
 
-  stays : ends t e k ≡ false → empties t e k ≡ false → (u : Bool) → is_up (state_number k.state) ≡ u → (v : Bool) → is_up (state_number next.state) ≡ v → (z : Bool) → sabme_of e ≡ z
-      → (length (queue_of next) + cond {A = ℕ} (u && v && not z) (steps (k.a % 128) (next.a % 128)) 0 ≡ length (queue_of k) + length more)
-  stays same some false down v to z anew = let left = some-left some in omega (arith, left, down-acked t k e (sym (up-number k.state) ∙ down))
-  stays same some true up false goes z anew = let left = some-left some in omega (arith, left, going-acked t k e (sym (up-number next.state) ∙ goes))
-  stays same some true up true to true anew = let left = some-left some in omega (arith, left, anew-acked t k e anew)
-  stays same some true up true to false on = by-bit (restarts t e k) refl
+  went-is : ends t e k ≡ false → empties t e k ≡ false → (u : Bool) → is_up (state_number k.state) ≡ u → (v : Bool) → is_up (state_number next.state) ≡ v → (z : Bool) → sabme_of e ≡ z
+      → cond {A = ℕ} (u && v && not z) (steps (k.a % 128) (next.a % 128)) 0 ≡ gone
+  went-is same some false down v to z anew = sym (down-acked t k e (sym (up-number k.state) ∙ down))
+  went-is same some true up false goes z anew = sym (going-acked t k e (sym (up-number next.state) ∙ goes))
+  went-is same some true up true to true anew = sym (anew-acked t k e anew)
+  went-is same some true up true to false on = by-bit (restarts t e k) refl
     where
-      by-bit : (b : Bool) → restarts t e k ≡ b → length (queue_of next) + steps (k.a % 128) (next.a % 128) ≡ length (queue_of k) + length more
+      by-bit : (b : Bool) → restarts t e k ≡ b → steps (k.a % 128) (next.a % 128) ≡ gone
       by-bit true anew = absurd (goes-on t k e (sym (up-number k.state) ∙ up) on same anew)
       by-bit false numbers =
-          let left = some-left some in
           let went : k.a + gone ≤ k.s = acknowledged-went t e k s.ordered in
-          let low : k.a ≤ k.s = s.ordered in
           let window : k.s ≤ k.a + t.k = s.within in
-          let sent : k.s ≤ length k.contents = s.accepted in
-          let queue : length (queue_of k) ≡ length k.contents - k.a = length-drop k.a k.contents in
-          let step : (128 + next.a % 128 - k.a % 128) % 128 ≡ gone = stepped k.a next.a gone (a-is numbers some) (omega (arith, went, window, small)) in
-          omega (arith, left, went, sent, queue, step)
+          stepped k.a next.a gone (a-is numbers some) (omega (arith, went, window, small))
 
-  pub moved : empties t e k ≡ false → length (queue_of next) + went_by (sabme_of e) k next ≡ length (queue_of k) + length more
-  moved some = stays (neither (ends t e k) (tells_loss (told t e k).notes) some) some (is_up (state_number k.state)) refl (is_up (state_number next.state)) refl (sabme_of e) refl
+  -- What is left.
+  pub none-left : empties t e k ≡ true → queue_of next ≡ []
+  none-left all = left-is true all
+
+  pub some-left : empties t e k ≡ false → queue_of next ≡ drop (went_by (sabme_of e) k next) (queue_of k) ++ more
+  some-left some =
+      left-is false some
+      ∙ ap (λ n. drop n (queue_of k) ++ more)
+      (sym (went-is (neither (ends t e k) (tells_loss (told t e k).notes) some) some (is_up (state_number k.state)) refl (is_up (state_number next.state)) refl (sabme_of e) refl))
     where
       neither : (b c : Bool) → (b || c) ≡ false → b ≡ false
       neither true c none = none

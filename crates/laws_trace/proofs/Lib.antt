@@ -1,4 +1,5 @@
 -- Lemmas.
+pub mod Counting
 pub mod States
 pub mod DeliveriesWatched
 pub mod ControlsWatched
@@ -51,10 +52,8 @@ pub mod ReadAgain
 pub mod Deliveries
 pub mod DeliveriesRun
 pub mod DataOfLink
-pub mod DataKnown
 pub mod DataGoesOut
 pub mod DataAsked
-pub mod DataRun
 pub mod AllDataGoesOut
 pub mod ClearedTells
 pub mod FramesGiven
@@ -113,6 +112,7 @@ pub mod CountersCount
 pub mod SeenAs
 pub mod KeptOfLink
 pub mod PlacesSeen
-pub mod PlacesAreKept
+pub mod KeptOfLine
+pub mod Outgoing
 pub mod UnitsAreFor
 pub mod OfOctets

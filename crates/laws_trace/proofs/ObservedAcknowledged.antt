@@ -13,7 +13,7 @@ use Rattle.model_card.specs.Run.{after_all, AreAtLines}
 use Rattle.model_card.proofs.CardSound.{fresh_is_sound}
 use Rattle.laws_line.proofs.OfCard.TimersRun.{begins-timely-card}
 use Rattle.laws_trace.specs.AllAreAcknowledged.{numbers_at, IsLast, AllAreAcknowledged}
-use Rattle.laws_trace.specs.Counting.{nothing_yet, watch}
+use Rattle.laws_trace.proofs.Counting.{nothing_yet, watch}
 use Rattle.laws_trace.specs.Observer as observer
 use Rattle.laws_trace.specs.Observer.{Observed, view_of}
 use Rattle.laws_trace.specs.Trace.{is_up, trace_of, Always}

@@ -27,7 +27,7 @@ use Rattle.model_card.specs.Machine.{answer}
 use Rattle.model_card.specs.Run.{IsAtLine}
 use Rattle.model_card.specs.Sound as card_sound
 use Rattle.model_card.proofs.Steps.{has_lines, by_room, line_sound}
-use Rattle.laws_trace.specs.Counting.{begins}
+use Rattle.laws_trace.proofs.Counting.{begins}
 use Rattle.laws_trace.specs.LinkFrames.{parts_of, frame_of, its_frame, faulty, malformed}
 use Rattle.laws_trace.specs.Observer.{Observed, is_next, is_invalid, takes, anew, while_up, while_down, by_frame, by_heard}
 use Rattle.laws_trace.specs.Deliveries.{brings_next}

@@ -11,7 +11,7 @@ use Rattle.model_line.specs.Line.{Line, link_of, place_in}
 use Rattle.model_line.specs.Machine as lines
 use Rattle.model_line.specs.Sound.{IsInRange, IsSound}
 use Rattle.laws_line.specs.Heard.{notes_of, is_data_of}
-use Rattle.laws_trace.specs.Counting.{begins}
+use Rattle.laws_trace.proofs.Counting.{begins}
 use Rattle.laws_trace.specs.Deliveries.{brought}
 use Rattle.laws_trace.specs.Observer.{Observed, by_event}
 use Rattle.laws_trace.specs.Trace.{is_up}

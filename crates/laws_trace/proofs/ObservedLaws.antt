@@ -1,5 +1,5 @@
 -- What the observer knows of a link gives the laws of it, by what follows its parts.
-use Rattle.std.proofs.Common.{◌≡◌, ℕ, ◌+◌, ◌-◌, ◌%◌, ◌<◌, ◌==◌, ◌&&◌, ◌||◌, inl, inr, not, Bool, false, cond, List, [], ◌∷◌, ◌++◌, map, Option, Some, None, is_some, refl, sym, ap, ◌∙◌, subst, eqb-true, eq-eqb, true≢false}
+use Rattle.std.proofs.Common.{◌≡◌, ℕ, ◌+◌, ◌-◌, ◌%◌, ◌<◌, ◌==◌, ◌&&◌, ◌||◌, inl, inr, not, Bool, false, cond, List, [], ◌∷◌, ◌++◌, length, map, Option, Some, None, is_some, refl, sym, ap, ◌∙◌, subst, eqb-true, eq-eqb, true≢false}
 use Rattle.std.specs.Prelude.{fold, filter, nat_le, IfSome, All, if◌then◌else◌}
 use Rattle.std.specs.List.{list_any}
 use Rattle.std.specs.Option.{unwrap_or}
@@ -26,12 +26,12 @@ use Rattle.model_card.specs.Card.{fresh, line_at}
 use Rattle.model_card.specs.Event.{Event, at}
 use Rattle.model_card.specs.Machine.{after, answer}
 use Rattle.model_card.specs.Run.{Moment, moments, after_all, AreAtLines}
-use Rattle.laws_trace.specs.AllGoesAgain.{AllGoesAgain}
+use Rattle.laws_trace.specs.AllGoesAgain.{MayGo, AllGoesAgain}
 use Rattle.laws_trace.specs.LinkFrames.{Sent, sent_in}
 use Rattle.laws_trace.specs.LinksMove.{LinksMove}
 use Rattle.laws_trace.specs.Managing.{is_on}
 use Rattle.laws_trace.specs.News.{NewsIsTold}
-use Rattle.laws_trace.specs.Observer.{Observed, View, is_outstanding, awaits, view_of, moment_of, view_behind}
+use Rattle.laws_trace.specs.Observer.{Observed, View, is_outstanding, awaits, steps, view_of, moment_of, view_behind}
 use Rattle.laws_trace.specs.TimersAreTimely.{TimersRun, TimersAreStarted}
 use Rattle.laws_trace.specs.Trace.{Seen, seen, frame_in, Always}
 use Rattle.laws_trace.proofs.MovesWatched.{repeated}
@@ -46,6 +46,7 @@ use Rattle.laws_trace.proofs.States.{is_state, differ}
 use Rattle.laws_trace.specs.News as now_news
 use Rattle.laws_trace.specs.TimersAreTimely as timely
 use Rattle.laws_trace.proofs.AllGoesAgain as old_again
+use Rattle.laws_trace.proofs.Outgoing.{view-is, kept-now}
 use Rattle.laws_trace.proofs.News as old_news
 use Rattle.laws_trace.proofs.NewsWatched as news
 use Rattle.laws_trace.proofs.TimersAreTimely as old
@@ -292,17 +293,20 @@ next-goes-so c events number ranged all within service tei before behind is =
 
 pub all-goes-again-so : Always AllGoesAgain
 all-goes-again-so c events number ranged all within service tei before calls split only enough may =
-    let o = (view_of c service tei number events).link in
+    let v = view_of c service tei number events in
     let k = fold (watch c service tei number) nothing_yet (moments (fresh c) events) in
     let st = state_of service tei (line_at number (after_all (fresh c) events)) in
-    let same : known_of o ≡ k = numbers-now c events number ranged all within service tei in
-    let x = old_again.all-goes-again c events number ranged all within service tei before calls split only enough
+    let same : known_of v.link ≡ k = numbers-now c events number ranged all within service tei in
+    let view = view-is c number ranged within service tei events in
+    let may_go : MayGo c service v.link = subst (λ (v : View). MayGo c service v.link) view may in
+    let x = old_again.steps-are c events number ranged all within service tei before calls split only enough
     (record {
-      up = told-7 st (state-now c events number ranged all within service tei 7 refl) may.up;
-      free = sym (ap (λ (z : Known). z.busy) same) ∙ may.free;
-      few = subst (λ (z : Known). (z.next + 128 - z.acknowledged) % 128 < window c service) same may.few;
+      up = told-7 st (state-now c events number ranged all within service tei 7 refl) may_go.up;
+      free = sym (ap (λ (z : Known). z.busy) same) ∙ may_go.free;
+      few = subst (λ (z : Known). (z.next + 128 - z.acknowledged) % 128 < window c service) same may_go.few;
     }) in
-    (x.0, x.1, x.2, ap (λ (z : Known). z.next) same ∙ x.3)
+    ap (λ (v : View). steps v.link.acknowledged v.link.next) view ∙ ap (λ (z : Known). steps z.acknowledged z.next) same ∙ x.2
+    ∙ sym (ap length (kept-now c number ranged within service tei events all x.0 x.1))
   where
     told-7 : (st : Option ℕ) → ((view_of c service tei number events).link.state == 7) ≡ is_state 7 st → (view_of c service tei number events).link.state ≡ 7 → st ≡ Some 7
     told-7 None is up = absurd (true≢false (sym (eq-eqb (view_of c service tei number events).link.state 7 up) ∙ is))

@@ -29,8 +29,8 @@ use Rattle.model_line.specs.Machine as lines
 use Rattle.model_line.specs.Sound.{IsInRange, IsSound}
 use Rattle.laws_line.specs.Heard.{notes_of, is_data_of}
 use Rattle.laws_line.specs.Steady.{IsBy}
-use Rattle.laws_trace.specs.Counting as counting
-use Rattle.laws_trace.specs.Counting.{begins}
+use Rattle.laws_trace.proofs.Counting as counting
+use Rattle.laws_trace.proofs.Counting.{begins}
 use Rattle.laws_trace.specs.Deliveries.{brings_next, brought}
 use Rattle.laws_trace.specs.LinkFrames.{frame_of, its_frame, is_for}
 use Rattle.laws_trace.specs.Observer.{Observed}

@@ -1,21 +1,23 @@
 -- What an event shows of the places of a link: data that is granted, and that layer 3 learns of a loss.
-use Rattle.std.proofs.Common.{◌≡◌, ℕ, Bool, true, false, cond, List, [], ◌++◌, ◌&&◌, ◌||◌, ◌==◌, map, Some, None, refl, sym, ap, ◌∙◌, eq-eqb, true≢false, append-nil}
+use Rattle.std.proofs.Common.{◌≡◌, ℕ, Bool, true, false, cond, List, [], ◌++◌, ◌||◌, map, Some, None, refl, ap, append-nil}
 use Rattle.std.specs.Prelude.{flat_map}
 use Rattle.std.specs.List.{list_any}
+use Rattle.model_bits.specs.Stream as stream
 use Rattle.lapd_frame.specs.declared.services.Service.{Service}
+use Rattle.lapd_frame.specs.declared.timers.Timer.{Timer}
 use Rattle.model_link.specs.Events as link
+use Rattle.laws_link.specs.Accepted.{is_release}
 use Rattle.model_line.specs.Event as line_event
 use Rattle.model_line.specs.Event.{Answer, hears, expiry, request, next, told, refused, gave}
-use Rattle.model_line.specs.Request.{Request, Deactivate}
+use Rattle.model_line.specs.Request.{Request}
 use Rattle.laws_line.specs.Heard.{notes_of}
 use Rattle.laws_line.specs.Loss.{is_loss_of}
 use Rattle.laws_line.specs.Requests.{of_link}
 use Rattle.laws_line.specs.Share.{is_granted}
-use Rattle.laws_line.proofs.Obeyed.{service-same}
-use Rattle.laws_trace.specs.DataGoesOut.{data_asked}
-use Rattle.laws_trace.specs.PlacesAreKept.{data_granted, shows_loss}
+use Rattle.laws_trace.specs.Outgoing.{data_asked, data_granted, is_release_of, shows_loss}
 use Rattle.laws_trace.specs.Trace as traces
 use Rattle.laws_trace.specs.Trace.{seen, seen_told, seen_granted, frame_in}
+use Rattle.laws_trace.proofs.LinkLed.{own-is}
 
 module _ (service : Service) (tei : ℕ) where
   abbrev pub granted_in : List traces.Seen → List (List ℕ)
@@ -41,29 +43,34 @@ module _ (service : Service) (tei : ℕ) where
   asked-grants r (gave frame) = refl
 
   -- A note of a loss is seen, and so is a release that is granted.
-  shown : (b c : Bool) → b ≡ true → (c || (b || (false || false))) ≡ true
-  shown true true is = refl
-  shown true false is = refl
-  shown false c is = absurd (true≢false (sym is))
+  alone : (b : Bool) → (b || (false || false)) ≡ b
+  alone true = refl
+  alone false = refl
 
-  pub from-notes : (e : line_event.Event) (a : Answer) → (e ≡ next → ⊥) → list_any (is_loss_of service tei) (notes_of a) ≡ true → lost_in (seen e a) ≡ true
-  from-notes (hears what) (told t) never is = shown (list_any (is_loss_of service tei) t.notes) false is
-  from-notes (expiry timer) (told t) never is = shown (list_any (is_loss_of service tei) t.notes) false is
-  from-notes (request r) (told t) never is = shown (list_any (is_loss_of service tei) t.notes) (shows_loss service tei (traces.granted r)) is
-  from-notes next a never is = absurd (never refl)
-  from-notes e (refused why) never is = absurd (true≢false (sym is))
-  from-notes e (gave frame) never is = absurd (true≢false (sym is))
+  pub heard-loses : (what : stream.Event) (a : Answer) → lost_in (seen (hears what) a) ≡ list_any (is_loss_of service tei) (notes_of a)
+  heard-loses what (told t) = alone (list_any (is_loss_of service tei) t.notes)
+  heard-loses what (refused why) = refl
+  heard-loses what (gave frame) = refl
 
-  pub own-release : (a : Answer) → is_granted a ≡ true → lost_in (seen (request (of_link service tei link.Release)) a) ≡ true
-  own-release (told t) is =
-      ap (λ b. b || (list_any (is_loss_of service tei) t.notes || (false || false)))
-      (ap (λ b. b && tei == tei) (service-same service) ∙ eq-eqb tei tei refl)
-  own-release (refused why) is = absurd (true≢false (sym is))
-  own-release (gave frame) is = absurd (true≢false (sym is))
+  pub expiry-loses : (timer : Timer) (a : Answer) → lost_in (seen (expiry timer) a) ≡ list_any (is_loss_of service tei) (notes_of a)
+  expiry-loses timer (told t) = alone (list_any (is_loss_of service tei) t.notes)
+  expiry-loses timer (refused why) = refl
+  expiry-loses timer (gave frame) = refl
 
-  pub own-deactivation : (a : Answer) → is_granted a ≡ true → lost_in (seen (request (Deactivate service tei)) a) ≡ true
-  own-deactivation (told t) is =
-      ap (λ b. b || (list_any (is_loss_of service tei) t.notes || (false || false)))
-      (ap (λ b. b && tei == tei) (service-same service) ∙ eq-eqb tei tei refl)
-  own-deactivation (refused why) is = absurd (true≢false (sym is))
-  own-deactivation (gave frame) is = absurd (true≢false (sym is))
+  pub begun-loses : (a : Answer) → lost_in (seen next a) ≡ false
+  begun-loses (told t) = refl
+  begun-loses (refused why) = refl
+  begun-loses (gave None) = refl
+  begun-loses (gave (Some f)) = refl
+
+  pub asked-loses : (r : Request) (a : Answer) → lost_in (seen (request r) a) ≡ cond (is_granted a) (is_release_of service tei r || list_any (is_loss_of service tei) (notes_of a)) false
+  asked-loses r (told t) = ap (λ b. is_release_of service tei r || b) (alone (list_any (is_loss_of service tei) t.notes))
+  asked-loses r (refused why) = refl
+  asked-loses r (gave frame) = refl
+
+  pub own-release : (what : link.Request) → is_release_of service tei (of_link service tei what) ≡ is_release what
+  own-release link.Establish = refl
+  own-release link.Release = own-is service tei
+  own-release (link.Data contents) = refl
+  own-release link.SetBusy = refl
+  own-release link.ClearBusy = refl

@@ -29,7 +29,7 @@ use Rattle.laws_line.proofs.Granting.{not-refused}
 use Rattle.laws_trace.specs.Trace as traces
 use Rattle.laws_trace.specs.Trace.{frame_in, is_own, Seen, heard, noted, lost, seen, seen_told, seen_granted}
 use Rattle.laws_trace.proofs.DeliveriesWatched.{Standing, busy_asked, is_information, brings_information, stand}
-use Rattle.laws_trace.specs.Counting.{begins_by, begins, counted}
+use Rattle.laws_trace.proofs.Counting.{begins_by, begins, counted}
 use Rattle.laws_trace.specs.LinkFrames.{frame_of, is_for}
 use Rattle.laws_trace.proofs.CommandsCaused.{same-itself}
 use Rattle.laws_trace.proofs.Deliveries.{frame_by, brings-frame, brings-none, one-begins, heard-by}

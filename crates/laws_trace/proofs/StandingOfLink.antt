@@ -21,7 +21,7 @@ use Rattle.laws_link.specs.Flags.{flag_left, busy_asked, own_busy_left, rejectin
 use Rattle.laws_link.specs.States.{as_heard, is_anew, is_clearing, leads_by_sabme, leads_by_agreement, comes_to, moves, numbers_begin, state_after}
 use Rattle.laws_link.specs.Waiting.{is_next, as_response, receipt_as, commands, put}
 use Rattle.laws_link.proofs.Follows.{event-follows}
-use Rattle.laws_trace.specs.Counting.{Watched}
+use Rattle.laws_trace.proofs.Counting.{Watched}
 use Rattle.laws_trace.proofs.DeliveriesWatched.{Standing, is_information}
 use Rattle.laws_trace.proofs.Begins.{in-state, up-before}
 use Rattle.laws_trace.proofs.ReceiptsNumbered.{PendsUp, pends-up, taken-is}

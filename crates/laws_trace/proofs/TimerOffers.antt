@@ -29,7 +29,7 @@ use Rattle.laws_trace.proofs.AgainWatched.{is_next}
 use Rattle.laws_trace.specs.LinkFrames.{Sent, sent_by}
 use Rattle.laws_trace.proofs.TimersWatched.{Known, nothing_yet, sends}
 use Rattle.laws_trace.proofs.States.{is_state}
-use Rattle.laws_trace.proofs.DataKnown.{none-sent}
+use Rattle.laws_trace.proofs.DataGoesOut.{none-sent}
 use Rattle.laws_trace.proofs.TimerActs.{Timing, timing}
 use Rattle.laws_trace.proofs.TimerClaims.{Agrees, Kept, told_state}
 

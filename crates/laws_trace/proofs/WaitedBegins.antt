@@ -33,7 +33,7 @@ after-both card [] behind = refl
 after-both card (e ∷ front) behind = after-both (after e card) front behind
 
 -- a moment of a run is seen in its trace
-moments-both : (card : Card) (front behind : List Event) → moments card (front ++ behind) ≡ moments card front ++ moments (after_all card front) behind
+pub moments-both : (card : Card) (front behind : List Event) → moments card (front ++ behind) ≡ moments card front ++ moments (after_all card front) behind
 unfolding moments after_all
 moments-both card [] behind = refl
 moments-both card (e ∷ front) behind = ap (λ ms. record { card = card; event = e; answer = answer e card } ∷ ms) (moments-both (after e card) front behind)

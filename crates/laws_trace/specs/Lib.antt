@@ -1,6 +1,5 @@
 -- The trace of a line, and what is promised of it.
 pub mod Trace
-pub mod Counting
 pub mod LinkFrames
 pub mod Observer
 pub mod Configurations
@@ -20,9 +19,10 @@ pub mod NoLossInVain
 pub mod TimersAreTimely
 pub mod OrdersHaveReasons
 pub mod WorkedOrders
-pub mod AllGoesAgain
 pub mod LinksMove
 pub mod News
+pub mod Outgoing
+pub mod AllGoesAgain
 pub mod WorkedUnits
 pub mod WorkedObserver
 pub mod WorkedNews
@@ -38,7 +38,6 @@ pub mod WorkedLoss
 pub mod WorkedManaging
 pub mod WorkedOtherSide
 pub mod WorkedWaited
-pub mod WindowsAreKept
 pub mod WorkedWindows
 pub mod RoomsAreTold
 pub mod WorkedRooms
@@ -46,6 +45,5 @@ pub mod UnitsAreSpelled
 pub mod WorkedUnitsTold
 pub mod CountersCount
 pub mod WorkedCounters
-pub mod PlacesAreKept
 pub mod WorkedKept
 pub mod octets

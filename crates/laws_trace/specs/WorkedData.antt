@@ -1,21 +1,23 @@
--- Worked values: I-frames that go out, and traces that break the law.
-use Rattle.std.specs.Prelude.{◌≡◌, ◌≤◌, ℕ, ◌%◌, false, List, [], ◌∷◌, ◌++◌, drop, slice_get, Some, None, flat_map, option_to_list, refl}
-use Rattle.std.proofs.Common.{zero, suc, arith, ◌⊎◌, inl, inr}
+-- Worked values: I-frames that go out, what is kept of them, and frames that break the law.
+use Rattle.std.specs.Prelude.{◌≡◌, ℕ, ◌%◌, List, [], ◌∷◌, ◌++◌, slice_get, Some, flat_map, option_to_list, refl}
+use Rattle.std.proofs.Common.{sym, ap, ◌∙◌}
 use Rattle.lapd_seq.specs.Circle.{named, distance_of}
 use Rattle.lapd_seq.specs.Numbers.{seq}
 use Rattle.lapd_frame.specs.declared.addresses.Side.TheVariants.{Network}
 use Rattle.lapd_frame.specs.declared.services.Service.TheVariants.{Call}
-use Rattle.lapd_frame.specs.Reading.{reading, header_of, control_of, unnumbered_of}
+use Rattle.lapd_frame.specs.Reading.{reading, header_of, control_of, unnumbered_of, supervisory_of}
 use Rattle.lapd_tei.specs.Events as teis
 use Rattle.model_line.specs.Machine as lines
-use Rattle.model_line.specs.Request.{Data}
+use Rattle.model_line.specs.Request.{Data, Release}
+use Rattle.model_card.specs.Event.{Event}
 use Rattle.model_card.specs.Run.{moments}
 use Rattle.laws_line.specs.card.Worked.{usual, on_0, up}
-use Rattle.lapd_frame.specs.declared.notes.Note.TheVariants.{EstablishIndication}
-use Rattle.laws_trace.specs.DataGoesOut.{Going, none_yet, indicates, Reaches}
+use Rattle.laws_trace.specs.DataGoesOut.{IsNext}
 use Rattle.laws_trace.specs.LinkFrames.{Sent, sent_in}
-use Rattle.laws_trace.specs.Trace.{Seen, begun, noted, granted, trace_of, frames_begun}
-use Rattle.laws_trace.specs.WorkedUnits.{calls}
+use Rattle.laws_trace.specs.Observer.{steps}
+use Rattle.laws_trace.specs.Outgoing.{Outgoing, outgoing_of}
+use Rattle.laws_trace.specs.Trace.{Seen, trace_of, frames_begun}
+use Rattle.laws_trace.specs.WorkedUnits.{calls, comes}
 
 -- The I-frames of the link of call control of TEI 64.
 abbrev i_frames : List Seen → List Sent
@@ -29,29 +31,53 @@ pub two_go : i_frames (trace_of usual (up ++ on_0 (Data Call 64 (7 ∷ [])) ∷ 
 unfolding moments lines.after lines.answer lines.takes_slot teis.course teis.refusal seq distance_of named reading header_of control_of unnumbered_of
 two_go = refl
 
--- Where the first I-frame has N(S) = 1, the law is broken; so it is where its contents are others.
-not-one : (n : ℕ) → 1 ≡ n % 128 → n ≤ 0 → ⊥
-not-one n is few = omega (arith, is, few)
+-- To the observer both are kept, and behind RR 1 the second.
+abbrev kept_after : List Event → List (List ℕ)
+kept_after events = (outgoing_of usual Call 64 0 events).kept
 
-no_first : (end : Going) → Reaches usual Call 64 none_yet (granted (Data Call 64 (7 ∷ [])) ∷ begun (0x02 ∷ 0x81 ∷ 0x02 ∷ 0x00 ∷ 7 ∷ []) ∷ []) end → ⊥
-unfolding seq reading header_of control_of unnumbered_of
-no_first end law = let x = law.1.2.0 in not-one x.number x.ns x.next_or_again
+abbrev two_gone : List Event
+two_gone = up ++ on_0 (Data Call 64 (7 ∷ [])) ∷ on_0 (Data Call 64 (8 ∷ [])) ∷ calls 3
 
-others : (end : Going) → Reaches usual Call 64 none_yet (granted (Data Call 64 (7 ∷ [])) ∷ begun (0x02 ∷ 0x81 ∷ 0x00 ∷ 0x00 ∷ 8 ∷ []) ∷ []) end → ⊥
-unfolding seq reading header_of control_of unnumbered_of
-others end law = let x = law.1.2.0 in go x.number x.next_or_again x.is
+both_kept : kept_after two_gone ≡ (7 ∷ []) ∷ (8 ∷ []) ∷ []
+unfolding moments lines.after lines.answer lines.takes_slot teis.course teis.refusal seq distance_of named reading header_of control_of unnumbered_of supervisory_of
+both_kept = refl
+
+abbrev one_heard : List Event
+one_heard = two_gone ++ comes (0x02 ∷ 0x81 ∷ 0x01 ∷ 0x02 ∷ []) ∷ []
+
+one_kept : kept_after one_heard ≡ (8 ∷ []) ∷ []
+unfolding moments lines.after lines.answer lines.takes_slot teis.course teis.refusal seq distance_of named reading header_of control_of unnumbered_of supervisory_of
+one_kept = refl
+
+-- None stays where the link is released; and what had not gone stays where SABME comes again.
+none_kept : kept_after (one_heard ++ on_0 (Release Call 64) ∷ []) ≡ []
+unfolding moments lines.after lines.answer lines.takes_slot teis.course teis.refusal seq distance_of named reading header_of control_of unnumbered_of supervisory_of
+none_kept = refl
+
+still_kept : kept_after (up ++ on_0 (Data Call 64 (7 ∷ [])) ∷ up) ≡ (7 ∷ []) ∷ []
+unfolding moments lines.after lines.answer lines.takes_slot teis.course teis.refusal seq distance_of named reading header_of control_of unnumbered_of supervisory_of
+still_kept = refl
+
+-- Where the first I-frame has the second contents, or another N(R), the law is broken.
+abbrev before : Outgoing
+before = outgoing_of usual Call 64 0 (up ++ on_0 (Data Call 64 (7 ∷ [])) ∷ on_0 (Data Call 64 (8 ∷ [])) ∷ calls 1)
+
+first_goes : slice_get before.kept (steps before.view.link.acknowledged before.view.link.next) ≡ Some (7 ∷ [])
+unfolding moments lines.after lines.answer lines.takes_slot teis.course teis.refusal seq distance_of named reading header_of control_of unnumbered_of supervisory_of
+first_goes = refl
+
+others : IsNext usual Call before (i_frame 0 8) → ⊥
+others law = go (sym first_goes ∙ law.contents)
   where
-    go : (n : ℕ) → n ≤ 0 → slice_get {X = List ℕ} ((7 ∷ []) ∷ []) n ≡ Some (8 ∷ []) → ⊥
-    go zero few is = cc is
-    go (suc n) few is = absurd (omega (arith, few))
+    go : Some (7 ∷ []) ≡ Some (8 ∷ []) → ⊥
+    go e = cc e
 
--- Where an indication is told as the numbers begin, and contents stay, the law is broken.
-abbrev indicated : Seen
-indicated = noted (EstablishIndication Call 64 ∷ []) None
+counts_none : before.view.link.count ≡ 0
+unfolding moments lines.after lines.answer lines.takes_slot teis.course teis.refusal seq distance_of named reading header_of control_of unnumbered_of supervisory_of
+counts_none = refl
 
-stays : (n : ℕ) → ((n ≤ 1) × (indicates Call 64 indicated ≡ false)) ⊎ (2 ≤ n) → drop {A = List ℕ} n ((7 ∷ []) ∷ (8 ∷ []) ∷ []) ≡ (8 ∷ []) ∷ [] → ⊥
-stays n (inl h) is = cc h.1
-stays zero (inr all) is = cc is
-stays (suc zero) (inr all) is = omega (arith, all)
-stays (suc (suc zero)) (inr all) is = cc is
-stays (suc (suc (suc n))) (inr all) is = cc is
+acknowledges : IsNext usual Call before (record { ns = 0; nr = 1; contents = 7 ∷ [] }) → ⊥
+acknowledges law = go (law.nr ∙ ap (λ n. n % 128) counts_none)
+  where
+    go : 1 ≡ 0 → ⊥
+    go e = cc e

@@ -1,7 +1,7 @@
--- Worked values: data that is granted takes a place; and a link that loses what had not gone, and tells nobody, which breaks the law.
-use Rattle.std.specs.Prelude.{◌≡◌, ◌⊎◌, ℕ, ◌+◌, true, false, List, [], ◌∷◌, ◌++◌, length, flat_map, None, Ok, refl}
+-- Worked values: data that is granted takes a place; and a link that loses what had not gone, and tells nobody, which breaks
+-- the law.
+use Rattle.std.specs.Prelude.{◌≡◌, ℕ, ◌+◌, true, false, List, [], ◌∷◌, ◌++◌, length, flat_map, None, Ok, refl}
 use Rattle.std.specs.List.{list_any}
-use Rattle.std.proofs.Common.{inl, inr}
 use Rattle.lapd_frame.specs.declared.notes.ErrorCode.TheVariants.{F}
 use Rattle.lapd_frame.specs.declared.notes.Note.TheVariants.{Error, ReleaseIndication}
 use Rattle.lapd_frame.specs.declared.services.Service.TheVariants.{Call, Packet}
@@ -16,7 +16,7 @@ use Rattle.model_card.specs.Room.{room}
 use Rattle.model_card.specs.Event.{Event}
 use Rattle.model_card.specs.Run.{moments, after_all}
 use Rattle.laws_line.specs.card.Worked.{usual, on_0, up}
-use Rattle.laws_trace.specs.PlacesAreKept.{data_granted, shows_loss, went_on}
+use Rattle.laws_trace.specs.Outgoing.{data_granted, shows_loss, went_on}
 use Rattle.laws_trace.specs.Trace.{noted, granted}
 use Rattle.laws_trace.specs.WorkedObserver.{link_after}
 use Rattle.laws_trace.specs.WorkedUnits.{calls, comes}
@@ -59,10 +59,9 @@ none_more : went_on true (link_after one_heard) (link_after (one_heard ++ comes 
 unfolding moments lines.after lines.answer lines.takes_slot teis.course teis.refusal seq distance_of named reading header_of control_of unnumbered_of supervisory_of
 none_more = refl
 
--- Where all places were left behind it, the law would be broken.
+-- Where all places were left while contents are kept, the law would be broken.
 abbrev Same : ℕ → ℕ → Type 0
 Same m n = m ≡ n
 
-lost_silently : (Same 8 8 × (false ≡ true)) ⊎ Same (8 + 0) (7 + 0) → ⊥
-lost_silently (inl x) = cc x.1
-lost_silently (inr e) = cc e
+lost_silently : Same (8 + 1) 8 → ⊥
+lost_silently e = cc e

@@ -1,18 +1,18 @@
 -- Worked values: what is told of the room of a link, and one that tells V(S) as V(A), which breaks the law.
-use Rattle.std.specs.Prelude.{◌≡◌, ℕ, true, false, List, [], ◌∷◌, ◌++◌, Ok, refl}
+use Rattle.std.specs.Prelude.{◌≡◌, ℕ, List, [], ◌∷◌, ◌++◌, Ok, refl}
 use Rattle.lapd_frame.specs.declared.services.Service.TheVariants.{Call}
 use Rattle.lapd_frame.specs.Reading.{reading, header_of, control_of, unnumbered_of, supervisory_of}
 use Rattle.lapd_seq.specs.Circle.{named, distance_of}
 use Rattle.lapd_seq.specs.Numbers.{seq}
 use Rattle.lapd_tei.specs.Events as teis
 use Rattle.model_line.specs.Machine as lines
-use Rattle.model_line.specs.Request.{Assign, Establish, Data}
+use Rattle.model_line.specs.Request.{Assign, Data}
 use Rattle.model_card.specs.Card.{fresh}
 use Rattle.model_card.specs.Event.{Event}
 use Rattle.model_card.specs.Room.{room}
 use Rattle.model_card.specs.Run.{moments, after_all}
 use Rattle.laws_line.specs.card.Worked.{usual, on_0, up}
-use Rattle.laws_trace.specs.RoomsAreTold.{keeps_nothing}
+use Rattle.laws_trace.specs.Outgoing.{outgoing_of}
 use Rattle.laws_trace.specs.WorkedObserver.{link_after}
 use Rattle.laws_trace.specs.WorkedUnits.{calls, comes}
 
@@ -40,26 +40,14 @@ Same m n = m ≡ n
 sent_is_told : Same 1 0 → ⊥
 sent_is_told e = cc e
 
--- A link in state 4 keeps nothing, and all of eight places are left; one less would break the law.
+-- A link in state 4 keeps nothing, and all of eight places are left.
 abbrev on : List Event
 on = on_0 (Assign 64) ∷ []
 
-none_kept : keeps_nothing (link_after on) ≡ true
+none_kept : (outgoing_of usual Call 64 0 on).kept ≡ []
 unfolding moments lines.after lines.answer lines.takes_slot teis.course teis.refusal
 none_kept = refl
 
 all_left : room 0 Call 64 (after_all (fresh usual) on) ≡ Ok (record { queue = 8; pool = 64; va = 0 })
 unfolding after_all lines.after lines.takes_slot teis.course teis.refusal
 all_left = refl
-
-one_less : Same 7 8 → ⊥
-one_less e = cc e
-
--- In state 5 nothing is kept where layer 3 asked for it, and something may be where this side began it.
-asked_none : keeps_nothing (link_after (on ++ on_0 (Establish Call 64) ∷ [])) ≡ true
-unfolding moments lines.after lines.answer lines.takes_slot teis.course teis.refusal
-asked_none = refl
-
-may_keep : keeps_nothing (link_after (up ++ comes (0x02 ∷ 0x81 ∷ 0x0F ∷ []) ∷ [])) ≡ false
-unfolding moments lines.after lines.answer lines.takes_slot teis.course teis.refusal seq reading header_of control_of unnumbered_of supervisory_of
-may_keep = refl

@@ -37,5 +37,5 @@ to_busy : (o : Observed) → o.busy ≡ true → MayGo usual Call o → ⊥
 to_busy o busy may = cc (sym busy ∙ may.free)
 
 -- Where the second goes first, the law is broken.
-passed_over : MayGo usual Call (in_state 7) × (◌≡◌ {A = ℕ} 1 (in_state 7).next) → ⊥
-passed_over h = cc h.1
+passed_over : ◌≡◌ {A = ℕ} 1 (in_state 7).next → ⊥
+passed_over e = cc e

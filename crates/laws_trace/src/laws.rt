@@ -15,15 +15,13 @@ ghost use Rattle.laws_trace.specs.LinksTakeTurns.{LinksTakeTurns};
 ghost use Rattle.laws_trace.specs.MessagesComeFirst.{MessagesComeFirst};
 ghost use Rattle.laws_trace.specs.News.{NewsIsTold};
 ghost use Rattle.laws_trace.specs.NoLossInVain.{NoLossInVain};
-ghost use Rattle.laws_trace.specs.PlacesAreKept.{PlacesAreKept};
-ghost use Rattle.laws_trace.specs.RoomsAreTold.{RoomsAreTold, AllPlacesAreLeft};
+ghost use Rattle.laws_trace.specs.RoomsAreTold.{RoomsAreTold};
 ghost use Rattle.laws_trace.specs.OrdersHaveReasons.{OrdersHaveReasons};
 ghost use Rattle.laws_trace.specs.TeisAreManaged.{TeisAreManaged};
 ghost use Rattle.laws_trace.specs.TimersAreTimely.{TimersRun, TimersAreStarted};
 ghost use Rattle.laws_trace.specs.TurnsMeanwhile.{LinksTakeTurnsMeanwhile};
 ghost use Rattle.laws_trace.specs.UnitsAreSpelled.{UnitsAreSpelled};
 ghost use Rattle.laws_trace.specs.UnitsGoOut.{UnitsGoOut, AllUnitsGoOut};
-ghost use Rattle.laws_trace.specs.WindowsAreKept.{WindowsAreKept};
 
 /// Each configuration within the ranges is served: no fault is found in it, so `Card::start` starts a card with it, as
 /// far as its shelf and memory allow, and every law here speaks of it. With any other no card starts (profile).
@@ -84,17 +82,17 @@ pub fn what_is_told_was_heard()
     ensures { Always Deliveries }
 {}
 
-/// Data goes out. Of each link, since its numbers began: the contents of new I-frames that begin are the first of the
-/// data that was granted, in order, each once; N(S) counts them from 0 on, modulo 128; and an I-frame that goes again,
-/// which is one of the last 127, has the contents that its number had. N(R) of each I-frame is the number of contents
-/// told of the link since then, modulo 128. Where numbers begin, contents that had not gone stay, and before them may
-/// stay some that had, as those do that were to go again; these take the first numbers; or none stays, as where an
-/// indication of an establishment is told (`front`). And all of it has gone, once the line was only called for its next
-/// frame, as often as the configuration says, on a link in state 7 whose terminal is not busy, with fewer than k
-/// I-frames outstanding, by what was heard and what began; and the number that goes next is then behind all of it,
-/// though REJ and the end of a recovery set it back to their N(R); each I-frame that begins sets it behind its own
-/// (`again`). That each has this number, [`windows_are_kept`] says (Q.921 clauses 3.5.2.1 to 3.5.2.6, 5.5.1.2, 5.6.1, 5.6.4,
-/// 5.6.5, 5.6.7 and 5.7).
+/// Data goes out. Each I-frame of a link that begins may go, by what was heard and what began before: the link is in state
+/// 7, so that no recovery runs, the terminal is not busy by the last RR, RNR or REJ, and fewer than k are outstanding. It
+/// has the number that goes next, V(S), so that they go again in order, from the number to which REJ or the end of a
+/// recovery set back, and none is passed over. Its contents are those that the link keeps at V(S), counted from V(A) on, as
+/// whoever watches it has them (`Outgoing` of specs/), and its N(R) is the number of contents told of the link since its
+/// numbers began, modulo 128. A link keeps data from when it is granted, in order, each once, until V(A) goes on by it, in
+/// states 7 and 8 by the N(R) that is heard; or until layer 3 learns that all is lost: by a release or a deactivation that
+/// is granted, an indication of the establishment, or an indication or a confirm of the release. So contents stay where
+/// the numbers begin and none of these is told (`front`). And all of it has gone, once the line was only called for its
+/// next frame, as often as the configuration says, on a link for which one may go then (`again`; Q.921 clauses 3.5.2.1 to
+/// 3.5.2.6, 5.5.1.2, 5.5.3.2, 5.6.1, 5.6.4, 5.6.5, 5.6.7 and 5.7).
 pub fn data_goes_out()
     ensures front { Always DataGoesOut }
     ensures again { Always AllGoesAgain }
@@ -200,32 +198,14 @@ pub fn news_is_told()
     ensures { Always NewsIsTold }
 {}
 
-/// Windows are kept. Each I-frame of a link that begins may go, by what was heard and what began before: the link is in
-/// state 7, so that no recovery runs, the terminal is not busy by the last RR, RNR or REJ, and fewer than k are outstanding.
-/// And it has the number that goes next, so that they go again in order, from the number to which REJ or the end of a recovery
-/// set back, and none is passed over (Q.921 clauses 5.6.1, 5.6.4, 5.6.5 and 5.6.7).
-pub fn windows_are_kept()
-    ensures { Always WindowsAreKept }
-{}
-
-/// Rooms are told as they are. Of a link in state 7 or 8 `Card::room` tells V(A), which is the N(R) that was heard of it last,
-/// and so many places of its queue as are left beside the contents that it keeps: what has not gone, and what has gone and is
-/// not acknowledged. And what is left, of the queue and of the pool, is what the next request for data would be refused for
-/// (`room`). In states 4 and 6, and in state 5 where layer 3 asked for the establishment, all places of the queue are left
-/// (`empty`; Q.921 clauses 3.5.2.3, 5.5.1.1, 5.5.3.1 and 5.7, and profile).
+/// Rooms are told as they are. Of each link whose TEI is on the line the places of its queue are those that `Card::room`
+/// tells as left and those of the contents that the link keeps, as [`data_goes_out`] has them: so contents take a place
+/// until they are acknowledged, or layer 3 learns that they are lost, and none is lost silently. Of a link in state 7 or 8
+/// V(A) is told, which is the N(R) that was heard of it last; and what is left, of the queue and of the pool, is what the
+/// next request for data would be refused for (Q.921 clauses 3.5.2.3, 5.5.1.1, 5.5.1.2, 5.5.3.1, 5.5.3.2 and 5.7, and
+/// profile).
 pub fn rooms_are_told()
-    ensures room { Always RoomsAreTold }
-    ensures empty { Always AllPlacesAreLeft }
-{}
-
-/// What a link keeps takes places of its queue, and none is lost silently. In a moment, before and after which the TEI of the link
-/// is on the line, the places that are left are those that were, with one for each of the contents that V(A) goes on by, as
-/// whoever watches the link has it (`Observer` of specs/), and without one for data that is granted for it; or all are left, and
-/// layer 3 learns it: by a release or a deactivation that is granted, an indication of an establishment, or an indication or a
-/// confirm of a release. V(A) goes on in states 7 and 8 alone, by the N(R) that is heard, and not where SABME begins the numbers
-/// anew (Q.921 clauses 3.5.2.3, 5.5.1.2, 5.5.3.2 and 5.7).
-pub fn places_are_kept()
-    ensures { Always PlacesAreKept }
+    ensures { Always RoomsAreTold }
 {}
 
 /// The UI frame of unit data, of which [`units_go_out`] speaks, is spelled by the grammar: a UI command with P=0, of the SAPI of

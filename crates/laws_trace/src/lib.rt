@@ -2,7 +2,7 @@
 //!
 //! Each law holds from a fresh card of a configuration in range, for every list of events at its lines, and for every
 //! line. `specs/` has the trace (`Trace`), which of its frames are unit data (`Units`), what whoever watches the line knows
-//! of its TEIs (`Managing`) and of a link (`Observer`), both by the procedures of Q.921, and a file for each law, with worked
+//! of its TEIs (`Managing`), of a link (`Observer`) and of what it keeps (`Outgoing`), by the procedures of Q.921, and a file for each law, with worked
 //! values of it. Each law is the contract of a call that does nothing.
 //!
 //! - `laws`: the laws.
@@ -11,8 +11,7 @@
 //! # Open
 //!
 //! When unit data and control frames go, where other events come between the calls; turns, where the place of the first
-//! link changes; whether the RR that goes by itself is needed; which contents stay where numbers begin and no
-//! indication is told; which part of a line is full where a frame is lost.
+//! link changes; whether the RR that goes by itself is needed; which part of a line is full where a frame is lost.
 #![tactic(auto)]
 
 mod laws;
@@ -21,8 +20,8 @@ mod octets;
 pub use laws::{
     all_are_acknowledged, control_frames_go, counters_count, data_goes_out, frames_are_read,
     links_move, links_take_turns, links_take_turns_meanwhile, messages_come_first, news_is_told,
-    nothing_is_lost_in_vain, places_are_kept, ranges_are_served, rooms_are_told, teis_are_managed,
+    nothing_is_lost_in_vain, ranges_are_served, rooms_are_told, teis_are_managed,
     the_other_side_is_heard, timers_are_timely, units_are_spelled, units_go_out,
-    what_is_told_was_heard, windows_are_kept,
+    what_is_told_was_heard,
 };
 pub use octets::{all_frames_go_out, frames_go_out, latest_is_begun, units_are_heard};

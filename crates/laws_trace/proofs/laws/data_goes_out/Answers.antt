@@ -1,6 +1,6 @@
 -- Hand-written answers for `data_goes_out`.
 use Rattle.laws_trace.proofs.ObservedLaws.{all-goes-again-so}
-use Rattle.laws_trace.proofs.DataRun.{data-goes-out}
+use Rattle.laws_trace.proofs.WindowsAreKept.{data-goes-out}
 use Rattle.laws_trace.proofs.laws.data_goes_out.Goals as goal
 
 pub returns-clause-front : goal.returns-clause-front

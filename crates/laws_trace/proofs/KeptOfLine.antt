@@ -1,0 +1,339 @@
+-- What an event of a line leaves of the contents that a link keeps.
+use Rattle.std.proofs.Common.{◌≡◌, ℕ, ◌%◌, ◌<◌, Bool, true, false, cond, not, List, [], ◌∷◌, ◌++◌, ◌&&◌, ◌||◌, drop, Option, Some, None, refl, sym, ap, ◌∙◌, subst, ◌⊎◌, inl, inr, arith, append-nil}
+use Rattle.std.specs.Prelude.{All, is_some}
+use Rattle.std.specs.List.{list_any}
+use Rattle.std.specs.Option.{option_map_or}
+use Rattle.std.proofs.lemmas.List.Elements.{All-head, All-tail}
+use Rattle.std.proofs.lemmas.Option.{none-some}
+use Rattle.lapd_frame.specs.declared.notes.Note.{Note}
+use Rattle.lapd_frame.specs.declared.notes.Note.TheVariants as notes
+use Rattle.lapd_frame.specs.declared.refusals.Refusal.TheVariants.{WrongState}
+use Rattle.lapd_frame.specs.declared.services.Service.{Service}
+use Rattle.lapd_tei.proofs.Tables.{place_of-is, is_on-at, not_not}
+use Rattle.laws_link.specs.Accepted.{accepted, ends, is_release, tells_loss, empties}
+use Rattle.model_link.specs.declared.terms.Terms.{Terms}
+use Rattle.model_link.specs.Events as link
+use Rattle.model_link.specs.Link.{Link, fresh as fresh_link, is_multiple_frame, queue_of, state_number}
+use Rattle.model_link.specs.Machine as links
+use Rattle.model_link.specs.Requests as requests
+use Rattle.model_link.specs.Sound as link_sound
+use Rattle.model_link.proofs.OwnNotes.{notes-own}
+use Rattle.model_line.specs.declared.config.Config.{Config}
+use Rattle.model_line.specs.Effect.{at_link}
+use Rattle.model_line.specs.Event as line_event
+use Rattle.model_line.specs.Event.{Answer, hears, expiry, request, next}
+use Rattle.model_line.specs.Line.{Line, has_tei, link_in, link_of, place_in, terms}
+use Rattle.model_line.specs.Machine as lines
+use Rattle.model_line.specs.Machine.{aim_of, unless_refused}
+use Rattle.model_line.specs.Refusal.{refusal, bad_tei, no_link, wrong_state}
+use Rattle.model_line.specs.Request.{Request, Establish, Release, Data, Assign, Remove, Check, SetBusy, ClearBusy, Deactivate}
+use Rattle.model_line.specs.Requested.{at_requested, at_deactivated, aim_of_request}
+use Rattle.model_line.specs.Sound.{IsInRange, IsSound}
+use Rattle.model_line.proofs.Ranges.{terms_in_range}
+use Rattle.laws_line.specs.Heard.{notes_of}
+use Rattle.laws_line.specs.Loss.{is_loss_of}
+use Rattle.laws_line.specs.Requests.{of_link}
+use Rattle.laws_line.specs.Share.{is_granted}
+use Rattle.laws_line.specs.Steady.{IsBy}
+use Rattle.laws_line.proofs.Asked.{link-grants, passed}
+use Rattle.laws_line.proofs.Granting.{not-refused}
+use Rattle.laws_trace.specs.News.{brings, is_news, is_sabme}
+use Rattle.laws_trace.specs.Observer.{steps}
+use Rattle.laws_trace.specs.Outgoing.{data_asked, is_release_of}
+use Rattle.laws_trace.specs.Trace.{is_own, seen, is_up}
+use Rattle.laws_trace.proofs.AllDataGoesOut.{link-at-end}
+use Rattle.laws_trace.proofs.DataAsked as asks
+use Rattle.laws_trace.proofs.DataAsked.{no-data, only-requested, only-offered, granted-data}
+use Rattle.laws_trace.proofs.DataOfLink.{none-accepted}
+use Rattle.laws_trace.proofs.KeptOfLink.{went_by, none-left, some-left, own-losses}
+use Rattle.laws_trace.proofs.LinkLed.{own-is, elsewhere}
+use Rattle.laws_trace.proofs.NewsOfOthers.{others-silent}
+use Rattle.laws_trace.proofs.NewsRows.{sabme_of}
+use Rattle.laws_trace.proofs.NewsSeen.{one-begins}
+use Rattle.laws_trace.proofs.ObservedFacts.{brings-is}
+use Rattle.laws_trace.proofs.OfferTells.{offer-tells_nothing}
+use Rattle.laws_trace.proofs.OneLink.{is_at_link, HasOne, HasNone, IsGivenUp, Goes, event-goes}
+use Rattle.laws_trace.proofs.SeenAs.{up-number}
+use Rattle.laws_trace.proofs.PlacesSeen.{granted_in, lost_in, told-grants, begun-grants, asked-grants, heard-loses, expiry-loses, begun-loses, asked-loses, own-release}
+use Rattle.laws_trace.proofs.TimersOfEvent.{off-fresh}
+use Rattle.laws_trace.proofs.TimersWatched as known
+
+either-false : (b : Bool) → cond b false false ≡ false
+either-false true = refl
+either-false false = refl
+
+pub still : (anew : Bool) (k : Link) → went_by anew k k ≡ 0
+still anew k = go (is_up (state_number k.state) && is_up (state_number k.state) && not anew)
+  where
+    go : (b : Bool) → cond b (steps (k.a % 128) (k.a % 128)) 0 ≡ 0
+    go true = omega arith
+    go false = refl
+
+-- What is left of what a link keeps.
+abbrev pub left : Bool → Bool → Link → Link → List (List ℕ) → List (List ℕ)
+left lost anew k x more = cond lost [] (cond (is_up (state_number k.state)) (drop (went_by anew k x) (queue_of k) ++ more) (queue_of k))
+
+-- What an event of the link accepts is what is granted, and exactly where it leaves nothing layer 3 learns it.
+module _ (c : Config) (ranged : IsInRange c) (l : Line) (s : IsSound c l) (service : Service) (tei : ℕ) where
+  abbrev own_terms : Terms
+  own_terms = terms c service tei
+
+  abbrev own : Link
+  own = link_of service tei l
+
+  abbrev One : line_event.Event → Type 0
+  One e = HasOne c service tei e l (lines.after c e l) (lines.answer c e l)
+
+  pub accepted-asked : (e : line_event.Event) → (x : One e) → accepted own_terms x.event own ≡ granted_in service tei (seen e (lines.answer c e l))
+  accepted-asked (hears what) x =
+      (no-data c (hears what) (lines.answer c (hears what) l) service tei own_terms own (λ r same. cc same) (λ same. cc same) x.event x.by).0
+      ∙ sym (told-grants service tei (lines.answer c (hears what) l))
+  accepted-asked (expiry timer) x =
+      (no-data c (expiry timer) (lines.answer c (expiry timer) l) service tei own_terms own (λ r same. cc same) (λ same. cc same) x.event x.by).0
+      ∙ sym (told-grants service tei (lines.answer c (expiry timer) l))
+  accepted-asked next x =
+      ap (λ le. accepted own_terms le own) (only-offered c (lines.answer c next l) service tei x.event x.by) ∙ sym (begun-grants service tei (lines.answer c next l))
+  accepted-asked (request r) x =
+      let y = only-requested c r (lines.answer c (request r) l) service tei x.event x.by in
+      ap (λ le. accepted own_terms le own) y.2
+      ∙ granted-data service tei own_terms own y.1 y.0 (λ contents is. not-full y.0 y.1 contents is y.2 y.3 y.4 x.aimed) ∙ ap (data_asked service tei) (sym y.3)
+      ∙ sym (asked-grants service tei r (lines.answer c (request r) l) ∙ ap (λ b. cond {A = List (List ℕ)} b (data_asked service tei r) []) y.4)
+    where
+      aimed-so : (full : Bool) (contents : List ℕ) → refusal c false (Data service tei contents) l ≡ None
+          → aim_of c (request (Data service tei contents)) l ≡ at_link service tei x.place (link.requested (link.Data contents) full) → full ≡ false
+      aimed-so full contents none is =
+          let there : at_link service tei x.place (link.requested (link.Data contents) false) ≡ at_link service tei x.place (link.requested (link.Data contents) full) =
+          sym (ap (λ o. unless_refused o (at_requested service tei (link.Data contents) (place_in l tei))) none ∙ ap (at_requested service tei (link.Data contents)) x.placed) ∙ is in
+          sym (cc there)
+
+      not-full : (what : link.Request) (full : Bool) (contents : List ℕ) → what ≡ link.Data contents → x.event ≡ link.requested what full → r ≡ of_link service tei what
+          → is_granted (lines.answer c (request r) l) ≡ true
+          → (request r ≡ next) ⊎ (aim_of c (request r) l ≡ at_link service tei x.place x.event) → requests.refusal own_terms own full (link.Data contents) ≡ None
+      not-full what full contents is event asked g (inl e) = cc e
+      not-full what full contents is event asked g (inr aim) =
+          let named : r ≡ Data service tei contents = asked ∙ ap (of_link service tei) is in
+          let none : refusal c false (Data service tei contents) l ≡ None = not-refused c (Data service tei contents) l (subst (λ r. is_granted (lines.answer c (request r) l) ≡ true) named g) in
+          let full_is : full ≡ false =
+          aimed-so full contents none
+          (ap (λ r. aim_of c (request r) l) (sym named) ∙ aim ∙ ap (at_link service tei x.place) (event ∙ ap (λ w. link.requested w full) is)) in
+          let its : own ≡ link_in l service x.place = ap (λ o. option_map_or (link_in l service) o fresh_link) x.placed in
+          ap (λ b. requests.refusal own_terms own b (link.Data contents)) full_is ∙ ap (λ own. requests.refusal own_terms own false (link.Data contents)) its
+          ∙ link-grants c service tei x.place contents l x.placed none
+
+  no-end : (e : line_event.Event) → ((r : Request) → e ≡ request r → ⊥) → (le : link.Event) → IsBy c e (lines.answer c e l) service tei le → ends own_terms le own ≡ false
+  no-end e never (link.received r) by = refl
+  no-end e never (link.expired timer) by = refl
+  no-end e never (link.requested what full) by = absurd (never (of_link service tei what) by.0)
+  no-end e never link.offer by = refl
+  no-end e never link.cleared by = absurd by
+
+  noted : (e : line_event.Event) → (x : One e) → list_any (is_loss_of service tei) (notes_of (lines.answer c e l)) ≡ tells_loss (links.told own_terms x.event own).notes
+  noted e x =
+      ap (list_any (is_loss_of service tei)) x.notes ∙ sym (own-losses own_terms (links.told own_terms x.event own).notes (notes-own own_terms x.event own))
+
+  by-notes : (e : line_event.Event) → (x : One e) → ends own_terms x.event own ≡ false → list_any (is_loss_of service tei) (notes_of (lines.answer c e l)) ≡ empties own_terms x.event own
+  by-notes e x none = noted e x ∙ sym (ap (λ b. b || tells_loss (links.told own_terms x.event own).notes) none)
+
+  -- a release that the line grants its link does not refuse
+  served : (place : ℕ) → place_in l tei ≡ Some place → refusal c false (Release service tei) l ≡ None → (full : Bool) → requests.refusal own_terms own full link.Release ≡ None
+  served place on none full =
+      let state = wrong_state service tei link.Release l in
+      let bad = passed (bad_tei tei) (no_link tei l ∷ state ∷ []) none in
+      let unknown = passed (no_link tei l) (state ∷ []) bad.1 in
+      ap (λ b. cond b (requests.refusal_for_room own_terms own full link.Release) (Some WrongState))
+      (not_not (requests.serves own.state link.Release) (passed state [] unknown.1).0)
+
+  released : (what : link.Request) (full : Bool) → (what ≡ link.Release → requests.refusal own_terms own full link.Release ≡ None)
+      → is_release what ≡ ends own_terms (link.requested what full) own
+  released link.Release full h = sym (ap (λ o. cond (is_some o) false true) (h refl))
+  released link.Establish full h = sym (either-false (is_some (requests.refusal own_terms own full link.Establish)))
+  released (link.Data contents) full h = sym (either-false (is_some (requests.refusal own_terms own full (link.Data contents))))
+  released link.SetBusy full h = sym (either-false (is_some (requests.refusal own_terms own full link.SetBusy)))
+  released link.ClearBusy full h = sym (either-false (is_some (requests.refusal own_terms own full link.ClearBusy)))
+
+  pub lost-is : (e : line_event.Event) → (x : One e) → lost_in service tei (seen e (lines.answer c e l)) ≡ empties own_terms x.event own
+  lost-is (hears what) x =
+      heard-loses service tei what (lines.answer c (hears what) l) ∙ by-notes (hears what) x (no-end (hears what) (λ r same. cc same) x.event x.by)
+  lost-is (expiry timer) x =
+      expiry-loses service tei timer (lines.answer c (expiry timer) l) ∙ by-notes (expiry timer) x (no-end (expiry timer) (λ r same. cc same) x.event x.by)
+  lost-is next x =
+      begun-loses service tei (lines.answer c next l)
+      ∙ sym (ap (λ le. empties own_terms le own) (only-offered c (lines.answer c next l) service tei x.event x.by) ∙ ap tells_loss (offer-tells_nothing own_terms own).0)
+  lost-is (request r) x =
+      let y = only-requested c r (lines.answer c (request r) l) service tei x.event x.by in
+      let ns = notes_of (lines.answer c (request r) l) in
+      asked-loses service tei r (lines.answer c (request r) l)
+      ∙ ap (λ b. cond b (is_release_of service tei r || list_any (is_loss_of service tei) ns) false) y.4
+      ∙ ap (λ b. b || list_any (is_loss_of service tei) ns)
+      (ap (is_release_of service tei) y.3 ∙ own-release service tei y.0
+      ∙ released y.0 y.1 (λ is. served x.place x.placed (subst (λ r. refusal c false r l ≡ None) (y.3 ∙ ap (of_link service tei) is) (not-refused c r l y.4)) y.1)
+      ∙ sym (ap (λ le. ends own_terms le own) y.2))
+      ∙ ap (λ b. ends own_terms x.event own || b) (noted (request r) x)
+
+  -- No event of the link grants it data.
+  pub none-granted : (e : line_event.Event) → HasNone c service tei e l (lines.after c e l) (lines.answer c e l) → granted_in service tei (seen e (lines.answer c e l)) ≡ []
+  none-granted (hears what) x = told-grants service tei (lines.answer c (hears what) l)
+  none-granted (expiry timer) x = told-grants service tei (lines.answer c (expiry timer) l)
+  none-granted next x = begun-grants service tei (lines.answer c next l)
+  none-granted (request r) x = asked-grants service tei r (lines.answer c (request r) l) ∙ go (is_granted (lines.answer c (request r) l)) refl
+    where
+      go : (b : Bool) → is_granted (lines.answer c (request r) l) ≡ b → cond {A = List (List ℕ)} b (data_asked service tei r) [] ≡ []
+      go true g = asks.elsewhere c l service tei r g x.aims
+      go false g = refl
+
+  -- and none loses what it keeps, while its TEI stays
+  module _ (place : ℕ) (on : place_in l tei ≡ Some place) where
+    none-asked : (r : Request) → is_at_link service tei (aim_of_request r l) ≡ false → is_release_of service tei r ≡ false
+    none-asked (Release its by) aims = elsewhere c service tei known.nothing_yet l place on its by (link.requested link.Release false) (at_requested its by link.Release) (λ p. refl) aims
+    none-asked (Deactivate its by) aims = elsewhere c service tei known.nothing_yet l place on its by link.cleared (at_deactivated its by) (λ p. refl) aims
+    none-asked (Establish its by) aims = refl
+    none-asked (Data its by contents) aims = refl
+    none-asked (Request.Unit its by contents) aims = refl
+    none-asked (Assign by) aims = refl
+    none-asked (Remove by) aims = refl
+    none-asked (Check by) aims = refl
+    none-asked (SetBusy its by) aims = refl
+    none-asked (ClearBusy its by) aims = refl
+
+    no-note : (ns : List Note) → All (λ n. is_news service tei n ≡ false) ns → list_any (is_loss_of service tei) ns ≡ false
+    no-note [] all = refl
+    no-note (n ∷ ns) all =
+        ap (λ b. b || list_any (is_loss_of service tei) ns) (no-loss n (All-head (λ n. is_news service tei n ≡ false) n ns all))
+        ∙ no-note ns (All-tail (λ n. is_news service tei n ≡ false) n ns all)
+      where
+        no-loss : (n : Note) → is_news service tei n ≡ false → is_loss_of service tei n ≡ false
+        no-loss (notes.EstablishIndication of by) none = none
+        no-loss (notes.ReleaseIndication of by) none = none
+        no-loss (notes.ReleaseConfirm of by) none = none
+        no-loss (notes.EstablishConfirm of by) none = refl
+        no-loss (notes.Data of by) none = refl
+        no-loss (notes.Unit of by) none = refl
+        no-loss (notes.Error of by code) none = refl
+        no-loss (notes.Assigned by) none = refl
+        no-loss (notes.Removed by) none = refl
+        no-loss (notes.Doubled by) none = refl
+        no-loss (notes.Xid of by) none = refl
+
+    pub none-lost : (e : line_event.Event) → is_at_link service tei (aim_of c e l) ≡ false → has_tei tei (lines.after c e l) ≡ true → lost_in service tei (seen e (lines.answer c e l)) ≡ false
+    none-lost e aims there = go e aims (no-note (notes_of (lines.answer c e l)) (others-silent service tei c e l s aims (inr there)))
+      where
+        go : (e : line_event.Event) → is_at_link service tei (aim_of c e l) ≡ false → list_any (is_loss_of service tei) (notes_of (lines.answer c e l)) ≡ false
+            → lost_in service tei (seen e (lines.answer c e l)) ≡ false
+        go (hears what) aims none = heard-loses service tei what (lines.answer c (hears what) l) ∙ none
+        go (expiry timer) aims none = expiry-loses service tei timer (lines.answer c (expiry timer) l) ∙ none
+        go next aims none = begun-loses service tei (lines.answer c next l)
+        go (request r) aims none = asked-loses service tei r (lines.answer c (request r) l) ∙ by-grant (is_granted (lines.answer c (request r) l)) refl
+          where
+            by-grant : (b : Bool) → is_granted (lines.answer c (request r) l) ≡ b
+                → cond b (is_release_of service tei r || list_any (is_loss_of service tei) (notes_of (lines.answer c (request r) l))) false ≡ false
+            by-grant false g = refl
+            by-grant true g =
+                ap (λ b. b || list_any (is_loss_of service tei) (notes_of (lines.answer c (request r) l)))
+                (none-asked r (sym (ap (λ o. is_at_link service tei (unless_refused o (aim_of_request r l))) (not-refused c r l g)) ∙ aims)) ∙ none
+
+-- One event of a line.
+module _ (c : Config) (ranged : IsInRange c) (l : Line) (s : IsSound c l) (service : Service) (tei : ℕ) (e : line_event.Event) where
+  abbrev a : Answer
+  a = lines.answer c e l
+
+  abbrev new : Line
+  new = lines.after c e l
+
+  abbrev t : Terms
+  t = terms c service tei
+
+  abbrev k : Link
+  k = link_of service tei l
+
+  abbrev k' : Link
+  k' = link_of service tei (lines.after c e l)
+
+  abbrev anew : Bool
+  anew = brings is_sabme c service tei e
+
+  on-there : (m : Line) (place : ℕ) → place_in m tei ≡ Some place → has_tei tei m ≡ true
+  on-there m place on = is_on-at m.management.places place tei (place_of-is m.management.places tei place on).1
+
+  abbrev Left : Type 0
+  Left = queue_of k' ≡ left (lost_in service tei (seen e a)) anew k k' (granted_in service tei (seen e a))
+
+  -- No event of the link.
+  none-left-so : (x : HasNone c service tei e l new a) → (p q : ℕ) → place_in l tei ≡ Some p → place_in new tei ≡ Some q → Left
+  none-left-so x p q on there =
+      let same = x.stays (on-there l p on) (on-there new q there) in
+      let rest : drop (went_by anew k k') (queue_of k) ++ granted_in service tei (seen e a) ≡ queue_of k =
+      ap (λ more. drop (went_by anew k k') (queue_of k) ++ more) (none-granted c ranged l s service tei e x) ∙ append-nil (drop (went_by anew k k') (queue_of k))
+      ∙ ap (λ y. drop (went_by anew k y) (queue_of k)) same ∙ ap (λ n. drop n (queue_of k)) (still anew k) in
+      ap (λ (y : Link). queue_of y) same
+      ∙ sym (ap (λ b. left b anew k k' (granted_in service tei (seen e a))) (none-lost c ranged l s service tei p on e x.aims (on-there new q there))
+      ∙ ap (λ xs. cond (is_up (state_number k.state)) xs (queue_of k)) rest ∙ either (is_up (state_number k.state)))
+    where
+      either : (b : Bool) → cond b (queue_of k) (queue_of k) ≡ queue_of k
+      either true = refl
+      either false = refl
+
+  -- One event of it.
+  one-left : (x : HasOne c service tei e l new a) → Left
+  one-left x =
+      ap (λ (y : Link). queue_of y) x.is ∙ go (empties t x.event k) refl
+      ∙ sym (ap (λ b. left b anew k k' (granted_in service tei (seen e a))) (lost-is c ranged l s service tei e x)
+      ∙ ap (left (empties t x.event k) anew k k') (sym (accepted-asked c ranged l s service tei e x))
+      ∙ ap (λ y. left (empties t x.event k) anew k y (accepted t x.event k)) x.is
+      ∙ ap (λ z. left (empties t x.event k) z k (links.after t x.event k) (accepted t x.event k)) anew-is)
+    where
+      sound : link_sound.IsSound t k
+      sound = link-at-end c l ranged s service tei x.place x.placed
+
+      range : link_sound.IsInRange t
+      range = terms_in_range c ranged service tei (s.management.table.range x.place tei (place_of-is l.management.places tei x.place x.placed).1)
+
+      anew-is : anew ≡ sabme_of x.event
+      anew-is = sym (brings-is c service tei is_sabme e a) ∙ one-begins c service tei is_sabme e a x.event x.by
+
+      go : (b : Bool) → empties t x.event k ≡ b
+          → queue_of (links.after t x.event k) ≡ left (empties t x.event k) (sabme_of x.event) k (links.after t x.event k) (accepted t x.event k)
+      go true all = none-left t k sound range.k_high x.event all ∙ sym (ap (λ b. left b (sabme_of x.event) k (links.after t x.event k) (accepted t x.event k)) all)
+      go false some =
+          some-left t k sound range.k_high x.event some ∙ by-state (is_multiple_frame k.state) refl
+          ∙ sym (ap (λ b. left b (sabme_of x.event) k (links.after t x.event k) (accepted t x.event k)) some)
+        where
+          rest : List (List ℕ)
+          rest = drop (went_by (sabme_of x.event) k (links.after t x.event k)) (queue_of k) ++ accepted t x.event k
+
+          by-state : (b : Bool) → is_multiple_frame k.state ≡ b → rest ≡ cond (is_up (state_number k.state)) rest (queue_of k)
+          by-state true up = sym (ap (λ b. cond b rest (queue_of k)) (up-number k.state ∙ up))
+          by-state false down =
+              ap (λ more. drop (went_by (sabme_of x.event) k (links.after t x.event k)) (queue_of k) ++ more) (none-accepted t x.event k down)
+              ∙ append-nil (drop (went_by (sabme_of x.event) k (links.after t x.event k)) (queue_of k))
+              ∙ ap (λ b. drop (cond (b && is_up (state_number (links.after t x.event k).state) && not (sabme_of x.event)) (steps (k.a % 128) ((links.after t x.event k).a % 128)) 0) (queue_of k)) (up-number k.state ∙ down)
+              ∙ sym (ap (λ b. cond b rest (queue_of k)) (up-number k.state ∙ down))
+
+  -- Its deactivation.
+  down-left : (x : IsGivenUp c service tei e l new a) → Left
+  down-left x =
+      ap (λ (y : Link). queue_of y) x.is
+      ∙ sym (ap (λ b. left b anew k k' (granted_in service tei (seen e a)))
+      (ap (λ e. lost_in service tei (seen e a)) x.by.0 ∙ asked-loses service tei (Deactivate service tei) a
+      ∙ ap (λ b. cond b (is_own service tei service tei || list_any (is_loss_of service tei) (notes_of a)) false) x.by.1
+      ∙ ap (λ b. b || list_any (is_loss_of service tei) (notes_of a)) (own-is service tei)))
+
+  pub left-so : (p q : ℕ) → place_in l tei ≡ Some p → place_in new tei ≡ Some q → Left
+  left-so p q on there = go (event-goes c e l service tei s)
+    where
+      go : Goes c service tei e l new a → Left
+      go (inl x) = none-left-so x p q on there
+      go (inr (inl x)) = one-left x
+      go (inr (inr x)) = down-left x
+
+  -- A TEI that comes to the line has a link that keeps nothing.
+  pub comes-so : place_in l tei ≡ None → queue_of k' ≡ []
+  comes-so off = ap (λ (y : Link). queue_of y) (go (event-goes c e l service tei s))
+    where
+      go : Goes c service tei e l new a → k' ≡ fresh_link
+      go (inr (inl x)) = absurd (none-some x.place (sym off ∙ x.placed))
+      go (inr (inr x)) = x.is
+      go (inl x) = either x.is
+        where
+          either : (k' ≡ k) ⊎ (k' ≡ fresh_link) → k' ≡ fresh_link
+          either (inl same) = same ∙ off-fresh service tei l off
+          either (inr new) = new

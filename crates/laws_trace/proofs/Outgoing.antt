@@ -1,0 +1,246 @@
+-- What a link has to send is what an observer has: what it keeps.
+use Rattle.std.proofs.Common.{◌≡◌, ℕ, ◌%◌, ◌<◌, ◌==◌, ◌&&◌, Bool, true, false, cond, not, List, [], ◌∷◌, ◌++◌, drop, get_or, Option, Some, None, refl, sym, ap, ◌∙◌, subst, arith, eqb-true, eq-eqb, true≢false, append-nil, append_assoc}
+use Rattle.std.specs.Prelude.{fold}
+use Rattle.std.proofs.lemmas.Bool.{and_parts}
+use Rattle.std.proofs.lemmas.List.{get_or-set_same, get_or-replicate}
+use Rattle.std.proofs.lemmas.List.Sums.{fold-append}
+use Rattle.std.proofs.lemmas.Option.{none-some}
+use Rattle.lapd_frame.specs.declared.refusals.Refusal.TheVariants.{PoolFull}
+use Rattle.lapd_frame.specs.declared.services.Service.{Service}
+use Rattle.model_link.specs.Link.{Link, queue_of, state_number, is_multiple_frame}
+use Rattle.model_line.specs.declared.config.Config.{Config}
+use Rattle.model_line.specs.Event as line_event
+use Rattle.model_line.specs.Event.{Answer, refused}
+use Rattle.model_line.specs.Line.{Line, fresh_line, has_tei, link_of, place_in}
+use Rattle.model_line.specs.Machine as lines
+use Rattle.model_line.specs.Sound.{IsInRange}
+use Rattle.laws_line.proofs.Places.{is-off}
+use Rattle.laws_line.proofs.TimersFollow.{nowhere}
+use Rattle.model_card.specs.Card.{Card, fresh, line_at, is_full}
+use Rattle.model_card.specs.Event.{Event, at}
+use Rattle.model_card.specs.Machine.{after, answer}
+use Rattle.model_card.specs.Run.{Moment, moments, after_all, IsAtLine, AreAtLines}
+use Rattle.model_card.specs.Sound as card_sound
+use Rattle.model_card.proofs.Steps.{has_lines, by_room, line_sound}
+use Rattle.laws_line.proofs.OfCard.Wherever.{all-left}
+use Rattle.laws_trace.specs.Managing.{is_on, due}
+use Rattle.laws_trace.specs.News.{brings, is_sabme}
+use Rattle.laws_trace.specs.Observer.{Observed, View, steps, views, view_of, moment_of, view_behind}
+use Rattle.laws_trace.specs.Outgoing.{Outgoing, went_on, keeps, watches, nothing_yet, outgoing_of}
+use Rattle.laws_trace.specs.Trace.{is_up, seen}
+use Rattle.laws_trace.proofs.CallRuns.{apart}
+use Rattle.laws_trace.proofs.KeptOfLine.{left, still, left-so, comes-so}
+use Rattle.laws_trace.proofs.KeptOfLink.{went_by}
+use Rattle.laws_trace.proofs.LinkLed.{on-line}
+use Rattle.laws_trace.proofs.ObservedRun.{holds-behind}
+use Rattle.laws_trace.proofs.PlacesSeen.{granted_in, lost_in}
+use Rattle.laws_trace.proofs.Runs.{nothing-seen}
+use Rattle.laws_trace.proofs.SeenAs.{up-number, IsSeenAs, seen-before, seen-behind, tei-seen}
+use Rattle.laws_trace.proofs.TimersAreTimely.{config-now, sound-now}
+use Rattle.laws_trace.proofs.TimersOfEvent.{off-fresh}
+use Rattle.laws_trace.proofs.WaitedBegins.{moments-both, after-both}
+
+-- An event of a card.
+module _ (card : Card) (number : ℕ) (what : line_event.Event) (s : card_sound.IsSound card) (here : number < card.config.lines) (service : Service) (tei : ℕ) where
+  abbrev l : Line
+  l = line_at number card
+
+  abbrev own : Link
+  own = link_of service tei l
+
+  either : (b : Bool) → cond b (queue_of own) (queue_of own) ≡ queue_of own
+  either true = refl
+  either false = refl
+
+  abbrev Left : Line → Answer → Type 0
+  Left m a =
+      (p q : ℕ) → place_in l tei ≡ Some p → place_in m tei ≡ Some q →
+      queue_of (link_of service tei m) ≡ left (lost_in service tei (seen what a)) (brings is_sabme card.config service tei what) own (link_of service tei m) (granted_in service tei (seen what a))
+
+  pub leaves : Left (line_at number (after (at number what) card)) (answer (at number what) card)
+  leaves =
+      by_room (λ ls a. Left (get_or ls number (fresh_line card.config)) a) (at number what) card
+      (λ full p q on there.
+      let anew = brings is_sabme card.config service tei what in
+      let none = nothing-seen card.config what l (and_parts (lines.takes_slot card.config what l) (is_full card) full).0 in
+      sym (ap (λ t. left (lost_in service tei t) anew own own (granted_in service tei t)) none
+      ∙ ap (λ xs. cond (is_up (state_number own.state)) xs (queue_of own)) (append-nil (drop (went_by anew own own) (queue_of own)) ∙ ap (λ n. drop n (queue_of own)) (still anew own))
+      ∙ either (is_up (state_number own.state))))
+      (λ room.
+      subst (λ (m : Line). Left m (lines.answer card.config what l))
+      (sym (get_or-set_same card.lines number (lines.after card.config what l) (fresh_line card.config) (omega (arith, s.count, here))))
+      (left-so card.config s.config l (line_sound card number (has_lines card s) here) service tei what))
+
+  pub comes : place_in l tei ≡ None → queue_of (link_of service tei (line_at number (after (at number what) card))) ≡ []
+  comes off =
+      by_room (λ ls a. queue_of (link_of service tei (get_or ls number (fresh_line card.config))) ≡ []) (at number what) card
+      (λ full. ap queue_of (off-fresh service tei l off))
+      (λ room.
+      subst (λ (m : Line). queue_of (link_of service tei m) ≡ [])
+      (sym (get_or-set_same card.lines number (lines.after card.config what l) (fresh_line card.config) (omega (arith, s.count, here))))
+      (comes-so card.config s.config l (line_sound card number (has_lines card s) here) service tei what off))
+
+-- The observer has it so.
+module _ (lost anew : Bool) (k x : Link) (o p : Observed) (was : IsSeenAs k o) (now : IsSeenAs x p) (more : List (List ℕ)) where
+  abbrev leaving : List (List ℕ) → List (List ℕ)
+  leaving kept = cond lost [] (cond (is_up o.state) (drop (went_on anew o p) kept ++ more) kept)
+
+  pub left-as : leaving (queue_of k) ≡ left lost anew k x more
+  left-as = ap (λ s. cond lost [] (cond (is_up s) (drop (went_on anew o p) (queue_of k) ++ more) (queue_of k))) was.state_is ∙ ap (cond lost []) (go (is_up (state_number k.state)) refl)
+    where
+      numbers : (u : Bool) → is_up (state_number k.state) ≡ u → u ≡ true → (v : Bool) → is_up (state_number x.state) ≡ v
+          → cond (v && not anew) (steps o.acknowledged p.acknowledged) 0 ≡ cond (u && v && not anew) (steps (k.a % 128) (x.a % 128)) 0
+      numbers false down up v to = absurd (true≢false (sym up))
+      numbers true up is false to = refl
+      numbers true up is true to =
+          ap (λ n. cond (not anew) (steps n p.acknowledged) 0) (was.acknowledged_is (sym (up-number k.state) ∙ up))
+          ∙ ap (λ n. cond (not anew) (steps (k.a % 128) n) 0) (now.acknowledged_is (sym (up-number x.state) ∙ to))
+
+      went : is_up (state_number k.state) ≡ true → went_on anew o p ≡ went_by anew k x
+      went up =
+          ap (λ s. cond (is_up s && not anew) (steps o.acknowledged p.acknowledged) 0) now.state_is
+          ∙ numbers (is_up (state_number k.state)) refl up (is_up (state_number x.state)) refl
+
+      go : (u : Bool) → is_up (state_number k.state) ≡ u → cond u (drop (went_on anew o p) (queue_of k) ++ more) (queue_of k) ≡ cond u (drop (went_by anew k x) (queue_of k) ++ more) (queue_of k)
+      go false down = refl
+      go true up = ap (λ n. drop n (queue_of k) ++ more) (went up)
+
+-- What is known of the link is what the observer of it knows.
+pub same-view : (c : Config) (service : Service) (tei number : ℕ) (ms : List Moment) (o : Outgoing)
+    → (fold (watches c service tei number) o ms).view ≡ fold (views c service tei number) o.view ms
+same-view c service tei number [] o = refl
+same-view c service tei number (m ∷ ms) o = same-view c service tei number ms (watches c service tei number o m)
+
+-- From the start of the card on.
+module _ (c : Config) (number : ℕ) (ranged : IsInRange c) (within : number < c.lines) (service : Service) (tei : ℕ) where
+  abbrev its : List Event → Line
+  its events = line_at number (after_all (fresh c) events)
+
+  abbrev Keeps : List Event → Type 0
+  Keeps events = (place : ℕ) → place_in (its events) tei ≡ Some place → (outgoing_of c service tei number events).kept ≡ queue_of (link_of service tei (its events))
+
+  pub view-is : (events : List Event) → (outgoing_of c service tei number events).view ≡ view_of c service tei number events
+  view-is events = same-view c service tei number (moments (fresh c) events) nothing_yet
+
+  abbrev with_event : List Event → Event → Moment
+  with_event before e = let card = after_all (fresh c) before in record { card = card; event = e; answer = answer e card }
+
+  then-is : (before : List Event) (e : Event) → outgoing_of c service tei number (before ++ e ∷ []) ≡ watches c service tei number (outgoing_of c service tei number before) (with_event before e)
+  unfolding moments
+  then-is before e =
+      ap (fold (watches c service tei number) nothing_yet) (moments-both (fresh c) before (e ∷ []))
+      ∙ fold-append (watches c service tei number) nothing_yet (moments (fresh c) before) (with_event before e ∷ [])
+
+  line-then : (before : List Event) (e : Event) → its (before ++ e ∷ []) ≡ line_at number (after e (after_all (fresh c) before))
+  unfolding after_all
+  line-then before e = ap (line_at number) (after-both (fresh c) before (e ∷ []))
+
+  -- In one moment.
+  module _ (before : List Event) (all : AreAtLines (fresh c) before) (kept : Keeps before) where
+    abbrev card : Card
+    card = after_all (fresh c) before
+
+    abbrev o : Outgoing
+    o = outgoing_of c service tei number before
+
+    same : card.config ≡ c
+    same = config-now c before number ranged all within service tei
+
+    on-before : is_on tei o.view.teis ≡ has_tei tei (its before)
+    on-before = ap (λ (v : View). is_on tei v.teis) (view-is before) ∙ tei-seen c before number ranged all within service tei
+
+    -- of the line,
+    module _ (what : line_event.Event) where
+      abbrev m : Moment
+      m = moment_of c before number what
+
+      abbrev later : Line
+      later = line_at number (after (at number what) (after_all (fresh c) before))
+
+      abbrev now : View
+      now = (watches c service tei number o m).view
+
+      view-then : now ≡ view_behind c service tei number before what
+      view-then = ap (λ v. views c service tei number v m) (view-is before)
+
+      on-then : is_on tei now.teis ≡ has_tei tei later
+      on-then = ap (λ (v : View). is_on tei v.teis) view-then ∙ (holds-behind c before number ranged all within service tei what).follows.on.same tei
+
+      abbrev by_views : View → View → List (List ℕ) → List (List ℕ)
+      by_views was now xs = keeps c service tei was.link now.link what m.answer xs
+
+      kept-there : (p q : ℕ) → place_in (its before) tei ≡ Some p → place_in later tei ≡ Some q → by_views o.view now o.kept ≡ queue_of (link_of service tei later)
+      kept-there p q on there =
+          let own = link_of service tei (its before) in
+          let x = link_of service tei later in
+          let t = seen what m.answer in
+          let s = sound-now c before number ranged all within service tei in
+          let here : number < card.config.lines = subst (λ (d : Config). number < d.lines) (sym same) within in
+          let was = seen-before c before number ranged all within service tei p on in
+          let is = seen-behind c before number ranged all within service tei what q there in
+          ap (λ v. by_views v now o.kept) (view-is before)
+          ∙ ap (λ v. by_views (view_of c service tei number before) v o.kept) view-then
+          ∙ ap (by_views (view_of c service tei number before) (view_behind c service tei number before what)) (kept p on)
+          ∙ left-as (lost_in service tei t) (brings is_sabme c service tei what) own x (view_of c service tei number before).link (view_behind c service tei number before what).link was is (granted_in service tei t)
+          ∙ sym (subst (λ (d : Config). queue_of x ≡ left (lost_in service tei t) (brings is_sabme d service tei what) own x (granted_in service tei t)) same
+          (leaves card number what s here service tei p q on there))
+
+      own-kept : (q : ℕ) → place_in later tei ≡ Some q → (watches c service tei number o m).kept ≡ queue_of (link_of service tei later)
+      own-kept q there =
+          ap (λ b. cond (b && is_on tei o.view.teis) (its-kept (number == number)) []) (on-then ∙ on-line later tei q there)
+          ∙ ap (λ b. cond b (its-kept (number == number)) []) on-before ∙ go (place_in (its before) tei) refl
+        where
+          its-kept : Bool → List (List ℕ)
+          its-kept b = cond b (by_views o.view now o.kept) o.kept
+
+          go : (p : Option ℕ) → place_in (its before) tei ≡ p → cond (has_tei tei (its before)) (its-kept (number == number)) [] ≡ queue_of (link_of service tei later)
+          go None off =
+              ap (λ b. cond b (its-kept (number == number)) []) (is-off (its before).management.places tei off)
+              ∙ sym (comes card number what (sound-now c before number ranged all within service tei) (subst (λ (d : Config). number < d.lines) (sym same) within) service tei off)
+          go (Some p) on =
+              ap (λ b. cond b (its-kept (number == number)) []) (on-line (its before) tei p on) ∙ ap its-kept (eq-eqb number number refl) ∙ kept-there p q on there
+
+    -- and of another
+    other-kept : (e : Event) → (e.line == number) ≡ false → (q : ℕ) → place_in (line_at number (after e card)) tei ≡ Some q
+        → (watches c service tei number o (with_event before e)).kept ≡ queue_of (link_of service tei (line_at number (after e card)))
+    other-kept e away q there =
+        let m = with_event before e in
+        let now = (watches c service tei number o m).view in
+        let still_there : line_at number (after e card) ≡ its before = apart card e number (λ same. true≢false (sym (eq-eqb e.line number (sym same)) ∙ away)) in
+        let on : place_in (its before) tei ≡ Some q = ap (λ l. place_in l tei) (sym still_there) ∙ there in
+        let is : is_on tei o.view.teis ≡ true = on-before ∙ on-line (its before) tei q on in
+        let teis : now.teis ≡ o.view.teis = ap (λ b. cond b (due c e.what o.view.teis).known o.view.teis) away in
+        ap (λ b. cond (is_on tei now.teis && is_on tei o.view.teis) (cond b (keeps c service tei o.view.link now.link e.what m.answer o.kept) o.kept) []) away
+        ∙ ap (λ b. cond (b && is_on tei o.view.teis) o.kept []) (ap (is_on tei) teis ∙ is) ∙ ap (λ b. cond b o.kept []) is
+        ∙ kept q on ∙ ap (λ l. queue_of (link_of service tei l)) (sym still_there)
+
+    abbrev Step : ℕ → Event → Type 0
+    Step q e =
+        place_in (line_at number (after e card)) tei ≡ Some q
+        → (watches c service tei number o (with_event before e)).kept ≡ queue_of (link_of service tei (line_at number (after e card)))
+
+    by-line : (q : ℕ) (e : Event) (b : Bool) → (e.line == number) ≡ b → Step q e
+    by-line q e true is = subst (λ n. Step q (at n e.what)) (sym (eqb-true e.line number is)) (own-kept e.what q)
+    by-line q e false away = other-kept e away q
+
+    pub keeps-then : (e : Event) → Keeps (before ++ e ∷ [])
+    keeps-then e q there =
+        let line : its (before ++ e ∷ []) ≡ line_at number (after e card) = line-then before e in
+        let on : place_in (line_at number (after e card)) tei ≡ Some q = ap (λ l. place_in l tei) (sym line) ∙ there in
+        ap (λ (o : Outgoing). o.kept) (then-is before e) ∙ by-line q e (e.line == number) refl on ∙ ap (λ l. queue_of (link_of service tei l)) (sym line)
+
+  -- In a run.
+  run : (before rest : List Event) → AreAtLines (fresh c) (before ++ rest) → Keeps before → Keeps (before ++ rest)
+  run before [] all kept = subst Keeps (sym (append-nil before)) kept
+  run before (e ∷ rest) all kept =
+      let joined : (before ++ e ∷ []) ++ rest ≡ before ++ e ∷ rest = append_assoc before (e ∷ []) rest in
+      subst Keeps joined
+      (run (before ++ e ∷ []) rest (subst (AreAtLines (fresh c)) (sym joined) all) (keeps-then before (all-left (IsAtLine (fresh c)) before (e ∷ rest) all) kept e))
+
+  at-first : Keeps []
+  unfolding moments after_all
+  at-first place on =
+      absurd (none-some place (sym (ap (λ l. place_in l tei) (get_or-replicate c.lines number (fresh_line c) (fresh_line c) within) ∙ nowhere c tei) ∙ on))
+
+  pub kept-now : (events : List Event) → AreAtLines (fresh c) events → Keeps events
+  kept-now events all = run [] events all at-first

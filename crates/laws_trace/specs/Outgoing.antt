@@ -1,0 +1,71 @@
+-- What a link has to send, to whoever watches its line.
+use Rattle.std.specs.Prelude.{ℕ, ◌==◌, ◌&&◌, not, Bool, true, false, List, [], ◌∷◌, ◌++◌, drop, flat_map, fold, if◌then◌else◌}
+use Rattle.std.specs.List.{list_any}
+use Rattle.lapd_frame.specs.declared.services.Service.{Service}
+use Rattle.model_line.specs.declared.config.Config.{Config}
+use Rattle.model_line.specs.Event as line_event
+use Rattle.model_line.specs.Event.{Answer}
+use Rattle.model_line.specs.Request as asked
+use Rattle.model_line.specs.Request.{Request, Release, Deactivate}
+use Rattle.model_card.specs.Card.{fresh}
+use Rattle.model_card.specs.Event.{Event}
+use Rattle.model_card.specs.Run.{Moment, moments}
+use Rattle.laws_line.specs.Loss.{is_loss_of}
+use Rattle.laws_trace.specs.Managing.{is_on}
+use Rattle.laws_trace.specs.News.{brings, is_sabme}
+use Rattle.laws_trace.specs.Observer.{Observed, View, at_first, steps, views}
+use Rattle.laws_trace.specs.Trace.{is_own, is_up, Seen, seen, noted, granted}
+
+-- What is known of the link; and the contents that it keeps from V(A) on, oldest first: those granted and not acknowledged.
+pub record Outgoing : Type 0 where
+  pub view : View
+  pub kept : List (List ℕ)
+
+-- Data that is granted for a link.
+abbrev pub data_asked : Service → ℕ → Request → List (List ℕ)
+data_asked service tei (asked.Data of by contents) = if is_own service tei of by then contents ∷ [] else []
+data_asked service tei other = []
+
+abbrev pub data_granted : Service → ℕ → Seen → List (List ℕ)
+data_granted service tei (granted r) = data_asked service tei r
+data_granted service tei other = []
+
+-- Layer 3 learns that a link keeps nothing, by a release or a deactivation of it that is granted, or by a note: an
+-- indication of its establishment, or an indication or a confirm of its release (Q.921 clauses 5.5.3.2 and 5.7).
+abbrev pub is_release_of : Service → ℕ → Request → Bool
+is_release_of service tei (Release of by) = is_own service tei of by
+is_release_of service tei (Deactivate of by) = is_own service tei of by
+is_release_of service tei other = false
+
+abbrev pub shows_loss : Service → ℕ → Seen → Bool
+shows_loss service tei (granted r) = is_release_of service tei r
+shows_loss service tei (noted ns contents) = list_any (is_loss_of service tei) ns
+shows_loss service tei other = false
+
+-- How far V(A) goes on in states 7 and 8: by the N(R) that is heard, and not where SABME begins the numbers anew, or the
+-- link leaves these states (clauses 3.5.2.3 and 5.5.1.2).
+abbrev pub went_on : Bool → Observed → Observed → ℕ
+went_on anew was now = if is_up now.state && not anew then steps was.acknowledged now.acknowledged else 0
+
+-- So in a moment of the line none is lost silently: all leave where layer 3 learns it. Else, in states 7 and 8, the oldest
+-- leave by which V(A) goes on, and data that is granted comes behind (clauses 5.6.1 and 5.6.3.2).
+abbrev pub keeps : Config → Service → ℕ → Observed → Observed → line_event.Event → Answer → List (List ℕ) → List (List ℕ)
+keeps c service tei was now what a kept =
+    let t = seen what a in
+    if list_any (shows_loss service tei) t then []
+    else if is_up was.state then drop (went_on (brings is_sabme c service tei what) was now) kept ++ flat_map (data_granted service tei) t
+    else kept
+
+-- While the TEI is on the line.
+abbrev pub watches : Config → Service → ℕ → ℕ → Outgoing → Moment → Outgoing
+watches c service tei number o m =
+    let now = views c service tei number o.view m in
+    let kept = if m.event.line == number then keeps c service tei o.view.link now.link m.event.what m.answer o.kept else o.kept in
+    record { view = now; kept = if is_on tei now.teis && is_on tei o.view.teis then kept else [] }
+
+abbrev pub nothing_yet : Outgoing
+nothing_yet = record { view = at_first; kept = [] }
+
+-- After a list of events.
+abbrev pub outgoing_of : Config → Service → ℕ → ℕ → List Event → Outgoing
+outgoing_of c service tei number events = fold (watches c service tei number) nothing_yet (moments (fresh c) events)

@@ -1,5 +1,5 @@
 -- What an event of a line is to the data of a link: what it asks for, and what it does not.
-use Rattle.std.proofs.Common.{◌≡◌, ℕ, ◌==◌, ◌&&◌, Bool, true, false, cond, List, [], ◌∷◌, Option, Some, None, refl, sym, ap, ◌∙◌, true≢false, eq-eqb}
+use Rattle.std.proofs.Common.{◌≡◌, ℕ, ◌==◌, ◌&&◌, Bool, true, false, cond, List, [], ◌∷◌, Option, Some, None, refl, sym, ap, ◌∙◌, eq-eqb, true≢false}
 use Rattle.std.specs.Prelude.{is_some}
 use Rattle.model_bits.specs.Stream as stream
 use Rattle.lapd_frame.specs.declared.services.Service.{Service}

@@ -21,7 +21,7 @@ use Rattle.model_line.specs.Line.{Line, fresh_line, link_of, link_in, place_in, 
 use Rattle.model_line.specs.Machine as lines
 use Rattle.model_line.specs.Sound.{IsInRange, IsSound}
 use Rattle.model_card.specs.Card.{Card, fresh, line_at, is_full}
-use Rattle.model_card.specs.Event.{Event, at}
+use Rattle.model_card.specs.Event.{Event}
 use Rattle.model_card.specs.Machine.{after, answer}
 use Rattle.model_card.specs.Run.{Moment, moments, after_all, IsAtLine, AreAtLines}
 use Rattle.model_card.specs.Sound as card_sound
@@ -33,17 +33,17 @@ use Rattle.laws_line.specs.Steady.{IsBy}
 use Rattle.laws_line.specs.Timers.{HaveTheirTimers}
 use Rattle.laws_line.proofs.TimersFollow.{nowhere}
 use Rattle.laws_link.specs.States.{moves}
-use Rattle.laws_trace.proofs.MovesWatched.{by_expiry, repeated, led, LinksMove}
+use Rattle.laws_trace.proofs.MovesWatched.{by_expiry, repeated, led}
 use Rattle.laws_trace.proofs.States.{expired_of, one_more, differ}
 use Rattle.laws_trace.proofs.TimersWatched.{Known, nothing_yet, watch}
-use Rattle.laws_trace.specs.Trace.{seen, Always}
+use Rattle.laws_trace.specs.Trace.{seen}
 use Rattle.laws_trace.proofs.LinkLed.{on-line, none-led, none-ticks, one-led, one-ticks, ended-leads}
 use Rattle.laws_trace.proofs.MovesOfLink.{Counts, event-leads, event-counted}
 use Rattle.laws_trace.proofs.OneLink.{HasOne, HasNone, Goes, event-goes}
 use Rattle.laws_trace.proofs.CallRuns.{apart}
 use Rattle.laws_trace.proofs.Runs.{nothing-seen}
 use Rattle.laws_trace.proofs.TimerClaims.{told_state}
-use Rattle.laws_trace.proofs.TimersAreTimely.{moment-known, begins-true, sound-now, timely-now, config-now, true-now, front-at, itself}
+use Rattle.laws_trace.proofs.TimersAreTimely.{moment-known, begins-true}
 use Rattle.laws_trace.proofs.TimersOfEvent.{IsTrueOf, state-on, off-fresh, off-state}
 use Rattle.laws_trace.proofs.TimersOfEvent as events
 
@@ -299,21 +299,3 @@ module _ (c : Config) (events : List Event) (number : ℕ) (ranged : IsInRange c
   count-now =
       run-counted service tei number (fresh c) events (fresh_is_sound c ranged) (begins-timely-card c) all nothing_yet 0
       (begins-true c events number ranged all within service tei) (subst (λ (y : Link). Counts y.state 0 y.repeats) (sym off) tt)
-
-pub links-move : Always LinksMove
-links-move c events number ranged all within service tei before what behind is =
-    let whole = subst (AreAtLines (fresh c)) is all in
-    let front = front-at (fresh c) before (at number what) behind whole in
-    let card = after_all (fresh c) before in
-    let e = at number what in
-    let k = fold (watch c service tei number) nothing_yet (moments (fresh c) before) in
-    let n = fold (repeated service tei number) 0 (moments (fresh c) before) in
-    let here : number < card.config.lines = subst (λ (c : Config). number < c.lines) (sym (config-now c before number ranged front within service tei)) within in
-    subst (λ b. IfSome (state_of service tei (line_at number (after e card)))
-    (λ state. state ≡ option_map_or (led c service tei k n what (cond b (seen what (answer e card)) [])) (state_of service tei (line_at number card)) 4))
-    (sym (itself number))
-    (subst (λ (d : Config). IfSome (state_of service tei (line_at number (after e card)))
-    (λ state. state ≡ option_map_or (led d service tei k n what (seen what (answer e card))) (state_of service tei (line_at number card)) 4))
-    (config-now c before number ranged front within service tei)
-    (own-led service tei number card (sound-now c before number ranged front within service tei) (timely-now c before number ranged front within service tei) e here k n
-    (true-now c before number ranged front within service tei) (count-now c before number ranged front within service tei)))

@@ -1,5 +1,5 @@
 -- Which state a link moves to, by its numbers and by how often T200 expired: a part of what an observer knows.
-use Rattle.std.specs.Prelude.{◌≡◌, ℕ, ◌+◌, ◌==◌, ◌&&◌, ◌||◌, not, nat_lt, Bool, List, ◌∷◌, ◌++◌, length, fold, Option, Some, None, IfSome, is_some, if◌then◌else◌}
+use Rattle.std.specs.Prelude.{ℕ, ◌+◌, ◌==◌, ◌&&◌, ◌||◌, not, nat_lt, Bool, List, length, fold, Option, Some, None, is_some, if◌then◌else◌}
 use Rattle.std.specs.Option.{option_map_or}
 use Rattle.lapd_frame.specs.declared.controls.Control.{Control}
 use Rattle.lapd_frame.specs.declared.controls.Control.TheVariants.{Information, ReceiveReady, ReceiveNotReady, Reject, Sabme, Disc, Ua, Dm, Frmr}
@@ -10,17 +10,14 @@ use Rattle.model_link.specs.declared.timers.LinkTimer.{LinkTimer}
 use Rattle.model_link.specs.declared.timers.LinkTimer.TheVariants.{T200, T203}
 use Rattle.model_line.specs.declared.config.Config.{Config}
 use Rattle.model_line.specs.Event as line_event
-use Rattle.model_line.specs.Event.{expiry}
 use Rattle.model_line.specs.Request.{Request, Establish, Release, Deactivate}
-use Rattle.model_card.specs.Card.{fresh}
-use Rattle.model_card.specs.Event.{Event, at}
-use Rattle.model_card.specs.Machine.{answer}
-use Rattle.model_card.specs.Run.{Moment, moments, after_all}
+use Rattle.model_card.specs.Event.{Event}
+use Rattle.model_card.specs.Run.{Moment}
 use Rattle.laws_trace.specs.LinkFrames.{is_for, frame_of, malformed}
-use Rattle.laws_trace.proofs.TimersWatched.{Known, nothing_yet, watch, awaits}
+use Rattle.laws_trace.proofs.TimersWatched.{Known, awaits}
 use Rattle.laws_trace.proofs.States.{state_before, state_after, differ, expired_of, one_more}
 use Rattle.laws_trace.specs.Observer.{steps}
-use Rattle.laws_trace.specs.Trace.{is_own, is_up, Seen, heard, granted, seen_in}
+use Rattle.laws_trace.specs.Trace.{is_own, is_up, Seen, heard, granted}
 
 abbrev pub is_invalid : Known → Seq → Bool
 is_invalid k nr = nat_lt (steps k.acknowledged k.next) (steps k.acknowledged nr.value)
@@ -90,16 +87,3 @@ repeated service tei number n m =
 abbrev pub led : Config → Service → ℕ → Known → ℕ → line_event.Event → List Seen → ℕ → ℕ
 led c service tei k n what now state =
     fold (by_seen c service tei k) (option_map_or (by_expiry c.n200 k n state) (expired_of service tei what) state) now
-
--- After an event at the line a link whose TEI is on it is in that state; or in state 4, where its TEI was not on it
--- before (clause 5.3).
-abbrev pub LinksMove : Config → List Event → ℕ → Type 0
-LinksMove c events number =
-    (service : Service) (tei : ℕ) (before : List Event) (what : line_event.Event) (behind : List Event) →
-    events ≡ before ++ at number what ∷ behind →
-    let card = after_all (fresh c) before in
-    let m : Moment = record { card = card; event = at number what; answer = answer (at number what) card } in
-    let k = fold (watch c service tei number) nothing_yet (moments (fresh c) before) in
-    let n = fold (repeated service tei number) 0 (moments (fresh c) before) in
-    IfSome (state_after service tei number m)
-    (λ state. state ≡ option_map_or (led c service tei k n what (seen_in number m)) (state_before service tei number m) 4)

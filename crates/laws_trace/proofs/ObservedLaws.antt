@@ -238,9 +238,6 @@ module _ (c : Config) (events : List Event) (number : ℕ) (ranged : IsInRange c
   front : AreAtLines (fresh c) before
   front = front-at (fresh c) before (at number what) behind (subst (AreAtLines (fresh c)) is all)
 
-  abbrev its_state : Option ℕ
-  its_state = state_of service tei (line_at number (after_all (fresh c) before))
-
   abbrev o : Observed
   o = (view_of c service tei number before).link
 

@@ -5,12 +5,11 @@ use Rattle.std.proofs.lemmas.Bool.{and_parts}
 use Rattle.std.proofs.lemmas.List.{get_or-set_same, get_or-replicate}
 use Rattle.std.proofs.lemmas.List.Sums.{fold-append}
 use Rattle.std.proofs.lemmas.Option.{none-some}
-use Rattle.lapd_frame.specs.declared.refusals.Refusal.TheVariants.{PoolFull}
 use Rattle.lapd_frame.specs.declared.services.Service.{Service}
-use Rattle.model_link.specs.Link.{Link, queue_of, state_number, is_multiple_frame}
+use Rattle.model_link.specs.Link.{Link, queue_of, state_number}
 use Rattle.model_line.specs.declared.config.Config.{Config}
 use Rattle.model_line.specs.Event as line_event
-use Rattle.model_line.specs.Event.{Answer, refused}
+use Rattle.model_line.specs.Event.{Answer}
 use Rattle.model_line.specs.Line.{Line, fresh_line, has_tei, link_of, place_in}
 use Rattle.model_line.specs.Machine as lines
 use Rattle.model_line.specs.Sound.{IsInRange}

@@ -7,7 +7,6 @@ use Rattle.lapd_frame.specs.declared.services.Service.{Service}
 use Rattle.lapd_frame.specs.declared.timers.Timer.{Timer}
 use Rattle.model_link.specs.Events as link
 use Rattle.laws_link.specs.Accepted.{is_release}
-use Rattle.model_line.specs.Event as line_event
 use Rattle.model_line.specs.Event.{Answer, hears, expiry, request, next, told, refused, gave}
 use Rattle.model_line.specs.Request.{Request}
 use Rattle.laws_line.specs.Heard.{notes_of}

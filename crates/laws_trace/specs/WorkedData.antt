@@ -66,18 +66,24 @@ first_goes : slice_get before.kept (steps before.view.link.acknowledged before.v
 unfolding moments lines.after lines.answer lines.takes_slot teis.course teis.refusal seq distance_of named reading header_of control_of unnumbered_of supervisory_of
 first_goes = refl
 
+abbrev Same : List ℕ → List ℕ → Type 0
+Same xs ys = Some xs ≡ Some ys
+
+apart : Same (7 ∷ []) (8 ∷ []) → ⊥
+apart e = cc e
+
 others : IsNext usual Call before (i_frame 0 8) → ⊥
-others law = go (sym first_goes ∙ law.contents)
-  where
-    go : Some (7 ∷ []) ≡ Some (8 ∷ []) → ⊥
-    go e = cc e
+others law = apart (sym first_goes ∙ law.contents)
 
 counts_none : before.view.link.count ≡ 0
 unfolding moments lines.after lines.answer lines.takes_slot teis.course teis.refusal seq distance_of named reading header_of control_of unnumbered_of supervisory_of
 counts_none = refl
 
+abbrev Are : ℕ → ℕ → Type 0
+Are m n = m ≡ n
+
+none_told : Are 1 0 → ⊥
+none_told e = cc e
+
 acknowledges : IsNext usual Call before (record { ns = 0; nr = 1; contents = 7 ∷ [] }) → ⊥
-acknowledges law = go (law.nr ∙ ap (λ n. n % 128) counts_none)
-  where
-    go : 1 ≡ 0 → ⊥
-    go e = cc e
+acknowledges law = none_told (law.nr ∙ ap (λ n. n % 128) counts_none)

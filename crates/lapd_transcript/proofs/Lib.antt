@@ -4,6 +4,7 @@ pub mod Known
 pub mod Digits
 pub mod Numerals
 pub mod Pieces
+pub mod CounterNames
 pub mod Left
 pub mod Sending
 pub mod OneFrame

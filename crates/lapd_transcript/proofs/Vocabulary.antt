@@ -1,5 +1,5 @@
 -- The words with which the proofs of this crate speak, from where they are defined.
-pub use Rattle.std.proofs.Common.{Bool, Bor, Err, List, None, Ok, Option, Result, Some, [], ap, append_assoc, arith, codes, decimal, drop, false, filter_map, get_or, if◌then◌else◌, is_some, length, length-append, length-drop, lit<, option_map, option_to_list, refl, subst, suc, sym, take, take_all, true, zero, ℕ, ◌%◌, ◌*◌, ◌++◌, ◌+◌, ◌-◌, ◌/◌, ◌<◌, ◌==◌, ◌^◌, ◌∙◌, ◌∷◌, ◌≡◌, ◌≤◌}
+pub use Rattle.std.proofs.Common.{Bool, Bor, Err, List, None, Ok, Option, Result, Some, [], ap, append_assoc, arith, codes, decimal, drop, false, filter_map, get_or, if◌then◌else◌, is_some, length, length-append, length-drop, lit<, map, option_map, option_to_list, refl, subst, suc, sym, take, take_all, true, zero, ℕ, ◌%◌, ◌*◌, ◌++◌, ◌+◌, ◌-◌, ◌/◌, ◌<◌, ◌==◌, ◌^◌, ◌∙◌, ◌∷◌, ◌≡◌, ◌≤◌}
 pub use Rattle.std.proofs.Math.Seq.{drop-append_seam, take-append-add, take-append_seam}
 pub use Rattle.std.proofs.lemmas.Bool.{false≢true, le-ltb, lt-ltb, ne_eqb}
 pub use Rattle.std.proofs.lemmas.Fmt.{decimal_digit, decimal_step, length-decimal-le}
@@ -14,10 +14,13 @@ pub use Rattle.hex.specs.Hex.{encode_lower, encode_upper, lower_digits, upper_di
 unfoldable pub use Rattle.hex.specs.Hex.{encode_with}
 pub use Rattle.lapd_bits.specs.Deframer.{latest_of}
 pub use Rattle.lapd_bits.specs.declared.deframer.Deframer.{Deframer}
+pub use Rattle.lapd_count.specs.declared.counter.Counter.{Counter}
+pub use Rattle.lapd_count.specs.declared.counters.Counters.{Counters}
 pub use Rattle.lapd_frame.specs.Grammar.{parts_of}
 pub use Rattle.lapd_frame.specs.declared.notes.Note.{Note}
 pub use Rattle.lapd_seq.specs.declared.numbers.Seq.{Seq}
-pub use Rattle.lapd_transcript.specs.Counted.{counter_text, is_zero, names_of}
+pub use Rattle.lapd_transcript.specs.CounterNames.{row, row_text, value_text, with_name}
+pub use Rattle.lapd_transcript.specs.Counted.{counter_text, group_name, is_zero, names_of, own_name}
 pub use Rattle.lapd_transcript.specs.Listened.{Hears, found, frame_in}
 pub use Rattle.lapd_transcript.specs.OnLine.{HasPut, on_line}
 pub use Rattle.lapd_transcript.specs.Shown.{fields, number_text, shown_text}

@@ -5,6 +5,7 @@ pub mod Text
 pub mod Shown
 pub mod Worked
 pub mod Counted
+pub mod CounterNames
 pub mod WorkedCounted
 pub mod Terminal
 pub mod OnLine

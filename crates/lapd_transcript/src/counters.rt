@@ -1,16 +1,21 @@
 //! Puts what was counted of a line onto a page.
 
-ghost use Rattle.std.specs.Prelude.{◌≡◌, flat_map};
+ghost use Rattle.std.specs.Prelude.{◌≡◌, flat_map, map};
 ghost use Rattle.std.specs.List.{list_all};
-ghost use Rattle.lapd_count.specs.declared.counter.Counter.TheVariants.{Errors};
 ghost use Rattle.lapd_transcript.specs.Streams.{Puts, output};
-ghost use Rattle.lapd_transcript.specs.Counted.{is_zero, names_of, kind_name, message_name, way_name, group_name, own_name, counter_text, counters_text};
+ghost use Rattle.lapd_transcript.specs.Counted.{is_zero, names_of, counters_text};
+ghost use Rattle.lapd_transcript.specs.CounterNames.{row, row_text, value_text, with_name};
 
 use crate::lines::put_nothing;
-use crate::names::cause_name;
 use crate::output::{Page, decimal, put_all};
 use crate::streams::{Target, WriteFailed};
-use lapd_count::{Counter, Counters, Kind, Message, Way};
+use lapd_count::Counter::Messages;
+use lapd_count::Message::{
+    IdentityAssigned, IdentityCheckRequest, IdentityCheckResponse, IdentityDenied, IdentityRemove,
+    IdentityRequest, IdentityVerify,
+};
+use lapd_count::Way::{Begun, Heard};
+use lapd_count::{Counter, Counters, Kind};
 use lapd_frame::ErrorCode;
 use model_bits::Cause;
 
@@ -23,88 +28,100 @@ pub enum CounterGroup {
     Messages,
 }
 
-/// The counters of a line, in the order of their places.
-static COUNTERS: [Counter; 62] = [
-    Counter::Frames(Way::Heard, Kind::Information),
-    Counter::Frames(Way::Heard, Kind::ReceiveReady),
-    Counter::Frames(Way::Heard, Kind::ReceiveNotReady),
-    Counter::Frames(Way::Heard, Kind::Reject),
-    Counter::Frames(Way::Heard, Kind::Sabme),
-    Counter::Frames(Way::Heard, Kind::Disc),
-    Counter::Frames(Way::Heard, Kind::Ui),
-    Counter::Frames(Way::Heard, Kind::Ua),
-    Counter::Frames(Way::Heard, Kind::Dm),
-    Counter::Frames(Way::Heard, Kind::Frmr),
-    Counter::Frames(Way::Heard, Kind::Xid),
-    Counter::Frames(Way::Heard, Kind::Undefined),
-    Counter::Frames(Way::Begun, Kind::Information),
-    Counter::Frames(Way::Begun, Kind::ReceiveReady),
-    Counter::Frames(Way::Begun, Kind::ReceiveNotReady),
-    Counter::Frames(Way::Begun, Kind::Reject),
-    Counter::Frames(Way::Begun, Kind::Sabme),
-    Counter::Frames(Way::Begun, Kind::Disc),
-    Counter::Frames(Way::Begun, Kind::Ui),
-    Counter::Frames(Way::Begun, Kind::Ua),
-    Counter::Frames(Way::Begun, Kind::Dm),
-    Counter::Frames(Way::Begun, Kind::Frmr),
-    Counter::Frames(Way::Begun, Kind::Xid),
-    Counter::Frames(Way::Begun, Kind::Undefined),
-    Counter::Octets(Way::Heard),
-    Counter::Octets(Way::Begun),
-    Counter::Polls(Way::Heard),
-    Counter::Polls(Way::Begun),
-    Counter::Overlong,
-    Counter::Dropped(Cause::Abort),
-    Counter::Dropped(Cause::Ragged),
-    Counter::Dropped(Cause::Short),
-    Counter::Dropped(Cause::Fcs),
-    Counter::Dropped(Cause::Extension),
-    Counter::Dropped(Cause::Sapi),
-    Counter::Dropped(Cause::Tei),
-    Counter::Dropped(Cause::Unserved),
-    Counter::Errors(ErrorCode::A),
-    Counter::Errors(ErrorCode::B),
-    Counter::Errors(ErrorCode::C),
-    Counter::Errors(ErrorCode::D),
-    Counter::Errors(ErrorCode::E),
-    Counter::Errors(ErrorCode::F),
-    Counter::Errors(ErrorCode::G),
-    Counter::Errors(ErrorCode::H),
-    Counter::Errors(ErrorCode::I),
-    Counter::Errors(ErrorCode::J),
-    Counter::Errors(ErrorCode::K),
-    Counter::Errors(ErrorCode::L),
-    Counter::Errors(ErrorCode::N),
-    Counter::Errors(ErrorCode::O),
-    Counter::EstablishIndications,
-    Counter::EstablishConfirms,
-    Counter::ReleaseIndications,
-    Counter::ReleaseConfirms,
-    Counter::Data,
-    Counter::Units,
-    Counter::Xids,
-    Counter::Assigned,
-    Counter::Removed,
-    Counter::Doubled,
-    Counter::Lost,
+/// The counters of a line with their names, in the order of their places.
+static COUNTERS: [(Counter, &[u8]); 62] = [
+    (Counter::Frames(Heard, Kind::Information), b"heard-i"),
+    (Counter::Frames(Heard, Kind::ReceiveReady), b"heard-rr"),
+    (Counter::Frames(Heard, Kind::ReceiveNotReady), b"heard-rnr"),
+    (Counter::Frames(Heard, Kind::Reject), b"heard-rej"),
+    (Counter::Frames(Heard, Kind::Sabme), b"heard-sabme"),
+    (Counter::Frames(Heard, Kind::Disc), b"heard-disc"),
+    (Counter::Frames(Heard, Kind::Ui), b"heard-ui"),
+    (Counter::Frames(Heard, Kind::Ua), b"heard-ua"),
+    (Counter::Frames(Heard, Kind::Dm), b"heard-dm"),
+    (Counter::Frames(Heard, Kind::Frmr), b"heard-frmr"),
+    (Counter::Frames(Heard, Kind::Xid), b"heard-xid"),
+    (Counter::Frames(Heard, Kind::Undefined), b"heard-undefined"),
+    (Counter::Frames(Begun, Kind::Information), b"begun-i"),
+    (Counter::Frames(Begun, Kind::ReceiveReady), b"begun-rr"),
+    (Counter::Frames(Begun, Kind::ReceiveNotReady), b"begun-rnr"),
+    (Counter::Frames(Begun, Kind::Reject), b"begun-rej"),
+    (Counter::Frames(Begun, Kind::Sabme), b"begun-sabme"),
+    (Counter::Frames(Begun, Kind::Disc), b"begun-disc"),
+    (Counter::Frames(Begun, Kind::Ui), b"begun-ui"),
+    (Counter::Frames(Begun, Kind::Ua), b"begun-ua"),
+    (Counter::Frames(Begun, Kind::Dm), b"begun-dm"),
+    (Counter::Frames(Begun, Kind::Frmr), b"begun-frmr"),
+    (Counter::Frames(Begun, Kind::Xid), b"begun-xid"),
+    (Counter::Frames(Begun, Kind::Undefined), b"begun-undefined"),
+    (Counter::Octets(Heard), b"heard-octets"),
+    (Counter::Octets(Begun), b"begun-octets"),
+    (Counter::Polls(Heard), b"heard-polls"),
+    (Counter::Polls(Begun), b"begun-polls"),
+    (Counter::Overlong, b"heard-overlong"),
+    (Counter::Dropped(Cause::Abort), b"dropped-abort"),
+    (Counter::Dropped(Cause::Ragged), b"dropped-ragged"),
+    (Counter::Dropped(Cause::Short), b"dropped-short"),
+    (Counter::Dropped(Cause::Fcs), b"dropped-fcs"),
+    (Counter::Dropped(Cause::Extension), b"dropped-extension"),
+    (Counter::Dropped(Cause::Sapi), b"dropped-sapi"),
+    (Counter::Dropped(Cause::Tei), b"dropped-tei"),
+    (Counter::Dropped(Cause::Unserved), b"dropped-unserved"),
+    (Counter::Errors(ErrorCode::A), b"errors-a"),
+    (Counter::Errors(ErrorCode::B), b"errors-b"),
+    (Counter::Errors(ErrorCode::C), b"errors-c"),
+    (Counter::Errors(ErrorCode::D), b"errors-d"),
+    (Counter::Errors(ErrorCode::E), b"errors-e"),
+    (Counter::Errors(ErrorCode::F), b"errors-f"),
+    (Counter::Errors(ErrorCode::G), b"errors-g"),
+    (Counter::Errors(ErrorCode::H), b"errors-h"),
+    (Counter::Errors(ErrorCode::I), b"errors-i"),
+    (Counter::Errors(ErrorCode::J), b"errors-j"),
+    (Counter::Errors(ErrorCode::K), b"errors-k"),
+    (Counter::Errors(ErrorCode::L), b"errors-l"),
+    (Counter::Errors(ErrorCode::N), b"errors-n"),
+    (Counter::Errors(ErrorCode::O), b"errors-o"),
+    (Counter::EstablishIndications, b"told-establish-indication"),
+    (Counter::EstablishConfirms, b"told-establish-confirm"),
+    (Counter::ReleaseIndications, b"told-release-indication"),
+    (Counter::ReleaseConfirms, b"told-release-confirm"),
+    (Counter::Data, b"told-data"),
+    (Counter::Units, b"told-unit"),
+    (Counter::Xids, b"told-xid"),
+    (Counter::Assigned, b"told-assigned"),
+    (Counter::Removed, b"told-removed"),
+    (Counter::Doubled, b"told-doubled"),
+    (Counter::Lost, b"lost"),
 ];
 
 /// Those of messages.
-static MESSAGES: [Counter; 14] = [
-    Counter::Messages(Way::Heard, Message::IdentityRequest),
-    Counter::Messages(Way::Heard, Message::IdentityAssigned),
-    Counter::Messages(Way::Heard, Message::IdentityDenied),
-    Counter::Messages(Way::Heard, Message::IdentityCheckRequest),
-    Counter::Messages(Way::Heard, Message::IdentityCheckResponse),
-    Counter::Messages(Way::Heard, Message::IdentityRemove),
-    Counter::Messages(Way::Heard, Message::IdentityVerify),
-    Counter::Messages(Way::Begun, Message::IdentityRequest),
-    Counter::Messages(Way::Begun, Message::IdentityAssigned),
-    Counter::Messages(Way::Begun, Message::IdentityDenied),
-    Counter::Messages(Way::Begun, Message::IdentityCheckRequest),
-    Counter::Messages(Way::Begun, Message::IdentityCheckResponse),
-    Counter::Messages(Way::Begun, Message::IdentityRemove),
-    Counter::Messages(Way::Begun, Message::IdentityVerify),
+static MESSAGES: [(Counter, &[u8]); 14] = [
+    (Messages(Heard, IdentityRequest), b"heard-request"),
+    (Messages(Heard, IdentityAssigned), b"heard-assigned"),
+    (Messages(Heard, IdentityDenied), b"heard-denied"),
+    (
+        Messages(Heard, IdentityCheckRequest),
+        b"heard-check-request",
+    ),
+    (
+        Messages(Heard, IdentityCheckResponse),
+        b"heard-check-response",
+    ),
+    (Messages(Heard, IdentityRemove), b"heard-remove"),
+    (Messages(Heard, IdentityVerify), b"heard-verify"),
+    (Messages(Begun, IdentityRequest), b"begun-request"),
+    (Messages(Begun, IdentityAssigned), b"begun-assigned"),
+    (Messages(Begun, IdentityDenied), b"begun-denied"),
+    (
+        Messages(Begun, IdentityCheckRequest),
+        b"begun-check-request",
+    ),
+    (
+        Messages(Begun, IdentityCheckResponse),
+        b"begun-check-response",
+    ),
+    (Messages(Begun, IdentityRemove), b"begun-remove"),
+    (Messages(Begun, IdentityVerify), b"begun-verify"),
 ];
 
 /// What was counted of a line: each counter of a group that is not 0, in the order of their places; or that none of them
@@ -129,8 +146,8 @@ pub fn put_counters<T: Target>(
     put_each(target, page, line, counters, names)
 }
 
-fn names_of(group: CounterGroup) -> &'static [Counter]
-    ensures { result.now ≡ names_of group }
+fn names_of(group: CounterGroup) -> &'static [(Counter, &'static [u8])]
+    ensures { map row result.now ≡ map with_name (names_of group) }
 {
     match group {
         CounterGroup::Line => &COUNTERS,
@@ -138,10 +155,10 @@ fn names_of(group: CounterGroup) -> &'static [Counter]
     }
 }
 
-fn are_zero(counters: &Counters, names: &[Counter]) -> bool
-    ensures { result ≡ list_all (is_zero counters.now) names.now }
+fn are_zero(counters: &Counters, names: &[(Counter, &'static [u8])]) -> bool
+    ensures { result ≡ list_all (λ name. is_zero counters.now (row name).0) names.now }
 {
-    names.iter().all(|name| counters.value(*name) == 0)
+    names.iter().all(|name| counters.value(name.0) == 0)
 }
 
 fn put_each<T: Target>(
@@ -149,28 +166,28 @@ fn put_each<T: Target>(
     page: &mut Page,
     line: u16,
     counters: &Counters,
-    names: &[Counter],
+    names: &[(Counter, &'static [u8])],
 ) -> Result<(), WriteFailed>
-    ensures { Puts result (output (T.taken target.old) page.old.items) (output (T.taken target.new) page.new.items) (flat_map (counter_text line counters.now) names.now) }
+    ensures { Puts result (output (T.taken target.old) page.old.items) (output (T.taken target.new) page.new.items) (flat_map (λ name. row_text line counters.now (row name)) names.now) }
 {
-    for name in names {
-        if let Err(WriteFailed) = put_counter(target, page, line, counters, *name) {
+    for (counter, name) in names {
+        if let Err(WriteFailed) = put_counter(target, page, line, counters.value(*counter), name) {
             return Err(WriteFailed);
         }
     }
     Ok(())
 }
 
+/// A counter that is not 0.
 fn put_counter<T: Target>(
     target: &mut T,
     page: &mut Page,
     line: u16,
-    counters: &Counters,
-    counter: Counter,
+    value: u64,
+    name: &'static [u8],
 ) -> Result<(), WriteFailed>
-    ensures { Puts result (output (T.taken target.old) page.old.items) (output (T.taken target.new) page.new.items) (counter_text line counters.now counter) }
+    ensures { Puts result (output (T.taken target.old) page.old.items) (output (T.taken target.new) page.new.items) (value_text line name.now value) }
 {
-    let value = counters.value(counter);
     if value == 0 {
         return Ok(());
     }
@@ -179,124 +196,10 @@ fn put_counter<T: Target>(
     let pieces = [
         line.as_slice(),
         b" counter ",
-        group_name(counter),
-        own_name(counter),
+        name,
         b" ",
         digits.as_slice(),
         b"\n",
     ];
     put_all(target, page, &pieces)
-}
-
-fn way_name(way: Way) -> &'static [u8]
-    ensures { result.now ≡ way_name way }
-{
-    match way {
-        Way::Heard => b"heard-",
-        Way::Begun => b"begun-",
-    }
-}
-
-fn kind_name(kind: Kind) -> &'static [u8]
-    ensures { result.now ≡ kind_name kind }
-{
-    match kind {
-        Kind::Information => b"i",
-        Kind::ReceiveReady => b"rr",
-        Kind::ReceiveNotReady => b"rnr",
-        Kind::Reject => b"rej",
-        Kind::Sabme => b"sabme",
-        Kind::Disc => b"disc",
-        Kind::Ui => b"ui",
-        Kind::Ua => b"ua",
-        Kind::Dm => b"dm",
-        Kind::Frmr => b"frmr",
-        Kind::Xid => b"xid",
-        Kind::Undefined => b"undefined",
-    }
-}
-
-fn message_name(message: Message) -> &'static [u8]
-    ensures { result.now ≡ message_name message }
-{
-    match message {
-        Message::IdentityRequest => b"request",
-        Message::IdentityAssigned => b"assigned",
-        Message::IdentityDenied => b"denied",
-        Message::IdentityCheckRequest => b"check-request",
-        Message::IdentityCheckResponse => b"check-response",
-        Message::IdentityRemove => b"remove",
-        Message::IdentityVerify => b"verify",
-    }
-}
-
-fn error_name(code: ErrorCode) -> &'static [u8]
-    ensures { result.now ≡ own_name (Errors code) }
-{
-    match code {
-        ErrorCode::A => b"a",
-        ErrorCode::B => b"b",
-        ErrorCode::C => b"c",
-        ErrorCode::D => b"d",
-        ErrorCode::E => b"e",
-        ErrorCode::F => b"f",
-        ErrorCode::G => b"g",
-        ErrorCode::H => b"h",
-        ErrorCode::I => b"i",
-        ErrorCode::J => b"j",
-        ErrorCode::K => b"k",
-        ErrorCode::L => b"l",
-        ErrorCode::N => b"n",
-        ErrorCode::O => b"o",
-    }
-}
-
-fn group_name(counter: Counter) -> &'static [u8]
-    ensures { result.now ≡ group_name counter }
-{
-    match counter {
-        Counter::Frames(way, _)
-        | Counter::Octets(way)
-        | Counter::Polls(way)
-        | Counter::Messages(way, _) => way_name(way),
-        Counter::Overlong => b"heard-",
-        Counter::Dropped(_) => b"dropped-",
-        Counter::Errors(_) => b"errors-",
-        Counter::EstablishIndications
-        | Counter::EstablishConfirms
-        | Counter::ReleaseIndications
-        | Counter::ReleaseConfirms
-        | Counter::Data
-        | Counter::Units
-        | Counter::Xids
-        | Counter::Assigned
-        | Counter::Removed
-        | Counter::Doubled => b"told-",
-        Counter::Lost => b"",
-    }
-}
-
-fn own_name(counter: Counter) -> &'static [u8]
-    ensures { result.now ≡ own_name counter }
-{
-    match counter {
-        Counter::Frames(_, kind) => kind_name(kind),
-        Counter::Octets(_) => b"octets",
-        Counter::Polls(_) => b"polls",
-        Counter::Overlong => b"overlong",
-        Counter::Dropped(cause) => cause_name(cause),
-        Counter::Errors(code) => error_name(code),
-        Counter::EstablishIndications => b"establish-indication",
-        Counter::EstablishConfirms => b"establish-confirm",
-        Counter::ReleaseIndications => b"release-indication",
-        Counter::ReleaseConfirms => b"release-confirm",
-        Counter::Data => b"data",
-        Counter::Units => b"unit",
-        Counter::Xids => b"xid",
-        Counter::Assigned => b"assigned",
-        Counter::Removed => b"removed",
-        Counter::Doubled => b"doubled",
-        Counter::Lost => b"lost",
-        Counter::Messages(_, message) => message_name(message),
-    }
 }
